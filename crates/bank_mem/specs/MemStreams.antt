@@ -1,0 +1,32 @@
+-- A source and a sink in memory as contracts see them.
+use Rattle.std.specs.Prelude.{ℕ, List, drop}
+use Rattle.bank_mem.specs.declared.source.MemSource.{MemSource}
+use Rattle.bank_mem.specs.declared.sink.MemSink.{MemSink}
+
+-- the bytes that are left
+abbrev pub left_of : MemSource → List ℕ
+left_of s = drop s.at s.bytes.items
+
+-- how often a read has failed
+abbrev pub read_faults : MemSource → ℕ
+read_faults s = s.faults
+
+-- the reads that fail, by number
+abbrev pub listed_reads : MemSource → List ℕ
+listed_reads s = s.fails.items
+
+-- the bytes taken so far
+abbrev pub held_of : MemSink → List ℕ
+held_of s = s.bytes.items
+
+-- how many bytes it takes in all
+abbrev pub room_of : MemSink → ℕ
+room_of s = s.room
+
+-- how often a write has failed
+abbrev pub write_faults : MemSink → ℕ
+write_faults s = s.faults
+
+-- the writes that fail, by number
+abbrev pub listed_writes : MemSink → List ℕ
+listed_writes s = s.fails.items

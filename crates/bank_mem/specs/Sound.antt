@@ -1,0 +1,15 @@
+-- How the parts of a bank in memory stand to each other.
+use Rattle.std.specs.Prelude.{◌≡◌, ℕ, List, length, Some, slice_get, Vec}
+use Rattle.std.specs.declared.alloc.Global.{Global}
+use Rattle.bank_mem.specs.declared.record.Call.{Call}
+use Rattle.bank_mem.specs.Record.{Shelf, content, at_rest, replay}
+
+-- The record leads to what is held.
+abbrev pub LeadsTo : Shelf → List Call → Shelf → Type 0
+LeadsTo first calls now =
+    (d x : ℕ) → (replay (at_rest (content first)) calls).reads d x ≡ content now d x
+
+-- Each device has this many sectors.
+abbrev pub AllWide : Shelf → ℕ → Type 0
+AllWide shelf sectors = (d : ℕ) (v : Vec (List ℕ) Global) → slice_get shelf d ≡ Some v
+    → length v.items ≡ sectors

@@ -1,0 +1,260 @@
+// A bank of devices in memory.
+ghost use Rattle.std.specs.Prelude.{◌≡◌, ◌<◌, ◌≤◌, ◌^◌, ◌++◌, [], ◌∷◌, ℕ, List, IfOk, Err, OnOk, OnErr, IsTrue, length, slice_index, Some, replicate};
+ghost use Rattle.bank_mem.specs.Sound.{LeadsTo, AllWide};
+
+use crate::plan::Plan;
+use crate::record::{self, Call};
+use crate::refused::ImagesRefused;
+use crate::shelf;
+use bank_trait::{Bank, Failed};
+use std::alloc::{AllocError, Global};
+
+#[derive(Drop)]
+pub struct MemBank {
+    sectors: u64,
+    first: Vec<Vec<[u8; 512]>>,
+    now: Vec<Vec<[u8; 512]>>,
+    calls: Vec<Call>,
+    plan: Plan,
+    ghost same: { LeadsTo first.items calls.items now.items },
+    ghost wide: { AllWide now.items sectors },
+    ghost counted: { length plan.faults.items ≡ length now.items },
+    ghost few: { length now.items < 2 ^ 32 },
+}
+
+impl MemBank {
+    ghost use Rattle.bank_mem.specs.Record.{blank};
+    ghost use Rattle.bank_mem.specs.MemBank.{disk_of, made_on, listed_calls, listed_starts};
+
+    /// Devices that hold zeros, all of it on the disk, of which no call fails.
+    pub fn new(alloc: Global, devices: u32, sectors: u64) -> Result<MemBank, AllocError>
+        ensures devices { IfOk result (λ b. (disk_of b).devices ≡ devices) }
+        ensures sectors { IfOk result (λ b. (disk_of b).sectors ≡ sectors) }
+        ensures reads { IfOk result (λ b. (d x : ℕ)
+            → (disk_of b).reads d x ≡ blank devices sectors d x) }
+        ensures leaves { IfOk result (λ b. (d x : ℕ)
+            → (disk_of b).leaves (disk_of b).clock d x ≡ blank devices sectors d x) }
+        ensures faults { IfOk result (λ b. (d : ℕ) → (disk_of b).faults d ≡ 0) }
+        ensures made { IfOk result (λ b. (d : ℕ) → made_on b d ≡ 0) }
+        ensures listed { IfOk result (λ b. listed_calls b ≡ []) }
+        ensures starts { IfOk result (λ b. listed_starts b ≡ []) }
+    {
+        let first = shelf::blank_shelf(alloc, devices, sectors)?;
+        let now = shelf::blank_shelf(alloc, devices, sectors)?;
+        let faults = shelf::counters(alloc, devices)?;
+        let made = shelf::counters(alloc, devices)?;
+        let plan = Plan {
+            total: 0,
+            made,
+            faults,
+            fails: Vec::new(alloc),
+            starts: Vec::new(alloc),
+        };
+        Ok(MemBank {
+            sectors,
+            first,
+            now,
+            calls: Vec::new(alloc),
+            plan,
+        })
+    }
+
+    /// Lets these calls fail besides, each by its device and its number on it, from 0.
+    pub fn fail_at(&mut self, calls: &[(u32, u64)]) -> Result<(), AllocError>
+        ensures ok { OnOk result (listed_calls self.new ≡ listed_calls self.old ++ calls.now) }
+        ensures err { OnErr result (listed_calls self.new ≡ listed_calls self.old) }
+        ensures same { disk_of self.new ≡ disk_of self.old }
+        ensures made { (d : ℕ) → made_on self.new d ≡ made_on self.old d }
+        ensures starts { listed_starts self.new ≡ listed_starts self.old }
+    {
+        self.plan.fails.extend_from_slice(calls)
+    }
+
+    /// Lets all calls on this device fail from this number on, counted on it from 0.
+    pub fn fail_from(&mut self, device: u32, call: u64) -> Result<(), AllocError>
+        ensures ok { OnOk result
+            (listed_starts self.new ≡ listed_starts self.old ++ (device, call) ∷ []) }
+        ensures err { OnErr result (listed_starts self.new ≡ listed_starts self.old) }
+        ensures same { disk_of self.new ≡ disk_of self.old }
+        ensures made { (d : ℕ) → made_on self.new d ≡ made_on self.old d }
+        ensures listed { listed_calls self.new ≡ listed_calls self.old }
+    {
+        self.plan.starts.push((device, call))?;
+        Ok(())
+    }
+}
+
+impl MemBank {
+    ghost use Rattle.bank_mem.specs.Record.{content};
+    ghost use Rattle.bank_mem.specs.MemBank.{disk_of, made_on, listed_calls, listed_starts};
+
+    /// Devices that hold what these images hold, sector by sector, all of it on the disk, of which
+    /// no call fails.
+    pub fn from_images(alloc: Global, images: Vec<Vec<[u8; 512]>>) -> Result<MemBank, ImagesRefused>
+        ensures devices { IfOk result (λ b. (disk_of b).devices ≡ length images.items) }
+        ensures sectors { IfOk result (λ b. AllWide images.items (disk_of b).sectors) }
+        ensures reads { IfOk result (λ b. (d x : ℕ)
+            → (disk_of b).reads d x ≡ content images.items d x) }
+        ensures leaves { IfOk result (λ b. (d x : ℕ)
+            → (disk_of b).leaves (disk_of b).clock d x ≡ content images.items d x) }
+        ensures faults { IfOk result (λ b. (d : ℕ) → (disk_of b).faults d ≡ 0) }
+        ensures made { IfOk result (λ b. (d : ℕ) → made_on b d ≡ 0) }
+        ensures listed { IfOk result (λ b. listed_calls b ≡ []) }
+        ensures starts { IfOk result (λ b. listed_starts b ≡ []) }
+
+        ensures cause_unequal { result ≡ Err ImagesRefused.Unequal → (n : ℕ)
+            → AllWide images.items n → ⊥ }
+        ensures cause_many { result ≡ Err ImagesRefused.TooMany → 2 ^ 32 ≤ length images.items }
+    {
+        if images.len() as u64 > u32::MAX as u64 {
+            return Err(ImagesRefused::TooMany);
+        }
+        let devices = images.len() as u32;
+        let sectors = match images.first() {
+            Some(row) => row.len() as u64,
+            None => 0,
+        };
+        if !shelf::is_wide(&images, sectors) {
+            return Err(ImagesRefused::Unequal);
+        }
+        let first = shelf::copy_shelf(alloc, &images)?;
+        let plan = Plan {
+            total: 0,
+            made: shelf::counters(alloc, devices)?,
+            faults: shelf::counters(alloc, devices)?,
+            fails: Vec::new(alloc),
+            starts: Vec::new(alloc),
+        };
+        Ok(MemBank {
+            sectors,
+            first,
+            now: images,
+            calls: Vec::new(alloc),
+            plan,
+        })
+    }
+}
+
+impl MemBank {
+    ghost use Rattle.bank_mem.specs.Record.{filled};
+    ghost use Rattle.bank_mem.specs.Spoiled.{Spoiled};
+    ghost use Rattle.bank_mem.specs.MemBank.{disk_of, made_on, listed_calls, listed_starts};
+
+    /// Sets all bytes of a sector to this one, on the disk, as a sector that rots there. It is no
+    /// call, raises no count of faults, and takes memory for its record.
+    pub fn spoil(&mut self, device: u32, sector: u64, byte: u8) -> Result<(), AllocError>
+        requires device { device < (disk_of self.old).devices }
+        requires sector { sector < (disk_of self.old).sectors }
+        ensures ok { OnOk result
+            (Spoiled (disk_of self.old) (disk_of self.new) device sector (filled byte)) }
+        ensures err { OnErr result (disk_of self.new ≡ disk_of self.old) }
+        ensures faults { (d : ℕ) → (disk_of self.new).faults d ≡ (disk_of self.old).faults d }
+        ensures made { (d : ℕ) → made_on self.new d ≡ made_on self.old d }
+        ensures listed { listed_calls self.new ≡ listed_calls self.old }
+        ensures starts { listed_starts self.new ≡ listed_starts self.old }
+    {
+        let number = self.plan.total;
+        let bytes = shelf::filled_sector(byte);
+        let call = Call::Spoil {
+            number,
+            device,
+            sector,
+            bytes,
+        };
+        self.calls.push(call)?;
+        shelf::put_sector(&mut self.now, device as usize, sector as usize, &bytes);
+        Ok(())
+    }
+}
+
+impl Bank for MemBank {
+    ghost use Rattle.bank_trait.specs.Causes.{Rose};
+    ghost use Rattle.bank_trait.specs.Disk.{Unchanged, Wrote, Synced};
+    ghost use Rattle.bank_mem.specs.Listed.{counted_on};
+    ghost use Rattle.bank_mem.specs.MemBank.{disk_of, made_on, FailsNext};
+    ghost use Rattle.bank_mem.specs.Laws.{lawful};
+
+    ghost disk = { disk_of };
+
+    ghost lawful = { λ b. lawful b.sectors b.first.items b.now.items b.calls.items b.plan.faults.items b.same };
+
+    fn devices(&self) -> u32 {
+        self.now.len() as u32
+    }
+
+    fn sectors(&self) -> u64 {
+        self.sectors
+    }
+
+    /// A read fails where it is listed, and nowhere else.
+    fn read(&mut self, device: u32, sector: u64, into: &mut [u8; 512]) -> Result<(), Failed>
+        requires device { device < (disk_of self.old).devices }
+        requires sector { sector < (disk_of self.old).sectors }
+        ensures bytes { OnOk result ((bytes : List ℕ)
+            → (disk_of self.old).reads device sector ≡ Some bytes → into.new ≡ bytes) }
+        ensures failed { OnErr result
+            (Rose ((disk_of self.old).faults device) ((disk_of self.new).faults device)) }
+        ensures unchanged { Unchanged (disk_of self.old) (disk_of self.new) }
+        ensures listed { OnOk result (FailsNext self.old device → ⊥) }
+        ensures only_listed { OnErr result (FailsNext self.old device) }
+        ensures made { (d : ℕ) → made_on self.new d ≡ counted_on (made_on self.old) device d }
+    {
+        if self.plan.fails_now(device) {
+            return Err(Failed);
+        }
+        let row = &self.now[device as usize];
+        *into = row[sector as usize];
+        Ok(())
+    }
+
+    /// A write fails where it is listed, and else only where its record finds no memory.
+    fn write(&mut self, device: u32, sector: u64, from: &[u8; 512]) -> Result<(), Failed>
+        requires device { device < (disk_of self.old).devices }
+        requires sector { sector < (disk_of self.old).sectors }
+        ensures wrote { Wrote (disk_of self.old) (disk_of self.new) device sector from.now result }
+        ensures listed { OnOk result (FailsNext self.old device → ⊥) }
+        ensures made { (d : ℕ) → made_on self.new d ≡ counted_on (made_on self.old) device d }
+    {
+        let number = self.plan.total;
+        if self.plan.fails_now(device) {
+            let torn = Call::FailedWrite {
+                number,
+                device,
+                sector,
+                bytes: *from,
+            };
+            record::note(&mut self.calls, torn);
+            return Err(Failed);
+        }
+        let call = Call::Write {
+            number,
+            device,
+            sector,
+            bytes: *from,
+        };
+        if self.calls.push(call).is_err() {
+            self.plan.count_fault(device);
+            return Err(Failed);
+        }
+        shelf::put_sector(&mut self.now, device as usize, sector as usize, from);
+        Ok(())
+    }
+
+    /// A sync fails where it is listed, and else only where its record finds no memory.
+    fn sync(&mut self, device: u32) -> Result<(), Failed>
+        requires { device < (disk_of self.old).devices }
+        ensures synced { Synced (disk_of self.old) (disk_of self.new) device result }
+        ensures listed { OnOk result (FailsNext self.old device → ⊥) }
+        ensures made { (d : ℕ) → made_on self.new d ≡ counted_on (made_on self.old) device d }
+    {
+        let number = self.plan.total;
+        if self.plan.fails_now(device) {
+            return Err(Failed);
+        }
+        if self.calls.push(Call::Sync { number, device }).is_err() {
+            self.plan.count_fault(device);
+            return Err(Failed);
+        }
+        Ok(())
+    }
+}

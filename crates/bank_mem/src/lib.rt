@@ -1,0 +1,22 @@
+//! A bank of devices in memory, and a source and a sink in memory.
+//!
+//! The bank keeps what its devices first held, what they hold now, and a record of its writes and
+//! syncs; what a crash at any moment may leave is computed from that record. Calls can be listed to
+//! fail. Read `specs/Record.antt`, then `specs/MemBank.antt`. Stands on `bank_trait`.
+#![tactic(auto)]
+
+mod bank;
+mod plan;
+mod record;
+mod refused;
+mod shelf;
+mod sink;
+mod source;
+#[cfg(test)]
+mod tests;
+
+pub use bank::MemBank;
+pub use record::Call;
+pub use refused::ImagesRefused;
+pub use sink::MemSink;
+pub use source::MemSource;

@@ -1,0 +1,112 @@
+// Worked rows of the bank, the source and the sink.
+use crate::{ImagesRefused, MemBank, MemSink, MemSource};
+use bank_trait::{Bank, Failed, Sink, Source};
+use std::test::Fail;
+
+#[test]
+fn a_write_is_read_back_from_its_sector_alone(rt: HostRuntime) -> Result<(), Fail> {
+    let mut bank = MemBank::new(rt.alloc(), 3, 4)?;
+    assert_eq!(rt; bank.devices(), 3);
+    assert_eq!(rt; bank.sectors(), 4);
+    assert_eq!(rt; bank.write(1, 2, &[7; 512]), Ok(()));
+    assert_eq!(rt; bank.sync(1), Ok(()));
+    for (device, sector, wanted) in [(0, 2, 0), (1, 1, 0), (1, 2, 7), (1, 3, 0), (2, 2, 0)] {
+        assert!(rt; device < bank.devices() && sector < bank.sectors());
+        let mut bytes = [1; 512];
+        assert_eq!(rt; bank.read(device, sector, &mut bytes), Ok(()));
+        assert!(rt; bytes == [wanted; 512], "at {device}, {sector}");
+    }
+    Ok(())
+}
+
+#[test]
+fn listed_calls_fail_and_change_nothing_that_is_read(rt: HostRuntime) -> Result<(), Fail> {
+    let mut bank = MemBank::new(rt.alloc(), 2, 2)?;
+    bank.fail_at(&[(0, 1), (1, 0)])?;
+    bank.fail_at(&[(0, 2)])?;
+    let mut bytes = [1; 512];
+    assert_eq!(rt; bank.write(0, 0, &[7; 512]), Ok(()));
+    assert_eq!(rt; bank.write(0, 0, &[8; 512]), Err(Failed));
+    assert_eq!(rt; bank.sync(0), Err(Failed));
+    assert_eq!(rt; bank.read(1, 0, &mut bytes), Err(Failed));
+    assert_eq!(rt; bank.read(0, 0, &mut bytes), Ok(()));
+    assert!(rt; bytes == [7; 512]);
+    Ok(())
+}
+
+#[test]
+fn a_source_hands_over_small_pieces_and_ends(rt: HostRuntime) -> Result<(), Fail> {
+    let mut source = MemSource::new(rt.alloc(), b"abcde", &[1])?;
+    for (wanted, text) in [
+        (Ok(2), *b"ab"),
+        (Err(Failed), *b".."),
+        (Ok(2), *b"cd"),
+        (Ok(1), *b"e."),
+        (Ok(0), *b".."),
+    ] {
+        let mut piece = *b"..";
+        assert_eq!(rt; source.read(&mut piece), wanted);
+        assert!(rt; piece == text);
+    }
+    Ok(())
+}
+
+#[test]
+fn a_sink_takes_what_fits_and_then_fails(rt: HostRuntime) -> Result<(), Fail> {
+    let mut sink = MemSink::with_room(rt.alloc(), 5, &[1])?;
+    for (piece, wanted) in [
+        ("abc", Ok(3)),
+        ("def", Err(Failed)),
+        ("", Ok(0)),
+        ("def", Ok(2)),
+        ("f", Err(Failed)),
+        ("", Ok(0)),
+    ] {
+        assert_eq!(rt; sink.write(piece.as_bytes()), wanted, "at {piece}");
+    }
+    assert_eq!(rt; sink.as_slice(), b"abcde".as_slice());
+    Ok(())
+}
+
+#[test]
+fn all_calls_fail_from_a_number_on(rt: HostRuntime) -> Result<(), Fail> {
+    let mut bank = MemBank::new(rt.alloc(), 2, 2)?;
+    bank.fail_from(1, 1)?;
+    assert_eq!(rt; bank.write(1, 0, &[7; 512]), Ok(()));
+    assert_eq!(rt; bank.sync(1), Err(Failed));
+    assert_eq!(rt; bank.write(1, 0, &[8; 512]), Err(Failed));
+    assert_eq!(rt; bank.sync(0), Ok(()));
+    assert_eq!(rt; bank.sync(1), Err(Failed));
+    Ok(())
+}
+
+#[test]
+fn images_are_held_and_a_sector_can_be_spoiled(rt: HostRuntime) -> Result<(), Fail> {
+    let alloc = rt.alloc();
+    let mut images = Vec::new(alloc);
+    images.push(Vec::from_slice(alloc, &[[1; 512], [2; 512]])?)?;
+    images.push(Vec::from_slice(alloc, &[[3; 512], [4; 512]])?)?;
+    let mut bank = MemBank::from_images(alloc, images)?;
+    assert!(rt; bank.devices() == 2 && bank.sectors() == 2);
+    bank.spoil(1, 0, 9)?;
+    for (device, sector, wanted) in [(0, 0, 1), (0, 1, 2), (1, 0, 9), (1, 1, 4)] {
+        assert!(rt; device < bank.devices() && sector < bank.sectors());
+        let mut bytes = [0; 512];
+        assert_eq!(rt; bank.read(device, sector, &mut bytes), Ok(()));
+        assert!(rt; bytes == [wanted; 512], "at {device}, {sector}");
+    }
+    Ok(())
+}
+
+#[test]
+fn images_of_unequal_lengths_are_refused(rt: HostRuntime) -> Result<(), Fail> {
+    let alloc = rt.alloc();
+    let mut images = Vec::new(alloc);
+    images.push(Vec::from_slice(alloc, &[[1; 512]])?)?;
+    images.push(Vec::new(alloc))?;
+    match MemBank::from_images(alloc, images) {
+        Ok(_) => assert!(rt; false),
+        Err(refused) => assert_eq!(rt; refused, ImagesRefused::Unequal),
+    }
+    Ok(())
+}
