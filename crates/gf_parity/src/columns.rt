@@ -1,0 +1,135 @@
+// The parity columns of a row. Each sum is taken from the left, so that no power is ever computed.
+
+ghost use Rattle.std.specs.Prelude.{◌≡◌, ℕ, ◌<◌, slice_index, bit_xor};
+ghost use Rattle.gf_parity.specs.Field.{product};
+ghost use Rattle.gf_parity.specs.Parity.{parity_column};
+
+use crate::mul2;
+
+/// The first parity column of a row's content columns: their sum.
+pub fn parity_p(content: &[[u8; 512]], out: &mut [u8; 512])
+    ensures { out.new ≡ parity_column 0 content.now }
+{
+    clear(out);
+    for column in content {
+        add(out, column);
+    }
+}
+
+/// The second parity column: from column to column the weight halves, and the last one's is 1.
+pub fn parity_q(content: &[[u8; 512]], out: &mut [u8; 512])
+    ensures { out.new ≡ parity_column 1 content.now }
+{
+    clear(out);
+    for column in content {
+        double_and_add(out, column);
+    }
+}
+
+/// The third parity column, where the weights fall by quarters.
+pub fn parity_r(content: &[[u8; 512]], out: &mut [u8; 512])
+    ensures { out.new ≡ parity_column 2 content.now }
+{
+    clear(out);
+    for column in content {
+        quadruple_and_add(out, column);
+    }
+}
+
+/// The parity column of this number, from 0.
+pub fn parity(which: u32, content: &[[u8; 512]], out: &mut [u8; 512])
+    requires { which < 3 }
+    ensures { out.new ≡ parity_column which content.now }
+{
+    match which {
+        0 => parity_p(content, out),
+        1 => parity_q(content, out),
+        _ => parity_r(content, out),
+    }
+}
+
+/// Adds a column to another.
+pub fn add(out: &mut [u8; 512], column: &[u8; 512])
+    ensures { (at : ℕ) → at < 512 → slice_index out.new at
+        ≡ bit_xor (slice_index out.old at) (slice_index column.now at) }
+{
+    for (at, byte) in column.iter().enumerate() {
+        out[at] ^= *byte;
+    }
+}
+
+fn clear(out: &mut [u8; 512])
+    ensures { (at : ℕ) → at < 512 → slice_index out.new at ≡ 0 }
+{
+    for sum in out.iter_mut() {
+        *sum = 0;
+    }
+}
+
+fn double_and_add(out: &mut [u8; 512], column: &[u8; 512])
+    ensures { (at : ℕ) → at < 512 → slice_index out.new at
+        ≡ bit_xor (product 2 (slice_index out.old at)) (product 1 (slice_index column.now at)) }
+{
+    for (at, byte) in column.iter().enumerate() {
+        out[at] = doubled_with(out[at], *byte);
+    }
+}
+
+fn quadruple_and_add(out: &mut [u8; 512], column: &[u8; 512])
+    ensures { (at : ℕ) → at < 512 → slice_index out.new at
+        ≡ bit_xor (product 4 (slice_index out.old at)) (product 1 (slice_index column.now at)) }
+{
+    for (at, byte) in column.iter().enumerate() {
+        out[at] = quadrupled_with(out[at], *byte);
+    }
+}
+
+#[tactic(auto, using(crate::proofs::Laws::one_product))]
+fn doubled_with(sum: u8, byte: u8) -> u8
+    ensures { result ≡ bit_xor (product 2 sum) (product 1 byte) }
+{
+    mul2(sum) ^ byte
+}
+
+#[tactic(auto, using(crate::proofs::Laws::one_product, crate::proofs::Laws::double_twice))]
+fn quadrupled_with(sum: u8, byte: u8) -> u8
+    ensures { result ≡ bit_xor (product 4 sum) (product 1 byte) }
+{
+    mul2(mul2(sum)) ^ byte
+}
+
+#[cfg(test)]
+mod tests {
+    use crate::{mul, mul2, parity_p, parity_q, parity_r};
+
+    // (content bytes of a row, P, Q, R)
+    const ROWS: [([u8; 3], u8, u8, u8); 3] = [
+        ([0x01, 0x02, 0x04], 0x07, 0x04, 0x1c),
+        ([0x00, 0x80, 0x80], 0x00, 0x9d, 0xba),
+        ([0x01, 0x02, 0x00], 0x03, 0x00, 0x18),
+    ];
+
+    #[test]
+    fn parities_of_worked_rows(rt: HostRuntime) {
+        for (bytes, p, q, r) in ROWS {
+            let content = [[bytes[0]; 512], [bytes[1]; 512], [bytes[2]; 512]];
+            let mut out = [0xff; 512];
+            parity_p(&content, &mut out);
+            assert!(rt; out == [p; 512], "P of {bytes:?}");
+            parity_q(&content, &mut out);
+            assert!(rt; out == [q; 512], "Q of {bytes:?}");
+            parity_r(&content, &mut out);
+            assert!(rt; out == [r; 512], "R of {bytes:?}");
+        }
+    }
+
+    #[test]
+    fn products_of_bytes(rt: HostRuntime) {
+        assert_eq!(rt; (mul2(0x40), mul2(0x80), mul2(0xff)), (0x80, 0x1d, 0xe3));
+        assert_eq!(rt;
+            (mul(0x80, 0x02), mul(0x53, 0x01), mul(0x00, 0x53)),
+            (0x1d, 0x53, 0x00)
+        );
+        assert_eq!(rt; (mul(0x8e, 0x02), mul(0x02, 0x8e)), (0x01, 0x01));
+    }
+}

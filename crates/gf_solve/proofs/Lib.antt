@@ -1,0 +1,9 @@
+pub mod Units
+pub mod Sums
+pub mod Weights
+pub mod Singled
+pub mod Counting
+pub mod Found
+pub mod Restored
+pub mod Filled
+pub mod Solved

@@ -1,0 +1,8 @@
+use Rattle.std.proofs.Common.{arith}
+use Rattle.gf_solve.proofs.Filled.{filled_one}
+use Rattle.gf_solve.proofs.filling.fill_one.Goals as goal
+
+pub returns-clause-filled : goal.returns-clause-filled
+returns-clause-filled c = λ was sectors agree parity.
+    filled_one was c.args.content.now c.zeros.result sectors c.zeros.ensures c.args.which c.args.first c.point_among.result _ c.lack-column.result c.single_out_one.new.lack
+    (omega arith) c.requires.first agree parity (record { byte = c.lack-column.ensures }) c.point_among.ensures.value c.single_out_one.array_long c.single_out_one.ensures

@@ -1,0 +1,26 @@
+use Rattle.std.proofs.Common.{◌≡◌, ◌∙◌, ℕ, ◌-◌, sym, ap, arith}
+use Rattle.std.specs.Prelude.{slice_index, bit_xor}
+use Rattle.gf_parity.specs.Field.{product}
+use Rattle.gf_parity.proofs.Laws.{product_below}
+use Rattle.gf_solve.specs.Weight.{weight, share}
+use Rattle.gf_solve.proofs.Singled.{weight_below, weights_differ, share_steps}
+use Rattle.gf_solve.proofs.singling.single_out_two.Goals as goal
+
+pub split-requires : goal.split-requires
+split-requires c = λ same.
+    weights_differ (c.args.later_which - c.args.sooner_which) c.args.x c.args.y (omega arith) (omega arith) (omega arith) c.requires.differ
+    (sym c.weight.ensures ∙ same ∙ c.weight-2.ensures)
+
+pub returns : goal.returns
+returns c = λ at first second low byte other sooner later.
+    let between = c.args.later_which - c.args.sooner_which in
+    let first_share = share c.args.sooner_which c.args.x first in
+    let second_share = share c.args.sooner_which c.args.y second in
+    let told : slice_index c.args.later.now at ≡ bit_xor (product c.weight.result first_share) (product c.weight-2.result second_share) =
+    later
+    ∙ ap (λ (k : ℕ). bit_xor k (share c.args.later_which c.args.y second))
+    (share_steps c.args.sooner_which c.args.later_which c.args.x first c.requires.order c.requires.which (omega arith) ∙ ap (λ (k : ℕ). product k first_share) (sym c.weight.ensures))
+    ∙ ap (bit_xor (product c.weight.result first_share))
+    (share_steps c.args.sooner_which c.args.later_which c.args.y second c.requires.order c.requires.which (omega arith) ∙ ap (λ (k : ℕ). product k second_share) (sym c.weight-2.ensures)) in
+    let apart = c.split.ensures at first_share second_share low (product_below (weight c.args.sooner_which c.args.x) first (weight_below c.args.sooner_which c.args.x (omega arith))) sooner told in
+    (c.single_out_one.ensures at first low byte apart.0, c.single_out_one-2.ensures at second low other apart.1)

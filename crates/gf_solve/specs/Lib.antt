@@ -1,0 +1,4 @@
+pub mod Inverse
+pub mod Weight
+pub mod Row
+pub mod Gaps

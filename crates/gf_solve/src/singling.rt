@@ -1,0 +1,83 @@
+// Single columns out of what parities lack of them.
+
+ghost use Rattle.std.specs.Prelude.{◌≡◌, ◌≢◌, ℕ, ◌<◌, slice_index};
+ghost use Rattle.gf_solve.specs.Weight.{weight, share, two_shares, three_shares};
+
+use crate::columns::{add_times, scale, split};
+use crate::field::inverse;
+use gf_parity::{add, mul};
+
+/// The one column that a parity lacks, from its share.
+pub fn single_out_one(which: u32, x: u8, lack: &mut [u8; 512])
+    requires which { which < 3 }
+    requires x { x ≢ 0 }
+    ensures { (at first : ℕ) → at < 512 → first < 256
+        → slice_index lack.old at ≡ share which x first → slice_index lack.new at ≡ first }
+{
+    scale(lack, inverse(weight(which, x)));
+}
+
+/// The two columns that two parities lack: `later` becomes the first, `sooner` the second.
+pub fn single_out_two(
+    sooner_which: u32,
+    later_which: u32,
+    x: u8,
+    y: u8,
+    sooner: &mut [u8; 512],
+    later: &mut [u8; 512],
+)
+    requires order { sooner_which < later_which }
+    requires which { later_which < 3 }
+    requires x { x ≢ 0 }
+    requires y { y ≢ 0 }
+    requires differ { x ≢ y }
+    ensures { (at first second : ℕ) → at < 512 → first < 256 → second < 256
+        → slice_index sooner.old at ≡ two_shares sooner_which x y first second
+        → slice_index later.old at ≡ two_shares later_which x y first second
+        → (slice_index later.new at ≡ first) × (slice_index sooner.new at ≡ second) }
+{
+    let between = later_which - sooner_which;
+    split(sooner, later, weight(between, x), weight(between, y));
+    single_out_one(sooner_which, x, later);
+    single_out_one(sooner_which, y, sooner);
+}
+
+fn weight(which: u32, point: u8) -> u8
+    requires { which < 3 }
+    ensures { result ≡ weight which point }
+{
+    match which {
+        0 => 1,
+        1 => point,
+        _ => mul(point, point),
+    }
+}
+
+/// The three columns that the three parities lack: `r` becomes the first, `q` the second, `p` the
+/// third.
+pub fn single_out_three(
+    x: u8,
+    y: u8,
+    z: u8,
+    p: &mut [u8; 512],
+    q: &mut [u8; 512],
+    r: &mut [u8; 512],
+)
+    requires x_y { x ≢ y }
+    requires x_z { x ≢ z }
+    requires y_z { y ≢ z }
+    ensures { (at first second third : ℕ) → at < 512 → first < 256 → second < 256 → third < 256
+        → slice_index p.old at ≡ three_shares 0 x y z first second third
+        → slice_index q.old at ≡ three_shares 1 x y z first second third
+        → slice_index r.old at ≡ three_shares 2 x y z first second third
+        → (slice_index r.new at ≡ first) × (slice_index q.new at ≡ second)
+        × (slice_index p.new at ≡ third) }
+{
+    add_times(r, q, z);
+    add_times(q, p, z);
+    split(q, r, x, y);
+    scale(r, inverse(x ^ z));
+    scale(q, inverse(y ^ z));
+    add(p, r);
+    add(p, q);
+}

@@ -1,0 +1,75 @@
+-- A mask without the columns that are missing.
+use Rattle.std.proofs.Common.{◌≡◌, ℕ, zero, suc, ◌+◌, ◌-◌, ◌*◌, ◌/◌, ◌%◌, ◌^◌, ◌<◌, ◌≤◌, Bool, true, false, refl, sym, ◌∙◌, ap, arith, ⊎_elim}
+use Rattle.std.specs.Prelude.{bit_and, ◌&&◌, ◌==◌, nat_lt}
+use Rattle.std.proofs.lemmas.Bool.{cases_lt}
+use Rattle.std.proofs.lemmas.Bool.Decides.{nat_tests}
+use Rattle.std.proofs.lemmas.Nat.{and_mask, field_of, mod-pow-add, pow-add, pow_pos, shr_high, shr_below}
+use Rattle.std.proofs.Math.Nat.{pow-le-pow_right, mod-lt, add-mul, one-mul}
+use Rattle.gf_solve.specs.Row.{is_masked, count_lost}
+use Rattle.gf_solve.proofs.Counting.{count_split, count_alike}
+
+-- Of all bits the lowest ones stay.
+low_bits : (width : ℕ) → width ≤ 64 → 18446744073709551615 / 2 ^ (64 - width) ≡ 2 ^ width - 1
+low_bits width few =
+    let bits : 64 ≡ width + (64 - width) = omega (arith, few) in
+    let whole : 18446744073709551616 ≡ 2 ^ width * 2 ^ (64 - width) = ap (λ (k : ℕ). 2 ^ k) bits ∙ pow-add 2 width (64 - width) in
+    let one : 2 ^ width ≡ 2 ^ width - 1 + 1 = omega (arith, pow_pos width) in
+    let split : 2 ^ width * 2 ^ (64 - width) ≡ (2 ^ width - 1) * 2 ^ (64 - width) + 2 ^ (64 - width) =
+    ap (λ (k : ℕ). k * 2 ^ (64 - width)) one ∙ add-mul (2 ^ width - 1) 1 (2 ^ (64 - width)) ∙ omega (arith, one-mul (2 ^ (64 - width))) in
+    let number : 18446744073709551615 ≡ (2 ^ width - 1) * 2 ^ (64 - width) + (2 ^ (64 - width) - 1) = omega (arith, whole, split, pow_pos (64 - width)) in
+    ap (λ (k : ℕ). k / 2 ^ (64 - width)) number ∙ shr_high (2 ^ width - 1) (64 - width) (2 ^ (64 - width) - 1) (omega (arith, pow_pos (64 - width)))
+
+-- The lowest bit of what is left of a number.
+last_of_rest : (number more : ℕ) → (number % 2 ^ (more + 1)) % 2 ≡ number % 2
+last_of_rest number more = ap (λ (k : ℕ). k % 2) (mod-pow-add number more 1) ∙ omega arith
+
+-- A bit below the width is the mask's, and there is none above.
+kept_bit : (mask width column : ℕ) → column < width → (mask % 2 ^ width / 2 ^ column) % 2 ≡ (mask / 2 ^ column) % 2
+kept_bit mask width column low =
+    let split : width ≡ (width - suc column + 1) + column = omega (arith, low) in
+    ap (λ (k : ℕ). (mask % 2 ^ k / 2 ^ column) % 2) split ∙ ap (λ (k : ℕ). k % 2) (field_of mask (width - suc column + 1) column)
+    ∙ last_of_rest (mask / 2 ^ column) (width - suc column)
+
+dropped_bit : (mask width column : ℕ) → width ≤ column → mask % 2 ^ width / 2 ^ column ≡ 0
+dropped_bit mask width column high =
+    let below : mask % 2 ^ width < 2 ^ width = mod-lt mask (pow_pos width) in
+    let power : 2 ^ width ≤ 2 ^ column = pow-le-pow_right {n = 2} (omega arith) {i = width} {j = column} high in
+    let none : mask % 2 ^ width / 2 ^ column < 2 ^ 0 = shr_below (mask % 2 ^ width) 0 column (under (omega (arith, below, power))) in
+    omega (arith, none)
+  where
+    under : mask % 2 ^ width < 2 ^ column → mask % 2 ^ width < 2 ^ (0 + column)
+    under less = let plus : column ≡ 0 + column = omega arith in rw (← plus) less
+
+pub masked_low : (mask width column : ℕ) → width ≤ 64
+    → is_masked (bit_and mask (18446744073709551615 / 2 ^ (64 - width))) column ≡ (nat_lt column width && is_masked mask column)
+masked_low mask width column few =
+    ap (λ (k : ℕ). is_masked k column) (ap (bit_and mask) (low_bits width few) ∙ and_mask mask width)
+    ∙ ⊎_elim (λ low. let test : nat_lt column width ≡ true = grind (arith, nat_tests, low) in
+    ap (λ (k : ℕ). k == 1) (kept_bit mask width column low) ∙ ap (λ (t : Bool). t && is_masked mask column) (sym test))
+    (λ high. let test : nat_lt column width ≡ false = grind (arith, nat_tests, high) in
+    ap (λ (k : ℕ). (k % 2) == 1) (dropped_bit mask width column high) ∙ ap (λ (t : Bool). t && is_masked mask column) (sym test))
+    (cases_lt column width)
+
+none_counted : (lost : ℕ → Bool) (first some : ℕ) → ((k : ℕ) → k < some → lost (first + k) ≡ false) → count_lost lost first some ≡ 0
+none_counted lost first some none = count_alike lost (λ (k : ℕ). false) first 0 some none ∙ nothing 0 some
+  where
+    nothing : (from count : ℕ) → count_lost (λ (k : ℕ). false) from count ≡ 0
+    nothing from zero = refl
+    nothing from (suc count) = ap (λ (k : ℕ). 0 + k) (nothing (from + 1) count)
+
+-- So only columns that aren't missing count.
+pub counted_low : (mask width columns : ℕ) → width ≤ 64 → width ≤ columns
+    → count_lost (is_masked (bit_and mask (18446744073709551615 / 2 ^ (64 - width)))) 0 columns ≡ count_lost (is_masked mask) 0 width
+counted_low mask width columns few room =
+    let parts : columns ≡ width + (columns - width) = omega (arith, room) in
+    ap (count_lost low 0) parts ∙ count_split low 0 width (columns - width)
+    ∙ ap (λ (k : ℕ). k + count_lost low (0 + width) (columns - width))
+    (count_alike low (is_masked mask) 0 0 width (λ k inside. masked_low mask width (0 + k) few
+    ∙ (let test : nat_lt (0 + k) width ≡ true = grind (arith, nat_tests, inside) in ap (λ (t : Bool). t && is_masked mask (0 + k)) test)))
+    ∙ ap (λ (k : ℕ). count_lost (is_masked mask) 0 width + k)
+    (none_counted low (0 + width) (columns - width) (λ k inside. masked_low mask width (0 + width + k) few
+    ∙ (let test : nat_lt (0 + width + k) width ≡ false = grind (arith, nat_tests) in ap (λ (t : Bool). t && is_masked mask (0 + width + k)) test)))
+    ∙ omega arith
+  where
+    low : ℕ → Bool
+    low = is_masked (bit_and mask (18446744073709551615 / 2 ^ (64 - width)))

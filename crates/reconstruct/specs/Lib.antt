@@ -1,0 +1,5 @@
+pub mod Columns
+pub mod Rows
+pub mod Lost
+pub mod Suspects
+pub mod Solved

@@ -1,0 +1,77 @@
+-- The bytes that the columns of a block tell, for each choice of what is lost.
+use Rattle.std.specs.Prelude.{◌≡◌, ℕ, ◌-◌, ◌/◌, ◌%◌, ◌^◌, ◌<◌, ◌≤◌, List, length, Bool, false, ◌||◌, ◌==◌}
+use Rattle.sha2.specs.Sha256.{sha256}
+use Rattle.gf_solve.specs.Row.{count_lost}
+use Rattle.row_layout.specs.Layout.{Layout, IsColumn, rows_of, sector_of, columns_in}
+use Rattle.reconstruct.specs.declared.pair.Pair.{Pair}
+use Rattle.reconstruct.specs.Columns.{column_bytes}
+use Rattle.reconstruct.specs.Suspects.{Choice, IsChoice, IsTriedBefore, suspects_sector}
+
+-- A block's columns as they were read, by row and column; `lost` has a mask of columns for each
+-- row.
+pub record Columns : Type 0 where
+  pub read : ℕ → ℕ → List ℕ
+  pub lost : ℕ → ℕ
+
+-- The column couldn't be read, or a pair of the choice suspects it.
+abbrev pub is_lost : Layout → Columns → List Pair → Choice → ℕ → ℕ → Bool
+is_lost layout columns suspects choice row column =
+    ((columns.lost row / 2 ^ column) % 2 == 1) || suspects_sector suspects choice
+    (sector_of layout row column)
+
+-- More columns of a row are lost than there is parity.
+pub record IsPassedOver (layout : Layout) (lost : ℕ → ℕ → Bool) : Type 0 where
+  pub row : ℕ
+  pub row_in : row < rows_of layout
+  pub many : layout.parity < count_lost (lost row) 0 (columns_in layout row)
+
+-- The parity column serves for solving: of those that aren't lost the lowest do, as many as content
+-- columns are lost.
+pub record Serves (layout : Layout) (lost : ℕ → ℕ → Bool) (row which : ℕ) : Type 0 where
+  pub parity : which < layout.parity
+  pub there : lost row which ≡ false
+  pub wanted : which - count_lost (lost row) 0 which
+      < count_lost (lost row) layout.parity (columns_in layout row - layout.parity)
+
+-- The bytes have the length, and the content columns that are there and the parity that serves are
+-- theirs.
+pub record IsSolution (layout : Layout) (columns : Columns) (lost : ℕ → ℕ
+    → Bool) (len : ℕ) (bytes : List ℕ) : Type 0 where
+  pub wide : length bytes ≡ len
+  pub content : (row column : ℕ) → IsColumn layout row column → layout.parity ≤ column
+      → lost row column ≡ false
+      → columns.read row column ≡ column_bytes layout bytes row column
+  pub parity : (row which : ℕ) → row < rows_of layout → Serves layout lost row which
+      → columns.read row which ≡ column_bytes layout bytes row which
+
+-- what is asked: a block's columns, length and digest, and the suspects
+pub record Question : Type 0 where
+  pub layout : Layout
+  pub columns : Columns
+  pub len : ℕ
+  pub sha : List ℕ
+  pub suspects : List Pair
+
+-- A choice gives these bytes, which have the digest.
+pub record IsGiven (question : Question) (choice : Choice) (bytes : List ℕ) : Type 0 where
+  pub choice_is : IsChoice question.suspects question.layout.parity choice
+  pub tried : IsPassedOver question.layout
+      (is_lost question.layout question.columns question.suspects choice) → ⊥
+  pub solves : IsSolution question.layout question.columns
+      (is_lost question.layout question.columns question.suspects choice) question.len bytes
+  pub digest : sha256 bytes ≡ question.sha
+
+-- the answer: the bytes of the first choice that gives any
+pub record IsDecoded (question : Question) (bytes : List ℕ) : Type 0 where
+  pub choice : Choice
+  pub given : IsGiven question choice bytes
+  pub first : (other : Choice) (wrong : List ℕ) → IsTriedBefore other choice
+      → IsGiven question other wrong → ⊥
+
+-- No choice gives bytes with the digest.
+abbrev pub IsDamaged : Question → Type 0
+IsDamaged question = (choice : Choice) (bytes : List ℕ) → IsGiven question choice bytes → ⊥
+
+-- No choice gives other bytes with the digest of these.
+pub record HasNoFalseChoice (question : Question) (bytes : List ℕ) : Type 0 where
+  pub none : (choice : Choice) (other : List ℕ) → IsGiven question choice other → other ≡ bytes

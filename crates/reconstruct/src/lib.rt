@@ -1,0 +1,25 @@
+//! A block's rows from its bytes, and its bytes back from what is left of the rows.
+//!
+//! All columns of a block stand in one piece of memory, row after row, the missing ones zero. What
+//! each one holds is told by `specs/Columns.antt`: read it first, then `specs/Rows.antt`. Where
+//! bytes don't have the block's digest, pairs of a width and a device are suspected in a fixed
+//! order (`specs/Suspects.antt`). Stands on `gf_parity`, `gf_solve`, `row_layout` and `width_map`.
+#![tactic(auto)]
+
+mod decoding;
+mod encoding;
+mod pair;
+mod reading;
+mod refusal;
+mod rows;
+mod sectors;
+
+pub use decoding::decode;
+pub use encoding::encode;
+pub use pair::Pair;
+pub use reading::content;
+pub use refusal::DecodeRefused;
+pub use rows::Rows;
+
+#[cfg(test)]
+mod tests;

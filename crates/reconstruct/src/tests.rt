@@ -1,0 +1,63 @@
+use crate::{DecodeRefused, Rows, content, decode, encode};
+use row_layout::Layout;
+use std::alloc::AllocError;
+
+// Five sectors and not all of the last one, at sector 10, parity 1, width 4.
+const LEN: usize = 2500;
+
+fn block() -> [u8; LEN] {
+    let mut bytes = [0; LEN];
+    for (at, byte) in bytes.iter_mut().enumerate() {
+        *byte = (at % 251) as u8;
+    }
+    bytes
+}
+
+#[test]
+fn encoded_bytes_are_read_back(rt: HostRuntime) -> Result<(), AllocError> {
+    let layout = Layout::of(10, 5, 1, 4);
+    let bytes = block();
+    let rows = encode(rt.alloc(), &layout, &bytes)?;
+    let back = content(rt.alloc(), &layout, &rows, LEN)?;
+    assert!(rt; back.as_slice() == bytes.as_slice());
+    Ok(())
+}
+
+#[test]
+fn columns_of_a_small_block(rt: HostRuntime) -> Result<(), AllocError> {
+    let layout = Layout::of(0, 1, 2, 6);
+    let rows = encode(rt.alloc(), &layout, b"abc")?;
+    let mut sector = [0; 512];
+    sector[0] = b'a';
+    sector[1] = b'b';
+    sector[2] = b'c';
+    assert!(rt; *rows.column(0, 0) == sector, "P");
+    assert!(rt; *rows.column(0, 1) == sector, "Q");
+    assert!(rt; *rows.column(0, 2) == sector, "content");
+    let mut blank = Rows::blank(rt.alloc(), &layout)?;
+    assert!(rt; *blank.column(0, 2) == [0; 512], "blank");
+    blank.put(0, 2, &sector);
+    assert!(rt; *blank.column(0, 2) == sector, "put");
+    Ok(())
+}
+
+// Five sectors, parity 1, width 4: rows of columns 0 to 3 and 0 to 2.
+#[test]
+fn lost_columns_come_back_or_are_too_many(rt: HostRuntime) -> Result<(), AllocError> {
+    let layout = Layout::of(10, 5, 1, 4);
+    let bytes = block();
+    let mut rows = encode(rt.alloc(), &layout, &bytes)?;
+    rows.put(0, 2, &[0xee; 512]);
+    rows.put(1, 2, &[0xee; 512]);
+    let back = decode(rt.alloc(), &layout, &rows, LEN, &[0b0100, 0b0100]);
+    assert!(rt;
+        back.is_ok_and(|back| back.as_slice() == bytes.as_slice()),
+        "column 2 of both rows"
+    );
+    let refused = decode(rt.alloc(), &layout, &rows, LEN, &[0b0110, 0b0000]);
+    assert!(rt;
+        matches!(refused, Err(DecodeRefused::TooFew { row: 0 })),
+        "columns 1 and 2 of row 0"
+    );
+    Ok(())
+}
