@@ -1,0 +1,17 @@
+//! Where each sector of a block has to be written, while the pool is being widened.
+//!
+//! A write goes to each place at which the sector is read now or may be read after a stop. Read
+//! `specs/Required.antt`, then `specs/Writes.antt`, then `writes`. Stands on `scratch_area` and
+//! `row_layout`.
+#![tactic(auto)]
+
+mod cell;
+mod listing;
+mod needs;
+mod write;
+
+pub use listing::writes;
+pub use write::Write;
+
+#[cfg(test)]
+mod tests;

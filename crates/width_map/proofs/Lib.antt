@@ -1,0 +1,4 @@
+pub mod Rows
+pub mod CopyLimit
+pub mod Growing
+pub mod Tables
