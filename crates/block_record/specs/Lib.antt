@@ -1,0 +1,4 @@
+pub mod Bytes
+pub mod Page
+pub mod Index
+pub mod Refused

@@ -1,0 +1,4 @@
+pub mod Orders
+pub mod Lookups
+pub mod Counts
+pub mod Tables

@@ -1,0 +1,65 @@
+// The list of runs in use, by their start.
+ghost use Rattle.std.specs.Prelude.{◌≡◌, Some, Contains, OnOk, OnErr, slice_get, filter};
+ghost use Rattle.space_alloc.specs.Entries.{IsInserted, IsRemoved, IsReplaced, IsPlace, is_left};
+
+use crate::entry::Entry;
+use std::alloc::AllocError;
+
+/// Puts a run before the first that begins behind it.
+pub fn insert(entries: &mut Vec<Entry>, entry: Entry) -> Result<(), AllocError>
+    ensures ok { OnOk result (IsInserted entries.old.items entries.new.items entry) }
+    ensures err { OnErr result (entries.new.items ≡ entries.old.items) }
+{
+    let at = place(entries, entry.start);
+    entries.insert(at, entry)?;
+    Ok(())
+}
+
+/// The place of the first run that begins behind this sector.
+fn place(entries: &[Entry], start: u64) -> usize
+    ensures { IsPlace entries.now start result }
+{
+    for (at, entry) in entries.iter().enumerate() {
+        if start < entry.start {
+            return at;
+        }
+    }
+    entries.len()
+}
+
+/// Takes away a run that is listed.
+pub fn remove(entries: &mut Vec<Entry>, entry: &Entry)
+    requires { Contains entries.old.items entry.now }
+    ensures { IsRemoved entries.old.items entries.new.items entry.now }
+{
+    let at = position(entries, entry);
+    entries.remove(at);
+}
+
+/// Puts another run in the place of one that is listed.
+pub fn replace(entries: &mut Vec<Entry>, entry: &Entry, other: Entry)
+    requires { Contains entries.old.items entry.now }
+    ensures { IsReplaced entries.old.items entries.new.items entry.now other }
+{
+    let at = position(entries, entry);
+    entries[at] = other;
+}
+
+/// Takes away the runs that are held until this group or an earlier one.
+pub fn remove_until(entries: &mut Vec<Entry>, group: u64)
+    ensures { entries.new.items ≡ filter (is_left group) entries.old.items }
+{
+    entries.retain(|entry| entry.is_left(group));
+}
+
+/// The place of a run that is listed.
+fn position(entries: &[Entry], entry: &Entry) -> usize
+    requires { Contains entries.now entry.now }
+    ensures { slice_get entries.now result ≡ Some entry.now }
+{
+    let mut at = 0;
+    while !entries[at].is(entry) {
+        at += 1;
+    }
+    at
+}
