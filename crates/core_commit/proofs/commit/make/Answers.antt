@@ -1,0 +1,34 @@
+use Rattle.std.proofs.Common.{◌≡◌, sym, subst, ℕ}
+use Rattle.std.specs.Prelude.{◌||◌}
+use Rattle.uberblock_ring.specs.Devices.{has_device, with_device}
+use Rattle.commit_job.specs.Stages.{device_of}
+use Rattle.core_state.specs.Committing.{lost_by}
+use Rattle.core_commit.proofs.Running.{none_lost, one_lost}
+use Rattle.core_commit.proofs.commit.make.Goals as goal
+
+pub returns-then-is_err-clause-made : goal.returns-then-is_err-clause-made
+returns-then-is_err-clause-made g c = record {
+  result = c.call_bank.result;
+  made = c.call_bank.ensures;
+  called = record {
+    in_use = c.requires.in_use;
+    out = λ other.
+        subst (λ (out : ℕ). has_device out other ≡ (has_device c.args.out.now other || lost_by (device_of c.args.call) c.call_bank.result other))
+        (sym c.insert.ensures.value)
+        (subst (λ (device : ℕ). has_device (with_device c.args.out.now device) other ≡ (has_device c.args.out.now other || lost_by (device_of c.args.call) c.call_bank.result other))
+        (sym c.device.ensures.value)
+        (one_lost (device_of c.args.call) c.call_bank.result c.if-is_err.ensures.value c.args.out.now other));
+    lawful = g.met.B.Bank.lawful c.call_bank.new.bank;
+  };
+}
+
+pub returns-else-is_err-clause-made : goal.returns-else-is_err-clause-made
+returns-else-is_err-clause-made g c = record {
+  result = c.call_bank.result;
+  made = c.call_bank.ensures;
+  called = record {
+    in_use = c.requires.in_use;
+    out = λ other. none_lost (device_of c.args.call) c.call_bank.result c.if-is_err.ensures.value c.args.out.now other;
+    lawful = g.met.B.Bank.lawful c.call_bank.new.bank;
+  };
+}

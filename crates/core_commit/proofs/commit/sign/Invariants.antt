@@ -1,0 +1,15 @@
+use Rattle.std.proofs.Common.{length}
+use Rattle.std.specs.Prelude.{All}
+use Rattle.core_commit.specs.Ran.{Ran, IsInside, FitsBank, point_of}
+use Rattle.core_commit.proofs.commit.sign.Given as goal
+
+abbrev pub invariant-loop-call : goal.invariant-loop-call
+invariant-loop-call g l = record {
+  ran : Ran l.uber l.entries l.initial.calls (point_of l.initial.out (g.B.Bank.disk l.initial.bank)) l.calls
+      (point_of l.out (g.B.Bank.disk l.bank));
+  fits : FitsBank l.uber l.entries (g.B.Bank.disk l.bank);
+  inside : All (IsInside l.uber) l.calls;
+}
+
+abbrev pub decreases-loop-call : goal.decreases-loop-call
+decreases-loop-call g l = length l.calls

@@ -1,0 +1,11 @@
+//! A commit: the device calls that make a group the last one.
+//!
+//! The index page goes to each device and is synced there; then an uberblock that names it goes to
+//! each device, and is synced. A device whose call fails is out from then on, and is passed over. Read
+//! `specs/Ran.antt` for what was called, and `core_state`'s `specs/Committing.antt` for what that
+//! keeps. Stands on `commit_job` and `core_state`.
+#![tactic(auto)]
+
+mod commit;
+
+pub use commit::{lay, sign};

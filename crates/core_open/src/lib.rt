@@ -1,0 +1,11 @@
+//! A pool's begin and every later opening of it.
+//!
+//! Creating gives each device an empty ring and the first uberblock. Read `create`. Stands on
+//! `core_state`, whose `specs/Create.antt` says what a new pool is.
+#![tactic(auto)]
+
+mod creating;
+mod why;
+
+pub use creating::{create, data_rows};
+pub use why::OpenWhy;

@@ -1,0 +1,310 @@
+-- Each image of a new pool keeps its first group.
+use Rattle.std.proofs.Common.{◌≡◌, ◌≢◌, ℕ, zero, suc, ◌+◌, ◌-◌, ◌/◌, ◌%◌, ◌^◌, ◌<◌, ◌≤◌, Bool, true, false, List, [], ◌∷◌, Some, None, refl, sym, ◌∙◌, ap, subst, arith, inl, inr, ⊎_elim, mod-lt}
+use Rattle.std.specs.Prelude.{min, All, slice_index, ◌==◌, if◌then◌else◌, nat_eq}
+use Rattle.std.specs.List.{IsDistinct}
+use Rattle.std.proofs.Math.Nat.{zero-div, one-le-pow}
+use Rattle.std.proofs.lemmas.Bool.{cases_lt, cases_eq}
+use Rattle.std.proofs.lemmas.Bool.Decides.{nat_tests}
+use Rattle.bank_trait.specs.Disk.{Image}
+use Rattle.bank_trait.specs.Regions.{zero_sector}
+use Rattle.block_record.specs.Page.{index_page}
+use Rattle.uberblock_ring.specs.Devices.{has_device, count_below}
+use Rattle.uberblock_ring.specs.Uberblock.{Uber, magic, encoded, head_bytes, slot_of, first_uber}
+use Rattle.uberblock_ring.specs.Valid.{IsRightUber}
+use Rattle.uberblock_ring.proofs.Digest.{sha256_is_digest}
+use Rattle.uberblock_ring.proofs.OneSpelling.{encoded_tells}
+use Rattle.core_state.specs.Map.{no_blocks}
+use Rattle.core_state.specs.Index.{IsFitting}
+use Rattle.core_state.specs.Shown.{Shape, Shows, Gives, page_on}
+use Rattle.core_state.specs.Choosing.{Names, IsChosenPool, Outvotes, IsOutAtOpening, IsListedOut}
+use Rattle.core_state.specs.Whole.{Odd, IsWhole}
+use Rattle.core_state.specs.Keeps.{ShowsGroup, Kept, Setting, Keeps, IsKept, ShowsOnly, StandsThere, ShowsCandidate, IsNotOutvoted}
+use Rattle.commit_job.specs.Stages.{plan_of, calls_left}
+use Rattle.core_state.specs.Opening.{Found, IsOpening, copies_of}
+use Rattle.core_state.specs.Create.{IsNew, new_ring, rows_for, first_kept}
+
+-- The empty set has no device.
+pub none_in : (device : ℕ) → has_device 0 device ≡ false
+none_in device = ap (λ (n : ℕ). n % 2 == 1) (zero_over (2 ^ device))
+  where
+    zero_over : (n : ℕ) → 0 / n ≡ 0
+    zero_over n = zero-div n
+
+none_is_in : (device : ℕ) → has_device 0 device ≡ true → ⊥
+none_is_in device is = true_false (sym is ∙ none_in device)
+  where
+    true_false : true ≡ false → ⊥
+    true_false same = cc
+
+-- A set that has fewer than so many of the devices lacks one of them.
+pub lacks_one : (devices count : ℕ) → count_below devices count < count → (device : ℕ) × (device < count) × (has_device devices device ≡ false)
+lacks_one devices zero few = absurd (omega (arith, few))
+lacks_one devices (suc count) few = by_case (has_device devices count) refl (λ less. lacks_one devices count less)
+  where
+    by_case : (has : Bool) → has_device devices count ≡ has
+        → (count_below devices count < count → (device : ℕ) × (device < count) × (has_device devices device ≡ false))
+        → (device : ℕ) × (device < suc count) × (has_device devices device ≡ false)
+    by_case false is lower = (count, omega arith, is)
+    by_case true is lower =
+        let more : count_below devices (suc count) ≡ count_below devices count + 1 = ap (λ (b : Bool). count_below devices count + (if b then 1 else 0)) is in
+        let less : (device : ℕ) × (device < count) × (has_device devices device ≡ false) = lower (omega (arith, few, more)) in
+        (less.0, omega (arith, less.1), less.2)
+
+pub count_grows : (devices count more : ℕ) → count_below devices count ≤ count_below devices (count + more)
+count_grows devices count zero =
+    let same : count_below devices (count + 0) ≡ count_below devices count = ap (count_below devices) (plus_zero count) in omega (arith, same)
+  where
+    plus_zero : (n : ℕ) → n + 0 ≡ n
+    plus_zero n = omega arith
+count_grows devices count (suc more) =
+    let same : count_below devices (count + suc more) ≡ count_below devices (suc (count + more)) = ap (count_below devices) (plus_suc count more) in
+    let next : count_below devices (suc (count + more)) ≡ count_below devices (count + more) + (if has_device devices (count + more) then 1 else 0) = refl in
+    omega (arith, same, next, count_grows devices count more)
+  where
+    plus_suc : (n m : ℕ) → n + suc m ≡ suc (n + m)
+    plus_suc n m = omega arith
+
+none_below : (count : ℕ) → count_below 0 count ≡ 0
+none_below zero = refl
+none_below (suc count) =
+    let next : count_below 0 (suc count) ≡ count_below 0 count + 0 = ap (λ (b : Bool). count_below 0 count + (if b then 1 else 0)) (none_in count) in
+    omega (arith, none_below count, next)
+
+-- The first byte of an uberblock is no zero.
+pub first_byte : (uber : Uber) (device : ℕ) → slice_index (encoded uber device) 0 ≡ 0x52
+unfolding encoded head_bytes magic
+first_byte uber device = refl
+
+zero_byte : slice_index zero_sector 0 ≡ 0
+unfolding zero_sector
+zero_byte = refl
+
+zeros_are_none : (uber : Uber) (device : ℕ) → zero_sector ≡ encoded uber device → ⊥
+zeros_are_none uber device same =
+    let bytes : slice_index zero_sector 0 ≡ slice_index (encoded uber device) 0 = ap (λ (xs : List ℕ). slice_index xs 0) same in
+    omega (arith, bytes, zero_byte, first_byte uber device)
+
+-- what a new pool is made of
+pub record IsSized (shape : Shape) (pool parity width : ℕ) : Type 0 where
+  pub pool_fits : pool < 2 ^ 64
+  pub parity_in : (1 ≤ parity) × (parity ≤ 3)
+  pub width_in : (parity + 1 ≤ width) × (width ≤ 16)
+  pub devices : width ≤ shape.devices
+  pub sectors : 256 ≤ shape.sectors
+
+module _ (shape : Shape) (pool parity width failed : ℕ) (odd : Odd) (image : Image) (sized : IsSized shape pool parity width)
+    (few : count_below failed 16 ≤ parity) (new : IsNew shape (first_uber pool parity width (rows_for shape.sectors)) image) where
+  abbrev uber_0 : Uber
+  uber_0 = first_uber pool parity width (rows_for shape.sectors)
+
+  abbrev setting_0 : Setting
+  setting_0 = record { shape = shape; pool = pool; failed = failed; odd = odd }
+
+  right_0 : IsRightUber uber_0
+  right_0 = record {
+    pool = sized.pool_fits;
+    group = (omega arith, omega arith);
+    parity = sized.parity_in;
+    widths = (omega (arith, sized.width_in), omega (arith, sized.width_in));
+    rows = (omega (arith, sized.sectors), omega arith);
+    reflow = inl (refl, refl, refl);
+    area = omega arith;
+    out = (one-le-pow width 2 (omega arith), omega (arith, none_below width));
+    count = omega arith;
+    digest = sha256_is_digest [];
+    births = record { growing = (refl, tt); few = omega arith; wide = omega (arith, sized.width_in); last = refl; begun = (omega arith, tt) };
+  }
+
+  shows_0 : (device : ℕ) → device < width → Shows shape image device uber_0
+  shows_0 device below = record {
+    device_in = omega (arith, below, sized.devices, sized.width_in);
+    slot_in = omega (arith, sized.sectors);
+    valid = record { right = right_0; slot_is = refl; copy = new.ring device 1 below (omega arith) };
+  }
+
+  -- Nothing else is shown.
+  is_0 : (device : ℕ) (uber : Uber) → Shows shape image device uber → uber ≡ uber_0
+  is_0 device uber shows = ⊎_elim (λ below. here below) (λ above. absurd (new.others device uber above shows)) (cases_lt device width)
+    where
+      elsewhere : (n : ℕ) → n ≢ 1 → new_ring uber_0 device n ≡ zero_sector
+      elsewhere n other = grind (arith, nat_tests, other)
+
+      slot_low : slot_of uber.group < 32
+      slot_low = mod-lt uber.group (omega arith)
+
+      here : device < width → uber ≡ uber_0
+      here below = ⊎_elim
+          (λ first. let ring : image device (slot_of uber.group) ≡ encoded uber_0 device =
+          new.ring device (slot_of uber.group) below slot_low ∙ ap (λ (n : ℕ). new_ring uber_0 device n) first in
+          (encoded_tells uber uber_0 device device shows.valid.right right_0 (omega (arith, below, sized.width_in)) (omega (arith, below, sized.width_in))
+          (sym shows.valid.copy ∙ ring)).0)
+          (λ other. let ring : image device (slot_of uber.group) ≡ zero_sector =
+          new.ring device (slot_of uber.group) below slot_low ∙ elsewhere (slot_of uber.group) other in
+          absurd (zeros_are_none uber device (sym ring ∙ shows.valid.copy)))
+          (cases_eq (slot_of uber.group) 1)
+
+  -- The empty index is all that an image gives.
+  gives_0 : (device : ℕ) → device < min shape.devices 16 → Gives shape image uber_0 [] device
+  unfolding page_on index_page
+  gives_0 device below = record {
+    device_in = below;
+    digest = refl;
+    page = record {
+      index = record { each = λ k d low. absurd (omega (arith, low)); ascending = λ i j d low high. absurd (omega (arith, high)) };
+      counted = refl;
+      page = refl;
+    };
+  }
+
+  fits_0 : IsFitting uber_0 []
+  fits_0 = record {
+    births = λ k d low. absurd (omega (arith, low));
+    below = λ k d low. absurd (omega (arith, low));
+    apart = λ i j d low high. absurd (omega (arith, high));
+  }
+
+  candidate_0 : (device : ℕ) → device < width → ShowsCandidate setting_0 image device uber_0 []
+  candidate_0 device below = record {
+    shows = shows_0 device below;
+    pool_is = refl;
+    room = omega (arith, sized.sectors);
+    giver = device;
+    giver_reads = none_in device;
+    gives = gives_0 device (omega (arith, below, sized.devices, sized.width_in));
+    fitting = fits_0;
+  }
+
+  whole_0 : IsWhole shape.devices odd image uber_0 [] no_blocks
+  whole_0 = record {
+    index = record { listed = λ entry listed. absurd (omega (arith, listed.1)); every = λ id bytes held. absurd (none_some bytes held) };
+    right = λ cell device of. absurd (omega (arith, of.listed.1));
+  }
+    where
+      none_some : (bytes : List ℕ) → None ≡ Some bytes → ⊥
+      none_some bytes same = cc
+
+  kept_0 : IsKept setting_0 image (first_kept pool parity width shape.sectors ∷ []) uber_0
+  kept_0 = record {
+    kept = first_kept pool parity width shape.sectors;
+    listed = (0, omega arith, refl);
+    alike = refl;
+    whole = whole_0;
+    out = λ device is. absurd (none_is_in device is);
+  }
+
+  shown_only : ShowsOnly setting_0 (first_kept pool parity width shape.sectors) [] image
+  shown_only device uber above shows pool_is =
+      subst (λ (u : Uber). IsKept setting_0 image (first_kept pool parity width shape.sectors ∷ []) u) (sym (is_0 device uber shows)) kept_0
+
+  -- Some device of the pool works.
+  works : (device : ℕ) × (device < width) × (has_device failed device ≡ false)
+  works =
+      let rest : width + (16 - width) ≡ 16 = omega (arith, sized.width_in) in
+      let all : count_below failed (width + (16 - width)) ≡ count_below failed 16 = ap (count_below failed) rest in
+      lacks_one failed width (omega (arith, all, few, sized.width_in, count_grows failed width (16 - width)))
+
+  there_0 : StandsThere setting_0 (first_kept pool parity width shape.sectors) image
+  there_0 = record {
+    device = works.0;
+    works = works.2;
+    shown = (uber_0, refl, candidate_0 works.0 works.1);
+    each = λ other below fine. (uber_0, refl, candidate_0 other below);
+    pages = λ other below fine. gives_0 other (omega (arith, below, sized.devices, sized.width_in));
+  }
+
+  not_true : (b : Bool) → (b ≡ true → ⊥) → b ≡ false
+  not_true false never = refl
+  not_true true never = absurd (never refl)
+
+  -- A device that works and isn't silent names the pool, and none another one.
+  chosen_0 : (silent : ℕ) → has_device silent works.0 ≡ false → IsChosenPool shape silent image pool
+  unfolding IsDistinct
+  chosen_0 silent quiet = record { voters = works.0 ∷ []; distinct = (tt, tt); each = each_names; wins = beats }
+    where
+      names : Names shape silent image pool works.0
+      names = record {
+        reads = quiet;
+        uber = uber_0;
+        shows = shows_0 works.0 works.1;
+        greatest = λ other shows. let same : other.group ≡ 1 = ap (λ (u : Uber). u.group) (is_0 works.0 other shows) in omega (arith, same);
+        pool_is = refl;
+      }
+
+      each_names : All (Names shape silent image pool) (works.0 ∷ [])
+      each_names zero d low = names
+      each_names (suc k) d low = absurd (omega (arith, low))
+
+      beats : (other : ℕ) (others : List ℕ) → other ≢ pool → IsDistinct nat_eq others → All (Names shape silent image other) others
+          → Outvotes (works.0 ∷ []) others
+      beats other [] differs distinct each = inl (omega arith)
+      beats other (device ∷ others) differs distinct each =
+          let name : Names shape silent image other device = each 0 device (omega arith) in
+          let same : name.uber.pool ≡ pool = ap (λ (u : Uber). u.pool) (is_0 device name.uber name.shows) in
+          absurd (differs (sym name.pool_is ∙ same))
+
+  -- No device names another pool.
+  votes_0 : IsNotOutvoted setting_0 (first_kept pool parity width shape.sectors) image
+  votes_0 other [] differs distinct each = omega arith
+  votes_0 other (device ∷ others) differs distinct each =
+      let names : Names shape 0 image other device = (each 0 device (omega arith)).names in
+      let same : names.uber.pool ≡ pool = ap (λ (u : Uber). u.pool) (is_0 device names.uber names.shows) in
+      absurd (differs (sym names.pool_is ∙ same))
+
+  -- Each image of a new pool keeps its first group, whichever devices fail, at most as many as there is parity.
+  pub fresh_keeps : Keeps setting_0 (first_kept pool parity width shape.sectors) [] image
+  fresh_keeps = record {
+    few = few;
+    only = shown_only;
+    there = there_0;
+    ascending = λ i j d low high. absurd (omega (arith, low, high));
+    further = λ k d low. absurd (omega (arith, low));
+    own = λ device uber below shows. ap (λ (u : Uber). u.pool) (is_0 device uber shows);
+    votes = votes_0;
+  }
+
+  abbrev found_0 : Found
+  found_0 = record { shape = shape; silent = 0; image = image; chosen = first_kept pool parity width shape.sectors }
+
+  abbrev next_0 : Kept
+  next_0 = record { uber = record uber_0 { group = 3; area = 1 }; entries = []; map = no_blocks }
+
+  none_out : (device : ℕ) → IsOutAtOpening shape 0 image uber_0 device → ⊥
+  none_out device (below, why) = ⊎_elim (λ listed. by_list listed) (λ others. ⊎_elim (λ silent. none_is_in device silent)
+      (λ rest. ⊎_elim (λ absent. omega (arith, absent, below, sized.devices)) (λ blank. blank.none uber_0 (shows_0 device below) refl) rest) others) why
+    where
+      by_list : IsListedOut shape 0 image uber_0 device → ⊥
+      by_list listed = none_is_in device (sym (ap (λ (u : Uber). has_device u.out device) (is_0 listed.other listed.twin listed.candidate.shows)) ∙ listed.out)
+
+  -- The opening of a new pool copies nothing: it syncs each device and commits group 3 in the other index area.
+  pub fresh_opens : IsOpening found_0 0 next_0 (calls_left 0 (copies_of width 0 0 0)) (calls_left 0 (plan_of width 0))
+  fresh_opens = record {
+    choice = record {
+      device = 0;
+      choice = record {
+        pool = chosen_0 0 (none_in works.0);
+        reads = none_in 0;
+        candidate = candidate_0 0 (omega (arith, sized.width_in));
+        first = λ other later listed reads candidate. inr (ap (λ (u : Uber). u.group) (is_0 other later candidate.shows), omega arith);
+      };
+    };
+    out_is = λ device. ((λ is. absurd (none_is_in device is)), (λ out. absurd (none_out device out)));
+    lack_page = 0;
+    page_is = λ device. (
+      (λ is. absurd (none_is_in device is)),
+      (λ lacks. absurd (lacks.2 (gives_0 device (omega (arith, lacks.0, sized.devices, sized.width_in))))),
+    );
+    lack_uber = 0;
+    uber_is = λ device. ((λ is. absurd (none_is_in device is)), (λ lacks. absurd (lacks.2 uber_0 [] (candidate_0 device lacks.0) refl)));
+    copies_are = refl;
+    renews = record { entries = refl; map = λ id. refl; alike = refl };
+    commit_is = refl;
+  }
+
+  -- It keeps no other group: one that was answered with no uberblock written is missed.
+  pub no_other_kept : (setting : Setting) (kept : Kept) (later : List Kept) → setting.shape ≡ shape
+      → kept.uber.group ≢ 1 → Keeps setting kept later image → ⊥
+  no_other_kept setting kept later same_shape other keeps =
+      let shown : ShowsGroup setting image kept keeps.there.device = keeps.there.shown in
+      let shows : Shows shape image keeps.there.device shown.0 =
+      subst (λ (s : Shape). Shows s image keeps.there.device shown.0) same_shape shown.2.shows in
+      other (sym shown.1 ∙ ap (λ (u : Uber). u.group) (is_0 keeps.there.device shown.0 shows))

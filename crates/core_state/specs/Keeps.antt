@@ -1,0 +1,120 @@
+-- An image keeps these groups and no others of the pool.
+use Rattle.std.specs.Prelude.{◌≡◌, ◌≢◌, ◌⊎◌, ℕ, zero, suc, ◌+◌, ◌-◌, ◌<◌, ◌≤◌, List, ◌∷◌, length, All, AllPairs, true, false, Contains, nat_eq, if◌then◌else◌}
+use Rattle.std.specs.List.{IsDistinct}
+use Rattle.bank_trait.specs.Disk.{Image}
+use Rattle.block_record.specs.declared.entry.IndexEntry.{IndexEntry}
+use Rattle.uberblock_ring.specs.Devices.{has_device, count_below, IsWithin}
+use Rattle.uberblock_ring.specs.Uberblock.{Uber}
+use Rattle.uberblock_ring.specs.Valid.{AreAlike}
+use Rattle.core_state.specs.Map.{Map, SameMap}
+use Rattle.core_state.specs.Shown.{Shape, Shows, Gives, IsCandidate}
+use Rattle.core_state.specs.Choosing.{Names}
+use Rattle.core_state.specs.Whole.{Odd, IsWhole}
+
+-- a group: its uberblock but for the out set, its index, and its map
+pub record Kept : Type 0 where
+  pub uber : Uber
+  pub entries : List IndexEntry
+  pub map : Map
+
+-- the bank, the pool, the devices that have failed, and places that may be wrong
+pub record Setting : Type 0 where
+  pub shape : Shape
+  pub pool : ℕ
+  pub failed : ℕ
+  pub odd : Odd
+
+-- A device shows a candidate of the pool, with a page that some device gives.
+abbrev pub ShowsCandidate : Setting → Image → ℕ → Uber → List IndexEntry → Type 0
+ShowsCandidate setting image device uber entries =
+    IsCandidate setting.shape 0 setting.pool image device uber entries
+
+-- An uberblock is that of one of these groups but for its out set, whole for the group's map with
+-- its index, and lists only failed devices as out.
+pub record IsKept (setting : Setting) (image : Image) (groups : List Kept) (uber : Uber) : Type 0
+  where
+    pub kept : Kept
+    pub listed : Contains groups kept
+    pub alike : AreAlike uber kept.uber
+    pub whole : IsWhole setting.shape.devices setting.odd image uber kept.entries kept.map
+    pub out : IsWithin uber.out setting.failed
+
+-- Each valid uberblock of the pool from the first group on, on any device, is of these groups,
+-- whether a device gives its page or not.
+abbrev pub ShowsOnly : Setting → Kept → List Kept → Image → Type 0
+ShowsOnly setting first later image = (device : ℕ) (uber : Uber)
+    → first.uber.group ≤ uber.group → Shows setting.shape image device uber
+    → uber.pool ≡ setting.pool
+    → IsKept setting image (first ∷ later) uber
+
+-- A device shows a candidate of the group, with its index.
+abbrev pub ShowsGroup : Setting → Image → Kept → ℕ → Type 0
+ShowsGroup setting image kept device = (uber : Uber) × (uber.group ≡ kept.uber.group)
+    × ShowsCandidate setting image device uber kept.entries
+
+-- Each device of the pool that hasn't failed gives the group's page. Those that its uberblocks list
+-- as out have failed.
+abbrev pub HasPages : Setting → Image → Kept → Type 0
+HasPages setting image kept = (device : ℕ) → device < kept.uber.reflow.to
+    → has_device setting.failed device ≡ false
+    → Gives setting.shape image kept.uber kept.entries device
+
+-- The first group stands on a device that hasn't failed, and on each such device of the pool, with
+-- its page.
+pub record StandsThere (setting : Setting) (first : Kept) (image : Image) : Type 0 where
+  pub device : ℕ
+  pub works : has_device setting.failed device ≡ false
+  pub shown : ShowsGroup setting image first device
+  pub each : (other : ℕ) → other < first.uber.reflow.to → has_device setting.failed other ≡ false
+      → ShowsGroup setting image first other
+  pub pages : HasPages setting image first
+
+-- The group of an opening's commit: the index, map and all else of the chosen one in the other index
+-- area, numbered two more. Its out set is made up at its first uberblock write.
+pub record Renews (chosen next : Kept) : Type 0 where
+  pub entries : next.entries ≡ chosen.entries
+  pub map : SameMap next.map chosen.map
+  pub alike : AreAlike next.uber
+      (record chosen.uber { group = chosen.uber.group + 2; area = 1 - chosen.uber.area })
+
+-- The group is the next one, or that of an opening which chose the first.
+abbrev pub IsNextOf : Kept → Kept → Type 0
+IsNextOf first next = (next.uber.group ≡ first.uber.group + 1) ⊎ Renews first next
+
+-- No device of the pool shows an uberblock of another pool: creating cleared its ring, and an attach
+-- refuses a device that shows one.
+abbrev pub ShowsNoOther : Setting → Kept → Image → Type 0
+ShowsNoOther setting first image = (device : ℕ) (uber : Uber) → device < first.uber.reflow.to
+    → Shows setting.shape image device uber
+    → uber.pool ≡ setting.pool
+
+-- devices below a number that haven't failed
+abbrev pub count_left : ℕ → ℕ → ℕ
+count_left failed zero = 0
+count_left failed (suc device) =
+    count_left failed device + (if has_device failed device then 0 else 1)
+
+-- A device outside the pool names another pool.
+pub record NamesOther (setting : Setting) (first : Kept) (image : Image) (other device : ℕ) : Type 0
+  where
+    pub outside : first.uber.reflow.to ≤ device
+    pub names : Names setting.shape 0 image other device
+
+-- No other pool is named by more devices than devices of this pool are left. So this pool is chosen,
+-- whichever of the devices that have failed, or are outside the pool, are silent.
+abbrev pub IsNotOutvoted : Setting → Kept → Image → Type 0
+IsNotOutvoted setting first image = (other : ℕ) (others : List ℕ) → other ≢ setting.pool
+    → IsDistinct nat_eq others → All (NamesOther setting first image other) others
+    → length others ≤ count_left setting.failed first.uber.reflow.to
+
+-- The image shows the first group and maybe later ones of the list, each whole, and nothing else
+-- from there on.
+pub record Keeps (setting : Setting) (first : Kept) (later : List Kept) (image : Image) : Type 0
+  where
+    pub few : count_below setting.failed 16 ≤ first.uber.parity
+    pub only : ShowsOnly setting first later image
+    pub there : StandsThere setting first image
+    pub ascending : AllPairs (λ one other. one.uber.group < other.uber.group) (first ∷ later)
+    pub further : All (IsNextOf first) later
+    pub own : ShowsNoOther setting first image
+    pub votes : IsNotOutvoted setting first image
