@@ -1,0 +1,17 @@
+pub mod CallWords
+pub mod Cuts
+pub mod Groups
+pub mod Hexes
+pub mod LineWords
+pub mod Numbers
+pub mod OneAnswer
+pub mod OneMeaning
+pub mod Patterns
+pub mod RightLines
+pub mod Rows
+pub mod Sending
+pub mod SplitLines
+pub mod Steps
+pub mod Texts
+pub mod WholeScript
+pub mod Writing

@@ -1,0 +1,6 @@
+use Rattle.std.proofs.Common.{refl}
+use Rattle.client_script.proofs.Steps.{wrong_without_meaning}
+use Rattle.client_script.proofs.reading.take_line.Goals as goal
+
+pub returns-in-Broken : goal.returns-in-Broken
+returns-in-Broken c = (refl, wrong_without_meaning _ _ (rw c.in-Broken.is at c.in_ok-read_line.ensures))

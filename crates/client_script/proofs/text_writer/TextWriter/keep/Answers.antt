@@ -1,0 +1,13 @@
+use Rattle.std.proofs.Common.{ℕ, List, ◌++◌, length, take, ◌∙◌, ap, arith}
+use Rattle.std.proofs.lemmas.Slice.{take-put_mid}
+use Rattle.client_script.specs.Written.{Writing}
+use Rattle.client_script.proofs.Writing.{gains_waiting}
+use Rattle.client_script.proofs.text_writer.TextWriter.keep.Goals as goal
+
+pub returns-clause-gains : goal.returns-clause-gains
+returns-clause-gains c = λ sink.
+    gains_waiting sink _ _ _ (ap (λ (w : Writing). w.failed) c.self.view_is)
+    (take-put_mid c.self.inside.used _ c.self.inside.buffer c.copy_from_slice.new.self _
+    (omega (arith, ap length c.copy_from_slice.ensures.after)) (omega (arith, c.self.told, c.self.invariant))
+    ∙ ap (λ (l : List ℕ). take c.self.inside.used c.self.inside.buffer ++ l) c.copy_from_slice.ensures.after
+    ∙ ap (λ (w : Writing). w.waiting ++ c.args.text.now) c.self.view_is)

@@ -1,0 +1,49 @@
+// Bytes spelled as two lower-case digits each.
+ghost use Rattle.std.specs.Prelude.{◌≡◌, ◌≢◌, ◌/◌, ◌%◌, ◌<◌, ℕ, List, IfSome, IfNone, IfOk, MatchOption};
+ghost use Rattle.client_script.specs.Lines.{hex_digit};
+ghost use Rattle.client_script.specs.Words.{IsHex};
+
+use std::alloc::{AllocError, Global};
+
+/// Most bytes of a put.
+const MOST_BYTES: usize = 65_536;
+
+/// The bytes that a text spells: one at least, and not too many.
+pub fn hex_bytes(alloc: Global, text: &[u8]) -> Result<Option<Vec<u8>>, AllocError>
+    ensures { IfOk result (λ found. MatchOption found
+        ((bytes : List ℕ) → IsHex text.now bytes → ⊥) (λ bytes. IsHex text.now bytes.items)) }
+{
+    if text.is_empty() || text.len() % 2 == 1 || text.len() > 2 * MOST_BYTES {
+        return Ok(None);
+    }
+    let mut bytes = Vec::with_capacity(alloc, text.len() / 2)?;
+    for place in 0..text.len() / 2 {
+        let Some(byte) = hex_byte(text[2 * place], text[2 * place + 1]) else {
+            return Ok(None);
+        };
+        bytes.push(byte)?;
+    }
+    Ok(Some(bytes))
+}
+
+fn hex_byte(high: u8, low: u8) -> Option<u8>
+    ensures some { IfSome result
+        (λ byte. (high ≡ hex_digit (byte / 16)) × (low ≡ hex_digit (byte % 16))) }
+    ensures none { IfNone result ((byte : ℕ) → byte < 256 → high ≡ hex_digit (byte / 16)
+        → low ≢ hex_digit (byte % 16)) }
+{
+    let high = hex_value(high)?;
+    let low = hex_value(low)?;
+    Some(high * 16 + low)
+}
+
+fn hex_value(digit: u8) -> Option<u8>
+    ensures some { IfSome result (λ value. (value < 16) × (digit ≡ hex_digit value)) }
+    ensures none { IfNone result ((value : ℕ) → value < 16 → digit ≢ hex_digit value) }
+{
+    match digit {
+        b'0'..=b'9' => Some(digit - b'0'),
+        b'a'..=b'f' => Some(digit - b'a' + 10),
+        _ => None,
+    }
+}

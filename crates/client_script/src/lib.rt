@@ -1,0 +1,30 @@
+//! The script that clients follow, and the text of a journal.
+//!
+//! A script's grammar is the text that its calls are spelled as, so a line has one meaning at most,
+//! and a script one answer. Read `specs/Lines.antt` for a line, `specs/Script.antt` for a whole
+//! script and its refusals, `specs/Texts.antt` for what is printed and `specs/Written.antt` for how
+//! it reaches a sink. Stands on `core_state` for calls and answers, on `bank_trait` for sinks.
+#![tactic(auto)]
+
+mod call;
+mod cut;
+mod hex;
+mod journal_text;
+mod meaning;
+mod number;
+mod output;
+mod reading;
+mod refused;
+mod script;
+#[cfg(test)]
+mod tests;
+mod text_writer;
+mod words;
+
+pub use call::{Fill, ScriptCall};
+pub use journal_text::{print_journal, write_journal};
+pub use output::write_all;
+pub use reading::parse;
+pub use refused::ParseRefused;
+pub use script::Script;
+pub use text_writer::TextWriter;
