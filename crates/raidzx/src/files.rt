@@ -1,0 +1,128 @@
+// A bank over files, one for each device.
+ghost use Rattle.std.specs.Prelude.{◌≡◌, ◌<◌, ◌≤◌, ◌^◌, ℕ, All, length};
+
+use bank_trait::{Bank, Failed};
+use raidzx_top::MOST_SECTORS;
+use std::fs::{File, Files, OpenOptions};
+use std::os::unix::fs::FileExt;
+
+const SECTOR_BYTES: u64 = 512;
+
+/// An open file, and how many whole sectors of it may be used.
+#[derive(Drop)]
+pub struct Image {
+    file: File,
+    sectors: u64,
+    ghost few: { sectors ≤ 65_728 },
+}
+
+/// Opens a file for reading and writing, and locks it, so that no two programs have it. None where
+/// one of these fails.
+pub fn open_image<R: Files<File = File>>(rt: &R, name: &str) -> Option<Image> {
+    let file = OpenOptions::new()
+        .read(true)
+        .write(true)
+        .open(rt, name)
+        .ok()?;
+    if file.try_lock().is_err() {
+        return None;
+    }
+    let length = file.metadata().ok()?.len();
+    Some(Image {
+        file,
+        sectors: (length / SECTOR_BYTES).min(MOST_SECTORS),
+    })
+}
+
+/// Each file is opened once. One that could not be opened fails all its calls, and no file grows.
+#[derive(Drop)]
+pub struct FileBank {
+    images: Vec<Option<Image>>,
+    faults: Vec<u64>,
+    sectors: u64,
+    ghost counted: { length faults.items ≡ length images.items },
+    ghost few: { length images.items < 2 ^ 32 },
+    ghost small: { sectors ≤ 65_728 },
+}
+
+impl FileBank {
+    /// The bank has as many sectors as the longest file.
+    pub fn new(images: Vec<Option<Image>>, faults: Vec<u64>) -> FileBank
+        requires counted { length faults.items ≡ length images.items }
+        requires few { length images.items < 2 ^ 32 }
+    {
+        let mut sectors: u64 = 0;
+        for image in images.iter() {
+            if let Some(image) = image {
+                sectors = sectors.max(image.sectors);
+            }
+        }
+        FileBank {
+            images,
+            faults,
+            sectors,
+        }
+    }
+}
+
+/// The file and the offset of a sector, where the file has it.
+fn place(image: &Option<Image>, sector: u64) -> Result<(&File, u64), Failed> {
+    match image {
+        Some(image) if sector < image.sectors => Ok((&image.file, sector * SECTOR_BYTES)),
+        _ => Err(Failed),
+    }
+}
+
+impl Bank for FileBank {
+    ghost use Rattle.raidzx.specs.FileBank.{disk_of};
+    ghost use Rattle.raidzx.specs.Nothing.{lawful};
+    ghost use Rattle.std.specs.Prelude.{refl};
+
+    ghost disk = { disk_of };
+
+    ghost lawful = { λ b. lawful (disk_of b) (λ d x. refl) (λ d x. refl) };
+
+    fn devices(&self) -> u32 {
+        self.images.len() as u32
+    }
+
+    fn sectors(&self) -> u64 {
+        self.sectors
+    }
+
+    fn read(&mut self, device: u32, sector: u64, into: &mut [u8; 512]) -> Result<(), Failed> {
+        let number = device as usize;
+        let outcome = match place(&self.images[number], sector) {
+            Ok((file, offset)) => file.read_exact_at(into, offset).map_err(|_| Failed),
+            Err(failed) => Err(failed),
+        };
+        if outcome.is_err() {
+            self.faults[number] = self.faults[number].saturating_add(1);
+        }
+        outcome
+    }
+
+    fn write(&mut self, device: u32, sector: u64, from: &[u8; 512]) -> Result<(), Failed> {
+        let number = device as usize;
+        let outcome = match place(&self.images[number], sector) {
+            Ok((file, offset)) => file.write_all_at(from, offset).map_err(|_| Failed),
+            Err(failed) => Err(failed),
+        };
+        if outcome.is_err() {
+            self.faults[number] = self.faults[number].saturating_add(1);
+        }
+        outcome
+    }
+
+    fn sync(&mut self, device: u32) -> Result<(), Failed> {
+        let number = device as usize;
+        let outcome = match &self.images[number] {
+            Some(image) => image.file.sync_data().map_err(|_| Failed),
+            None => Err(Failed),
+        };
+        if outcome.is_err() {
+            self.faults[number] = self.faults[number].saturating_add(1);
+        }
+        outcome
+    }
+}

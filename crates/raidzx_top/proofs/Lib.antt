@@ -1,0 +1,4 @@
+pub mod Rows
+pub mod WordTexts
+pub mod Spelling
+pub mod Ending

@@ -1,0 +1,78 @@
+-- One call of the top call: what it was given, and what it left.
+use Rattle.std.specs.Prelude.{◌≡◌, ℕ, ◌<◌, List, [], Option, Some, None, ⊤}
+use Rattle.bank_trait.specs.Disk.{Image, Disk}
+use Rattle.core_state.specs.declared.item.Item.{Item}
+use Rattle.core_state.specs.Shown.{Shape}
+use Rattle.client_script.specs.Script.{Script, IsScript}
+use Rattle.raidzx_top.specs.declared.status.Status.{Status}
+use Rattle.raidzx_top.specs.Words.{Command, Create, Run, Replay, Load, load_script}
+
+-- a source or sink: its bytes, where told, and how often it has failed
+pub record Stream : Type 0 where
+  pub bytes : Option (List ℕ)
+  pub faults : ℕ
+
+-- words, bank, source and sink before and after, the status, the journal, and how many turns were
+-- made
+pub record Call : Type 0 where
+  pub words : List (List ℕ)
+  pub old : Disk
+  pub new : Disk
+  pub source : Stream
+  pub source_after : Stream
+  pub sink : Stream
+  pub sink_after : Stream
+  pub status : Status
+  pub journal : List Item
+  pub turns : ℕ
+
+-- a call of these parts
+abbrev pub call_of : List (List ℕ) → Disk → Disk → Stream → Stream → Stream → Stream → Status
+    → List Item → ℕ
+    → Call
+call_of words old new source source_after sink sink_after status journal turns = record {
+  words = words;
+  old = old;
+  new = new;
+  source = source;
+  source_after = source_after;
+  sink = sink;
+  sink_after = sink_after;
+  status = status;
+  journal = journal;
+  turns = turns;
+}
+
+abbrev pub stream_of : Option (List ℕ) → ℕ → Stream
+stream_of bytes faults = record { bytes = bytes; faults = faults }
+
+abbrev pub shape_of : Disk → Shape
+shape_of disk = record { devices = disk.devices; sectors = disk.sectors }
+
+-- The sectors of the bank hold what the image has.
+pub record HoldsImage (disk : Disk) (image : Image) : Type 0 where
+  pub each : (device device_sector : ℕ) → device < disk.devices → device_sector < disk.sectors
+      → disk.reads device device_sector ≡ Some (image device device_sector)
+
+-- Commands that read a script from the source, make a pool, open one.
+abbrev pub ReadsScript : Command → Type 0
+ReadsScript (Run attach scrub) = ⊤
+ReadsScript Replay = ⊤
+ReadsScript other = ⊥
+
+-- Commands that open a pool. All others take no memory.
+abbrev pub Opens : Command → Type 0
+Opens (Create parity width id) = ⊥
+Opens other = ⊤
+
+abbrev pub size_of : Command → Option (ℕ × ℕ)
+size_of (Create parity width id) = Some (parity, width)
+size_of (Load seed blocks parity width) = Some (parity, width)
+size_of other = None
+
+-- the script of a command: the source's, that of `load`, or none
+abbrev pub IsScriptOf : Command → List ℕ → Script → Type 0
+IsScriptOf (Run attach scrub) bytes script = IsScript bytes script
+IsScriptOf Replay bytes script = IsScript bytes script
+IsScriptOf (Load seed blocks parity width) bytes script = script ≡ load_script seed blocks
+IsScriptOf other bytes script = script ≡ record { clients = 0; calls = []; order = [] }

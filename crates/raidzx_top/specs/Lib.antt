@@ -1,0 +1,11 @@
+pub mod Words
+pub mod Spelled
+pub mod Images
+pub mod Call
+pub mod Exit
+pub mod Causes
+pub mod Answers
+pub mod RunJournal
+pub mod RunText
+pub mod Promises
+pub mod Making

@@ -1,0 +1,90 @@
+// The top call: it carries out the command that the words spell.
+ghost use Rattle.std.specs.Prelude.{◌≡◌, map, string_bytes};
+ghost use Rattle.raidzx_top.specs.Call.{call_of, stream_of};
+ghost use Rattle.raidzx_top.specs.Making.{IsSaid, EndsCreate, Ends};
+ghost use Rattle.raidzx_top.specs.Promises.{CallPromises};
+ghost use Rattle.raidzx_top.specs.RunText.{status_line};
+ghost use Rattle.raidzx_top.specs.Words.{IsSize};
+
+use crate::making::make_pool;
+use crate::report::{write_created, write_status};
+use crate::status::Status;
+use crate::words::{NewPool, ServedCommand, read_command};
+use bank_trait::{Bank, Sink, Source};
+use core_open::data_rows;
+use core_state::Journal;
+use std::alloc::Global;
+
+/// How a call ended, the bank, what was answered (nothing where no pool was opened), and how many turns
+/// were made.
+#[derive(Drop)]
+pub struct Outcome<B> {
+    pub status: Status,
+    pub bank: B,
+    pub journal: Journal,
+    pub turns: u64,
+}
+
+/// Writes the line of a refusal.
+fn refuse<K: Sink>(out: &mut K, status: Status) -> Status
+    ensures same { result ≡ status }
+    ensures said { IsSaid (K.held out.old) (K.held out.new) (K.faults out.old) (K.faults out.new)
+        (status_line status) }
+{
+    let _ = write_status(out, &status);
+    status
+}
+
+fn create_pool<B: Bank, K: Sink>(bank: &mut B, made: &NewPool, out: &mut K) -> Status
+    requires size { IsSize made.now.parity made.now.width }
+    ensures { EndsCreate made.now (B.disk bank.old) (B.disk bank.new) (K.held out.old)
+        (K.held out.new) (K.faults out.old) (K.faults out.new) result }
+{
+    let rows = data_rows(bank.sectors());
+    let status = make_pool(bank, made);
+    if status != Status::Done {
+        return refuse(out, status);
+    }
+    match write_created(out, made, rows) {
+        Ok(()) => Status::Done,
+        Err(_) => Status::SinkFault,
+    }
+}
+
+fn carry_out<B: Bank, K: Sink>(words: &[String], bank: &mut B, out: &mut K) -> Status
+    ensures { Ends (map string_bytes words.now) (B.disk bank.old) (B.disk bank.new)
+        (K.held out.old) (K.held out.new) (K.faults out.old) (K.faults out.new) result }
+{
+    match read_command(words) {
+        None => refuse(out, Status::Usage),
+        Some(ServedCommand::Create(made)) => create_pool(bank, &made, out),
+    }
+}
+
+/// Carries out the command that the words spell, of which the first is not looked at. The script is
+/// read from a source; every line goes to a sink, those of faults too.
+pub fn raidzx<B: Bank, S: Source, K: Sink>(
+    alloc: Global,
+    words: &[String],
+    bank: B,
+    script: &mut S,
+    out: &mut K,
+) -> Outcome<B>
+    ensures promises { CallPromises (call_of (map string_bytes words.now)
+        (B.disk bank) (B.disk result.bank)
+        (stream_of (S.left script.old) (S.faults script.old))
+        (stream_of (S.left script.new) (S.faults script.new))
+        (stream_of (K.held out.old) (K.faults out.old))
+        (stream_of (K.held out.new) (K.faults out.new))
+        result.status result.journal result.turns) }
+    ensures source { S.left script.new ≡ S.left script.old }
+{
+    let mut bank = bank;
+    let status = carry_out(words, &mut bank, out);
+    Outcome {
+        status,
+        bank,
+        journal: Journal::new(alloc),
+        turns: 0,
+    }
+}
