@@ -1,0 +1,30 @@
+#!/usr/bin/env bash
+# Command words, and a full output.
+. "$(dirname "$0")/build.sh"
+
+images 3 256
+cp disk0 before
+memory=(mem:256 mem:256 mem:256)
+expect 'devices in memory' 0 'pool 7 parity 2 width 3 rows 64 group 1' \
+  "${memory[@]}" -- create --parity 2 --width 3 --id 7
+expect 'the most data rows' 0 'pool 7 parity 1 width 2 rows 65536 group 1' \
+  mem:65728 mem:65728 -- create --parity 1 --width 2 --id 7
+expect 'no words' 1 usage
+expect 'no command' 1 usage disk0 disk1 disk2 --
+expect 'no dashes' 1 usage disk0 disk1 disk2
+expect 'no image' 1 usage -- create --parity 1 --width 3 --id 9
+expect 'a file beside devices in memory' 1 usage disk0 mem:256 -- create --parity 1 --width 2 --id 9
+expect 'devices in memory of two sizes' 1 usage mem:256 mem:257 -- create --parity 1 --width 2 --id 9
+expect 'a command that there is not' 1 usage disk0 disk1 disk2 -- resize
+expect 'a width that is not above the parity' 1 usage disk0 disk1 disk2 -- create --parity 2 --width 2 --id 9
+expect 'a parity of four' 1 usage disk0 disk1 disk2 -- create --parity 4 --width 5 --id 9
+expect 'a number with a leading zero' 1 usage disk0 disk1 disk2 -- create --parity 1 --width 03 --id 9
+expect 'options in another order' 1 usage disk0 disk1 disk2 -- create --width 3 --parity 1 --id 9
+expect 'a word too many' 1 usage disk0 disk1 disk2 -- create --parity 1 --width 3 --id 9 now
+same 'refused words leave the devices alone' disk0 before
+expect 'a word that is no text' 1 usage $'\xff' disk1 -- create --parity 1 --width 2 --id 9
+
+status=0
+"$RAIDZX" disk0 disk1 disk2 -- create --parity 1 --width 3 --id 9 >/dev/full || status=$?
+[ "$status" = 7 ] || { echo 'FAILED a full output ends with 7'; exit 1; }
+echo 'ok a full output'
