@@ -111,11 +111,7 @@ impl Layout {
     }
 
     /// Rows, the last one perhaps short.
-    #[tactic(auto, using(
-        crate::proofs::Counts::rows_short,
-        crate::proofs::Counts::rows_few,
-        crate::proofs::Counts::rows_some,
-    ))]
+    #[tactic(auto, using(crate::proofs::Counts::rows_short, crate::proofs::Counts::rows_few, crate::proofs::Counts::rows_some,))]
     pub fn rows(&self) -> u32
         ensures value { result ≡ rows_of self.now }
         ensures some { 0 < result }
