@@ -23,7 +23,8 @@ Due devices parts (UberWrite device) rest =
     × ((other : ℕ) → Among rest (BaseSync other) → ⊥)
 Due devices parts (UberSync device) rest =
     (device < devices) × (Among rest (UberWrite device) → ⊥)
-    × ((part : ℕ) → Among rest (IndexWrite device part) → ⊥)
+    × ((other part : ℕ) → Among rest (IndexWrite other part) → ⊥)
+    × ((other : ℕ) → Among rest (BaseSync other) → ⊥)
 
 -- Each call of a plan is followed by what is due.
 abbrev pub Ordered : ℕ → ℕ → List CommitCall → Type 0
@@ -108,6 +109,25 @@ every_page P count (suc devices) each = subst (Every P)
     (every_append P (index_writes count devices) []
     (every_each (λ part. IndexWrite devices part) P (page_sectors count)
     (λ part low. each devices part (omega arith) low)) tt))
+
+among_page : (count devices device part : ℕ) → device < devices → part < page_sectors count
+    → Among (flat_map (index_writes count) (numbers_below devices)) (IndexWrite device part)
+among_page count zero device part below low = absurd (omega (arith, below))
+among_page count (suc devices) device part below low = subst (λ (l : List CommitCall). Among l (IndexWrite device part))
+    (sym (flat_map-append (index_writes count) (numbers_below devices) (devices ∷ [])))
+    (⊎_elim
+    (λ (less : device < devices). among_front (flat_map (index_writes count) (numbers_below devices))
+    (flat_map (index_writes count) (devices ∷ [])) (IndexWrite device part)
+    (among_page count devices device part less low))
+    (λ above. among_back (flat_map (index_writes count) (numbers_below devices))
+    (flat_map (index_writes count) (devices ∷ [])) (IndexWrite device part)
+    (among_front (index_writes count devices) [] (IndexWrite device part)
+    (subst (λ (d : ℕ). Among (index_writes count devices) (IndexWrite d part)) (same above)
+    (among_each (λ p. IndexWrite devices p) (page_sectors count) part low))))
+    (cases_lt device devices))
+  where
+    same : devices ≤ device → devices ≡ device
+    same above = omega (arith, above, below)
 
 -- The stages of a plan, in their order.
 abbrev stage : CommitCall → ℕ
@@ -213,7 +233,8 @@ module _ (devices count : ℕ) where
       (from_of devices parts 3 3 rest (omega arith) every) tt in (
         is.device,
         none_of 3 (rest ++ []) (UberWrite device) later (omega arith),
-        (λ part. none_of 3 (rest ++ []) (IndexWrite device part) later (omega arith)),
+        (λ other part. none_of 3 (rest ++ []) (IndexWrite other part) later (omega arith)),
+        (λ other. none_of 3 (rest ++ []) (BaseSync other) later (omega arith)),
       )
 
   due_uber : (call : CommitCall) (rest : List CommitCall) → IsOf devices parts 2 call
@@ -268,3 +289,24 @@ module _ (devices count : ℕ) where
       (ordered_stage devices parts 2 ubers ends ubers_of due_uber
       (subst (Ordered devices parts) (append-nil ends)
       (ordered_stage devices parts 3 ends [] ends_of due_end tt)))))
+
+  -- It has each of them: pages and bases,
+  pub plan_lays : (device part : ℕ) → device < devices → part < parts
+      → Among (plan_of devices count) (IndexWrite device part)
+  plan_lays device part below low = among_front (pages ++ bases ++ ubers) ends (IndexWrite device part)
+      (among_front (pages ++ bases) ubers (IndexWrite device part)
+      (among_front pages bases (IndexWrite device part) (among_page count devices device part below low)))
+
+  pub plan_settles : (device : ℕ) → device < devices → Among (plan_of devices count) (BaseSync device)
+  plan_settles device below = among_front (pages ++ bases ++ ubers) ends (BaseSync device)
+      (among_front (pages ++ bases) ubers (BaseSync device)
+      (among_back pages bases (BaseSync device) (among_each (λ d. BaseSync d) devices device below)))
+
+  -- uberblocks and their syncs.
+  pub plan_signs : (device : ℕ) → device < devices
+      → Among (plan_of devices count) (UberWrite device) × Among (plan_of devices count) (UberSync device)
+  plan_signs device below = (
+    among_front (pages ++ bases ++ ubers) ends (UberWrite device)
+        (among_back (pages ++ bases) ubers (UberWrite device) (among_each (λ d. UberWrite d) devices device below)),
+    among_back (pages ++ bases ++ ubers) ends (UberSync device) (among_each (λ d. UberSync d) devices device below),
+  )

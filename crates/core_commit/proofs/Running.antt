@@ -67,7 +67,7 @@ all_head P x xs all = all 0 x (omega arith)
 all_tail : {X : Type 0} → (P : X → Type 0) (x : X) (xs : List X) → All P (x ∷ xs) → All P xs
 all_tail P x xs all k d low = all (suc k) d (omega (arith, low))
 
-some_same : {one two : CommitCall} → Some one ≡ Some two → one ≡ two
+pub some_same : {one two : CommitCall} → Some one ≡ Some two → one ≡ two
 some_same same = cc
 
 pub next_is : (P : CommitCall → Type 0) (out : ℕ) (plan : List CommitCall) (call : CommitCall) → All P plan
@@ -114,14 +114,15 @@ none_left out plan none = empty (calls_left out plan) none
     empty (call ∷ calls) is = absurd (cc)
 
 -- Nothing was called yet.
-pub ran_none : (uber : Uber) (entries : List IndexEntry) (plan : List CommitCall) (point : Point)
-    → Ran uber entries plan point plan point
-ran_none uber entries plan point = ([], (refl, refl))
+pub ran_none : (Kind : CommitCall → Type 0) (uber : Uber) (entries : List IndexEntry) (plan : List CommitCall)
+    (point : Point)
+    → Ran Kind uber entries plan point plan point
+ran_none Kind uber entries plan point = ([], (refl, refl))
 
 -- One call more.
-pub ran_more : (uber : Uber) (entries : List IndexEntry) (plan rest : List CommitCall)
-    (point before after : Point) (call : CommitCall) → Ran uber entries plan point rest before
+pub ran_more : (Kind : CommitCall → Type 0) (uber : Uber) (entries : List IndexEntry) (plan rest : List CommitCall)
+    (point before after : Point) (call : CommitCall) → Ran Kind uber entries plan point rest before → Kind call
     → slice_get (calls_left before.out rest) 0 ≡ Some call → MadeOne uber entries call before after
-    → Ran uber entries plan point (after_next before.out rest) after
-ran_more uber entries plan rest point before after call ran is made =
-    (record { call = call; before = before; after = after } ∷ ran.0, (rest, ran.1, is, made, refl, refl))
+    → Ran Kind uber entries plan point (after_next before.out rest) after
+ran_more Kind uber entries plan rest point before after call ran kind is made =
+    (record { call = call; before = before; after = after } ∷ ran.0, (rest, ran.1, kind, is, made, refl, refl))

@@ -6,6 +6,6 @@
 //! keeps. Stands on `commit_job` and `core_state`.
 #![tactic(auto)]
 
-mod commit;
+mod committing;
 
-pub use commit::{lay, sign};
+pub use committing::{TooManyOut, commit};

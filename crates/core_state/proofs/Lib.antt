@@ -15,5 +15,6 @@ pub mod Calls
 pub mod Laying
 pub mod Signing
 pub mod Moving
+pub mod Since
 pub mod Finding
 pub mod Created

@@ -14,7 +14,7 @@ use Rattle.commit_job.specs.declared.call.CommitCall.TheVariants.{IndexWrite, Ba
 use Rattle.core_state.specs.Map.{Map, SameMap}
 use Rattle.core_state.specs.Index.{IsIndexOf}
 use Rattle.core_state.specs.Whole.{Cell, IsCellOf}
-use Rattle.core_state.specs.Keeps.{Kept, Setting, NamesOther, IsNotOutvoted, count_left}
+use Rattle.core_state.specs.Keeps.{Kept, Setting, SameGroup, NamesOther, IsNotOutvoted, count_left}
 use Rattle.core_state.specs.Certain.{Asks, CellsOn, PageOn, SlotOn, IsSound, IsAble, IsCertain, IsRow, Knows, certain}
 use Rattle.core_state.specs.Committing.{Among, Point, IsLaid, HasBase, IsSealed, Unsigned, Signed}
 use Rattle.core_state.proofs.Places.{asks_device, right_widths}
@@ -90,12 +90,6 @@ knows_move setting first later next more disk row sound same_to above sealed fro
           omega (arith, few, left);
     }
 
--- The groups have the same index, map and uberblock but for its out set.
-pub record SameGroup (one other : Kept) : Type 0 where
-  pub entries : one.entries ≡ other.entries
-  pub map : SameMap one.map other.map
-  pub alike : AreAlike one.uber other.uber
-
 cell_same : (parity : ℕ) (births : List Birth) (one other : Kept) (cell : Cell)
     → SameGroup one other
     → IsCellOf parity births one.entries one.map cell
@@ -148,8 +142,9 @@ pub signs_begin : (setting : Setting) (first : Kept) (later more : List Kept) (n
     (uber : Uber) (plan late : List CommitCall) (point : Point)
     → MaySign setting first more next uber point.out
     → ((kept : Kept) → Contains (first ∷ later) kept → Contains (first ∷ more) kept)
-    → ((device part : ℕ) → Among plan (IndexWrite device part) → ⊥)
-    → ((device : ℕ) → Among plan (BaseSync device) → ⊥)
+    → ((device part : ℕ) → has_device point.out device ≡ false
+    → Among plan (IndexWrite device part) → ⊥)
+    → ((device : ℕ) → has_device point.out device ≡ false → Among plan (BaseSync device) → ⊥)
     → ((device : ℕ) → device < next.uber.reflow.to
     → Among late (UberWrite device) × Among late (UberSync device))
     → Unsigned setting first later next plan point
@@ -181,7 +176,7 @@ signs_begin setting first later more next uber plan late point may wider no_lay 
       lawful = u.lawful;
       told = u.told;
       laid = λ device part below in_use low. inr (⊎_elim
-          (λ left. absurd (no_lay device part left)) (λ read. read) (u.laid device part below in_use low));
+          (λ left. absurd (no_lay device part in_use left)) (λ read. read) (u.laid device part below in_use low));
       signed = λ device below in_use. inl (due device below).0;
       sealed = λ device below in_use. inl (due device below).1;
     }
@@ -191,7 +186,7 @@ signs_begin setting first later more next uber plan late point may wider no_lay 
 
     base : (device : ℕ) → device < next.uber.reflow.to → has_device point.out device ≡ false
         → HasBase setting (certain point.disk) next device
-    base device below in_use = ⊎_elim (λ left. absurd (no_settle device left)) (λ known. known)
+    base device below in_use = ⊎_elim (λ left. absurd (no_settle device in_use left)) (λ known. known)
         (u.settled device below in_use)
 
 -- A commit is done: nothing is left to be called, and only devices that may fail are out. Then the row

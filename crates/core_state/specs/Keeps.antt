@@ -69,6 +69,12 @@ pub record StandsThere (setting : Setting) (first : Kept) (image : Image) : Type
       → ShowsGroup setting image first other
   pub pages : HasPages setting image first
 
+-- The groups have the same index, map and uberblock but for its out set.
+pub record SameGroup (one other : Kept) : Type 0 where
+  pub entries : one.entries ≡ other.entries
+  pub map : SameMap one.map other.map
+  pub alike : AreAlike one.uber other.uber
+
 -- The group of an opening's commit: the index, map and all else of the chosen one in the other index
 -- area, numbered two more. Its out set is made up at its first uberblock write.
 pub record Renews (chosen next : Kept) : Type 0 where

@@ -1,10 +1,12 @@
 use Rattle.std.proofs.Common.{◌≡◌, sym, subst, ℕ}
-use Rattle.std.specs.Prelude.{◌||◌}
+use Rattle.std.specs.Prelude.{◌||◌, ◌<◌, ◌^◌}
+use Rattle.uberblock_ring.proofs.DeviceSets.{with_below}
 use Rattle.uberblock_ring.specs.Devices.{has_device, with_device}
 use Rattle.commit_job.specs.Stages.{device_of}
 use Rattle.core_state.specs.Committing.{lost_by}
+use Rattle.core_commit.proofs.Going.{inside_device}
 use Rattle.core_commit.proofs.Running.{none_lost, one_lost}
-use Rattle.core_commit.proofs.commit.make.Goals as goal
+use Rattle.core_commit.proofs.committing.make.Goals as goal
 
 pub returns-then-is_err-clause-made : goal.returns-then-is_err-clause-made
 returns-then-is_err-clause-made g c = record {
@@ -32,3 +34,10 @@ returns-else-is_err-clause-made g c = record {
     lawful = g.met.B.Bank.lawful c.call_bank.new.bank;
   };
 }
+
+pub returns-then-is_err-clause-below : goal.returns-then-is_err-clause-below
+returns-then-is_err-clause-below g c = subst (λ (out : ℕ). out < 2 ^ c.args.uber.now.reflow.to)
+    (sym c.insert.ensures.value)
+    (with_below c.args.out.now c.device.result c.args.uber.now.reflow.to c.requires.below
+    (subst (λ (device : ℕ). device < c.args.uber.now.reflow.to) (sym c.device.ensures.value)
+    (inside_device c.args.uber.now c.args.call c.requires.inside)))

@@ -1,44 +1,44 @@
 use Rattle.std.proofs.Common.{◌∙◌, sym, ap, arith, length, subst}
 use Rattle.std.specs.Prelude.{All, List}
 use Rattle.commit_job.specs.declared.call.CommitCall.{CommitCall}
-use Rattle.core_commit.specs.Ran.{IsInside, Ran, point_of}
-use Rattle.core_commit.proofs.Running.{none_left, next_is, ran_more}
-use Rattle.core_commit.proofs.commit.sign.Goals as goal
+use Rattle.core_commit.specs.Ran.{IsInside, Ran, IsAny, point_of}
+use Rattle.core_commit.proofs.Running.{next_is, ran_more}
+use Rattle.core_commit.proofs.committing.sign.Goals as goal
 
 pub make-requires-clause-inside : goal.make-requires-clause-inside
 make-requires-clause-inside g c =
     (next_is (IsInside c.args.uber.now) c.loop-call.out c.loop-call.calls c.in-Some.call c.loop-call.invariant.inside
-    (sym c.next.ensures.value ∙ c.in-Some.is)).fits
+    (c.next_call.ensures.some c.in-Some.call c.in-Some.is)).fits
 
 pub make-requires-clause-in_use : goal.make-requires-clause-in_use
 make-requires-clause-in_use g c =
     (next_is (IsInside c.args.uber.now) c.loop-call.out c.loop-call.calls c.in-Some.call c.loop-call.invariant.inside
-    (sym c.next.ensures.value ∙ c.in-Some.is)).in_use
+    (c.next_call.ensures.some c.in-Some.call c.in-Some.is)).in_use
 
 pub loop-call-smaller : goal.loop-call-smaller
 loop-call-smaller g c =
     let next = next_is (IsInside c.args.uber.now) c.loop-call.out c.loop-call.calls c.in-Some.call
-    c.loop-call.invariant.inside (sym c.next.ensures.value ∙ c.in-Some.is) in
+    c.loop-call.invariant.inside (c.next_call.ensures.some c.in-Some.call c.in-Some.is) in
     omega (arith, next.less, ap length c.advance.ensures.left)
 
 pub loop-call-preserved : goal.loop-call-preserved
 loop-call-preserved g c =
     let next = next_is (IsInside c.args.uber.now) c.loop-call.out c.loop-call.calls c.in-Some.call
-    c.loop-call.invariant.inside (sym c.next.ensures.value ∙ c.in-Some.is) in
+    c.loop-call.invariant.inside (c.next_call.ensures.some c.in-Some.call c.in-Some.is) in
     record {
-      ran = subst (λ (l : List CommitCall). Ran c.args.uber.now c.args.entries.now c.args.calls.now
+      ran = subst (λ (l : List CommitCall). Ran IsAny c.args.uber.now c.args.entries.now c.args.calls.now
           (point_of c.args.out.now (g.B.Bank.disk c.args.bank.now)) l
           (point_of c.make.new.out (g.B.Bank.disk c.make.new.bank)))
           (sym c.advance.ensures.left)
-          (ran_more c.args.uber.now c.args.entries.now c.args.calls.now c.loop-call.calls
+          (ran_more IsAny c.args.uber.now c.args.entries.now c.args.calls.now c.loop-call.calls
           (point_of c.args.out.now (g.B.Bank.disk c.args.bank.now))
           (point_of c.loop-call.out (g.B.Bank.disk c.loop-call.bank))
           (point_of c.make.new.out (g.B.Bank.disk c.make.new.bank))
-          c.in-Some.call c.loop-call.invariant.ran (sym c.next.ensures.value ∙ c.in-Some.is) c.make.ensures.made);
+          c.in-Some.call c.loop-call.invariant.ran tt (c.next_call.ensures.some c.in-Some.call c.in-Some.is) c.make.ensures.made);
       fits = c.make.ensures.fits;
       inside = subst (All (IsInside c.args.uber.now)) (sym c.advance.ensures.left) next.rest;
+      below = c.make.ensures.below;
     }
 
 pub returns-clause-ends : goal.returns-clause-ends
-returns-clause-ends g c =
-    none_left c.loop-call.out c.loop-call.calls (sym c.next.ensures.value ∙ c.in_default.is)
+returns-clause-ends g c few = c.next_call.ensures.none c.in_default.is (omega (arith, few, c.parity.ensures.value))

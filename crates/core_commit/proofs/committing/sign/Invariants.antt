@@ -1,14 +1,15 @@
 use Rattle.std.proofs.Common.{length}
-use Rattle.std.specs.Prelude.{All}
-use Rattle.core_commit.specs.Ran.{Ran, IsInside, FitsBank, point_of}
-use Rattle.core_commit.proofs.commit.sign.Given as goal
+use Rattle.std.specs.Prelude.{◌<◌, ◌^◌, All}
+use Rattle.core_commit.specs.Ran.{Ran, IsAny, IsInside, FitsBank, point_of}
+use Rattle.core_commit.proofs.committing.sign.Given as goal
 
 abbrev pub invariant-loop-call : goal.invariant-loop-call
 invariant-loop-call g l = record {
-  ran : Ran l.uber l.entries l.initial.calls (point_of l.initial.out (g.B.Bank.disk l.initial.bank)) l.calls
+  ran : Ran IsAny l.uber l.entries l.initial.calls (point_of l.initial.out (g.B.Bank.disk l.initial.bank)) l.calls
       (point_of l.out (g.B.Bank.disk l.bank));
   fits : FitsBank l.uber l.entries (g.B.Bank.disk l.bank);
   inside : All (IsInside l.uber) l.calls;
+  below : l.out < 2 ^ l.uber.reflow.to;
 }
 
 abbrev pub decreases-loop-call : goal.decreases-loop-call

@@ -1,0 +1,70 @@
+-- When a commit may be begun, and what it keeps, at each moment of it and at its end.
+use Rattle.std.specs.Prelude.{◌≡◌, ◌≢◌, ◌⊎◌, ℕ, ◌+◌, ◌<◌, List, [], ◌∷◌, ◌++◌, false, Result, OnOk, OnErr}
+use Rattle.block_record.specs.declared.entry.IndexEntry.{IndexEntry}
+use Rattle.uberblock_ring.specs.Devices.{has_device, IsWithin}
+use Rattle.uberblock_ring.specs.Uberblock.{Uber}
+use Rattle.core_state.specs.Map.{Map}
+use Rattle.core_state.specs.Keeps.{Kept, Setting, SameGroup}
+use Rattle.core_state.specs.Certain.{CellsOn, IsSound, IsRow, Knows}
+use Rattle.core_state.specs.Committing.{Point, TellsHead}
+use Rattle.core_state.specs.Moment.{KeepsSince}
+use Rattle.core_commit.specs.declared.committing.TooManyOut.{TooManyOut}
+
+-- what a commit begins with: the groups that images may show, in a row from the first that they show
+-- for certain; those that join the row from the first uberblock on; and the group that is made, with
+-- its map. It is the last of the row.
+pub record Begun : Type 0 where
+  pub setting : Setting
+  pub earlier : List Kept
+  pub first : Kept
+  pub later : List Kept
+  pub joined : List Kept
+  pub kept : Kept
+  pub map : Map
+
+-- what follows the first group once the uberblock may be shown
+abbrev pub row_of : Begun → List Kept
+row_of begun = begun.later ++ begun.joined
+
+-- all groups that images may have shown so far, and those that join them
+abbrev pub groups_of : Begun → List Kept
+groups_of begun = begun.earlier ++ (begun.first ∷ row_of begun)
+
+-- the group as it is written
+abbrev pub group_made : Begun → Uber → List IndexEntry → Kept
+group_made begun uber entries = record { uber = uber; entries = entries; map = begun.map }
+
+-- The group goes to the other index area and another slot than the first one's, is of its devices, and
+-- its blocks are read as it asks for them on each device in use.
+pub record MayCommit (begun : Begun) (uber : Uber) (entries : List IndexEntry) (point : Point) : Type 0
+  where
+    pub knows : Knows begun.setting begun.first begun.later point.disk
+    pub row : IsRow begun.setting begun.first (row_of begun)
+    pub same : SameGroup begun.kept (group_made begun uber entries)
+    pub sound : IsSound begun.setting begun.kept
+    pub front : List Kept
+    pub last : begun.first ∷ row_of begun ≡ front ++ begun.kept ∷ []
+    pub to_is : uber.reflow.to ≡ begun.first.uber.reflow.to
+    pub parity_is : uber.parity ≡ begun.first.uber.parity
+    pub area : begun.first.uber.area ≢ uber.area
+    pub near : (uber.group ≡ begun.first.uber.group + 1) ⊎ (uber.group ≡ begun.first.uber.group + 2)
+    pub told : TellsHead (group_made begun uber entries) point
+    pub cells : (device : ℕ) → device < uber.reflow.to → has_device point.out device ≡ false
+        → CellsOn begun.setting.odd point.disk.reads (group_made begun uber entries) device
+
+-- Where the devices that the group lists as out may fail: each image of a moment since then keeps some
+-- of the groups in a row; a commit that was cut short keeps all that it began with, and its own group
+-- where images may show it; and from one that was carried out on, where all that are out may fail, its
+-- group is the one that is kept.
+pub record CommitKeeps (uber : Uber) (entries : List IndexEntry) (before after : Point) (listed : ℕ)
+    (result : Result (Unit {0}) TooManyOut) : Type 0 where
+  pub since : (begun : Begun) (time : ℕ) → MayCommit begun uber entries before
+      → IsWithin listed begun.setting.failed
+      → KeepsSince begun.setting (groups_of begun) time before.disk
+      → KeepsSince begun.setting (groups_of begun) time after.disk
+  pub cut : OnErr result ((begun : Begun) → MayCommit begun uber entries before
+      → IsWithin listed begun.setting.failed
+      → Knows begun.setting begun.first (row_of begun) after.disk)
+  pub done : OnOk result ((begun : Begun) → MayCommit begun uber entries before
+      → IsWithin after.out begun.setting.failed
+      → Knows begun.setting begun.kept [] after.disk)

@@ -1,0 +1,188 @@
+// A commit and its two halves.
+ghost use Rattle.std.specs.Prelude.{◌≡◌, ◌↔◌, ◌^◌, ◌<◌, ◌≤◌, [], All, Some, None, false, slice_get, IsTrue, OnOk, OnErr};
+ghost use Rattle.block_record.specs.Page.{IsIndex};
+ghost use Rattle.uberblock_ring.specs.Devices.{has_device, count_of};
+ghost use Rattle.uberblock_ring.specs.Valid.{IsRightUber};
+ghost use Rattle.commit_job.specs.declared.call.CommitCall.{CommitCall as CallOf};
+ghost use Rattle.commit_job.specs.Stages.{device_of, calls_left};
+ghost use Rattle.core_commit.specs.Commits.{CommitKeeps};
+ghost use Rattle.core_commit.specs.Ran.{HasMade, MadeOne, Ran, IsInside, FitsBank, IsSigning, IsLaying, IsAny, point_of};
+ghost use Rattle.core_commit.specs.Spared.{Spares, HaveGoneOut};
+
+use bank_trait::{Bank, Failed};
+use block_record::{IndexEntry, index_sector};
+use commit_job::{Commit, CommitCall};
+use uberblock_ring::{DeviceSet, Uber, area_sector, slot};
+
+/// Makes one call.
+fn call_bank<B: Bank>(
+    bank: &mut B,
+    uber: &Uber,
+    entries: &[IndexEntry],
+    call: CommitCall,
+) -> Result<(), Failed>
+    requires right { IsRightUber uber.now }
+    requires index { IsIndex entries.now }
+    requires fits { FitsBank uber.now entries.now (B.disk bank.old) }
+    requires inside { IsInside uber.now call }
+    ensures { HasMade uber.now entries.now call (B.disk bank.old) (B.disk bank.new) result }
+{
+    match call {
+        CommitCall::IndexWrite { device, part } => {
+            bank.write(
+                device,
+                area_sector(uber.area()) + part,
+                &index_sector(entries, part),
+            )
+        }
+        CommitCall::UberWrite { device } => {
+            bank.write(device, u64::from(slot(uber.group())), &uber.encode(device))
+        }
+        CommitCall::BaseSync { device } => bank.sync(device),
+        CommitCall::UberSync { device } => bank.sync(device),
+    }
+}
+
+/// Makes one call, and puts its device out where it fails.
+fn make<B: Bank>(
+    bank: &mut B,
+    uber: &Uber,
+    entries: &[IndexEntry],
+    call: CommitCall,
+    out: &mut DeviceSet,
+)
+    requires right { IsRightUber uber.now }
+    requires index { IsIndex entries.now }
+    requires fits { FitsBank uber.now entries.now (B.disk bank.old) }
+    requires inside { IsInside uber.now call }
+    requires in_use { has_device out.old (device_of call) ≡ false }
+    requires below { out.old < 2 ^ uber.now.reflow.to }
+    ensures made { MadeOne uber.now entries.now call (point_of out.old (B.disk bank.old))
+        (point_of out.new (B.disk bank.new)) }
+    ensures fits { FitsBank uber.now entries.now (B.disk bank.new) }
+    ensures below { out.new < 2 ^ uber.now.reflow.to }
+{
+    if call_bank(bank, uber, entries, call).is_err() {
+        out.insert(call.device());
+    }
+}
+
+/// Whether a call writes an uberblock of the group, or syncs one.
+fn is_signing(call: CommitCall) -> bool
+    ensures { IsTrue result ↔ IsSigning call }
+{
+    match call {
+        CommitCall::IndexWrite { .. } | CommitCall::BaseSync { .. } => false,
+        CommitCall::UberWrite { .. } | CommitCall::UberSync { .. } => true,
+    }
+}
+
+/// The next call, unless more devices are out than there are parities: none is called then.
+fn next_call(calls: &Commit, out: DeviceSet, parity: u32) -> Option<CommitCall>
+    ensures some { (call : CallOf) → result ≡ Some call
+        → slice_get (calls_left out calls.now) 0 ≡ Some call }
+    ensures none { result ≡ None → count_of out ≤ parity → calls_left out calls.now ≡ [] }
+{
+    if out.len() > parity {
+        return None;
+    }
+    calls.next(out)
+}
+
+/// The first half: the index page on each device, and a sync of each. Makes the calls that are left
+/// up to the first that concerns an uberblock.
+fn lay<B: Bank>(
+    bank: &mut B,
+    uber: &Uber,
+    entries: &[IndexEntry],
+    calls: &mut Commit,
+    out: &mut DeviceSet,
+)
+    requires right { IsRightUber uber.now }
+    requires index { IsIndex entries.now }
+    requires fits { FitsBank uber.now entries.now (B.disk bank.old) }
+    requires inside { All (IsInside uber.now) calls.old }
+    requires below { out.old < 2 ^ uber.now.reflow.to }
+    ensures ran { Ran IsLaying uber.now entries.now calls.old (point_of out.old (B.disk bank.old))
+        calls.new (point_of out.new (B.disk bank.new)) }
+    ensures ends { count_of out.new ≤ uber.now.parity → (call : CallOf)
+        → slice_get (calls_left out.new calls.new) 0 ≡ Some call
+        → IsSigning call }
+    ensures fits { FitsBank uber.now entries.now (B.disk bank.new) }
+    ensures inside { All (IsInside uber.now) calls.new }
+    ensures below { out.new < 2 ^ uber.now.reflow.to }
+{
+    while let Some(call) = next_call(calls, *out, uber.parity()) {
+        if is_signing(call) {
+            return;
+        }
+        let _ = calls.advance(*out);
+        make(bank, uber, entries, call, out);
+    }
+}
+
+/// The second half: the uberblock on each device, and a sync of each. Makes all calls that are left.
+fn sign<B: Bank>(
+    bank: &mut B,
+    uber: &Uber,
+    entries: &[IndexEntry],
+    calls: &mut Commit,
+    out: &mut DeviceSet,
+)
+    requires right { IsRightUber uber.now }
+    requires index { IsIndex entries.now }
+    requires fits { FitsBank uber.now entries.now (B.disk bank.old) }
+    requires inside { All (IsInside uber.now) calls.old }
+    requires below { out.old < 2 ^ uber.now.reflow.to }
+    ensures ran { Ran IsAny uber.now entries.now calls.old (point_of out.old (B.disk bank.old))
+        calls.new (point_of out.new (B.disk bank.new)) }
+    ensures ends { count_of out.new ≤ uber.now.parity → calls_left out.new calls.new ≡ [] }
+    ensures below { out.new < 2 ^ uber.now.reflow.to }
+{
+    while let Some(call) = next_call(calls, *out, uber.parity()) {
+        let _ = calls.advance(*out);
+        make(bank, uber, entries, call, out);
+    }
+}
+
+/// More devices are out than there are parities.
+#[derive(Clone, Copy, Debug, PartialEq, Eq)]
+pub struct TooManyOut;
+
+/// Makes a group the last one: the index page goes to each device in use and is synced there, then the
+/// uberblock, which lists the devices that are out by then. A device whose call fails goes out; once
+/// more are out than there are parities, none is called.
+pub fn commit<B: Bank>(
+    bank: &mut B,
+    uber: &mut Uber,
+    entries: &[IndexEntry],
+    out: &mut DeviceSet,
+) -> Result<(), TooManyOut>
+    requires right { IsRightUber uber.old }
+    requires lists { uber.old.out ≡ out.old }
+    requires index { IsIndex entries.now }
+    requires fits { FitsBank uber.old entries.now (B.disk bank.old) }
+    ensures same { uber.new ≡ record uber.old { out = uber.new.out } }
+    ensures right { IsRightUber uber.new }
+    ensures ok { OnOk result (count_of out.new ≤ uber.old.parity) }
+    ensures err { OnErr result (uber.old.parity < count_of out.new) }
+    ensures gone { HaveGoneOut (point_of out.old (B.disk bank.old)) uber.new.out
+        (point_of out.new (B.disk bank.new)) }
+    ensures spares { Spares (point_of out.old (B.disk bank.old))
+        (point_of out.new (B.disk bank.new)) }
+    ensures keeps { CommitKeeps uber.old entries.now (point_of out.old (B.disk bank.old))
+        (point_of out.new (B.disk bank.new)) uber.new.out result }
+{
+    let parity = uber.parity();
+    let mut calls = Commit::new(uber.reflow().to, uber.count());
+    lay(bank, uber, entries, &mut calls, out);
+    if out.len() > parity {
+        return Err(TooManyOut);
+    }
+    uber.set_out(*out);
+    sign(bank, uber, entries, &mut calls, out);
+    if out.len() > parity {
+        return Err(TooManyOut);
+    }
+    Ok(())
+}
