@@ -8,6 +8,7 @@ use Rattle.uberblock_ring.specs.Devices.{has_device, count_below, IsWithin}
 use Rattle.uberblock_ring.specs.Uberblock.{Uber}
 use Rattle.uberblock_ring.specs.Valid.{IsRightUber}
 use Rattle.commit_job.specs.declared.call.CommitCall.{CommitCall}
+use Rattle.commit_job.specs.declared.call.CommitCall.TheVariants.{IndexWrite, BaseSync, UberWrite, UberSync}
 use Rattle.commit_job.specs.Stages.{plan_of, calls_left}
 use Rattle.core_state.specs.Committing.{Point}
 use Rattle.core_state.specs.Moment.{KeepsSince}
@@ -16,15 +17,16 @@ use Rattle.core_commit.specs.declared.committing.TooManyOut.{TooManyOut}
 use Rattle.core_commit.specs.Ran.{Ran, IsSigning, IsLaying, IsAny, IsInside}
 use Rattle.core_commit.specs.Commits.{Begun, groups_of, MayCommit, CommitKeeps}
 use Rattle.core_commit.specs.Spared.{Spares, HaveGoneOut}
-use Rattle.core_commit.proofs.Order.{Ordered, plan_ordered}
+use Rattle.core_commit.proofs.Order.{plan_ordered}
 use Rattle.core_commit.proofs.Rows.{row_before}
-use Rattle.core_commit.proofs.Going.{Went, went_on, went_all, all_inside}
+use Rattle.core_commit.proofs.Going.{Went, AreInside, went_on, went_all, ordered_inside, all_inside}
 use Rattle.core_commit.proofs.Whole.{cut_since, cut_knows, signed_since, signed_knows, done_knows}
 
 pub plan_inside : (uber : Uber) (plan : List CommitCall) → plan ≡ plan_of uber.reflow.to uber.count
     → All (IsInside uber) plan
 plan_inside uber plan is = subst (All (IsInside uber)) (sym is)
-    (all_inside uber (plan_of uber.reflow.to uber.count) (plan_ordered uber.reflow.to uber.count))
+    (all_inside uber (plan_of uber.reflow.to uber.count)
+    (ordered_inside uber (plan_of uber.reflow.to uber.count) (plan_ordered uber.reflow.to uber.count)))
 
 -- An uberblock may list devices of its pool as out, as many as there are parities.
 pub right_listing : (uber other : Uber) (out : ℕ) → IsRightUber uber → other ≡ record uber { out = out }
@@ -50,9 +52,10 @@ module _ (uber : Uber) (entries : List IndexEntry) (before mid : Point) (plan le
   laid : Ran IsLaying uber entries (plan_of uber.reflow.to uber.count) before left mid
   laid = subst (λ (p : List CommitCall). Ran IsLaying uber entries p before left mid) plan_is ran
 
-  went_laid : Went before mid × Ordered uber.reflow.to (page_sectors uber.count) left
-  went_laid = went_all uber.reflow.to uber entries right.area right.count IsLaying laid.0
-      (plan_of uber.reflow.to uber.count) left before mid laid.1 (plan_ordered uber.reflow.to uber.count)
+  went_laid : Went before mid × AreInside uber left
+  went_laid = went_all uber entries right.area right.count IsLaying laid.0
+      (plan_of uber.reflow.to uber.count) left before mid laid.1
+      (ordered_inside uber (plan_of uber.reflow.to uber.count) (plan_ordered uber.reflow.to uber.count))
 
   pub cut_gone : uber.out ≡ before.out → HaveGoneOut before uber.out mid
   cut_gone lists = record {
@@ -87,9 +90,15 @@ module _ (uber : Uber) (entries : List IndexEntry) (before mid : Point) (plan le
     out_is : signing.out ≡ mid.out
     out_is = ap (λ (u : Uber). u.out) signing_is
 
+    same_inside : (call : CommitCall) → IsInside uber call → IsInside (record uber { out = mid.out }) call
+    same_inside (IndexWrite device part) inside = inside
+    same_inside (BaseSync device) inside = inside
+    same_inside (UberWrite device) inside = inside
+    same_inside (UberSync device) inside = inside
+
     went_signed : Went mid after
-    went_signed = (went_all uber.reflow.to (record uber { out = mid.out }) entries right.area right.count IsAny
-        signed.0 left left_signed mid after signed.1 went_laid.1).0
+    went_signed = (went_all (record uber { out = mid.out }) entries right.area right.count IsAny
+        signed.0 left left_signed mid after signed.1 (λ call among. same_inside call (went_laid.1 call among))).0
 
     pub signed_gone : HaveGoneOut before signing.out after
     signed_gone = record {

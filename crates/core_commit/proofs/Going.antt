@@ -13,13 +13,13 @@ use Rattle.uberblock_ring.specs.Devices.{has_device, IsWithin}
 use Rattle.uberblock_ring.specs.Uberblock.{Uber, slot_of, area_sector}
 use Rattle.commit_job.specs.declared.call.CommitCall.{CommitCall}
 use Rattle.commit_job.specs.declared.call.CommitCall.TheVariants.{IndexWrite, BaseSync, UberWrite, UberSync}
-use Rattle.commit_job.specs.Stages.{device_of, after_next}
-use Rattle.core_state.specs.Committing.{Point, Called, lost_by}
+use Rattle.commit_job.specs.Stages.{device_of}
+use Rattle.core_state.specs.Committing.{Among, Point, Called, lost_by}
 use Rattle.core_state.proofs.Calls.{true_false, both_false}
 use Rattle.core_commit.specs.Ran.{MadeOne, Step, RanBy, IsInside}
 use Rattle.core_commit.specs.Spared.{Spares, HaveGoneOut}
 use Rattle.core_commit.proofs.Order.{Due, Ordered}
-use Rattle.core_commit.proofs.Plans.{next_due}
+use Rattle.core_commit.proofs.Plans.{next_among, rest_among}
 use Rattle.core_commit.proofs.Halves.{goes_on, stays_out}
 
 -- Devices go out, each for a call that failed on it, and what is no ring or index area is left alone.
@@ -40,7 +40,7 @@ went_none point = record {
   each = λ device out. inl out;
 }
 
-in_use_before : (before after : Point) (device : ℕ) → IsWithin before.out after.out
+pub in_use_before : (before after : Point) (device : ℕ) → IsWithin before.out after.out
     → has_device after.out device ≡ false
     → has_device before.out device ≡ false
 in_use_before before after device stay in_use = by (has_device before.out device) refl
@@ -156,50 +156,66 @@ went_sync device result before after called synced = record {
   each = lost_rose device result before after called synced.failed;
 }
 
-module _ (devices : ℕ) (uber : Uber) (entries : List IndexEntry) (area : uber.area ≤ 1)
-    (count : uber.count ≤ 512) where
-  went_one : (call : CommitCall) (rest : List CommitCall) (before after : Point)
-      → Due devices (page_sectors uber.count) call rest → MadeOne uber entries call before after
+-- Each call of the plan is to a device and a sector that are there.
+abbrev pub AreInside : Uber → List CommitCall → Type 0
+AreInside uber plan = (call : CommitCall) → Among plan call → IsInside uber call
+
+module _ (uber : Uber) (entries : List IndexEntry) (area : uber.area ≤ 1) (count : uber.count ≤ 512)
+  where
+  went_one : (call : CommitCall) (before after : Point)
+      → IsInside uber call → MadeOne uber entries call before after
       → Went before after
-  went_one (IndexWrite device part) rest before after due made =
+  went_one (IndexWrite device part) before after inside made =
       went_write device (area_sector uber.area + part) _ made.result before after
-      (inr (omega (arith, area), (let low = due.1 in omega (arith, low, count, area)))) made.called made.made
-  went_one (BaseSync device) rest before after due made =
+      (inr (omega (arith, area), (let low = inside.1 in omega (arith, low, count, area)))) made.called made.made
+  went_one (BaseSync device) before after inside made =
       went_sync device made.result before after made.called made.made
-  went_one (UberWrite device) rest before after due made =
+  went_one (UberWrite device) before after inside made =
       went_write device (slot_of uber.group) _ made.result before after (inl (omega arith)) made.called made.made
-  went_one (UberSync device) rest before after due made =
+  went_one (UberSync device) before after inside made =
       went_sync device made.result before after made.called made.made
 
-  -- Any calls of an ordered plan.
+  -- Any calls of a plan.
   pub went_all : (Kind : CommitCall → Type 0) (steps : List Step) (plan left : List CommitCall)
-      (point now : Point) → RanBy Kind uber entries steps plan point left now
-      → Ordered devices (page_sectors uber.count) plan
-      → Went point now × Ordered devices (page_sectors uber.count) left
-  went_all Kind [] plan left point now ran ordered = (
+      (point now : Point) → RanBy Kind uber entries steps plan point left now → AreInside uber plan
+      → Went point now × AreInside uber left
+  went_all Kind [] plan left point now ran inside = (
     subst (Went point) (sym ran.1) (went_none point),
-    subst (Ordered devices (page_sectors uber.count)) (sym ran.0) ordered,
+    subst (AreInside uber) (sym ran.0) inside,
   )
-  went_all Kind (step ∷ steps) plan left point now ran ordered =
-      let before = went_all Kind steps plan ran.0 point step.before ran.1 ordered in
-      let due = next_due devices (page_sectors uber.count) step.before.out ran.0 step.call ran.3 before.1 in (
+  went_all Kind (step ∷ steps) plan left point now ran inside =
+      let before = went_all Kind steps plan ran.0 point step.before ran.1 inside in (
         went_on point step.before now before.0
             (subst (Went step.before) (sym ran.6)
-            (went_one step.call (after_next step.before.out ran.0) step.before step.after due.0 ran.4)),
-        subst (Ordered devices (page_sectors uber.count)) (sym ran.5) due.1,
+            (went_one step.call step.before step.after
+            (before.1 step.call (next_among step.before.out ran.0 step.call ran.3)) ran.4)),
+        subst (AreInside uber) (sym ran.5) (λ other among. before.1 other
+            (rest_among step.before.out ran.0 step.call other ran.3 among)),
       )
 
--- Each call of an ordered plan is to a device and a sector that are there.
-pub all_inside : (uber : Uber) (plan : List CommitCall)
+-- The calls of an ordered plan are.
+pub ordered_inside : (uber : Uber) (plan : List CommitCall)
     → Ordered uber.reflow.to (page_sectors uber.count) plan
-    → All (IsInside uber) plan
-all_inside uber [] ordered k default low = absurd (omega (arith, low))
-all_inside uber (call ∷ plan) ordered (suc k) default low =
-    all_inside uber plan ordered.1 k default (omega (arith, low))
-all_inside uber (IndexWrite device part ∷ plan) ordered zero default low = (ordered.0.0, ordered.0.1)
-all_inside uber (BaseSync device ∷ plan) ordered zero default low = ordered.0.0
-all_inside uber (UberWrite device ∷ plan) ordered zero default low = ordered.0.0
-all_inside uber (UberSync device ∷ plan) ordered zero default low = ordered.0.0
+    → AreInside uber plan
+ordered_inside uber [] ordered other among = absurd among
+ordered_inside uber (call ∷ plan) ordered other among = ⊎_elim
+    (λ same. subst (IsInside uber) (sym same) (due_inside uber call plan ordered.0))
+    (λ later. ordered_inside uber plan ordered.1 other later) among
+  where
+    due_inside : (uber : Uber) (call : CommitCall) (rest : List CommitCall)
+        → Due uber.reflow.to (page_sectors uber.count) call rest
+        → IsInside uber call
+    due_inside uber (IndexWrite device part) rest due = (due.0, due.1)
+    due_inside uber (BaseSync device) rest due = due.0
+    due_inside uber (UberWrite device) rest due = due.0
+    due_inside uber (UberSync device) rest due = due.0
+
+-- as `sign` and `lay` ask for it
+pub all_inside : (uber : Uber) (plan : List CommitCall) → AreInside uber plan → All (IsInside uber) plan
+all_inside uber [] inside k default low = absurd (omega (arith, low))
+all_inside uber (call ∷ plan) inside zero default low = inside call (inl refl)
+all_inside uber (call ∷ plan) inside (suc k) default low =
+    all_inside uber plan (λ other among. inside other (inr among)) k default (omega (arith, low))
 
 pub inside_device : (uber : Uber) (call : CommitCall) → IsInside uber call → device_of call < uber.reflow.to
 inside_device uber (IndexWrite device part) inside = inside.0

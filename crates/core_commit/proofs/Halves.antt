@@ -15,15 +15,15 @@ use Rattle.commit_job.specs.Stages.{device_of, calls_left, after_next}
 use Rattle.core_state.specs.Keeps.{Kept, Setting}
 use Rattle.core_state.specs.Certain.{IsSound, Knows}
 use Rattle.core_state.specs.Committing.{Among, Point, Called, lost_by, Unsigned, Signed}
-use Rattle.core_state.specs.Moment.{KeepsSince}
+use Rattle.core_state.specs.Moment.{IsRowOf, KeepsSince}
 use Rattle.core_state.proofs.Calls.{true_false, both_false}
 use Rattle.core_state.proofs.Laying.{IsPaged, unsigned_passed, unsigned_laid, unsigned_settled}
 use Rattle.core_state.proofs.Signing.{IsSigner, signed_passed, signed_signed, signed_sealed}
-use Rattle.core_state.proofs.Since.{IsRowOf, since_more}
+use Rattle.core_state.proofs.Since.{since_more}
 use Rattle.core_commit.specs.Ran.{MadeOne, Step, RanBy, IsSigning, IsLaying, IsAny}
 use Rattle.core_commit.proofs.Order.{Due, Ordered}
 use Rattle.core_commit.proofs.Running.{next_is}
-use Rattle.core_commit.proofs.Plans.{by_next, next_among, rest_among, next_due, signing_stays, laying_spent}
+use Rattle.core_commit.proofs.Plans.{by_next, by_none, next_among, rest_among, next_due, signing_stays, laying_spent}
 
 -- Each call goes on in time.
 pub goes_on : (uber : Uber) (entries : List IndexEntry) (call : CommitCall) (before after : Point)
@@ -206,21 +206,6 @@ module _ (setting : Setting) (groups : List Kept) (time : ℕ) (first : Kept) (l
   pub signs_end : (plan : List CommitCall) (point : Point) → calls_left point.out plan ≡ []
       → Signed setting first later next uber plan point
       → Signed setting first later next uber [] point
-  signs_end [] point none s = s
-  signs_end (call ∷ plan) point none s =
-      by (has_device point.out (device_of call)) refl (signs_end plan point)
-    where
-      by : (b : Bool) → has_device point.out (device_of call) ≡ b
-          → (calls_left point.out plan ≡ [] → Signed setting first later next uber plan point
-          → Signed setting first later next uber [] point)
-          → Signed setting first later next uber [] point
-      by true gone more = more
-          (subst (λ (b : Bool). (if not b then call ∷ calls_left point.out plan else calls_left point.out plan) ≡ [])
-          gone none)
-          (signed_passed setting first later next uber paged_first paged signer call plan point gone s)
-      by false used more = absurd (some
-          (subst (λ (b : Bool). (if not b then call ∷ calls_left point.out plan else calls_left point.out plan) ≡ [])
-          used none))
-        where
-          some : call ∷ calls_left point.out plan ≡ [] → ⊥
-          some is = cc
+  signs_end plan point none s = by_none (λ plan. Signed setting first later next uber plan point) point.out
+      (λ call plan gone s. signed_passed setting first later next uber paged_first paged signer call plan point gone s)
+      plan none s

@@ -6,3 +6,5 @@ pub mod Halves
 pub mod Going
 pub mod Whole
 pub mod Ending
+pub mod Spreading
+pub mod Copying

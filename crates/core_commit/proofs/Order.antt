@@ -32,29 +32,29 @@ Ordered devices parts [] = Unit {0}
 Ordered devices parts (call ∷ rest) = Due devices parts call rest × Ordered devices parts rest
 
 -- Each element of a list has this.
-abbrev Every : (CommitCall → Type 0) → List CommitCall → Type 0
+abbrev pub Every : (CommitCall → Type 0) → List CommitCall → Type 0
 Every P [] = Unit {0}
 Every P (call ∷ calls) = P call × Every P calls
 
-every_append : (P : CommitCall → Type 0) (front back : List CommitCall) → Every P front → Every P back
+pub every_append : (P : CommitCall → Type 0) (front back : List CommitCall) → Every P front → Every P back
     → Every P (front ++ back)
 every_append P [] back fronts backs = backs
 every_append P (call ∷ front) back (one, fronts) backs = (one, every_append P front back fronts backs)
 
-every_among : (P : CommitCall → Type 0) (calls : List CommitCall) (call : CommitCall) → Every P calls
+pub every_among : (P : CommitCall → Type 0) (calls : List CommitCall) (call : CommitCall) → Every P calls
     → Among calls call
     → P call
 every_among P [] call every among = absurd among
 every_among P (first ∷ calls) call (one, every) (inl same) = subst P (sym same) one
 every_among P (first ∷ calls) call (one, every) (inr later) = every_among P calls call every later
 
-every_weaker : (P Q : CommitCall → Type 0) (calls : List CommitCall) → ((call : CommitCall) → P call → Q call)
+pub every_weaker : (P Q : CommitCall → Type 0) (calls : List CommitCall) → ((call : CommitCall) → P call → Q call)
     → Every P calls
     → Every Q calls
 every_weaker P Q [] weaker every = every
 every_weaker P Q (call ∷ calls) weaker (one, every) = (weaker call one, every_weaker P Q calls weaker every)
 
-among_front : (front back : List CommitCall) (call : CommitCall) → Among front call
+pub among_front : (front back : List CommitCall) (call : CommitCall) → Among front call
     → Among (front ++ back) call
 among_front [] back call among = absurd among
 among_front (first ∷ front) back call (inl same) = inl same
@@ -67,7 +67,7 @@ among_back (first ∷ front) back call among = inr (among_back front back call a
 
 -- A call for each of some devices.
 module _ (call_of : ℕ → CommitCall) where
-  among_each : (devices device : ℕ) → device < devices
+  pub among_each : (devices device : ℕ) → device < devices
       → Among (map call_of (numbers_below devices)) (call_of device)
   among_each zero device below = absurd (omega (arith, below))
   among_each (suc devices) device below = subst (λ (l : List CommitCall). Among l (call_of device))
@@ -87,7 +87,7 @@ module _ (call_of : ℕ → CommitCall) where
       by_case (inr same) = among_back (map call_of (numbers_below devices)) _ (call_of device)
           (inl (ap call_of same))
 
-  every_each : (P : CommitCall → Type 0) (devices : ℕ) → ((device : ℕ) → device < devices → P (call_of device))
+  pub every_each : (P : CommitCall → Type 0) (devices : ℕ) → ((device : ℕ) → device < devices → P (call_of device))
       → Every P (map call_of (numbers_below devices))
   every_each P zero each = tt
   every_each P (suc devices) each = subst (Every P)
@@ -97,7 +97,7 @@ module _ (call_of : ℕ → CommitCall) where
       (each devices (omega arith), tt))
 
 -- Index pages of some devices.
-every_page : (P : CommitCall → Type 0) (count devices : ℕ)
+pub every_page : (P : CommitCall → Type 0) (count devices : ℕ)
     → ((device part : ℕ) → device < devices → part < page_sectors count → P (IndexWrite device part))
     → Every P (flat_map (index_writes count) (numbers_below devices))
 every_page P count zero each = tt

@@ -40,6 +40,28 @@ by_next Goal out call here passed (first ∷ plan) is =
         (sym (ap (λ (b : Bool). if b then after_next out plan else plan) used))
         (subst (λ (c : CommitCall). Goal (c ∷ plan) plan) (sym same) (here plan))
 
+-- Where none is left but on devices that are out, and one of these is passed over at no cost, all are.
+pub by_none : (Goal : List CommitCall → Type 0) (out : ℕ)
+    → ((call : CommitCall) (plan : List CommitCall) → has_device out (device_of call) ≡ true
+    → Goal (call ∷ plan)
+    → Goal plan)
+    → (plan : List CommitCall) → calls_left out plan ≡ [] → Goal plan
+    → Goal []
+by_none Goal out passed [] none goal = goal
+by_none Goal out passed (call ∷ plan) none goal =
+    by (has_device out (device_of call)) refl (by_none Goal out passed plan)
+  where
+    some : call ∷ calls_left out plan ≡ [] → ⊥
+    some is = cc
+
+    by : (b : Bool) → has_device out (device_of call) ≡ b → (calls_left out plan ≡ [] → Goal plan → Goal [])
+        → Goal []
+    by true gone more = more
+        (subst (λ (b : Bool). (if not b then call ∷ calls_left out plan else calls_left out plan) ≡ []) gone none)
+        (passed call plan gone goal)
+    by false used more = absurd (some
+        (subst (λ (b : Bool). (if not b then call ∷ calls_left out plan else calls_left out plan) ≡ []) used none))
+
 pub next_among : (out : ℕ) (plan : List CommitCall) (call : CommitCall)
     → slice_get (calls_left out plan) 0 ≡ Some call
     → Among plan call

@@ -3,8 +3,8 @@ use Rattle.std.proofs.Common.{◌≡◌, ◌⊎◌, inl, inr, ⊎_elim, ℕ, zer
 use Rattle.std.specs.Prelude.{Contains, AllPairs}
 use Rattle.std.proofs.lemmas.List.{append-nil}
 use Rattle.core_state.specs.Keeps.{Kept}
+use Rattle.core_state.specs.Moment.{IsRowOf}
 use Rattle.core_state.proofs.Listed.{contains_head, contains_tail, contains_cases, contains_none}
-use Rattle.core_state.proofs.Since.{IsRowOf}
 use Rattle.core_commit.specs.Commits.{Begun, row_of, groups_of}
 
 -- One group has a lower number than the other.

@@ -21,7 +21,7 @@ use Rattle.core_state.proofs.Places.{right_widths}
 use Rattle.core_state.proofs.Laying.{IsPaged}
 use Rattle.core_state.proofs.Signing.{IsSigner}
 use Rattle.core_state.proofs.Moving.{MaySign, signs_begin, knows_widen, knows_move}
-use Rattle.core_state.proofs.Since.{IsRowOf, since_now}
+use Rattle.core_state.proofs.Since.{since_now}
 use Rattle.core_commit.specs.Ran.{Step, RanBy, IsSigning, IsLaying, IsAny}
 use Rattle.core_commit.specs.Commits.{Begun, row_of, groups_of, group_made, MayCommit}
 use Rattle.core_commit.proofs.Order.{Ordered, plan_ordered, plan_lays, plan_settles, plan_signs}
@@ -30,7 +30,7 @@ use Rattle.core_commit.proofs.Rows.{row_before, row_after, row_at_end, kept_list
 use Rattle.core_commit.proofs.Halves.{sound_paged, HasLaid, lays_all, HasSigned, signs_all, signs_end}
 
 -- Page and uberblock of a group are those of the same group.
-sealed_same : (one other : Kept) (known : ℕ → ℕ → _) (device : ℕ) → SameGroup one other
+pub sealed_same : (one other : Kept) (known : ℕ → ℕ → _) (device : ℕ) → SameGroup one other
     → IsSealed known other device
     → IsSealed known one device
 sealed_same one other known device same sealed =

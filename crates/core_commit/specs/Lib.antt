@@ -1,3 +1,4 @@
 pub mod Ran
 pub mod Commits
+pub mod Copies
 pub mod Spared

@@ -6,6 +6,7 @@ ghost use Rattle.uberblock_ring.specs.Valid.{IsRightUber};
 ghost use Rattle.commit_job.specs.declared.call.CommitCall.{CommitCall as CallOf};
 ghost use Rattle.commit_job.specs.Stages.{device_of, calls_left};
 ghost use Rattle.core_commit.specs.Commits.{CommitKeeps};
+ghost use Rattle.core_commit.specs.Copies.{CopyKeeps};
 ghost use Rattle.core_commit.specs.Ran.{HasMade, MadeOne, Ran, IsInside, FitsBank, IsSigning, IsLaying, IsAny, point_of};
 ghost use Rattle.core_commit.specs.Spared.{Spares, HaveGoneOut};
 
@@ -121,7 +122,8 @@ fn lay<B: Bank>(
     }
 }
 
-/// The second half: the uberblock on each device, and a sync of each. Makes all calls that are left.
+/// The second half: the uberblock on each device, and a sync of each; or copies. Makes all calls that
+/// are left.
 fn sign<B: Bank>(
     bank: &mut B,
     uber: &Uber,
@@ -182,6 +184,39 @@ pub fn commit<B: Bank>(
     uber.set_out(*out);
     sign(bank, uber, entries, &mut calls, out);
     if out.len() > parity {
+        return Err(TooManyOut);
+    }
+    Ok(())
+}
+
+/// Brings a group that some devices have to those that lack its index page or its uberblock, and syncs
+/// each device. A device whose call fails goes out; once more are out than there are parities, none is
+/// called.
+pub fn copy<B: Bank>(
+    bank: &mut B,
+    uber: &Uber,
+    entries: &[IndexEntry],
+    lack_page: DeviceSet,
+    lack_uber: DeviceSet,
+    out: &mut DeviceSet,
+) -> Result<(), TooManyOut>
+    requires right { IsRightUber uber.now }
+    requires index { IsIndex entries.now }
+    requires fits { FitsBank uber.now entries.now (B.disk bank.old) }
+    requires below { out.old < 2 ^ uber.now.reflow.to }
+    ensures below { out.new < 2 ^ uber.now.reflow.to }
+    ensures ok { OnOk result (count_of out.new ≤ uber.now.parity) }
+    ensures err { OnErr result (uber.now.parity < count_of out.new) }
+    ensures gone { HaveGoneOut (point_of out.old (B.disk bank.old)) out.old
+        (point_of out.new (B.disk bank.new)) }
+    ensures spares { Spares (point_of out.old (B.disk bank.old))
+        (point_of out.new (B.disk bank.new)) }
+    ensures keeps { CopyKeeps uber.now entries.now lack_page lack_uber
+        (point_of out.old (B.disk bank.old)) (point_of out.new (B.disk bank.new)) result }
+{
+    let mut calls = Commit::copies(uber.reflow().to, uber.count(), lack_page, lack_uber);
+    sign(bank, uber, entries, &mut calls, out);
+    if out.len() > uber.parity() {
         return Err(TooManyOut);
     }
     Ok(())

@@ -8,4 +8,4 @@
 
 mod committing;
 
-pub use committing::{TooManyOut, commit};
+pub use committing::{TooManyOut, commit, copy};

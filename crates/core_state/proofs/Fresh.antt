@@ -19,8 +19,8 @@ use Rattle.core_state.specs.Shown.{Shape, Shows, Gives, page_on}
 use Rattle.core_state.specs.Choosing.{Names, IsChosenPool, Outvotes, IsOutAtOpening, IsListedOut}
 use Rattle.core_state.specs.Whole.{Odd, IsWhole}
 use Rattle.core_state.specs.Keeps.{ShowsGroup, Kept, Setting, Keeps, IsKept, ShowsOnly, StandsThere, ShowsCandidate, IsNotOutvoted}
-use Rattle.commit_job.specs.Stages.{plan_of, calls_left}
-use Rattle.core_state.specs.Opening.{Found, IsOpening, copies_of}
+use Rattle.commit_job.specs.Stages.{calls_left}
+use Rattle.core_state.specs.Opening.{Found, IsOpening, copies_of, renewal_of}
 use Rattle.core_state.specs.Create.{IsNew, new_ring, rows_for, first_kept}
 
 -- The empty set has no device.
@@ -266,7 +266,7 @@ module _ (shape : Shape) (pool parity width failed : ℕ) (odd : Odd) (image : I
   found_0 = record { shape = shape; silent = 0; image = image; chosen = first_kept pool parity width shape.sectors }
 
   abbrev next_0 : Kept
-  next_0 = record { uber = record uber_0 { group = 3; area = 1 }; entries = []; map = no_blocks }
+  next_0 = record { uber = record uber_0 { group = 3 }; entries = []; map = no_blocks }
 
   none_out : (device : ℕ) → IsOutAtOpening shape 0 image uber_0 device → ⊥
   none_out device (below, why) = ⊎_elim (λ listed. by_list listed) (λ others. ⊎_elim (λ silent. none_is_in device silent)
@@ -275,8 +275,8 @@ module _ (shape : Shape) (pool parity width failed : ℕ) (odd : Odd) (image : I
       by_list : IsListedOut shape 0 image uber_0 device → ⊥
       by_list listed = none_is_in device (sym (ap (λ (u : Uber). has_device u.out device) (is_0 listed.other listed.twin listed.candidate.shows)) ∙ listed.out)
 
-  -- The opening of a new pool copies nothing: it syncs each device and commits group 3 in the other index area.
-  pub fresh_opens : IsOpening found_0 0 next_0 (calls_left 0 (copies_of width 0 0 0)) (calls_left 0 (plan_of width 0))
+  -- The opening of a new pool copies nothing: it syncs each device and then writes the uberblock of group 3.
+  pub fresh_opens : IsOpening found_0 0 next_0 (calls_left 0 (copies_of width 0 0 0)) (calls_left 0 (renewal_of width))
   fresh_opens = record {
     choice = record {
       device = 0;
@@ -297,7 +297,7 @@ module _ (shape : Shape) (pool parity width failed : ℕ) (odd : Odd) (image : I
     uber_is = λ device. ((λ is. absurd (none_is_in device is)), (λ lacks. absurd (lacks.2 uber_0 [] (candidate_0 device lacks.0) refl)));
     copies_are = refl;
     renews = record { entries = refl; map = λ id. refl; alike = refl };
-    commit_is = refl;
+    renewal_is = refl;
   }
 
   -- It keeps no other group: one that was answered with no uberblock written is missed.

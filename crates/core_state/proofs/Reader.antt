@@ -64,7 +64,7 @@ none_above setting first later image device uber keeps shows pool_is =
     ⊎_elim (λ below. omega (arith, below)) (λ above. from_list (keeps.only device uber above shows pool_is)) (cases_lt uber.group first.uber.group)
   where
     near : (kept : Kept) → IsNextOf first kept → kept.uber.group ≤ first.uber.group + 2
-    near kept next = ⊎_elim (λ one. omega (arith, one))
+    near kept next = ⊎_elim (λ one. let number = one.0 in omega (arith, number))
         (λ renews. let number = ap (λ (u : Uber). u.group) renews.alike in omega (arith, number)) next
 
     in_list : (kept : Kept) → Contains (first ∷ later) kept → kept.uber.group ≤ first.uber.group + 2

@@ -8,14 +8,8 @@ use Rattle.core_state.specs.Shown.{Shape}
 use Rattle.core_state.specs.Keeps.{Kept, Setting}
 use Rattle.core_state.specs.Collision.{MightStand}
 use Rattle.core_state.specs.Certain.{Knows}
-use Rattle.core_state.specs.Moment.{KeepsSome, KeepsSince}
+use Rattle.core_state.specs.Moment.{IsRowOf, KeepsSome, KeepsSince}
 use Rattle.core_state.proofs.Keeping.{knows_keep}
-
--- Groups in a row of a list of groups.
-pub record IsRowOf (groups : List Kept) (first : Kept) (later : List Kept) : Type 0 where
-  pub before : List Kept
-  pub after : List Kept
-  pub row : groups ≡ before ++ (first ∷ later) ++ after
 
 -- An image that might stand at a moment might stand at another one that leaves the same.
 might_at : (shape : Shape) (disk other : Disk) (moment time : ℕ) (image : Image)

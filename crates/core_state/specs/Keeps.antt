@@ -75,17 +75,19 @@ pub record SameGroup (one other : Kept) : Type 0 where
   pub map : SameMap one.map other.map
   pub alike : AreAlike one.uber other.uber
 
--- The group of an opening's commit: the index, map and all else of the chosen one in the other index
--- area, numbered two more. Its out set is made up at its first uberblock write.
+-- The group of an opening: the index page, the map and all else of the chosen one, numbered two more.
+-- Its out set is made up at its first uberblock write.
 pub record Renews (chosen next : Kept) : Type 0 where
   pub entries : next.entries ≡ chosen.entries
   pub map : SameMap next.map chosen.map
-  pub alike : AreAlike next.uber
-      (record chosen.uber { group = chosen.uber.group + 2; area = 1 - chosen.uber.area })
+  pub alike : AreAlike next.uber (record chosen.uber { group = chosen.uber.group + 2 })
 
--- The group is the next one, or that of an opening which chose the first.
+-- The group is the next one, with its page in the other index area, or that of an opening which chose
+-- the first.
 abbrev pub IsNextOf : Kept → Kept → Type 0
-IsNextOf first next = (next.uber.group ≡ first.uber.group + 1) ⊎ Renews first next
+IsNextOf first next =
+    ((next.uber.group ≡ first.uber.group + 1) × (next.uber.area ≢ first.uber.area))
+    ⊎ Renews first next
 
 -- No device of the pool shows an uberblock of another pool: creating cleared its ring, and an attach
 -- refuses a device that shows one.

@@ -1,11 +1,12 @@
--- What an opening writes once it has chosen, in order: copies of what it chose, syncs, a commit.
-use Rattle.std.specs.Prelude.{◌≡◌, ◌≢◌, ◌↔◌, ℕ, ◌+◌, ◌-◌, ◌<◌, List, true, false}
+-- What an opening writes once it has chosen, in order: copies of what it chose, syncs, the next group.
+use Rattle.std.specs.Prelude.{◌≡◌, ◌≢◌, ◌↔◌, ℕ, ◌<◌, List, ◌++◌, map, true, false}
 use Rattle.bank_trait.specs.Disk.{Image}
 use Rattle.block_record.specs.declared.entry.IndexEntry.{IndexEntry}
 use Rattle.uberblock_ring.specs.Devices.{has_device}
 use Rattle.uberblock_ring.specs.Uberblock.{Uber}
 use Rattle.commit_job.specs.declared.call.CommitCall.{CommitCall}
-use Rattle.commit_job.specs.Stages.{plan_of, calls_left}
+use Rattle.commit_job.specs.declared.call.CommitCall.TheVariants.{UberWrite, UberSync}
+use Rattle.commit_job.specs.Stages.{numbers_below, calls_left}
 pub use Rattle.commit_job.specs.Stages.{copies_of}
 use Rattle.core_state.specs.Shown.{Shape, Gives, IsCandidate}
 use Rattle.core_state.specs.Choosing.{IsChosen, IsOutAtOpening}
@@ -47,10 +48,15 @@ LackUber found out devices = (device : ℕ) → has_device devices device ≡ tr
     ↔ ((device < found.chosen.uber.reflow.to) × (has_device out device ≡ false)
     × ShowsNone found device)
 
+-- the uberblock of the next group on so many devices, and a sync of each: its page stands already
+abbrev pub renewal_of : ℕ → List CommitCall
+renewal_of devices = map (λ device. UberWrite device) (numbers_below devices)
+    ++ map (λ device. UberSync device) (numbers_below devices)
+
 -- The device calls that an opening writes and syncs with, if no device fails on the way, are the
--- copies of the chosen group and then a commit of the next one. One that fails is passed over from
--- there on.
-pub record IsOpening (found : Found) (out : ℕ) (next : Kept) (copies commit : List CommitCall) :
+-- copies of the chosen group and then those of the next one. One that fails is passed over from there
+-- on.
+pub record IsOpening (found : Found) (out : ℕ) (next : Kept) (copies renewal : List CommitCall) :
     Type 0 where
   pub choice : IsFoundChoice found
   pub out_is : AreOut found out
@@ -61,4 +67,4 @@ pub record IsOpening (found : Found) (out : ℕ) (next : Kept) (copies commit : 
   pub copies_are : copies ≡ calls_left out
       (copies_of found.chosen.uber.reflow.to found.chosen.uber.count lack_page lack_uber)
   pub renews : Renews found.chosen next
-  pub commit_is : commit ≡ calls_left out (plan_of next.uber.reflow.to next.uber.count)
+  pub renewal_is : renewal ≡ calls_left out (renewal_of next.uber.reflow.to)

@@ -19,6 +19,7 @@ fn first_of_pool_nine() -> [u8; 512] {
     bytes[35] = 1; // the parity
     bytes[39] = 3; // the present width
     bytes[43] = 3; // the next width
+    bytes[47] = 1; // the index area
     bytes[55] = 64; // data rows
     bytes[79] = 1; // births
     bytes[80..112].copy_from_slice(&DIGEST_OF_NOTHING);

@@ -77,7 +77,7 @@ impl Uber {
             group: 1,
             parity,
             reflow: Reflow::at_rest(width, rows),
-            area: 0,
+            area: 1,
             out: DeviceSet::empty(),
             count: 0,
             digest: Sha256::digest(nothing),
