@@ -22,7 +22,7 @@ use Rattle.core_state.proofs.Signing.{IsSigner, signed_passed, signed_laid, sign
 use Rattle.core_state.proofs.Since.{since_more, since_now}
 use Rattle.core_commit.specs.declared.committing.TooManyOut.{TooManyOut}
 use Rattle.core_commit.specs.Ran.{MadeOne, Step, Ran, RanBy, IsAny, IsInside}
-use Rattle.core_commit.specs.Copies.{Copied, group_copied, IsInUse, MayCopy, CopyKeeps}
+use Rattle.core_commit.specs.Copies.{Copied, group_copied, IsInUse, HasCopy, MayCopy, CopyKeeps}
 use Rattle.core_commit.specs.Spared.{Spares, HaveGoneOut}
 use Rattle.core_commit.proofs.Plans.{by_next, by_none}
 use Rattle.core_commit.proofs.Halves.{goes_on, stays_out, sound_paged}
@@ -193,23 +193,21 @@ module _ (uber : Uber) (entries : List IndexEntry) (lack_page lack_uber : ℕ) (
         (copies_step ran.0 step.call step.before step.after ran.3 ran.4
         (copies_run steps ran.0 step.before ran.1 since)))
 
-    copied_sealed : (steps : List Step) (left : List CommitCall) (now : Point)
+    has_copy : (steps : List Step) (left : List CommitCall) (now : Point)
         → RanBy IsAny uber entries steps plan before left now → KeepsSince setting groups time before.disk
-        → calls_left now.out left ≡ [] → IsWithin now.out setting.failed → (device : ℕ) → device < devices
-        → has_device setting.failed device ≡ false
-        → IsSealed (certain now.disk) copied.kept device
-    copied_sealed steps left now ran since none within device below works =
+        → calls_left now.out left ≡ [] → (device : ℕ) → IsInUse uber now device
+        → HasCopy copied uber entries now device
+    has_copy steps left now ran since none device in_use =
         let ended = by_none (λ l. Signed setting copied.first copied.later made uber l now) now.out
         (λ call plan gone s. signed_passed setting copied.first copied.later made uber paged_first paged_made signer
         call plan now gone s)
         left none (copies_run steps left now ran since).signed in
-        sealed_same copied.kept made (certain now.disk) device may.same
-        (⊎_elim (λ none_left. absurd none_left) (λ known. known)
-        (ended.sealed device below (in_use (has_device now.out device) refl)))
-      where
-        in_use : (b : Bool) → has_device now.out device ≡ b → has_device now.out device ≡ false
-        in_use false is = is
-        in_use true is = absurd (true_false (sym (within device is) ∙ works))
+        record {
+          sealed = sealed_same copied.kept made (certain now.disk) device may.same
+              (⊎_elim (λ none_left. absurd none_left) (λ known. known) (ended.sealed device in_use.0 in_use.1));
+          page = λ part low. ⊎_elim (λ none_left. absurd none_left) (λ read. read)
+              (ended.laid device part in_use.0 in_use.1 low);
+        }
 
   module _ (calls left : List CommitCall) (after : Point) (calls_are : calls ≡ plan)
       (ran : Ran IsAny uber entries calls before left after) where
@@ -255,7 +253,6 @@ module _ (uber : Uber) (entries : List IndexEntry) (lack_page lack_uber : ℕ) (
       copy_whole value none = record {
         since = copy_since;
         knows = copy_knows;
-        done = λ copied may within device below works. copied_sealed copied may lawful (copied.first ∷ copied.later)
-            before.disk.clock (own_row copied) ran_plan.0 left after ran_plan.1 (start copied may) none within
-            device below works;
+        done = λ copied may device in_use. has_copy copied may lawful (copied.first ∷ copied.later)
+            before.disk.clock (own_row copied) ran_plan.0 left after ran_plan.1 (start copied may) none device in_use;
       }

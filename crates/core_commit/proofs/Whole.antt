@@ -147,6 +147,10 @@ module _ (begun : Begun) (uber : Uber) (entries : List IndexEntry) (before : Poi
         listed = kept_listed begun may.front may.last;
         same = may.same;
         alike = sym may.same.alike;
+        listing = record {
+          index = subst IsIndex (sym may.same.entries) index;
+          counted = ap length may.same.entries ∙ counted;
+        };
         widths = right_widths uber right;
         indexes = index_same begun.kept made may.same may.sound.indexes;
         lists = λ device. refl;

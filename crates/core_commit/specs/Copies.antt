@@ -2,7 +2,7 @@
 use Rattle.std.specs.Prelude.{◌≡◌, ◌≢◌, ◌⊎◌, ℕ, ◌+◌, ◌<◌, List, ◌∷◌, Some, true, false, Contains, Result, OnOk}
 use Rattle.block_record.specs.declared.entry.IndexEntry.{IndexEntry}
 use Rattle.block_record.specs.Page.{page_sectors}
-use Rattle.uberblock_ring.specs.Devices.{has_device, IsWithin}
+use Rattle.uberblock_ring.specs.Devices.{has_device}
 use Rattle.uberblock_ring.specs.Uberblock.{Uber, slot_of, area_sector}
 use Rattle.core_state.specs.Map.{Map}
 use Rattle.core_state.specs.Keeps.{Kept, Setting, SameGroup}
@@ -51,8 +51,16 @@ pub record MayCopy (copied : Copied) (uber : Uber) (entries : List IndexEntry) (
       → (slot_of uber.group ≢ slot_of copied.first.uber.group)
       ⊎ (has_device copied.setting.failed device ≡ true)
 
--- What was kept is kept, at each moment; and where the copies were made, and all that are out may fail,
--- each device that may not fail has page and uberblock of the group for certain.
+-- A device has page and uberblock of the group for certain, and reads the page.
+pub record HasCopy (copied : Copied) (uber : Uber) (entries : List IndexEntry) (point : Point)
+    (device : ℕ) : Type 0 where
+  pub sealed : IsSealed (certain point.disk) copied.kept device
+  pub page : (part : ℕ) → part < page_sectors uber.count
+      → point.disk.reads device (area_sector uber.area + part)
+      ≡ Some (page_part (group_copied copied uber entries) part)
+
+-- What was kept is kept, at each moment; and where the copies were made, each device in use has page and
+-- uberblock of the group for certain, and reads the page.
 pub record CopyKeeps (uber : Uber) (entries : List IndexEntry) (lack_page lack_uber : ℕ)
     (before after : Point) (result : Result (Unit {0}) TooManyOut) : Type 0 where
   pub since : (copied : Copied) (groups : List Kept) (time : ℕ)
@@ -63,6 +71,5 @@ pub record CopyKeeps (uber : Uber) (entries : List IndexEntry) (lack_page lack_u
   pub knows : (copied : Copied) → MayCopy copied uber entries lack_page lack_uber before
       → Knows copied.setting copied.first copied.later after.disk
   pub done : OnOk result ((copied : Copied) → MayCopy copied uber entries lack_page lack_uber before
-      → IsWithin after.out copied.setting.failed → (device : ℕ) → device < uber.reflow.to
-      → has_device copied.setting.failed device ≡ false
-      → IsSealed (certain after.disk) copied.kept device)
+      → (device : ℕ) → IsInUse uber after device
+      → HasCopy copied uber entries after device)

@@ -331,6 +331,7 @@ module _ (setting : Setting) (first : Kept) (later : List Kept) (disk : Disk)
         kept = held.kept;
         listed = held.listed;
         alike = held.alike;
+        listing = held.listing;
         indexes = held.whole.index;
         cells = λ e inside in_use. record {
           at = λ x bytes asks not_odd. by held might shows e x bytes inside in_use asks not_odd

@@ -188,6 +188,13 @@ module _ (shape : Shape) (pool parity width failed : ℕ) (odd : Odd) (image : I
     kept = first_kept pool parity width shape.sectors;
     listed = (0, omega arith, refl);
     alike = refl;
+    listing = record {
+      index = record {
+        each = λ k default low. absurd (omega (arith, low));
+        ascending = λ one two default less low. absurd (omega (arith, less, low));
+      };
+      counted = refl;
+    };
     whole = whole_0;
     out = λ device is. absurd (none_is_in device is);
   }

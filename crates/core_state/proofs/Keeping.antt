@@ -106,6 +106,7 @@ module _ (setting : Setting) (first : Kept) (later : List Kept) (disk : Disk)
         kept = is.kept;
         listed = is.listed;
         alike = is.alike;
+        listing = is.listing;
         whole = record {
           index = is.indexes;
           right = λ cell e of e_in in_use. record {

@@ -213,6 +213,7 @@ certain_frame here lost setting old new groups uber frames away is = record {
   kept = is.kept;
   listed = is.listed;
   alike = is.alike;
+  listing = is.listing;
   indexes = is.indexes;
   cells = λ device inside in_use. cells_frame here lost setting.odd old new is.kept device frames
       (λ x bytes asks h. away is.kept device x bytes is.listed asks h)

@@ -12,7 +12,7 @@ use Rattle.uberblock_ring.specs.Valid.{AreAlike}
 use Rattle.commit_job.specs.declared.call.CommitCall.{CommitCall}
 use Rattle.commit_job.specs.declared.call.CommitCall.TheVariants.{IndexWrite, BaseSync, UberWrite, UberSync}
 use Rattle.core_state.specs.Map.{Map, SameMap}
-use Rattle.core_state.specs.Index.{IsIndexOf}
+use Rattle.core_state.specs.Index.{IsIndexOf, IsListing}
 use Rattle.core_state.specs.Whole.{Cell, IsCellOf}
 use Rattle.core_state.specs.Keeps.{Kept, Setting, SameGroup, NamesOther, IsNotOutvoted, count_left}
 use Rattle.core_state.specs.Certain.{Asks, CellsOn, PageOn, SlotOn, IsSound, IsAble, IsCertain, IsRow, Knows, certain}
@@ -30,6 +30,7 @@ certain_widen setting disk groups more uber wider is = record {
   kept = is.kept;
   listed = wider is.kept is.listed;
   alike = is.alike;
+  listing = is.listing;
   indexes = is.indexes;
   cells = is.cells;
   out = is.out;
@@ -75,6 +76,7 @@ knows_move setting first later next more disk row sound same_to above sealed fro
             kept = is.kept;
             listed = from_later is.kept is.listed (omega (arith, high, group));
             alike = is.alike;
+            listing = is.listing;
             indexes = is.indexes;
             cells = is.cells;
             out = is.out;
@@ -132,6 +134,7 @@ pub record MaySign (setting : Setting) (first : Kept) (more : List Kept) (next :
   pub listed : Contains (first ∷ more) kept
   pub same : SameGroup kept next
   pub alike : AreAlike uber kept.uber
+  pub listing : IsListing kept.entries uber.count
   pub widths : (0 < next.uber.reflow.from) × (next.uber.reflow.from ≤ next.uber.reflow.to)
   pub indexes : IsIndexOf next.entries next.map
   pub lists : (device : ℕ) → has_device uber.out device ≡ has_device out device
@@ -156,6 +159,7 @@ signs_begin setting first later more next uber plan late point may wider no_lay 
         kept = may.kept;
         listed = may.listed;
         alike = may.alike;
+        listing = may.listing;
         indexes = record {
           listed = λ entry listed.
               let is = u_indexes.listed entry

@@ -7,7 +7,7 @@ use Rattle.block_record.specs.Page.{page_sectors, index_page, IsIndex}
 use Rattle.uberblock_ring.specs.Devices.{has_device, count_below, IsWithin}
 use Rattle.uberblock_ring.specs.Uberblock.{Uber, encoded, slot_of, area_sector}
 use Rattle.uberblock_ring.specs.Valid.{IsRightUber, AreAlike}
-use Rattle.core_state.specs.Index.{IsFitting, IsIndexOf}
+use Rattle.core_state.specs.Index.{IsFitting, IsIndexOf, IsListing}
 use Rattle.core_state.specs.Shown.{Shape, read_devices}
 use Rattle.core_state.specs.Whole.{Odd, Cell, IsCellOf}
 use Rattle.core_state.specs.Keeps.{Kept, Setting, IsNextOf, IsNotOutvoted}
@@ -81,6 +81,7 @@ pub record IsCertain (setting : Setting) (disk : Disk) (groups : List Kept) (ube
     pub kept : Kept
     pub listed : Contains groups kept
     pub alike : AreAlike uber kept.uber
+    pub listing : IsListing kept.entries uber.count
     pub indexes : IsIndexOf kept.entries kept.map
     pub cells : (device : ℕ) → device < setting.shape.devices → has_device uber.out device ≡ false
         → CellsOn setting.odd (certain disk) kept device

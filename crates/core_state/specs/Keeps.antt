@@ -6,6 +6,7 @@ use Rattle.block_record.specs.declared.entry.IndexEntry.{IndexEntry}
 use Rattle.uberblock_ring.specs.Devices.{has_device, count_below, IsWithin}
 use Rattle.uberblock_ring.specs.Uberblock.{Uber}
 use Rattle.uberblock_ring.specs.Valid.{AreAlike}
+use Rattle.core_state.specs.Index.{IsListing}
 use Rattle.core_state.specs.Map.{Map, SameMap}
 use Rattle.core_state.specs.Shown.{Shape, Shows, Gives, IsCandidate}
 use Rattle.core_state.specs.Choosing.{Names}
@@ -36,6 +37,7 @@ pub record IsKept (setting : Setting) (image : Image) (groups : List Kept) (uber
     pub kept : Kept
     pub listed : Contains groups kept
     pub alike : AreAlike uber kept.uber
+    pub listing : IsListing kept.entries uber.count
     pub whole : IsWhole setting.shape.devices setting.odd image uber kept.entries kept.map
     pub out : IsWithin uber.out setting.failed
 
