@@ -1,9 +1,10 @@
 -- Which device calls a commit made, one by one.
-use Rattle.std.specs.Prelude.{◌≡◌, ℕ, ◌+◌, ◌*◌, ◌<◌, ◌≤◌, List, [], ◌∷◌, Some, take, drop, slice_get, Result, length}
+use Rattle.std.specs.Prelude.{◌≡◌, ℕ, ◌+◌, ◌*◌, ◌<◌, ◌≤◌, List, [], ◌∷◌, Some, false, take, drop, slice_get, Result, length}
 use Rattle.bank_trait.specs.declared.Failed.{Failed}
 use Rattle.bank_trait.specs.Disk.{Disk, Wrote, Synced}
 use Rattle.block_record.specs.declared.entry.IndexEntry.{IndexEntry}
 use Rattle.block_record.specs.Page.{page_sectors, index_page}
+use Rattle.uberblock_ring.specs.Devices.{has_device}
 use Rattle.uberblock_ring.specs.Uberblock.{Uber, encoded, slot_of, area_sector}
 use Rattle.commit_job.specs.declared.call.CommitCall.{CommitCall}
 use Rattle.commit_job.specs.declared.call.CommitCall.TheVariants.{IndexWrite, BaseSync, UberWrite, UberSync}
@@ -77,9 +78,10 @@ IsInside uber (IndexWrite device part) =
     (device < uber.reflow.to) × (part < page_sectors uber.count)
 IsInside uber call = device_of call < uber.reflow.to
 
--- The uberblock and its index can be written on this bank.
-pub record FitsBank (uber : Uber) (entries : List IndexEntry) (disk : Disk) : Type 0 where
-  pub devices : uber.reflow.to ≤ disk.devices
+-- The uberblock and its index can be written on this bank: it has each device that isn't out.
+pub record FitsBank (uber : Uber) (entries : List IndexEntry) (out : ℕ) (disk : Disk) : Type 0 where
+  pub devices : (device : ℕ) → device < uber.reflow.to → has_device out device ≡ false
+      → device < disk.devices
   pub few : uber.reflow.to ≤ 16
   pub sectors : 192 ≤ disk.sectors
   pub area : uber.area ≤ 1

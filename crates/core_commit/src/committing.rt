@@ -1,5 +1,5 @@
 // A commit and its two halves.
-ghost use Rattle.std.specs.Prelude.{◌≡◌, ◌↔◌, ◌^◌, ◌<◌, ◌≤◌, [], All, Some, None, false, slice_get, IsTrue, OnOk, OnErr};
+ghost use Rattle.std.specs.Prelude.{◌≡◌, ◌↔◌, ◌^◌, ◌<◌, ◌≤◌, [], All, Some, None, false, length, slice_get, IsTrue, OnOk, OnErr};
 ghost use Rattle.block_record.specs.Page.{IsIndex};
 ghost use Rattle.uberblock_ring.specs.Devices.{has_device, count_of};
 ghost use Rattle.uberblock_ring.specs.Valid.{IsRightUber};
@@ -24,7 +24,9 @@ fn call_bank<B: Bank>(
 ) -> Result<(), Failed>
     requires right { IsRightUber uber.now }
     requires index { IsIndex entries.now }
-    requires fits { FitsBank uber.now entries.now (B.disk bank.old) }
+    requires counted { length entries.now ≡ uber.now.count }
+    requires sectors { 192 ≤ (B.disk bank.old).sectors }
+    requires device { device_of call < (B.disk bank.old).devices }
     requires inside { IsInside uber.now call }
     ensures { HasMade uber.now entries.now call (B.disk bank.old) (B.disk bank.new) result }
 {
@@ -54,13 +56,13 @@ fn make<B: Bank>(
 )
     requires right { IsRightUber uber.now }
     requires index { IsIndex entries.now }
-    requires fits { FitsBank uber.now entries.now (B.disk bank.old) }
+    requires fits { FitsBank uber.now entries.now out.old (B.disk bank.old) }
     requires inside { IsInside uber.now call }
     requires in_use { has_device out.old (device_of call) ≡ false }
     requires below { out.old < 2 ^ uber.now.reflow.to }
     ensures made { MadeOne uber.now entries.now call (point_of out.old (B.disk bank.old))
         (point_of out.new (B.disk bank.new)) }
-    ensures fits { FitsBank uber.now entries.now (B.disk bank.new) }
+    ensures fits { FitsBank uber.now entries.now out.new (B.disk bank.new) }
     ensures below { out.new < 2 ^ uber.now.reflow.to }
 {
     if call_bank(bank, uber, entries, call).is_err() {
@@ -101,7 +103,7 @@ fn lay<B: Bank>(
 )
     requires right { IsRightUber uber.now }
     requires index { IsIndex entries.now }
-    requires fits { FitsBank uber.now entries.now (B.disk bank.old) }
+    requires fits { FitsBank uber.now entries.now out.old (B.disk bank.old) }
     requires inside { All (IsInside uber.now) calls.old }
     requires below { out.old < 2 ^ uber.now.reflow.to }
     ensures ran { Ran IsLaying uber.now entries.now calls.old (point_of out.old (B.disk bank.old))
@@ -109,7 +111,7 @@ fn lay<B: Bank>(
     ensures ends { count_of out.new ≤ uber.now.parity → (call : CallOf)
         → slice_get (calls_left out.new calls.new) 0 ≡ Some call
         → IsSigning call }
-    ensures fits { FitsBank uber.now entries.now (B.disk bank.new) }
+    ensures fits { FitsBank uber.now entries.now out.new (B.disk bank.new) }
     ensures inside { All (IsInside uber.now) calls.new }
     ensures below { out.new < 2 ^ uber.now.reflow.to }
 {
@@ -133,7 +135,7 @@ fn sign<B: Bank>(
 )
     requires right { IsRightUber uber.now }
     requires index { IsIndex entries.now }
-    requires fits { FitsBank uber.now entries.now (B.disk bank.old) }
+    requires fits { FitsBank uber.now entries.now out.old (B.disk bank.old) }
     requires inside { All (IsInside uber.now) calls.old }
     requires below { out.old < 2 ^ uber.now.reflow.to }
     ensures ran { Ran IsAny uber.now entries.now calls.old (point_of out.old (B.disk bank.old))
@@ -163,7 +165,7 @@ pub fn commit<B: Bank>(
     requires right { IsRightUber uber.old }
     requires lists { uber.old.out ≡ out.old }
     requires index { IsIndex entries.now }
-    requires fits { FitsBank uber.old entries.now (B.disk bank.old) }
+    requires fits { FitsBank uber.old entries.now out.old (B.disk bank.old) }
     ensures same { uber.new ≡ record uber.old { out = uber.new.out } }
     ensures right { IsRightUber uber.new }
     ensures ok { OnOk result (count_of out.new ≤ uber.old.parity) }
@@ -202,7 +204,7 @@ pub fn copy<B: Bank>(
 ) -> Result<(), TooManyOut>
     requires right { IsRightUber uber.now }
     requires index { IsIndex entries.now }
-    requires fits { FitsBank uber.now entries.now (B.disk bank.old) }
+    requires fits { FitsBank uber.now entries.now out.old (B.disk bank.old) }
     requires below { out.old < 2 ^ uber.now.reflow.to }
     ensures below { out.new < 2 ^ uber.now.reflow.to }
     ensures ok { OnOk result (count_of out.new ≤ uber.now.parity) }

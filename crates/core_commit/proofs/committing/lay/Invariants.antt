@@ -7,7 +7,7 @@ abbrev pub invariant-loop-call : goal.invariant-loop-call
 invariant-loop-call g l = record {
   ran : Ran IsLaying l.uber l.entries l.initial.calls (point_of l.initial.out (g.B.Bank.disk l.initial.bank)) l.calls
       (point_of l.out (g.B.Bank.disk l.bank));
-  fits : FitsBank l.uber l.entries (g.B.Bank.disk l.bank);
+  fits : FitsBank l.uber l.entries l.out (g.B.Bank.disk l.bank);
   inside : All (IsInside l.uber) l.calls;
   below : l.out < 2 ^ l.uber.reflow.to;
 }

@@ -1,10 +1,12 @@
-use Rattle.std.proofs.Common.{◌≡◌, sym, subst, ℕ}
+use Rattle.std.proofs.Common.{◌≡◌, sym, subst, ℕ, arith}
 use Rattle.std.specs.Prelude.{◌||◌, ◌<◌, ◌^◌}
 use Rattle.uberblock_ring.proofs.DeviceSets.{with_below}
 use Rattle.uberblock_ring.specs.Devices.{has_device, with_device}
 use Rattle.commit_job.specs.Stages.{device_of}
 use Rattle.core_state.specs.Committing.{lost_by}
-use Rattle.core_commit.proofs.Going.{inside_device}
+use Rattle.core_commit.specs.Ran.{MadeOne, point_of}
+use Rattle.core_commit.proofs.Going.{inside_device, in_use_before}
+use Rattle.core_commit.proofs.Halves.{goes_on, stays_out}
 use Rattle.core_commit.proofs.Running.{none_lost, one_lost}
 use Rattle.core_commit.proofs.committing.make.Goals as goal
 
@@ -41,3 +43,24 @@ returns-then-is_err-clause-below g c = subst (λ (out : ℕ). out < 2 ^ c.args.u
     (with_below c.args.out.now c.device.result c.args.uber.now.reflow.to c.requires.below
     (subst (λ (device : ℕ). device < c.args.uber.now.reflow.to) (sym c.device.ensures.value)
     (inside_device c.args.uber.now c.args.call c.requires.inside)))
+
+pub returns-then-is_err-clause-fits : goal.returns-then-is_err-clause-fits
+returns-then-is_err-clause-fits g c =
+    let before = point_of c.args.out.now (g.B.Bank.disk c.args.bank.now) in
+    let after = point_of c.insert.new.self (g.B.Bank.disk c.call_bank.new.bank) in
+    let made : MadeOne c.args.uber.now c.args.entries.now c.args.call before after =
+    returns-then-is_err-clause-made g c in
+    let later = (goes_on c.args.uber.now c.args.entries.now c.args.call before after made).later in
+    let fits = c.requires.fits in
+    record {
+      devices = λ device below in_use.
+          let low = fits.devices device below
+          (in_use_before before after device
+          (stays_out (device_of c.args.call) made.result before after made.called) in_use) in
+          let same = later.devices in omega (arith, low, same);
+      few = fits.few;
+      sectors = (let many = fits.sectors in let same = later.sectors in omega (arith, many, same));
+      area = fits.area;
+      counted = fits.counted;
+      count = fits.count;
+    }
