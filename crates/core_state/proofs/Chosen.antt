@@ -7,7 +7,7 @@ use Rattle.bank_trait.specs.Disk.{Image, Disk, Lawful}
 use Rattle.block_record.specs.declared.entry.IndexEntry.{IndexEntry}
 use Rattle.block_record.specs.Page.{index_page, IsPageOf}
 use Rattle.block_record.proofs.Pages.{page_same}
-use Rattle.uberblock_ring.specs.Devices.{has_device, IsWithin}
+use Rattle.uberblock_ring.specs.Devices.{has_device}
 use Rattle.uberblock_ring.specs.Uberblock.{Uber}
 use Rattle.uberblock_ring.specs.Valid.{AreAlike}
 use Rattle.core_state.specs.Index.{IsFitting}
@@ -45,7 +45,8 @@ gives_same shape image one other entries device area count digest gives = record
 
 module _ (setting : Setting) (first : Kept) (later : List Kept) (disk : Disk)
     (knows : Knows setting first later disk) (lawful : Lawful disk) (silent : ℕ)
-    (within : IsWithin silent setting.failed)
+    (within : (device : ℕ) → device < first.uber.reflow.to → has_device silent device ≡ true
+    → has_device setting.failed device ≡ true)
     (pages : HasNoOtherPage setting.shape (first ∷ later) (present disk)) (device : ℕ) (uber : Uber)
     (entries : List IndexEntry)
     (chosen : IsChosen setting.shape silent (present disk) device uber entries) where
@@ -87,7 +88,7 @@ module _ (setting : Setting) (first : Kept) (later : List Kept) (disk : Disk)
           pool_is = there.2.pool_is ∙ sym chosen_pool;
           room = there.2.room;
           giver = on;
-          giver_reads = reads_left setting first later image keeps silent within on works;
+          giver_reads = reads_left setting first later image keeps silent within on below works;
           gives = gives_same setting.shape image first.uber there.0 first.entries on
               (sym (ap (λ (u : Uber). u.area) alike)) (sym (ap (λ (u : Uber). u.count) alike))
               (sym (ap (λ (u : Uber). u.digest) alike)) (keeps.there.pages on below works);
@@ -101,7 +102,7 @@ module _ (setting : Setting) (first : Kept) (later : List Kept) (disk : Disk)
       let group = candidate.1 in
       ⊎_elim (λ less. omega (arith, less, group)) (λ same. let number = same.0 in omega (arith, number, group))
       (chosen.first knows.row.device candidate.0 first.entries
-      (reads_left setting first later image keeps silent within knows.row.device knows.row.works) candidate.2)
+      (reads_left setting first later image keeps silent within knows.row.device knows.row.below knows.row.works) candidate.2)
 
   -- A candidate from the first group on is of one of the groups, with its index.
   pub candidate_is : (on : ℕ) (shown : Uber) (listed : List IndexEntry) → first.uber.group ≤ shown.group

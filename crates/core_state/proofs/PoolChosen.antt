@@ -5,7 +5,7 @@ use Rattle.std.specs.List.{IsDistinct, AllByRecursion}
 use Rattle.std.proofs.lemmas.Bool.{cases_lt, cases_eq}
 use Rattle.std.proofs.lemmas.Bool.Decides.{nat_tests}
 use Rattle.bank_trait.specs.Disk.{Image}
-use Rattle.uberblock_ring.specs.Devices.{has_device, count_below, IsWithin}
+use Rattle.uberblock_ring.specs.Devices.{has_device}
 use Rattle.uberblock_ring.specs.Uberblock.{Uber}
 use Rattle.core_state.specs.Shown.{Shape, Shows}
 use Rattle.core_state.specs.Choosing.{Names, Outvotes, IsChosenPool}
@@ -99,15 +99,17 @@ each_there P Q (number ∷ numbers) there each none =
     there number each.0 (λ one. each_there P Q numbers there each.1 (λ rest. none (one, rest)))
 
 module _ (setting : Setting) (first : Kept) (later : List Kept) (image : Image)
-    (keeps : Keeps setting first later image) (silent : ℕ) (within : IsWithin silent setting.failed)
-    where
+    (keeps : Keeps setting first later image) (silent : ℕ)
+    (within : (device : ℕ) → device < first.uber.reflow.to → has_device silent device ≡ true
+    → has_device setting.failed device ≡ true) where
   -- A device that may not fail is read.
-  pub reads_left : (device : ℕ) → has_device setting.failed device ≡ false → has_device silent device ≡ false
-  reads_left device works = by (has_device silent device) refl
+  pub reads_left : (device : ℕ) → device < first.uber.reflow.to → has_device setting.failed device ≡ false
+      → has_device silent device ≡ false
+  reads_left device below works = by (has_device silent device) refl
     where
       by : (b : Bool) → has_device silent device ≡ b → has_device silent device ≡ false
       by false is = is
-      by true is = absurd (true_false (sym (within device is) ∙ works))
+      by true is = absurd (true_false (sym (within device below is) ∙ works))
 
   -- It names the pool.
   names_own : (device : ℕ) → (device < first.uber.reflow.to) × (has_device setting.failed device ≡ false)
@@ -118,7 +120,7 @@ module _ (setting : Setting) (first : Kept) (later : List Kept) (image : Image)
       let right = shown.2.shows.valid.right in
       greatest_there setting.shape image device (2 ^ 62) shown.0
       (λ uber shows greatest. none (record {
-        reads = reads_left device works;
+        reads = reads_left device below works;
         uber = uber;
         shows = shows;
         greatest = greatest;
