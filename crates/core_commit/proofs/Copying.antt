@@ -22,7 +22,7 @@ use Rattle.core_state.proofs.Signing.{IsSigner, signed_passed, signed_laid, sign
 use Rattle.core_state.proofs.Since.{since_more, since_now}
 use Rattle.core_commit.specs.declared.committing.TooManyOut.{TooManyOut}
 use Rattle.core_commit.specs.Ran.{MadeOne, Step, Ran, RanBy, IsAny, IsInside}
-use Rattle.core_commit.specs.Copies.{Copied, group_copied, IsInUse, HasCopy, MayCopy, CopyKeeps}
+use Rattle.core_commit.specs.Copies.{Copied, group_copied, IsInUse, HasCopy, StaysKnown, MayCopy, CopyKeeps}
 use Rattle.core_commit.specs.Spared.{Spares, HaveGoneOut}
 use Rattle.core_commit.proofs.Plans.{by_next, by_none}
 use Rattle.core_commit.proofs.Halves.{goes_on, stays_out, sound_paged}
@@ -240,19 +240,21 @@ module _ (uber : Uber) (entries : List IndexEntry) (lack_page lack_uber : ℕ) (
       start copied may = since_now copied.setting (copied.first ∷ copied.later) copied.first copied.later before.disk
           (own_row copied) may.knows
 
-      copy_knows : (copied : Copied) → MayCopy copied uber entries lack_page lack_uber before
-          → Knows copied.setting copied.first copied.later after.disk
-      copy_knows copied may = (copies_run copied may lawful (copied.first ∷ copied.later) before.disk.clock
-          (own_row copied) ran_plan.0 left after ran_plan.1 (start copied may)).signed.knows
+      copy_stays : (copied : Copied) → MayCopy copied uber entries lack_page lack_uber before
+          → StaysKnown copied uber entries after
+      copy_stays copied may =
+          let signed = (copies_run copied may lawful (copied.first ∷ copied.later) before.disk.clock
+          (own_row copied) ran_plan.0 left after ran_plan.1 (start copied may)).signed in
+          record { knows = signed.knows; known = signed.known; told = signed.told }
 
       pub copy_short : (why : TooManyOut) → CopyKeeps uber entries lack_page lack_uber before after (Err why)
-      copy_short why = record { since = copy_since; knows = copy_knows; done = tt }
+      copy_short why = record { since = copy_since; stays = copy_stays; done = tt }
 
       pub copy_whole : (value : Unit {0}) → calls_left after.out left ≡ []
           → CopyKeeps uber entries lack_page lack_uber before after (Ok value)
       copy_whole value none = record {
         since = copy_since;
-        knows = copy_knows;
+        stays = copy_stays;
         done = λ copied may device in_use. has_copy copied may lawful (copied.first ∷ copied.later)
             before.disk.clock (own_row copied) ran_plan.0 left after ran_plan.1 (start copied may) none device in_use;
       }

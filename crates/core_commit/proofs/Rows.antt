@@ -8,7 +8,7 @@ use Rattle.core_state.proofs.Listed.{contains_head, contains_tail, contains_case
 use Rattle.core_commit.specs.Commits.{Begun, row_of, groups_of}
 
 -- One group has a lower number than the other.
-abbrev IsBefore : Kept → Kept → Type 0
+abbrev pub IsBefore : Kept → Kept → Type 0
 IsBefore one other = one.uber.group < other.uber.group
 
 pub contains_front : (front back : List Kept) (kept : Kept) → Contains front kept → Contains (front ++ back) kept
@@ -24,7 +24,7 @@ contains_back (first ∷ front) back kept has =
     contains_tail first (front ++ back) kept (contains_back front back kept has)
 
 -- Of groups whose numbers ascend none but the last has a number as high.
-last_alone : (front : List Kept) (last other : Kept) → AllPairs IsBefore (front ++ last ∷ [])
+pub last_alone : (front : List Kept) (last other : Kept) → AllPairs IsBefore (front ++ last ∷ [])
     → Contains (front ++ last ∷ []) other → last.uber.group ≤ other.uber.group
     → other ≡ last
 last_alone [] last other ascending has high = ⊎_elim (λ same. same) (λ none. absurd (contains_none other none))

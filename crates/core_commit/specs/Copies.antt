@@ -59,6 +59,14 @@ pub record HasCopy (copied : Copied) (uber : Uber) (entries : List IndexEntry) (
       → point.disk.reads device (area_sector uber.area + part)
       ≡ Some (page_part (group_copied copied uber entries) part)
 
+-- What stays: what is certain of the groups and of the uberblock, and that devices in use tell what they
+-- read up to the data rows.
+pub record StaysKnown (copied : Copied) (uber : Uber) (entries : List IndexEntry) (point : Point) :
+    Type 0 where
+  pub knows : Knows copied.setting copied.first copied.later point.disk
+  pub known : IsCertain copied.setting point.disk (copied.first ∷ copied.later) uber
+  pub told : TellsHead (group_copied copied uber entries) point
+
 -- What was kept is kept, at each moment; and where the copies were made, each device in use has page and
 -- uberblock of the group for certain, and reads the page.
 pub record CopyKeeps (uber : Uber) (entries : List IndexEntry) (lack_page lack_uber : ℕ)
@@ -68,8 +76,8 @@ pub record CopyKeeps (uber : Uber) (entries : List IndexEntry) (lack_page lack_u
       → IsRowOf groups copied.first copied.later
       → KeepsSince copied.setting groups time before.disk
       → KeepsSince copied.setting groups time after.disk
-  pub knows : (copied : Copied) → MayCopy copied uber entries lack_page lack_uber before
-      → Knows copied.setting copied.first copied.later after.disk
+  pub stays : (copied : Copied) → MayCopy copied uber entries lack_page lack_uber before
+      → StaysKnown copied uber entries after
   pub done : OnOk result ((copied : Copied) → MayCopy copied uber entries lack_page lack_uber before
       → (device : ℕ) → IsInUse uber after device
       → HasCopy copied uber entries after device)
