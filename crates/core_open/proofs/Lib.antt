@@ -1,1 +1,9 @@
+pub mod Casting
+pub mod Failures
+pub mod Leading
+pub mod ReadTo
 pub mod Rings
+pub mod Sorting
+pub mod Unchanged
+pub mod Voters
+pub mod Voting

@@ -1,2 +1,6 @@
+pub mod Candidates
+pub mod Copies
 pub mod Failing
+pub mod Holds
 pub mod Regions
+pub mod Votes

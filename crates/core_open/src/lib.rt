@@ -5,6 +5,10 @@
 #![tactic(auto)]
 
 mod creating;
+mod reading;
+mod stopped;
+mod uber_copy;
+mod votes;
 mod why;
 
 pub use creating::{create, data_rows};

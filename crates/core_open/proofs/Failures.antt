@@ -1,0 +1,42 @@
+-- Which devices failed so far, as reads go on.
+use Rattle.std.proofs.Common.{◌≡◌, ⊎_elim, inl, inr, ℕ, ◌<◌, sym, subst, arith}
+use Rattle.std.proofs.lemmas.Bool.{cases_eq}
+use Rattle.bank_trait.specs.Causes.{Rose}
+use Rattle.bank_trait.specs.Disk.{Disk, Unchanged}
+use Rattle.uberblock_ring.specs.Devices.{with_device}
+use Rattle.uberblock_ring.proofs.DeviceSets.{none_in, others_with}
+use Rattle.std.proofs.lemmas.Bool.{true≢false}
+use Rattle.std.proofs.Common.{◌∙◌}
+use Rattle.core_state.specs.Shown.{read_devices}
+use Rattle.core_open.specs.Failing.{HaveFailed, MayLose}
+use Rattle.core_open.specs.Holds.{shape_of}
+use Rattle.core_open.proofs.Unchanged.{rose_then, then_rose}
+
+pub none_failed : (old new : Disk) → HaveFailed old new 0
+none_failed old new device has = absurd (true≢false (sym has ∙ none_in device))
+
+-- Those that failed before,
+pub failed_on : (old mid new : Disk) (devices : ℕ) → HaveFailed old mid devices → Unchanged mid new
+    → HaveFailed old new devices
+failed_on old mid new devices failed same device has =
+    ((failed device has).0, rose_then old device (failed device has).1 same)
+
+-- and one more.
+pub failed_with : (old mid new : Disk) (devices device : ℕ) → HaveFailed old mid devices → Unchanged old mid
+    → Unchanged mid new → device < read_devices (shape_of old) → Rose (mid.faults device) (new.faults device)
+    → HaveFailed old new (with_device devices device)
+failed_with old mid new devices device failed first next low rose other has = ⊎_elim
+    (λ (same : other ≡ device). (
+      omega (arith, low, same),
+      subst (λ d. Rose (old.faults d) (new.faults d)) (sym same) (then_rose new device first rose),
+    ))
+    (λ apart. failed_on old mid new devices failed next other (sym (others_with devices device other apart) ∙ has))
+    (cases_eq other device)
+
+pub failed_more : (old mid new : Disk) (before after device : ℕ) → HaveFailed old mid before → Unchanged old mid
+    → Unchanged mid new → device < read_devices (shape_of old) → MayLose device mid new before after
+    → HaveFailed old new after
+failed_more old mid new before after device failed first next low (inl same) =
+    subst (λ devices. HaveFailed old new devices) (sym same) (failed_on old mid new before failed next)
+failed_more old mid new before after device failed first next low (inr (is, rose)) =
+    subst (λ devices. HaveFailed old new devices) (sym is) (failed_with old mid new before device failed first next low rose)
