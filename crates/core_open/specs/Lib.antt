@@ -1,2 +1,5 @@
 pub mod Failing
+pub mod Holds
+pub mod Pages
 pub mod Regions
+pub mod Spans

@@ -5,6 +5,8 @@
 #![tactic(auto)]
 
 mod creating;
+mod fitting;
+mod index_page;
 mod why;
 
 pub use creating::{create, data_rows};
