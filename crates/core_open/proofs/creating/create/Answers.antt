@@ -1,4 +1,4 @@
-use Rattle.std.proofs.Common.{◌≡◌, ℕ, ◌∙◌, Some, arith, ap, rules}
+use Rattle.std.proofs.Common.{◌≡◌, ◌∙◌, Some, arith, ap, rules}
 use Rattle.bank_trait.proofs.Touches.{touches_then, touches_widen}
 use Rattle.uberblock_ring.specs.Uberblock.{Uber, first_uber}
 use Rattle.core_state.specs.Create.{rows_for, new_ring}
@@ -11,7 +11,7 @@ loop-device-init g c = created_none _ (g.B.Bank.disk c.args.bank.now)
 
 pub loop-device-preserved : goal.loop-device-preserved
 loop-device-preserved g c =
-    let rows : c.min-rows.result ≡ rows_for (g.B.Bank.disk c.args.bank.now).sectors = search rules in
+    let rows : c.data_rows.result ≡ rows_for (g.B.Bank.disk c.args.bank.now).sectors = search rules in
     let is = c.first-uber.ensures.value ∙ ap (λ r. first_uber c.args.pool c.args.parity c.args.width r) rows in
     created_more _ c.loop-device.device _ _ _ c.loop-device.invariant c.create_on.ensures.only
     (λ tells slot below. c.in-Ok.ensures.ring tells slot below ∙ ap (λ (u : Uber). Some (new_ring u c.loop-device.device slot)) is)
