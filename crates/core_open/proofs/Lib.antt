@@ -1,9 +1,12 @@
+pub mod BlockSpans
 pub mod Casting
 pub mod Failures
 pub mod Leading
+pub mod PageReading
 pub mod ReadTo
 pub mod Rings
 pub mod Sorting
+pub mod SpanOrder
 pub mod Unchanged
 pub mod Voters
 pub mod Voting

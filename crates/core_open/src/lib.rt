@@ -5,6 +5,8 @@
 #![tactic(auto)]
 
 mod creating;
+mod fitting;
+mod index_page;
 mod reading;
 mod stopped;
 mod uber_copy;
