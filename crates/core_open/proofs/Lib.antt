@@ -1,7 +1,10 @@
+pub mod Asking
 pub mod BlockSpans
 pub mod Casting
+pub mod Considering
 pub mod Failures
 pub mod Leading
+pub mod Newest
 pub mod PageReading
 pub mod ReadTo
 pub mod Rings

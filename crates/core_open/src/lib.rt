@@ -4,6 +4,8 @@
 //! `core_state`, whose `specs/Create.antt` says what a new pool is.
 #![tactic(auto)]
 
+mod candidates;
+mod choice;
 mod creating;
 mod fitting;
 mod index_page;
