@@ -1,8 +1,10 @@
 pub mod Asking
 pub mod BlockSpans
 pub mod Casting
+pub mod Chosen
 pub mod Considering
 pub mod Failures
+pub mod Gathering
 pub mod Leading
 pub mod Newest
 pub mod PageReading

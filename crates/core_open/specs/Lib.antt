@@ -4,5 +4,6 @@ pub mod Failing
 pub mod Holds
 pub mod Pages
 pub mod Regions
+pub mod Sets
 pub mod Spans
 pub mod Votes

@@ -9,6 +9,7 @@ mod choice;
 mod creating;
 mod fitting;
 mod index_page;
+mod out;
 mod reading;
 mod stopped;
 mod uber_copy;
