@@ -7,6 +7,7 @@ pub mod Failures
 pub mod Gathering
 pub mod Leading
 pub mod Newest
+pub mod Opened
 pub mod PageReading
 pub mod ReadTo
 pub mod Rings

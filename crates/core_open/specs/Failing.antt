@@ -40,3 +40,9 @@ abbrev pub HasStoppedOn : ℕ → Disk → Disk → Stopped → Type 0
 HasStoppedOn device old new (Failed other) =
     (other ≡ device) × Rose (old.faults device) (new.faults device)
 HasStoppedOn device old new NoMemory = ⊤
+
+-- A call failed on each device of the set that was not in it before.
+abbrev pub HaveFailedSince : Disk → Disk → ℕ → ℕ → Type 0
+HaveFailedSince old new before after = (device : ℕ) → has_device after device ≡ true
+    → (has_device before device ≡ true)
+    ⊎ ((device < read_devices (shape_of old)) × Rose (old.faults device) (new.faults device))

@@ -1,6 +1,7 @@
 pub mod Candidates
 pub mod Copies
 pub mod Failing
+pub mod Finding
 pub mod Holds
 pub mod Pages
 pub mod Regions

@@ -7,6 +7,7 @@
 mod candidates;
 mod choice;
 mod creating;
+mod finding;
 mod fitting;
 mod index_page;
 mod out;
@@ -17,4 +18,5 @@ mod votes;
 mod why;
 
 pub use creating::{create, data_rows};
+pub use finding::{Found, find};
 pub use why::OpenWhy;

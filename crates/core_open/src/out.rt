@@ -38,11 +38,18 @@ pub fn devices_lacking(candidates: &[UberCopy], to: u32, out: DeviceSet) -> Devi
 {
     let mut lacking = DeviceSet::empty();
     for device in 0..to {
-        if !out.has(device) && !stand_on(candidates, device) {
+        if is_lacking(candidates, out, device) {
             lacking.insert(device);
         }
     }
     lacking
+}
+
+fn is_lacking(candidates: &[UberCopy], out: DeviceSet, device: u32) -> bool
+    ensures { IsTrue result ↔ ((has_device out device ≡ false)
+        × (StandOn candidates.now device → ⊥)) }
+{
+    !out.has(device) && !stand_on(candidates, device)
 }
 
 fn is_out(
