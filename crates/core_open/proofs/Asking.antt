@@ -1,17 +1,16 @@
 -- Asking the devices for the index of an uberblock.
-use Rattle.std.proofs.Common.{◌≡◌, ◌⊎◌, ⊎_elim, ℕ, ◌+◌, ◌<◌, ◌≤◌, List, None, Some, Option, true, false, refl, sym, ◌∙◌, ap, subst, arith}
+use Rattle.std.proofs.Common.{◌≡◌, ⊎_elim, ℕ, ◌+◌, ◌<◌, ◌≤◌, List, None, Some, true, false, sym, ◌∙◌, subst, arith}
 use Rattle.std.specs.Prelude.{min, Vec}
 use Rattle.std.specs.declared.alloc.Global.{Global}
 use Rattle.std.proofs.lemmas.Bool.{cases_lt, false≢true}
 use Rattle.bank_trait.specs.Disk.{Image, Disk, Unchanged}
 use Rattle.block_record.specs.declared.entry.IndexEntry.{IndexEntry}
-use Rattle.block_record.specs.Page.{IsPageOf}
 use Rattle.block_record.proofs.Pages.{page_same}
 use Rattle.uberblock_ring.specs.Devices.{has_device}
 use Rattle.uberblock_ring.specs.Uberblock.{Uber}
 use Rattle.core_state.specs.Index.{IsFitting}
-use Rattle.core_state.specs.Shown.{Shape, Gives, read_devices}
-use Rattle.core_open.specs.Candidates.{HasIndex, IsGivenIndex, IsIndexChoice}
+use Rattle.core_state.specs.Shown.{Shape, Gives}
+use Rattle.core_open.specs.Candidates.{IsGivenIndex, IsIndexChoice}
 use Rattle.core_open.specs.Holds.{HoldsImage, shape_of}
 use Rattle.core_open.proofs.Unchanged.{holds_then, shape_then, unchanged_none, unchanged_then}
 

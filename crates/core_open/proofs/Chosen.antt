@@ -1,11 +1,9 @@
 -- What an opening chooses, from the pool and its newest candidates.
-use Rattle.std.proofs.Common.{◌≡◌, ◌⊎◌, ⊎_elim, ℕ, ◌<◌, List, [], length, None, Some, Option, false, refl, sym, ◌∙◌, ap, subst, arith}
+use Rattle.std.proofs.Common.{◌≡◌, ⊎_elim, ℕ, ◌<◌, List, [], length, None, Some, sym, ap, subst, arith}
 use Rattle.std.specs.Prelude.{Contains, slice_get}
 use Rattle.bank_trait.specs.Disk.{Image}
 use Rattle.block_record.specs.declared.entry.IndexEntry.{IndexEntry}
-use Rattle.uberblock_ring.specs.Devices.{has_device}
-use Rattle.uberblock_ring.specs.Uberblock.{Uber}
-use Rattle.core_state.specs.Shown.{Shape, Shows, IsCandidate}
+use Rattle.core_state.specs.Shown.{Shape, IsCandidate}
 use Rattle.core_state.specs.Choosing.{IsChosenPool}
 use Rattle.core_open.specs.declared.uber_copy.UberCopy.{UberCopy}
 use Rattle.core_open.specs.Candidates.{AreChosen, AreNewest}

@@ -1,15 +1,13 @@
 -- How a copy is considered: what is said of the first one, and what alike uberblocks share.
-use Rattle.std.proofs.Common.{◌≡◌, ◌≢◌, ◌⊎◌, inl, inr, List, [], ◌∷◌, ◌++◌, None, Some, Option, refl, sym, ◌∙◌, ap, subst, ℕ}
-use Rattle.std.specs.Prelude.{slice_get, Vec}
-use Rattle.std.specs.declared.alloc.Global.{Global}
+use Rattle.std.proofs.Common.{◌≡◌, ◌≢◌, List, [], ◌∷◌, ◌++◌, Some, refl, sym, subst, ℕ}
+use Rattle.std.specs.Prelude.{slice_get}
 use Rattle.bank_trait.specs.Disk.{Image}
 use Rattle.block_record.specs.declared.entry.IndexEntry.{IndexEntry}
 use Rattle.uberblock_ring.specs.Uberblock.{Uber}
 use Rattle.uberblock_ring.specs.Valid.{AreAlike}
-use Rattle.core_state.specs.Index.{IsFitting}
-use Rattle.core_state.specs.Shown.{Shape, Gives, page_on}
+use Rattle.core_state.specs.Shown.{Shape, page_on}
 use Rattle.core_open.specs.declared.uber_copy.UberCopy.{UberCopy}
-use Rattle.core_open.specs.Candidates.{FirstHas, HasIndex, IsConsidered, IsIndexChoice}
+use Rattle.core_open.specs.Candidates.{HasIndex}
 
 -- The first copy stays the first,
 pub first_kept : (P : UberCopy → Type 0) (copies : List UberCopy) (copy there : UberCopy)
@@ -31,7 +29,6 @@ first_more P [] copy before fresh after each new same has first is =
     subst (λ (c : UberCopy). P c after) here (subst (P copy) (sym (new refl)) has)
 first_more P (one ∷ copies) copy before fresh after each new same has first is =
     subst (P first) (sym (same (λ none. absurd (cc)))) (each first is)
-
 
 -- The index of an uberblock does not hang on its out set.
 index_without : (shape : Shape) (silent : ℕ) (image : Image) (uber : Uber) (entries : List IndexEntry)

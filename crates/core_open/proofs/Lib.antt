@@ -11,6 +11,7 @@ pub mod Opened
 pub mod PageReading
 pub mod ReadTo
 pub mod Rings
+pub mod Settled
 pub mod Sorting
 pub mod SpanOrder
 pub mod Unchanged

@@ -1,7 +1,7 @@
 -- How the candidates of the greatest group that has any are found, copy by copy.
-use Rattle.std.proofs.Common.{◌≡◌, ◌≢◌, ◌⊎◌, inl, inr, ⊎_elim, ℕ, zero, suc, ◌+◌, ◌<◌, ◌≤◌, true, false, List, [], ◌∷◌, ◌++◌, length, None, Some, refl, sym, ◌∙◌, ap, subst, arith, get_or}
+use Rattle.std.proofs.Common.{◌≡◌, ◌≢◌, ◌⊎◌, inl, inr, ⊎_elim, ℕ, zero, suc, ◌+◌, ◌<◌, ◌≤◌, false, List, [], ◌∷◌, ◌++◌, length, Some, refl, sym, ◌∙◌, ap, subst, arith, get_or}
 use Rattle.std.specs.Prelude.{All, AllPairs, Contains, slice_get}
-use Rattle.std.proofs.lemmas.Bool.{cases_eq, cases_lt, false≢true}
+use Rattle.std.proofs.lemmas.Bool.{cases_eq, cases_lt}
 use Rattle.std.proofs.lemmas.List.{get_or_default}
 use Rattle.std.proofs.lemmas.List.Elements.{All-contains, All-nil, All-push, All-weaker, Contains-append_left, Contains-push}
 use Rattle.std.proofs.lemmas.List.Quantifiers.{all_pairs_push}
@@ -259,8 +259,11 @@ module _ (shape : Shape) (silent : ℕ) (image : Image) (pool : ℕ) (all : List
             (λ (early : k < seen). inl (found.every (copy_on device uber) (k, early, low, there) (candidate.pool_is, works) listed
             (index_of device uber listed candidate)))
             (λ (late : seen ≤ k). let more = rest k (copy_on device uber) late low in
-            inr (more.0, contains_first copies more.0 more.1,
-            subst (λ (c : UberCopy). c.uber.group < more.0.uber.group) there more.2))
+            inr (
+              more.0,
+              contains_first copies more.0 more.1,
+              subst (λ (c : UberCopy). c.uber.group < more.0.uber.group) there more.2,
+            ))
             (cases_lt k seen)
           where
             contains_first : (list : List UberCopy) (first : UberCopy) → slice_get list 0 ≡ Some first → Contains list first

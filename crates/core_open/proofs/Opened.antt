@@ -1,6 +1,6 @@
 -- From the candidates of the chosen group to what an opening has to know.
-use Rattle.std.proofs.Common.{◌≡◌, ◌≢◌, ◌⊎◌, inl, inr, ⊎_elim, ℕ, ◌<◌, ◌≤◌, List, [], ◌∷◌, length, None, Some, true, false, refl, sym, ◌∙◌, ap, subst, arith, get_or}
-use Rattle.std.specs.Prelude.{All, Contains, slice_get, ◌↔◌}
+use Rattle.std.proofs.Common.{◌≡◌, ◌≢◌, ◌⊎◌, inl, inr, ⊎_elim, ℕ, ◌<◌, ◌≤◌, List, [], ◌∷◌, Some, true, false, refl, sym, ◌∙◌, subst, arith}
+use Rattle.std.specs.Prelude.{Contains, slice_get, ◌↔◌}
 use Rattle.std.specs.List.{Any}
 use Rattle.std.proofs.lemmas.Bool.{cases_Bool, false≢true}
 use Rattle.std.proofs.lemmas.List.Elements.{All-contains}
@@ -13,9 +13,14 @@ use Rattle.core_state.specs.Choosing.{IsBlank, IsChosen, IsChosenPool, IsListedO
 use Rattle.core_open.specs.declared.uber_copy.UberCopy.{UberCopy}
 use Rattle.core_open.specs.Candidates.{AreNewest}
 use Rattle.core_open.specs.Copies.{AreShown}
-use Rattle.core_open.specs.Sets.{IsNewDevice, IsOutBy, ListOut, ShowPool, StandOn}
+use Rattle.core_open.specs.Sets.{IsNewDevice, IsOutBy, ShowPool, StandOn}
 use Rattle.core_open.proofs.Newest.{of_one_group}
 use Rattle.core_open.proofs.ReadTo.{copy_on}
+
+-- The first copy is one of them.
+pub first_of : (copies : List UberCopy) (first : UberCopy) → slice_get copies 0 ≡ Some first → Contains copies first
+first_of [] first nothing = absurd (cc)
+first_of (one ∷ copies) first there = let here : one ≡ first = cc in (0, omega arith, here)
 
 module _ (shape : Shape) (silent : ℕ) (image : Image) (all candidates : List UberCopy) (entries : List IndexEntry)
     (first : UberCopy) (is : slice_get candidates 0 ≡ Some first)
@@ -29,11 +34,7 @@ module _ (shape : Shape) (silent : ℕ) (image : Image) (all candidates : List U
       (of_one_group candidates first is newest.order) listed
 
   first_listed : Contains candidates first
-  first_listed = by candidates is
-    where
-      by : (list : List UberCopy) → slice_get list 0 ≡ Some first → Contains list first
-      by [] nothing = absurd (cc)
-      by (one ∷ list) there = let here : one ≡ first = cc in (0, omega arith, here)
+  first_listed = first_of candidates first is
 
   sound : (copy : UberCopy) → Contains candidates copy
       → (has_device silent copy.device ≡ false)
@@ -107,10 +108,10 @@ module _ (shape : Shape) (silent : ℕ) (image : Image) (all candidates : List U
   by_out device (inr (inr (inl none))) = inr (inr (inl none))
   by_out device (inr (inr (inr blank))) = inr (inr (inr (
     (λ (any : ShowPool all first.uber.pool device).
-    let copy = any.1 in
-    let shows : Shows shape image copy.device copy.uber =
-    All-contains (λ (c : UberCopy). Shows shape image c.device c.uber) all copy shown.each (any.0, any.2, any.3) in
-    blank.none copy.uber (subst (λ d. Shows shape image d copy.uber) any.4.0 shows) any.4.1),
+        let copy = any.1 in
+        let shows : Shows shape image copy.device copy.uber =
+        All-contains (λ (c : UberCopy). Shows shape image c.device c.uber) all copy shown.each (any.0, any.2, any.3) in
+        blank.none copy.uber (subst (λ d. Shows shape image d copy.uber) any.4.0 shows) any.4.1),
     (λ (new : IsNewDevice first.uber.reflow device). blank.not_new new.0 new.1),
   )))
 
@@ -139,11 +140,17 @@ module _ (shape : Shape) (silent : ℕ) (image : Image) (all candidates : List U
       λ uber listed candidate level. by.1.1 (any_of (λ (copy : UberCopy). copy.device ≡ device) candidates (copy_on device uber)
           (of_group device uber listed (in_use by.0 by.1.0) candidate level) refl),
     )),
-    (λ at. (each device).1 (at.0, (at.1, λ (any : StandOn candidates device).
-    let listed : Contains candidates any.1 = (any.0, any.2, any.3) in
-    let good = sound any.1 listed in
-    at.2 any.1.uber good.1.0 (subst (λ d. IsCandidate shape silent first.uber.pool image d any.1.uber good.1.0) any.4 good.1.1)
-    (sym (after_first any.1 listed).0)))),
+    (λ at. (each device).1 (
+      at.0,
+      (
+        at.1,
+        λ (any : StandOn candidates device).
+            let listed : Contains candidates any.1 = (any.0, any.2, any.3) in
+            let good = sound any.1 listed in
+            at.2 any.1.uber good.1.0 (subst (λ d. IsCandidate shape silent first.uber.pool image d any.1.uber good.1.0) any.4 good.1.1)
+            (sym (after_first any.1 listed).0),
+      ),
+    )),
   )
     where
       in_use : device < first.uber.reflow.to → has_device out device ≡ false → has_device silent device ≡ false

@@ -27,6 +27,13 @@ pub record IsFoundIn (shape : Shape) (image : Image) (found : Found) : Type 0 wh
   pub lacks_uber : (map : Map)
       → LackUber (found_of shape image found map) found.out found.lacks_uber
 
+-- Nothing is there to open, and these devices failed.
+abbrev pub IsNothingFound : ℕ → OpenWhy → Type 0
+IsNothingFound silent NotPool = silent ≡ 0
+IsNothingFound silent (TooManyFailed out) = (out ≡ silent) × (silent ≢ 0)
+IsNothingFound silent (Limit group) = ⊥
+IsNothingFound silent NoMemory = ⊥
+
 -- No device failed, or those did that are named; and the others show nothing to open.
 abbrev pub IsFindCause : Disk → Disk → OpenWhy → Type 0
 IsFindCause old new NotPool = (image : Image) → HoldsImage old image

@@ -1,5 +1,5 @@
 -- Which devices are out, and which lack the uberblock, by what is listed of them.
-use Rattle.std.specs.Prelude.{◌≡◌, ◌≢◌, ◌⊎◌, ◌↔◌, ℕ, ◌<◌, ◌≤◌, List, true, false}
+use Rattle.std.specs.Prelude.{◌≡◌, ◌⊎◌, ℕ, ◌≤◌, List, true}
 use Rattle.std.specs.List.{Any}
 use Rattle.reflow_mark.specs.declared.reflow.Reflow.{Reflow}
 use Rattle.reflow_mark.specs.declared.reflow.State.TheVariants.{None}

@@ -1,13 +1,13 @@
 // How an opening finds its pool.
-ghost use Rattle.std.specs.Prelude.{◌≡◌, ◌≢◌, All, Contains, IfErr, IfOk};
+ghost use Rattle.std.specs.Prelude.{◌≡◌, [], All, Contains, IfErr, IfOk, OnErr};
 ghost use Rattle.bank_trait.specs.Disk.{Image, Unchanged};
 ghost use Rattle.uberblock_ring.specs.Devices.{IsWithin};
 ghost use Rattle.uberblock_ring.specs.Valid.{IsRightUber};
-ghost use Rattle.core_state.specs.Shown.{read_devices};
+ghost use Rattle.core_state.specs.Shown.{Shape, read_devices};
 ghost use Rattle.core_open.specs.Candidates.{AreChosen, FirstFits, IsIndexFor};
 ghost use Rattle.core_open.specs.Copies.{AreByGroup, AreRight, AreShown};
 ghost use Rattle.core_open.specs.Failing.{HaveFailed, HaveFailedSince};
-ghost use Rattle.core_open.specs.Finding.{IsFindCause, IsFoundIn};
+ghost use Rattle.core_open.specs.Finding.{IsFindCause, IsFoundIn, IsNothingFound};
 ghost use Rattle.core_open.specs.Holds.{HoldsImage, shape_of};
 
 use crate::OpenWhy;
@@ -50,21 +50,8 @@ pub fn find<B: Bank>(alloc: Global, bank: &mut B) -> Result<Found, OpenWhy>
     ensures unchanged { Unchanged (B.disk bank.old) (B.disk bank.new) }
 {
     let mut rings = read_rings(alloc, bank)?;
-    let Candidates { copies, entries } = choose_anew(alloc, bank, &mut rings)?;
-    let Some(first) = copies.first() else {
-        return Err(nothing_found(rings.silent));
-    };
-    let uber = first.uber;
-    let out = devices_out(bank.devices(), &rings, &copies, &uber);
-    let lacks_uber = devices_lacking(&copies, uber.reflow().to, out);
-    Ok(Found {
-        silent: rings.silent,
-        device: first.device,
-        uber,
-        entries,
-        out,
-        lacks_uber,
-    })
+    let candidates = choose_anew(alloc, bank, &mut rings)?;
+    conclude(bank.devices(), &rings, candidates)
 }
 
 /// The choice among the devices that answer to its end: it is made anew after each that fails.
@@ -101,10 +88,43 @@ fn choose_anew<B: Bank>(
     }
 }
 
+/// What is found with these candidates of the chosen group on a bank of so many devices.
+fn conclude(devices: u32, rings: &Rings, candidates: Candidates) -> Result<Found, OpenWhy>
+    requires right { AreRight 16 rings.now.copies.items }
+    requires listed { All (Contains rings.now.copies.items) candidates.copies.items }
+    requires first { FirstFits candidates.copies.items candidates.entries.items }
+    ensures found { IfOk result (λ found. (shape : Shape) (image : Image)
+        → shape.devices ≡ devices
+        → AreShown shape rings.now.silent image (read_devices shape) rings.now.copies.items
+        → AreChosen shape rings.now.silent image
+        candidates.copies.items candidates.entries.items
+        → IsFoundIn shape image found) }
+    ensures right { IfOk result (λ found. IsRightUber found.uber) }
+    ensures index { IfOk result (λ found. IsIndexFor found.uber found.entries.items) }
+    ensures silent { IfOk result (λ found. found.silent ≡ rings.now.silent) }
+    ensures none { OnErr result (candidates.copies.items ≡ []) }
+    ensures cause { IfErr result (IsNothingFound rings.now.silent) }
+{
+    let Candidates { copies, entries } = candidates;
+    let Some(first) = copies.first() else {
+        return Err(nothing_found(rings.silent));
+    };
+    let uber = first.uber;
+    let out = devices_out(devices, rings, &copies, &uber);
+    let lacks_uber = devices_lacking(&copies, uber.reflow().to, out);
+    Ok(Found {
+        silent: rings.silent,
+        device: first.device,
+        uber,
+        entries,
+        out,
+        lacks_uber,
+    })
+}
+
 /// Why there is nothing to open, where these devices failed.
 fn nothing_found(silent: DeviceSet) -> OpenWhy
-    ensures none { silent ≡ 0 → result ≡ OpenWhy.NotPool }
-    ensures some { silent ≢ 0 → result ≡ OpenWhy.TooManyFailed silent }
+    ensures { IsNothingFound silent result }
 {
     if silent.is_empty() {
         OpenWhy::NotPool

@@ -9,12 +9,7 @@ use reflow_mark::{Reflow, State};
 use uberblock_ring::{DeviceSet, Uber};
 
 /// The devices of the pool that are out. `devices` is how many the bank has.
-pub fn devices_out(
-    devices: u32,
-    rings: &Rings,
-    candidates: &[UberCopy],
-    uber: &Uber,
-) -> DeviceSet
+pub fn devices_out(devices: u32, rings: &Rings, candidates: &[UberCopy], uber: &Uber) -> DeviceSet
     requires narrow { uber.now.reflow.to ≤ 16 }
     ensures { (device : ℕ) → has_device result device ≡ true
         ↔ ((device < uber.now.reflow.to) × IsOutBy devices rings.now.silent
@@ -52,13 +47,7 @@ fn is_lacking(candidates: &[UberCopy], out: DeviceSet, device: u32) -> bool
     !out.has(device) && !stand_on(candidates, device)
 }
 
-fn is_out(
-    devices: u32,
-    rings: &Rings,
-    candidates: &[UberCopy],
-    uber: &Uber,
-    device: u32,
-) -> bool
+fn is_out(devices: u32, rings: &Rings, candidates: &[UberCopy], uber: &Uber, device: u32) -> bool
     ensures { IsTrue result ↔ IsOutBy devices rings.now.silent rings.now.copies.items
         candidates.now uber.now device }
 {
@@ -98,5 +87,7 @@ fn stand_on(copies: &[UberCopy], device: u32) -> bool
 fn show_pool(copies: &[UberCopy], pool: u64, device: u32) -> bool
     ensures { IsTrue result ↔ ShowPool copies.now pool device }
 {
-    copies.iter().any(|copy| copy.device == device && copy.uber.pool() == pool)
+    copies
+        .iter()
+        .any(|copy| copy.device == device && copy.uber.pool() == pool)
 }

@@ -1,11 +1,11 @@
-use Rattle.std.proofs.Common.{◌≡◌, ◌+◌, ℕ, Option, None, Some, sym, subst, arith}
+use Rattle.std.proofs.Common.{Option, sym, subst}
 use Rattle.std.specs.Prelude.{IfSome, Vec}
 use Rattle.std.specs.declared.alloc.Global.{Global}
 use Rattle.bank_trait.specs.Disk.{Image}
 use Rattle.block_record.specs.declared.entry.IndexEntry.{IndexEntry}
 use Rattle.core_open.specs.Candidates.{IsGivenIndex, IsIndexFor}
 use Rattle.core_open.specs.Holds.{HoldsImage, shape_of}
-use Rattle.core_open.proofs.Asking.{AreAsked, asked_more, index_given}
+use Rattle.core_open.proofs.Asking.{asked_more, index_given}
 use Rattle.core_open.proofs.candidates.find_index.Goals as goal
 
 pub returns-in-Some-clause-found : goal.returns-in-Some-clause-found

@@ -1,4 +1,4 @@
-use Rattle.std.proofs.Common.{◌≡◌, Option, Some, sym, subst, ◌∙◌, ap, List}
+use Rattle.std.proofs.Common.{◌≡◌, Option, sym, subst, ◌∙◌, List}
 use Rattle.std.specs.Prelude.{IfSome, Vec, IsTrue}
 use Rattle.std.specs.declared.alloc.Global.{Global}
 use Rattle.std.proofs.lemmas.Bool.{false≢true}
@@ -12,7 +12,7 @@ use Rattle.core_open.proofs.candidates.give_index.Goals as goal
 pub returns-else-branch-clause-found : goal.returns-else-branch-clause-found
 returns-else-branch-clause-found g c = λ image holds entries gives fitting.
     let old = g.B.Bank.disk c.args.bank.now in
-    let given : IsGiven old c.args.uber.now c.args.device c.in-Ok-Some.entries.items = 
+    let given : IsGiven old c.args.uber.now c.args.device c.in-Ok-Some.entries.items =
     subst (λ (page : Option (Vec IndexEntry Global)). IfSome page (λ e. IsGiven old c.args.uber.now c.args.device e.items))
     c.in-Ok-Some.field-0-is c.in-Ok-Some.ensures.some in
     let same : entries ≡ c.in-Ok-Some.entries.items =

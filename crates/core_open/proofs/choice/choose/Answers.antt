@@ -1,4 +1,4 @@
-use Rattle.std.proofs.Common.{◌≡◌, [], Option, None, Some, Result, Ok, Err, sym, subst}
+use Rattle.std.proofs.Common.{Result, Ok, Err, subst}
 use Rattle.std.specs.Prelude.{IfOk}
 use Rattle.bank_trait.specs.Disk.{Image}
 use Rattle.core_state.specs.Shown.{read_devices}

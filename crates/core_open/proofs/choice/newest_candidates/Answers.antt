@@ -1,5 +1,4 @@
-use Rattle.std.proofs.Common.{◌≡◌, ◌⊎◌, ◌<◌, ◌+◌, ◌++◌, ◌∷◌, [], ⊎_elim, ℕ, List, get_or, length, refl, sym, ◌∙◌, ap, subst, arith}
-use Rattle.std.specs.Prelude.{slice_get}
+use Rattle.std.proofs.Common.{◌≡◌, ◌<◌, ◌+◌, ◌++◌, ◌∷◌, [], ⊎_elim, List, get_or, length, refl, sym, subst, arith}
 use Rattle.std.proofs.lemmas.Bool.{false≢true}
 use Rattle.core_state.specs.Shown.{Shape}
 use Rattle.core_open.specs.declared.uber_copy.UberCopy.{UberCopy}
@@ -29,8 +28,11 @@ returns-then-are_of_another_group-clause-newest g c = λ image holds shown.
     let other = c.if-are_of_another_group.ensures.0 refl in
     newest_whole (shape_of (g.B.Bank.disk c.args.bank.now)) c.args.rings.now.silent image c.args.pool all shown seen copies
     c.loop-copy.candidates.entries.items c.loop-copy.invariant.from (c.loop-copy.invariant.newest image holds)
-    (λ k d late low. (other.0, other.1,
-    group_ends all c.requires.order seen copy below is copies other.0 c.loop-copy.invariant.from other.1 other.2 k d late low))
+    (λ k d late low. (
+      other.0,
+      other.1,
+      group_ends all c.requires.order seen copy below is copies other.0 c.loop-copy.invariant.from other.1 other.2 k d late low,
+    ))
 
 pub returns-clause-newest : goal.returns-clause-newest
 returns-clause-newest g c = λ image holds shown.

@@ -1,4 +1,3 @@
-use Rattle.std.proofs.Common.{List}
 use Rattle.bank_trait.specs.Disk.{Image, Unchanged}
 use Rattle.core_open.specs.Candidates.{FirstFits}
 use Rattle.core_open.specs.Holds.{HoldsImage, shape_of}

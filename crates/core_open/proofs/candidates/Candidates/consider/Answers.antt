@@ -1,11 +1,10 @@
-use Rattle.std.proofs.Common.{◌≡◌, ◌++◌, ◌∷◌, [], inl, List, None, Some, Option, refl, sym, ◌∙◌, ap, subst}
+use Rattle.std.proofs.Common.{◌≡◌, ◌++◌, ◌∷◌, [], inl, List, Some, Option, refl, sym, subst}
 use Rattle.std.specs.Prelude.{IfSome, Vec, slice_get}
 use Rattle.std.specs.declared.alloc.Global.{Global}
-use Rattle.bank_trait.specs.Disk.{Image}
 use Rattle.block_record.specs.declared.entry.IndexEntry.{IndexEntry}
 use Rattle.core_open.specs.declared.uber_copy.UberCopy.{UberCopy}
 use Rattle.core_open.specs.Candidates.{HasIndex, IsIndexChoice, IsIndexFor}
-use Rattle.core_open.specs.Holds.{HoldsImage, shape_of}
+use Rattle.core_open.specs.Holds.{shape_of}
 use Rattle.core_open.proofs.Considering.{alike_index, first_kept, first_more}
 use Rattle.core_open.proofs.candidates.Candidates.consider.Goals as goal
 
@@ -18,7 +17,7 @@ returns-then-first_is_alike-clause-considered g c = λ image holds has.
     let pushed : c.push.new.self.items ≡ copies ++ c.args.copy.now ∷ [] = c.in_ok-push.ensures.items in (
       inl (pushed, (entries, alike_index shape c.args.silent image there.0.uber c.args.copy.now.uber entries there.2 (has there.0 there.1))),
       subst (λ (list : List UberCopy). (first : UberCopy) → slice_get list 0 ≡ Some first → HasIndex shape c.args.silent image first.uber entries)
-      (sym pushed) (first_kept (λ (first : UberCopy). HasIndex shape c.args.silent image first.uber entries) copies c.args.copy.now there.0 there.1 has),
+          (sym pushed) (first_kept (λ (first : UberCopy). HasIndex shape c.args.silent image first.uber entries) copies c.args.copy.now there.0 there.1 has),
     )
 
 pub returns-in_ok-add-clause-first : goal.returns-in_ok-add-clause-first
@@ -39,7 +38,7 @@ returns-in_ok-add-clause-considered g c = λ image holds has.
     (c.in_ok-entries.ensures.found image holds) in (
       inl (c.in_ok-add.ensures.copies, (c.in-Some.entries.items, index)),
       subst (λ (list : List UberCopy). (first : UberCopy) → slice_get list 0 ≡ Some first
-      → HasIndex shape c.args.silent image first.uber c.add.new.self.entries.items) (sym c.in_ok-add.ensures.copies)
-      (first_more (λ first entries. HasIndex shape c.args.silent image first.uber entries) c.args.self.now.copies.items c.args.copy.now
-      c.args.self.now.entries.items c.in-Some.entries.items c.add.new.self.entries.items has c.add.ensures.first c.add.ensures.others index),
+          → HasIndex shape c.args.silent image first.uber c.add.new.self.entries.items) (sym c.in_ok-add.ensures.copies)
+          (first_more (λ first entries. HasIndex shape c.args.silent image first.uber entries) c.args.self.now.copies.items c.args.copy.now
+          c.args.self.now.entries.items c.in-Some.entries.items c.add.new.self.entries.items has c.add.ensures.first c.add.ensures.others index),
     )
