@@ -1,5 +1,6 @@
 -- The sectors that the blocks of an index take.
-use Rattle.std.specs.Prelude.{◌⊎◌, ◌≤◌}
+use Rattle.std.specs.Prelude.{◌⊎◌, ◌<◌, ◌≤◌, List}
+use Rattle.std.specs.List.Sorted.{IsNonDecreasingBy}
 use Rattle.reflow_mark.specs.Reflow.{sectors_of}
 use Rattle.block_record.specs.declared.entry.IndexEntry.{IndexEntry}
 use Rattle.uberblock_ring.specs.Uberblock.{Uber}
@@ -11,7 +12,15 @@ abbrev pub span_of : Uber → IndexEntry → Span
 span_of uber entry =
     record { start = entry.start; end = block_end uber.parity uber.births entry }
 
--- One of them ends before the other begins.
+-- It has a sector.
+abbrev pub IsFilled : Span → Type 0
+IsFilled span = span.start < span.end
+
+-- They stand in the order of their starts.
+abbrev pub AreInOrder : List Span → Type 0
+AreInOrder spans = IsNonDecreasingBy (λ (span : Span). span.start) spans
+
+-- One of them ends where the other begins, or before.
 abbrev pub AreClear : Span → Span → Type 0
 AreClear one other = (one.end ≤ other.start) ⊎ (other.end ≤ one.start)
 

@@ -1,10 +1,9 @@
 // Whether an index fits the uberblock that it belongs to.
-ghost use Rattle.std.specs.Prelude.{◌≡◌, ◌↔◌, ◌<◌, ◌≤◌, ◌^◌, All, AllPairs, map, IfOk, IfNone, IfSome, IsTrue, SomeIff};
-ghost use Rattle.std.specs.List.Sorted.{IsNonDecreasingBy};
+ghost use Rattle.std.specs.Prelude.{◌≡◌, ◌↔◌, ◌<◌, ◌≤◌, ◌^◌, All, AllPairs, map, IfOk, IfNone, IfSome, IsTrue, OnSome, SomeIff};
 ghost use Rattle.block_record.specs.Page.{IsIndex, IsRightEntry};
 ghost use Rattle.uberblock_ring.specs.Valid.{IsRightUber};
 ghost use Rattle.core_state.specs.Index.{IsFitting};
-ghost use Rattle.core_open.specs.Spans.{AreClear, FitsAlone, span_of};
+ghost use Rattle.core_open.specs.Spans.{AreClear, AreInOrder, FitsAlone, IsFilled, span_of};
 
 use block_record::IndexEntry;
 use row_layout::Layout;
@@ -45,9 +44,9 @@ fn spans_of(
     requires right { IsRightUber uber.now }
     requires index { All IsRightEntry entries.now }
     ensures some { IfOk result (λ found. IfSome found (λ spans.
-        (spans.items ≡ map (span_of uber.now) entries.now)
-        × All (λ span. span.start < span.end) spans.items
-        × All (FitsAlone uber.now) entries.now)) }
+        spans.items ≡ map (span_of uber.now) entries.now)) }
+    ensures filled { IfOk result (λ found. IfSome found (λ spans. All IsFilled spans.items)) }
+    ensures alone { IfOk result (λ found. OnSome found (All (FitsAlone uber.now) entries.now)) }
     ensures none { IfOk result (λ found. IfNone found (All (FitsAlone uber.now) entries.now → ⊥)) }
 {
     let mut spans = Vec::with_capacity(alloc, entries.len())?;
@@ -65,9 +64,10 @@ fn span_of(uber: &Uber, entry: &IndexEntry) -> Option<Span>
     requires right { IsRightUber uber.now }
     requires entry { IsRightEntry entry.now }
     ensures value { SomeIff result (FitsAlone uber.now entry.now) (span_of uber.now entry.now) }
-    ensures filled { IfSome result (λ span. span.start < span.end) }
+    ensures filled { IfSome result IsFilled }
 {
     let sectors = uber.reflow().sectors();
+    // A start may be any number. Past the sectors it is refused before its end is computed.
     if entry.birth > uber.group() || entry.start >= sectors {
         return None;
     }
@@ -85,7 +85,7 @@ fn span_of(uber: &Uber, entry: &IndexEntry) -> Option<Span>
 
 /// Whether no span reaches into another. Sorted by their starts, each has to end before the next.
 fn are_clear(mut spans: Vec<Span>) -> bool
-    requires filled { All (λ span. span.start < span.end) spans.items }
+    requires filled { All IsFilled spans.items }
     ensures value { IsTrue result ↔ AllPairs AreClear spans.items }
 {
     spans.sort_unstable_by_key(|span| span.start);
@@ -94,8 +94,8 @@ fn are_clear(mut spans: Vec<Span>) -> bool
 
 /// Whether each span begins at the end of the one before, or after it.
 fn follow_each_other(spans: &[Span]) -> bool
-    requires filled { All (λ span. span.start < span.end) spans.now }
-    requires sorted { IsNonDecreasingBy (λ span. span.start) spans.now }
+    requires filled { All IsFilled spans.now }
+    requires sorted { AreInOrder spans.now }
     ensures value { IsTrue result ↔ AllPairs AreClear spans.now }
 {
     let mut end = 0;

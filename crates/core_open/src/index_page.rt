@@ -37,8 +37,10 @@ impl From<AllocError> for PageFault {
     }
 }
 
-/// The entries of an uberblock's index page, where the device gives it. It is read to its end or to
-/// the first sector that fails, and not taken for entries before its digest is the recorded one.
+/// The entries of an uberblock's index page, where the device gives it.
+///
+/// Each sector is read once, up to the first that fails; the page of an empty index has none. The
+/// bytes are taken for entries only where their digest is the recorded one.
 pub(crate) fn read_page<B: Bank>(
     alloc: Global,
     bank: &mut B,

@@ -9,17 +9,25 @@ pub returns-clause-some : goal.returns-clause-some
 returns-clause-some g c =
     let uber = c.args.uber.now in
     let disk = g.B.Bank.disk c.args.bank.now in
-    let are = page_sectors_are uber disk c.args.device _ _ _ c.deref.result.now
-    (c.area_sector-first.ensures.value ∙ ap area_sector c.area.ensures.value)
-    (c.page_sectors-count.ensures ∙ ap page_sectors c.count.ensures.value) c.deref.ensures.value c.in_ok-page.ensures.ok in
+    let device = c.args.device in
+    let bytes = c.deref.result.now in
+    let area = c.area_sector-first.ensures.value ∙ ap area_sector c.area.ensures.value in
+    let long = c.page_sectors-count.ensures ∙ ap page_sectors c.count.ensures.value in
+    let are = page_sectors_are uber disk device _ _ _ bytes area long c.deref.ensures.value
+    c.in_ok-page.ensures.ok in
     IfSome_then c.in_ok-entries.entries c.in_ok-entries.ensures.some
-    (λ entries recorded. page_given uber disk c.args.device c.deref.result.now entries.items c.requires.device are recorded)
+    (λ entries recorded.
+    page_given uber disk device bytes entries.items c.requires.device are recorded)
 
 pub returns-clause-none : goal.returns-clause-none
 returns-clause-none g c =
     let uber = c.args.uber.now in
     let disk = g.B.Bank.disk c.args.bank.now in
-    let are = page_sectors_are uber disk c.args.device _ _ _ c.deref.result.now
-    (c.area_sector-first.ensures.value ∙ ap area_sector c.area.ensures.value)
-    (c.page_sectors-count.ensures ∙ ap page_sectors c.count.ensures.value) c.deref.ensures.value c.in_ok-page.ensures.ok in
-    none_then c.in_ok-entries.entries c.in_ok-entries.ensures.none (page_not_given uber disk c.args.device c.deref.result.now are)
+    let device = c.args.device in
+    let bytes = c.deref.result.now in
+    let area = c.area_sector-first.ensures.value ∙ ap area_sector c.area.ensures.value in
+    let long = c.page_sectors-count.ensures ∙ ap page_sectors c.count.ensures.value in
+    let are = page_sectors_are uber disk device _ _ _ bytes area long c.deref.ensures.value
+    c.in_ok-page.ensures.ok in
+    none_then c.in_ok-entries.entries c.in_ok-entries.ensures.none
+    (page_not_given uber disk device bytes are)
