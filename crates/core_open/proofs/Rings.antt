@@ -1,9 +1,8 @@
 -- How the rings of a new pool come about, device by device.
-use Rattle.std.proofs.Common.{◌≡◌, ◌≢◌, ⊎_elim, inr, ℕ, ◌+◌, ◌<◌, ◌≤◌, List, Some, Result, Ok, refl, sym, ◌∙◌, ap, subst, arith, below_more}
+use Rattle.std.proofs.Common.{◌≡◌, ◌≢◌, ⊎_elim, inr, ℕ, ◌+◌, ◌<◌, Some, Ok, refl, sym, ◌∙◌, subst, arith, below_more}
 use Rattle.std.specs.Prelude.{IsSome}
 use Rattle.std.proofs.lemmas.Bool.{cases_eq}
 use Rattle.std.proofs.lemmas.Bool.Decides.{nat_tests}
-use Rattle.bank_trait.specs.declared.Failed.{Failed}
 use Rattle.bank_trait.specs.Disk.{Disk, Wrote, Synced}
 use Rattle.bank_trait.specs.Regions.{zero_sector, Tells, TouchesOnly}
 use Rattle.bank_trait.proofs.Touches.{touches_none, touches_then, wrote_touches, tells_later}

@@ -1,2 +1,10 @@
+pub mod Candidates
+pub mod Copies
 pub mod Failing
+pub mod Finding
+pub mod Holds
+pub mod Pages
 pub mod Regions
+pub mod Sets
+pub mod Spans
+pub mod Votes

@@ -4,8 +4,19 @@
 //! `core_state`, whose `specs/Create.antt` says what a new pool is.
 #![tactic(auto)]
 
+mod candidates;
+mod choice;
 mod creating;
+mod finding;
+mod fitting;
+mod index_page;
+mod out;
+mod reading;
+mod stopped;
+mod uber_copy;
+mod votes;
 mod why;
 
 pub use creating::{create, data_rows};
+pub use finding::{Found, find};
 pub use why::OpenWhy;

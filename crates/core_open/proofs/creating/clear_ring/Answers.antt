@@ -1,4 +1,4 @@
-use Rattle.std.proofs.Common.{ℕ, ◌<◌, arith, refl}
+use Rattle.std.proofs.Common.{ℕ, arith, refl}
 use Rattle.bank_trait.specs.Regions.{zero_sector}
 use Rattle.bank_trait.proofs.Touches.{touches_then, touches_widen, wrote_touches}
 use Rattle.core_open.specs.Regions.{IsBelow}

@@ -1,4 +1,4 @@
-use Rattle.std.proofs.Common.{◌≡◌, ℕ, ◌∙◌, Some, arith, ap, rules}
+use Rattle.std.proofs.Common.{◌≡◌, ◌∙◌, Some, arith, ap, rules}
 use Rattle.bank_trait.proofs.Touches.{touches_then, touches_widen}
 use Rattle.uberblock_ring.specs.Uberblock.{Uber, first_uber}
 use Rattle.core_state.specs.Create.{rows_for, new_ring}

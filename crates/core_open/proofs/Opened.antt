@@ -1,0 +1,160 @@
+-- From the candidates of the chosen group to what an opening has to know.
+use Rattle.std.proofs.Common.{◌≡◌, ◌≢◌, ◌⊎◌, inl, inr, ⊎_elim, ℕ, ◌<◌, ◌≤◌, List, [], ◌∷◌, Some, true, false, refl, sym, ◌∙◌, subst, arith}
+use Rattle.std.specs.Prelude.{Contains, slice_get, ◌↔◌}
+use Rattle.std.specs.List.{Any}
+use Rattle.std.proofs.lemmas.Bool.{cases_Bool, false≢true}
+use Rattle.std.proofs.lemmas.List.Elements.{All-contains}
+use Rattle.bank_trait.specs.Disk.{Image}
+use Rattle.block_record.specs.declared.entry.IndexEntry.{IndexEntry}
+use Rattle.uberblock_ring.specs.Devices.{has_device}
+use Rattle.uberblock_ring.specs.Uberblock.{Uber}
+use Rattle.core_state.specs.Shown.{Shape, Shows, IsCandidate, read_devices}
+use Rattle.core_state.specs.Choosing.{IsBlank, IsChosen, IsChosenPool, IsListedOut, IsOutAtOpening}
+use Rattle.core_open.specs.declared.uber_copy.UberCopy.{UberCopy}
+use Rattle.core_open.specs.Candidates.{AreNewest}
+use Rattle.core_open.specs.Copies.{AreShown}
+use Rattle.core_open.specs.Sets.{IsNewDevice, IsOutBy, ShowPool, StandOn}
+use Rattle.core_open.proofs.Newest.{of_one_group}
+use Rattle.core_open.proofs.ReadTo.{copy_on}
+
+-- The first copy is one of them.
+pub first_of : (copies : List UberCopy) (first : UberCopy) → slice_get copies 0 ≡ Some first → Contains copies first
+first_of [] first nothing = absurd (cc)
+first_of (one ∷ copies) first there = let here : one ≡ first = cc in (0, omega arith, here)
+
+module _ (shape : Shape) (silent : ℕ) (image : Image) (all candidates : List UberCopy) (entries : List IndexEntry)
+    (first : UberCopy) (is : slice_get candidates 0 ≡ Some first)
+    (shown : AreShown shape silent image (read_devices shape) all)
+    (newest : AreNewest shape silent image first.uber.pool candidates entries) where
+  -- Each candidate is of the first one's group, and on no lower device.
+  after_first : (copy : UberCopy) → Contains candidates copy
+      → (first.uber.group ≡ copy.uber.group) × (first.device ≤ copy.device)
+  after_first copy listed = All-contains
+      (λ (c : UberCopy). (first.uber.group ≡ c.uber.group) × (first.device ≤ c.device)) candidates copy
+      (of_one_group candidates first is newest.order) listed
+
+  first_listed : Contains candidates first
+  first_listed = first_of candidates first is
+
+  sound : (copy : UberCopy) → Contains candidates copy
+      → (has_device silent copy.device ≡ false)
+      × ((listed : List IndexEntry) × IsCandidate shape silent first.uber.pool image copy.device copy.uber listed)
+  sound copy listed = All-contains (λ (c : UberCopy). (has_device silent c.device ≡ false)
+      × ((listed : List IndexEntry) × IsCandidate shape silent first.uber.pool image c.device c.uber listed)) candidates copy
+      newest.each listed
+
+  -- A candidate of that group is one of them.
+  of_group : (device : ℕ) (uber : Uber) (listed : List IndexEntry) → has_device silent device ≡ false
+      → IsCandidate shape silent first.uber.pool image device uber listed → uber.group ≡ first.uber.group
+      → Contains candidates (copy_on device uber)
+  of_group device uber listed works candidate level = ⊎_elim
+      (λ (there : Contains candidates (copy_on device uber)). there)
+      (λ (above : (copy : UberCopy) × Contains candidates copy × (uber.group < copy.uber.group)).
+      absurd (omega (arith, above.2, level, (after_first above.0 above.1).0)))
+      (newest.every device uber listed works candidate)
+
+  pub first_chosen : IsChosenPool shape silent image first.uber.pool
+      → IsChosen shape silent image first.device first.uber entries
+  first_chosen pool = record {
+    pool = pool;
+    reads = (sound first first_listed).0;
+    candidate = newest.first first is;
+    first = λ other later listed works candidate. ⊎_elim
+        (λ (there : Contains candidates (copy_on other later)). let after = after_first (copy_on other later) there in
+        inr (sym after.0, after.1))
+        (λ (above : (copy : UberCopy) × Contains candidates copy × (later.group < copy.uber.group)).
+        inl (omega (arith, above.2, (after_first above.0 above.1).0)))
+        (newest.every other later listed works candidate);
+  }
+
+  any_of : (P : UberCopy → Type 0) (list : List UberCopy) (copy : UberCopy) → Contains list copy → P copy → Any P list
+  any_of P list copy (k, low, there) has = (k, copy, low, there, has)
+
+  -- What is out by the lists is out at the opening,
+  out_by : (device : ℕ) → IsOutBy shape.devices silent all candidates first.uber device
+      → IsListedOut shape silent image first.uber device ⊎ ((has_device silent device ≡ true)
+      ⊎ ((shape.devices ≤ device) ⊎ IsBlank shape image first.uber device))
+  out_by device (inl (k, copy, low, there, out)) =
+      let listed : Contains candidates copy = (k, low, there) in
+      let good = sound copy listed in inl (record {
+        other = copy.device;
+        reads = good.0;
+        twin = copy.uber;
+        entries = good.1.0;
+        candidate = good.1.1;
+        group = sym (after_first copy listed).0;
+        out = out;
+      })
+  out_by device (inr (inl quiet)) = inr (inl quiet)
+  out_by device (inr (inr (inl none))) = inr (inr (inl none))
+  out_by device (inr (inr (inr (nothing, old)))) = ⊎_elim
+      (λ quiet. inr (inl quiet))
+      (λ works. inr (inr (inr (record {
+        none = λ other shows of_pool. nothing (any_of
+            (λ (copy : UberCopy). (copy.device ≡ device) × (copy.uber.pool ≡ first.uber.pool)) all (copy_on device other)
+            (shown.every device other shows.device_in works shows) (refl, of_pool));
+        not_new = λ none same. old (none, same);
+      }))))
+      (cases_Bool (has_device silent device))
+
+  -- and what is out then is out by the lists.
+  by_out : (device : ℕ) → IsListedOut shape silent image first.uber device ⊎ ((has_device silent device ≡ true)
+      ⊎ ((shape.devices ≤ device) ⊎ IsBlank shape image first.uber device))
+      → IsOutBy shape.devices silent all candidates first.uber device
+  by_out device (inl listed) = inl (any_of (λ (copy : UberCopy). has_device copy.uber.out device ≡ true) candidates
+      (copy_on listed.other listed.twin)
+      (of_group listed.other listed.twin listed.entries listed.reads listed.candidate listed.group) listed.out)
+  by_out device (inr (inl quiet)) = inr (inl quiet)
+  by_out device (inr (inr (inl none))) = inr (inr (inl none))
+  by_out device (inr (inr (inr blank))) = inr (inr (inr (
+    (λ (any : ShowPool all first.uber.pool device).
+        let copy = any.1 in
+        let shows : Shows shape image copy.device copy.uber =
+        All-contains (λ (c : UberCopy). Shows shape image c.device c.uber) all copy shown.each (any.0, any.2, any.3) in
+        blank.none copy.uber (subst (λ d. Shows shape image d copy.uber) any.4.0 shows) any.4.1),
+    (λ (new : IsNewDevice first.uber.reflow device). blank.not_new new.0 new.1),
+  )))
+
+  pub out_is : (out : ℕ)
+      → ((device : ℕ) → has_device out device ≡ true
+      ↔ ((device < first.uber.reflow.to) × IsOutBy shape.devices silent all candidates first.uber device))
+      → (device : ℕ) → has_device out device ≡ true ↔ IsOutAtOpening shape silent image first.uber device
+  out_is out each device = (
+    (λ has. let by = (each device).0 has in (by.0, out_by device by.1)),
+    (λ at. (each device).1 (at.0, by_out device at.1)),
+  )
+
+  -- Of the devices in use those lack the uberblock on which no candidate stands.
+  pub lacks_is : (out lacks : ℕ)
+      → ((device : ℕ) → has_device out device ≡ true ↔ IsOutAtOpening shape silent image first.uber device)
+      → ((device : ℕ) → has_device lacks device ≡ true
+      ↔ ((device < first.uber.reflow.to) × ((has_device out device ≡ false) × (StandOn candidates device → ⊥))))
+      → (device : ℕ) → has_device lacks device ≡ true
+      ↔ ((device < first.uber.reflow.to) × (has_device out device ≡ false)
+      × ((uber : Uber) (listed : List IndexEntry)
+      → IsCandidate shape silent first.uber.pool image device uber listed → uber.group ≢ first.uber.group))
+  lacks_is out lacks outs each device = (
+    (λ has. let by = (each device).0 has in (
+      by.0,
+      by.1.0,
+      λ uber listed candidate level. by.1.1 (any_of (λ (copy : UberCopy). copy.device ≡ device) candidates (copy_on device uber)
+          (of_group device uber listed (in_use by.0 by.1.0) candidate level) refl),
+    )),
+    (λ at. (each device).1 (
+      at.0,
+      (
+        at.1,
+        λ (any : StandOn candidates device).
+            let listed : Contains candidates any.1 = (any.0, any.2, any.3) in
+            let good = sound any.1 listed in
+            at.2 any.1.uber good.1.0 (subst (λ d. IsCandidate shape silent first.uber.pool image d any.1.uber good.1.0) any.4 good.1.1)
+            (sym (after_first any.1 listed).0),
+      ),
+    )),
+  )
+    where
+      in_use : device < first.uber.reflow.to → has_device out device ≡ false → has_device silent device ≡ false
+      in_use low not_out = ⊎_elim
+          (λ quiet. absurd (false≢true (sym not_out ∙ (outs device).1 (low, inr (inl quiet)))))
+          (λ works. works)
+          (cases_Bool (has_device silent device))

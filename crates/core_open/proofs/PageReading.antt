@@ -1,0 +1,101 @@
+-- How an index page is read, sector by sector, and what it shows then.
+use Rattle.std.proofs.Common.{◌≡◌, ℕ, zero, suc, ◌+◌, ◌<◌, List, ◌++◌, length, Option, None, Some, sym, ◌∙◌, ap, subst, arith, append_assoc, length-append, add-one}
+use Rattle.std.specs.Prelude.{min, IfNone}
+use Rattle.std.proofs.lemmas.List.{append-nil}
+use Rattle.sha2.specs.Sha256.{sha256}
+use Rattle.bank_trait.specs.Disk.{Image, Disk, Unchanged}
+use Rattle.block_record.specs.declared.entry.IndexEntry.{IndexEntry}
+use Rattle.block_record.specs.Page.{IsPageOf, page_sectors}
+use Rattle.uberblock_ring.specs.Uberblock.{Uber, area_sector}
+use Rattle.core_state.specs.Shown.{page_on, sectors_from}
+use Rattle.core_open.specs.Pages.{AreSectors, IsGiven, IsNotGiven, IsRecordedPage}
+use Rattle.core_open.proofs.Unchanged.{unchanged_then}
+
+-- One sector more stands at the end.
+sectors_and_next : (image : Image) (device first count : ℕ)
+    → sectors_from image device first (suc count)
+    ≡ sectors_from image device first count ++ image device (first + count)
+sectors_and_next image device first zero =
+    let same : first ≡ first + 0 = omega arith in
+    append-nil (image device first) ∙ ap (image device) same
+sectors_and_next image device first (suc more) =
+    let one = image device first in
+    let rest = sectors_from image device (first + 1) more in
+    let same : first + 1 + more ≡ first + suc more = omega arith in
+    ap (λ (l : List ℕ). one ++ l) (sectors_and_next image device (first + 1) more)
+    ∙ sym (append_assoc one rest (image device (first + 1 + more)))
+    ∙ ap (λ (place : ℕ). one ++ rest ++ image device place) same
+
+-- So many sectors were read, and nothing was changed.
+pub record IsReadTo (old : Disk) (device first count : ℕ) (new : Disk) (bytes : List ℕ) : Type 0
+  where
+    pub same : Unchanged old new
+    pub are : AreSectors old device first count bytes
+
+pub read_more : (old mid new : Disk) (device first count : ℕ) (bytes sector : List ℕ)
+    → device < old.devices → first + count < old.sectors
+    → IsReadTo old device first count mid bytes → Unchanged mid new → length sector ≡ 512
+    → ((told : List ℕ) → mid.reads device (first + count) ≡ Some told → sector ≡ told)
+    → IsReadTo old device first (count + 1) new (bytes ++ sector)
+read_more old mid new device first count bytes sector in_bank on_device so_far same wide told =
+    record {
+      same = unchanged_then so_far.same same;
+      are = record {
+        wide = omega (arith, length-append bytes sector, so_far.are.wide, wide);
+        each = λ image holds.
+            let place = first + count in
+            let next : sector ≡ image device place = told (image device place)
+            (so_far.same.reads device place ∙ holds.each device place in_bank on_device) in
+            ap (λ (front : List ℕ). front ++ sector) (so_far.are.each image holds)
+            ∙ ap (λ (last : List ℕ). sectors_from image device first count ++ last) next
+            ∙ sym (sectors_and_next image device first count)
+            ∙ ap (sectors_from image device first) (sym (add-one count));
+      };
+    }
+
+-- The sectors of a page are those of its area.
+pub page_sectors_are : (uber : Uber) (disk : Disk) (device first count : ℕ) (read bytes : List ℕ)
+    → first ≡ area_sector uber.area → count ≡ page_sectors uber.count → bytes ≡ read
+    → AreSectors disk device first count read
+    → AreSectors disk device (area_sector uber.area) (page_sectors uber.count) bytes
+page_sectors_are uber disk device first count read bytes area long is are =
+    subst (AreSectors disk device (area_sector uber.area) (page_sectors uber.count)) (sym is)
+    (subst (λ (count : ℕ). AreSectors disk device (area_sector uber.area) count read) long
+    (subst (λ (first : ℕ). AreSectors disk device first count read) area are))
+
+-- The bytes that were read are the page in each image that the bank holds.
+pub page_given : (uber : Uber) (disk : Disk) (device : ℕ) (bytes : List ℕ)
+    (entries : List IndexEntry) → device < min disk.devices 16
+    → AreSectors disk device (area_sector uber.area) (page_sectors uber.count) bytes
+    → IsRecordedPage uber bytes entries
+    → IsGiven disk uber device entries
+unfolding page_on
+page_given uber disk device bytes entries below are recorded = record {
+  index = recorded.page.index;
+  counted = recorded.page.counted;
+  each = λ image holds. record {
+    device_in = below;
+    digest = subst (λ (page : List ℕ). sha256 page ≡ uber.digest) (are.each image holds)
+        recorded.digest;
+    page = subst (λ (page : List ℕ). IsPageOf page uber.count entries) (are.each image holds)
+        recorded.page;
+  };
+}
+
+pub page_not_given : (uber : Uber) (disk : Disk) (device : ℕ) (bytes : List ℕ)
+    → AreSectors disk device (area_sector uber.area) (page_sectors uber.count) bytes
+    → ((entries : List IndexEntry) → IsRecordedPage uber bytes entries → ⊥)
+    → IsNotGiven disk uber device
+unfolding page_on
+page_not_given uber disk device bytes are nothing = record {
+  none = λ image entries holds gives. let is = sym (are.each image holds) in
+      nothing entries (record {
+        digest = subst (λ (page : List ℕ). sha256 page ≡ uber.digest) is gives.digest;
+        page = subst (λ (page : List ℕ). IsPageOf page uber.count entries) is gives.page;
+      });
+}
+
+-- What follows where there is no value.
+pub none_then : {X P Q : Type 0} (given : Option X) → IfNone given P → (P → Q) → IfNone given Q
+none_then None nothing follows = follows nothing
+none_then (Some value) nothing follows = nothing

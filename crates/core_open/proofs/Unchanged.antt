@@ -1,0 +1,55 @@
+-- Runs of reads, which change nothing but counts of faults.
+use Rattle.std.proofs.Common.{◌≡◌, ℕ, refl, ◌∙◌, arith}
+use Rattle.bank_trait.specs.Causes.{Rose}
+use Rattle.bank_trait.specs.Disk.{Image, Disk, Unchanged}
+use Rattle.bank_trait.proofs.Moments.{later_refl, later_trans}
+use Rattle.core_open.specs.Holds.{HoldsImage, shape_of}
+
+-- no call
+pub unchanged_none : (disk : Disk) → Unchanged disk disk
+unchanged_none disk = record {
+  goes_on = record {
+    later = later_refl disk;
+    present = λ t after until d x. absurd (omega (arith, after, until));
+  };
+  clock = refl;
+  reads = λ d x. refl;
+}
+
+-- one run of reads after another
+pub unchanged_then : {old mid new : Disk} → Unchanged old mid → Unchanged mid new → Unchanged old new
+unchanged_then {old = old} {mid = mid} {new = new} first next = record {
+  goes_on = record {
+    later = later_trans first.goes_on.later next.goes_on.later;
+    present = λ t after until d x. absurd (omega (arith, after, until, first.clock, next.clock));
+  };
+  clock = next.clock ∙ first.clock;
+  reads = λ d x. next.reads d x ∙ first.reads d x;
+}
+
+-- The bank goes on holding the image.
+pub holds_then : {old new : Disk} {image : Image} → Unchanged old new → HoldsImage old image
+    → HoldsImage new image
+holds_then same holds = record {
+  each = λ device device_sector low below. same.reads device device_sector
+      ∙ holds.each device device_sector (omega (arith, low, same.goes_on.later.devices))
+      (omega (arith, below, same.goes_on.later.sectors));
+}
+
+-- A count that rose before some reads, or in the middle of them, has risen.
+pub rose_then : (old : Disk) {mid new : Disk} (device : ℕ) → Rose (old.faults device) (mid.faults device)
+    → Unchanged mid new
+    → Rose (old.faults device) (new.faults device)
+rose_then old device rose same = omega (arith, rose, same.goes_on.later.faults device)
+
+pub then_rose : {old mid : Disk} (new : Disk) (device : ℕ) → Unchanged old mid
+    → Rose (mid.faults device) (new.faults device)
+    → Rose (old.faults device) (new.faults device)
+then_rose new device same rose = omega (arith, rose, same.goes_on.later.faults device)
+
+-- The bank keeps its shape.
+pub shape_then : {old new : Disk} → Unchanged old new → shape_of new ≡ shape_of old
+shape_then same = λ i. record {
+  devices = same.goes_on.later.devices i;
+  sectors = same.goes_on.later.sectors i;
+}

@@ -1,0 +1,44 @@
+use Rattle.std.proofs.Common.{◌≡◌, ◌++◌, ◌∷◌, [], inl, List, Some, Option, refl, sym, subst}
+use Rattle.std.specs.Prelude.{IfSome, Vec, slice_get}
+use Rattle.std.specs.declared.alloc.Global.{Global}
+use Rattle.block_record.specs.declared.entry.IndexEntry.{IndexEntry}
+use Rattle.core_open.specs.declared.uber_copy.UberCopy.{UberCopy}
+use Rattle.core_open.specs.Candidates.{HasIndex, IsIndexChoice, IsIndexFor}
+use Rattle.core_open.specs.Holds.{shape_of}
+use Rattle.core_open.proofs.Considering.{alike_index, first_kept, first_more}
+use Rattle.core_open.proofs.candidates.Candidates.consider.Goals as goal
+
+pub returns-then-first_is_alike-clause-considered : goal.returns-then-first_is_alike-clause-considered
+returns-then-first_is_alike-clause-considered g c = λ image holds has.
+    let shape = shape_of (g.B.Bank.disk c.args.bank.now) in
+    let copies = c.args.self.now.copies.items in
+    let entries = c.args.self.now.entries.items in
+    let there = c.if-first_is_alike.ensures refl in
+    let pushed : c.push.new.self.items ≡ copies ++ c.args.copy.now ∷ [] = c.in_ok-push.ensures.items in (
+      inl (pushed, (entries, alike_index shape c.args.silent image there.0.uber c.args.copy.now.uber entries there.2 (has there.0 there.1))),
+      subst (λ (list : List UberCopy). (first : UberCopy) → slice_get list 0 ≡ Some first → HasIndex shape c.args.silent image first.uber entries)
+          (sym pushed) (first_kept (λ (first : UberCopy). HasIndex shape c.args.silent image first.uber entries) copies c.args.copy.now there.0 there.1 has),
+    )
+
+pub returns-in_ok-add-clause-first : goal.returns-in_ok-add-clause-first
+returns-in_ok-add-clause-first g c =
+    let fits : IsIndexFor c.args.copy.now.uber c.in-Some.entries.items =
+    subst (λ (found : Option (Vec IndexEntry Global)). IfSome found (λ e. IsIndexFor c.args.copy.now.uber e.items)) c.in-Some.is
+    c.in_ok-entries.ensures.fits in
+    subst (λ (list : List UberCopy). (first : UberCopy) → slice_get list 0 ≡ Some first → IsIndexFor first.uber c.add.new.self.entries.items)
+    (sym c.in_ok-add.ensures.copies)
+    (first_more (λ first entries. IsIndexFor first.uber entries) c.args.self.now.copies.items c.args.copy.now c.args.self.now.entries.items
+    c.in-Some.entries.items c.add.new.self.entries.items c.requires.first c.add.ensures.first c.add.ensures.others fits)
+
+pub returns-in_ok-add-clause-considered : goal.returns-in_ok-add-clause-considered
+returns-in_ok-add-clause-considered g c = λ image holds has.
+    let shape = shape_of (g.B.Bank.disk c.args.bank.now) in
+    let index : HasIndex shape c.args.silent image c.args.copy.now.uber c.in-Some.entries.items =
+    subst (λ (found : Option (Vec IndexEntry Global)). IsIndexChoice shape c.args.silent image c.args.copy.now.uber found) c.in-Some.is
+    (c.in_ok-entries.ensures.found image holds) in (
+      inl (c.in_ok-add.ensures.copies, (c.in-Some.entries.items, index)),
+      subst (λ (list : List UberCopy). (first : UberCopy) → slice_get list 0 ≡ Some first
+          → HasIndex shape c.args.silent image first.uber c.add.new.self.entries.items) (sym c.in_ok-add.ensures.copies)
+          (first_more (λ first entries. HasIndex shape c.args.silent image first.uber entries) c.args.self.now.copies.items c.args.copy.now
+          c.args.self.now.entries.items c.in-Some.entries.items c.add.new.self.entries.items has c.add.ensures.first c.add.ensures.others index),
+    )

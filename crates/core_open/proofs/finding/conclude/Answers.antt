@@ -1,0 +1,47 @@
+use Rattle.std.proofs.Common.{◌≡◌, ◌<◌, ℕ, List, Some, true, false, sym, subst}
+use Rattle.std.specs.Prelude.{Contains, slice_get, ◌↔◌}
+use Rattle.std.proofs.lemmas.List.Elements.{All-contains}
+use Rattle.reflow_mark.specs.declared.reflow.Reflow.{Reflow}
+use Rattle.uberblock_ring.specs.Devices.{has_device}
+use Rattle.uberblock_ring.specs.Valid.{IsRightUber}
+use Rattle.core_open.specs.declared.uber_copy.UberCopy.{UberCopy}
+use Rattle.core_open.specs.Sets.{IsOutBy, StandOn}
+use Rattle.core_open.proofs.Opened.{first_chosen, first_of, lacks_is, out_is}
+use Rattle.core_open.proofs.finding.conclude.Goals as goal
+
+pub returns-clause-found : goal.returns-clause-found
+returns-clause-found c = λ shape image same shown chosen.
+    let silent = c.args.rings.now.silent in
+    let all = c.args.rings.now.copies.items in
+    let candidates = c.args.candidates.copies.items in
+    let entries = c.args.candidates.entries.items in
+    let first = c.in-Some.first.now in
+    let there : slice_get candidates 0 ≡ Some first =
+    subst (λ (list : List UberCopy). slice_get list 0 ≡ Some first) c.deref.ensures.value (sym c.in-Some.ensures.value) in
+    let parts = chosen.some first there in
+    let outs = out_is shape silent image all candidates entries first there shown parts.1 c.devices_out-out.result
+    (subst (λ (devices : ℕ). (device : ℕ) → has_device c.devices_out-out.result device ≡ true
+    ↔ ((device < first.uber.reflow.to) × IsOutBy devices silent all candidates first.uber device)) (sym same)
+    (subst (λ (list : List UberCopy). (device : ℕ) → has_device c.devices_out-out.result device ≡ true
+    ↔ ((device < first.uber.reflow.to) × IsOutBy c.args.devices silent all list first.uber device)) c.deref-2.ensures.value
+    c.devices_out-out.ensures)) in
+    record {
+      chosen = first_chosen shape silent image all candidates entries first there shown parts.1 parts.0;
+      out = λ map. outs;
+      lacks_uber = λ map. lacks_is shape silent image all candidates entries first there shown parts.1 c.devices_out-out.result
+          c.devices_lacking-lacks_uber.result outs
+          (subst (λ (reflow : Reflow). (device : ℕ) → has_device c.devices_lacking-lacks_uber.result device ≡ true
+          ↔ ((device < reflow.to) × ((has_device c.devices_out-out.result device ≡ false) × (StandOn candidates device → ⊥))))
+          c.reflow.ensures.value
+          (subst (λ (list : List UberCopy). (device : ℕ) → has_device c.devices_lacking-lacks_uber.result device ≡ true
+          ↔ ((device < c.reflow.result.to) × ((has_device c.devices_out-out.result device ≡ false) × (StandOn list device → ⊥))))
+          c.deref-3.ensures.value c.devices_lacking-lacks_uber.ensures));
+    }
+
+pub returns-clause-right : goal.returns-clause-right
+returns-clause-right c =
+    let first = c.in-Some.first.now in
+    let there : slice_get c.args.candidates.copies.items 0 ≡ Some first =
+    subst (λ (list : List UberCopy). slice_get list 0 ≡ Some first) c.deref.ensures.value (sym c.in-Some.ensures.value) in
+    (All-contains (λ (copy : UberCopy). (copy.device < 16) × IsRightUber copy.uber) c.args.rings.now.copies.items first c.requires.right
+    (All-contains (Contains c.args.rings.now.copies.items) c.args.candidates.copies.items first c.requires.listed (first_of _ first there))).1

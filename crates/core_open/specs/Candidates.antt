@@ -1,0 +1,84 @@
+-- Which uberblocks of a pool are candidates, and those of the greatest group that has any.
+use Rattle.std.specs.Prelude.{◌≡◌, ◌⊎◌, ℕ, ◌+◌, ◌<◌, ◌≤◌, List, [], ◌∷◌, ◌++◌, Option, Some, None, length, All, AllPairs, Contains, slice_get, false}
+use Rattle.std.specs.declared.alloc.Global.{Global}
+use Rattle.std.specs.Prelude.{Vec}
+use Rattle.bank_trait.specs.Disk.{Image}
+use Rattle.block_record.specs.declared.entry.IndexEntry.{IndexEntry}
+use Rattle.block_record.specs.Page.{IsIndex}
+use Rattle.uberblock_ring.specs.Devices.{has_device}
+use Rattle.uberblock_ring.specs.Uberblock.{Uber}
+use Rattle.core_state.specs.Index.{IsFitting}
+use Rattle.core_state.specs.Shown.{Shape, Gives, IsCandidate}
+use Rattle.core_state.specs.Choosing.{IsChosenPool, IsNotPool}
+use Rattle.core_open.specs.declared.uber_copy.UberCopy.{UberCopy}
+
+-- The data rows are on the devices, and one outside the set gives the page, which fits.
+pub record HasIndex (shape : Shape) (silent : ℕ) (image : Image) (uber : Uber)
+    (entries : List IndexEntry) : Type 0 where
+  pub room : 192 + uber.reflow.rows ≤ shape.sectors
+  pub giver : ℕ
+  pub giver_reads : has_device silent giver ≡ false
+  pub gives : Gives shape image uber entries giver
+  pub fitting : IsFitting uber entries
+
+-- The uberblock has this index, or none.
+abbrev pub IsIndexChoice : Shape → ℕ → Image → Uber → Option (Vec IndexEntry Global) → Type 0
+IsIndexChoice shape silent image uber (Some entries) =
+    HasIndex shape silent image uber entries.items
+IsIndexChoice shape silent image uber None =
+    (entries : List IndexEntry) → HasIndex shape silent image uber entries → ⊥
+
+-- The device gives this index, which fits, or none that fits.
+abbrev pub IsGivenIndex : Shape → Image → Uber → ℕ → Option (Vec IndexEntry Global) → Type 0
+IsGivenIndex shape image uber device (Some entries) = Gives shape image uber entries.items device
+IsGivenIndex shape image uber device None =
+    (entries : List IndexEntry) → Gives shape image uber entries device → IsFitting uber entries → ⊥
+
+-- The entries are an index that may be the uberblock's.
+pub record IsIndexFor (uber : Uber) (entries : List IndexEntry) : Type 0 where
+  pub index : IsIndex entries
+  pub counted : length entries ≡ uber.count
+  pub fitting : IsFitting uber entries
+
+-- The same of the first copy, if there is one,
+abbrev pub FirstFits : List UberCopy → List IndexEntry → Type 0
+FirstFits copies entries =
+    (first : UberCopy) → slice_get copies 0 ≡ Some first → IsIndexFor first.uber entries
+
+-- and that it has this index.
+abbrev pub FirstHas : Shape → ℕ → Image → List UberCopy → List IndexEntry → Type 0
+FirstHas shape silent image copies entries = (first : UberCopy) → slice_get copies 0 ≡ Some first
+    → HasIndex shape silent image first.uber entries
+
+-- The copy was added if its uberblock has an index, and only then.
+abbrev pub IsConsidered : Shape → ℕ → Image → UberCopy → List UberCopy → List UberCopy → Type 0
+IsConsidered shape silent image copy before after =
+    ((after ≡ before ++ copy ∷ [])
+    × ((entries : List IndexEntry) × HasIndex shape silent image copy.uber entries))
+    ⊎ ((after ≡ before)
+    × ((entries : List IndexEntry) → HasIndex shape silent image copy.uber entries → ⊥))
+
+-- They are the pool's candidates of the greatest group that has any, by device, on devices that
+-- aren't silent; and the entries are the first one's.
+pub record AreNewest (shape : Shape) (silent : ℕ) (image : Image) (pool : ℕ)
+    (copies : List UberCopy) (entries : List IndexEntry) : Type 0 where
+  pub each : All (λ copy. (has_device silent copy.device ≡ false)
+      × ((listed : List IndexEntry)
+      × IsCandidate shape silent pool image copy.device copy.uber listed)) copies
+  pub every : (device : ℕ) (uber : Uber) (listed : List IndexEntry)
+      → has_device silent device ≡ false
+      → IsCandidate shape silent pool image device uber listed
+      → Contains copies (record { device = device; uber = uber })
+      ⊎ ((copy : UberCopy) × Contains copies copy × (uber.group < copy.uber.group))
+  pub order : AllPairs (λ one other. (one.uber.group ≡ other.uber.group)
+      × (one.device ≤ other.device)) copies
+  pub first : (copy : UberCopy) → slice_get copies 0 ≡ Some copy
+      → IsCandidate shape silent pool image copy.device copy.uber entries
+
+-- They are those of the pool that is chosen. If there are none there is nothing to open.
+pub record AreChosen (shape : Shape) (silent : ℕ) (image : Image) (copies : List UberCopy)
+    (entries : List IndexEntry) : Type 0 where
+  pub none : copies ≡ [] → IsNotPool shape silent image
+  pub some : (first : UberCopy) → slice_get copies 0 ≡ Some first
+      → IsChosenPool shape silent image first.uber.pool
+      × AreNewest shape silent image first.uber.pool copies entries

@@ -1,0 +1,44 @@
+-- What an opening found, and why it found nothing.
+use Rattle.std.specs.Prelude.{◌≡◌, ◌≢◌, ℕ, ⊤}
+use Rattle.bank_trait.specs.Disk.{Image, Disk}
+use Rattle.core_state.specs.Map.{Map}
+use Rattle.core_state.specs.Shown.{Shape}
+use Rattle.core_state.specs.Choosing.{IsChosen, IsNotPool}
+use Rattle.core_state.specs.Opening.{Found as FoundOf, AreOut, LackUber}
+use Rattle.core_open.specs.declared.finding.Found.{Found}
+use Rattle.core_open.specs.declared.why.OpenWhy.{OpenWhy}
+use Rattle.core_open.specs.declared.why.OpenWhy.TheVariants.{NotPool, TooManyFailed, Limit, NoMemory}
+use Rattle.core_open.specs.Failing.{HaveFailed}
+use Rattle.core_open.specs.Holds.{HoldsImage, shape_of}
+
+-- what was read of the image and chosen, with the map of the chosen group
+abbrev pub found_of : Shape → Image → Found → Map → FoundOf
+found_of shape image found map = record {
+  shape = shape;
+  silent = found.silent;
+  image = image;
+  chosen = record { uber = found.uber; entries = found.entries.items; map = map };
+}
+
+-- It is what the devices that answered had to be opened with.
+pub record IsFoundIn (shape : Shape) (image : Image) (found : Found) : Type 0 where
+  pub chosen : IsChosen shape found.silent image found.device found.uber found.entries.items
+  pub out : (map : Map) → AreOut (found_of shape image found map) found.out
+  pub lacks_uber : (map : Map)
+      → LackUber (found_of shape image found map) found.out found.lacks_uber
+
+-- Nothing is there to open, and these devices failed.
+abbrev pub IsNothingFound : ℕ → OpenWhy → Type 0
+IsNothingFound silent NotPool = silent ≡ 0
+IsNothingFound silent (TooManyFailed out) = (out ≡ silent) × (silent ≢ 0)
+IsNothingFound silent (Limit group) = ⊥
+IsNothingFound silent NoMemory = ⊥
+
+-- No device failed, or those did that are named; and the others show nothing to open.
+abbrev pub IsFindCause : Disk → Disk → OpenWhy → Type 0
+IsFindCause old new NotPool = (image : Image) → HoldsImage old image
+    → IsNotPool (shape_of old) 0 image
+IsFindCause old new (TooManyFailed out) = (out ≢ 0) × HaveFailed old new out
+    × ((image : Image) → HoldsImage old image → IsNotPool (shape_of old) out image)
+IsFindCause old new (Limit group) = ⊥
+IsFindCause old new NoMemory = ⊤

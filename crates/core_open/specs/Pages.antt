@@ -1,0 +1,35 @@
+-- An uberblock's index page, as a device of a bank gives it.
+use Rattle.std.specs.Prelude.{◌≡◌, ℕ, ◌*◌, List, length}
+use Rattle.sha2.specs.Sha256.{sha256}
+use Rattle.bank_trait.specs.Disk.{Image, Disk}
+use Rattle.block_record.specs.declared.entry.IndexEntry.{IndexEntry}
+use Rattle.block_record.specs.Page.{IsIndex, IsPageOf}
+use Rattle.uberblock_ring.specs.Uberblock.{Uber}
+use Rattle.core_state.specs.Shown.{Gives, sectors_from}
+use Rattle.core_open.specs.Holds.{HoldsImage, shape_of}
+
+-- These are so many whole sectors of a device, from one on, as each image has them that the bank
+-- holds.
+pub record AreSectors (disk : Disk) (device first count : ℕ) (bytes : List ℕ) : Type 0 where
+  pub wide : length bytes ≡ 512 * count
+  pub each : (image : Image) → HoldsImage disk image
+      → bytes ≡ sectors_from image device first count
+
+-- The bytes have the recorded digest, and are the page of these entries.
+pub record IsRecordedPage (uber : Uber) (bytes : List ℕ) (entries : List IndexEntry) : Type 0 where
+  pub digest : sha256 bytes ≡ uber.digest
+  pub page : IsPageOf bytes uber.count entries
+
+-- As many entries as the uberblock counts, an index whatever the bank tells; on the device, each
+-- image that the bank holds gives the page with them.
+pub record IsGiven (disk : Disk) (uber : Uber) (device : ℕ) (entries : List IndexEntry) :
+    Type 0 where
+  pub index : IsIndex entries
+  pub counted : length entries ≡ uber.count
+  pub each : (image : Image) → HoldsImage disk image
+      → Gives (shape_of disk) image uber entries device
+
+-- No image that the bank holds gives the page on the device.
+pub record IsNotGiven (disk : Disk) (uber : Uber) (device : ℕ) : Type 0 where
+  pub none : (image : Image) (entries : List IndexEntry) → HoldsImage disk image
+      → Gives (shape_of disk) image uber entries device → ⊥

@@ -1,0 +1,202 @@
+// An uberblock's index page, read from a device.
+ghost use Rattle.std.specs.Prelude.{◌≡◌, ◌+◌, ◌*◌, ◌<◌, ◌≤◌, ℕ, List, length, min, IfOk, IfNone, IfSome, IsErrOf};
+ghost use Rattle.bank_trait.specs.Causes.{Rose};
+ghost use Rattle.bank_trait.specs.Disk.{Unchanged};
+ghost use Rattle.block_record.specs.declared.entry.IndexEntry.{IndexEntry as EntryOf};
+ghost use Rattle.block_record.specs.Page.{page_sectors as sectors_of_page};
+ghost use Rattle.uberblock_ring.specs.Valid.{IsRightUber};
+ghost use Rattle.core_open.specs.declared.index_page.PageFault.TheVariants as fault;
+ghost use Rattle.core_open.specs.Pages.{AreSectors, IsGiven, IsNotGiven, IsRecordedPage};
+
+use bank_trait::{Bank, Failed};
+use block_record::{IndexEntry, IndexRefused, page_sectors, read_index};
+use sha2::{Digest, Sha256};
+use std::alloc::{AllocError, Global};
+use uberblock_ring::{Uber, area_sector};
+
+/// Why a page could not be read.
+#[derive(Clone, Copy, Debug, PartialEq, Eq)]
+pub(crate) enum PageFault {
+    Failed,
+    NoMemory,
+}
+
+impl From<Failed> for PageFault {
+    ghost from_gives = { λ _ why. why ≡ fault.Failed };
+
+    fn from(_error: Failed) -> PageFault {
+        PageFault::Failed
+    }
+}
+
+impl From<AllocError> for PageFault {
+    ghost from_gives = { λ _ why. why ≡ fault.NoMemory };
+
+    fn from(_error: AllocError) -> PageFault {
+        PageFault::NoMemory
+    }
+}
+
+/// The entries of an uberblock's index page, where the device gives it.
+///
+/// Each sector is read once, up to the first that fails; the page of an empty index has none. The
+/// bytes are taken for entries only where their digest is the recorded one.
+pub(crate) fn read_page<B: Bank>(
+    alloc: Global,
+    bank: &mut B,
+    uber: &Uber,
+    device: u32,
+) -> Result<Option<Vec<IndexEntry>>, PageFault>
+    requires right { IsRightUber uber.now }
+    requires device { device < min (B.disk bank.old).devices 16 }
+    requires sectors { 192 ≤ (B.disk bank.old).sectors }
+    ensures some { IfOk result (λ page. IfSome page (λ entries.
+        IsGiven (B.disk bank.old) uber.now device entries.items)) }
+    ensures none { IfOk result (λ page. IfNone page
+        (IsNotGiven (B.disk bank.old) uber.now device)) }
+    ensures failed { IsErrOf result PageFault.Failed
+        → Rose ((B.disk bank.old).faults device) ((B.disk bank.new).faults device) }
+    ensures unchanged { Unchanged (B.disk bank.old) (B.disk bank.new) }
+{
+    let first = area_sector(uber.area());
+    let count = page_sectors(uber.count() as usize);
+    let page = read_sectors(alloc, bank, device, first, count)?;
+    let entries = recorded_entries(alloc, uber, &page)?;
+    Ok(entries)
+}
+
+/// So many sectors of a device, from one on, all before its data rows.
+fn read_sectors<B: Bank>(
+    alloc: Global,
+    bank: &mut B,
+    device: u32,
+    first: u64,
+    count: u64,
+) -> Result<Vec<u8>, PageFault>
+    requires device { device < (B.disk bank.old).devices }
+    requires before_data { first + count ≤ 192 }
+    requires sectors { 192 ≤ (B.disk bank.old).sectors }
+    ensures ok { IfOk result (λ bytes.
+        AreSectors (B.disk bank.old) device first count bytes.items) }
+    ensures failed { IsErrOf result PageFault.Failed
+        → Rose ((B.disk bank.old).faults device) ((B.disk bank.new).faults device) }
+    ensures unchanged { Unchanged (B.disk bank.old) (B.disk bank.new) }
+{
+    let mut bytes = Vec::with_capacity(alloc, 512 * count as usize)?;
+    let mut sector = [0; 512];
+    for part in 0..count {
+        bank.read(device, first + part, &mut sector)?;
+        bytes.extend_from_slice(&sector)?;
+    }
+    Ok(bytes)
+}
+
+/// The entries of these bytes, where they are the page that the uberblock records.
+fn recorded_entries(
+    alloc: Global,
+    uber: &Uber,
+    bytes: &[u8],
+) -> Result<Option<Vec<IndexEntry>>, AllocError>
+    requires few { uber.now.count ≤ 512 }
+    requires whole { length bytes.now ≡ 512 * sectors_of_page uber.now.count }
+    ensures some { IfOk result (λ page. IfSome page (λ entries.
+        IsRecordedPage uber.now bytes.now entries.items)) }
+    ensures none { IfOk result (λ page. IfNone page ((entries : List EntryOf)
+        → IsRecordedPage uber.now bytes.now entries → ⊥)) }
+{
+    if Sha256::digest(bytes) != uber.digest() {
+        return Ok(None);
+    }
+    match read_index(alloc, bytes, uber.count()) {
+        Ok(entries) => Ok(Some(entries)),
+        Err(IndexRefused::BadIndex { .. }) => Ok(None),
+        Err(IndexRefused::NoMemory) => Err(AllocError),
+    }
+}
+
+#[cfg(test)]
+mod tests {
+    use super::*;
+    use bank_mem::MemBank;
+    use std::test::Fail;
+
+    /// The page of blocks 1 to 9, which takes two sectors.
+    fn page_of_nine() -> [u8; 1024] {
+        let mut page = [0; 1024];
+        for block in 0..9 {
+            page[64 * block + 7] = block as u8 + 1;
+            page[64 * block + 19] = 3;
+            page[64 * block + 27] = 4;
+        }
+        page
+    }
+
+    /// An uberblock of group 4 that records this page, in index area 1.
+    fn uber_with(page: &[u8]) -> Uber {
+        let mut uber = Uber::first(9, 1, 3, 64);
+        uber.set_group(4);
+        uber.set_index(1, 9, &Sha256::digest(page));
+        uber
+    }
+
+    /// A bank of two devices, of which the second has this page in index area 1.
+    fn bank_with(alloc: Global, page: &[u8; 1024]) -> Result<MemBank, Fail> {
+        let mut bank = MemBank::new(alloc, 2, 192)?;
+        let mut sector = [0; 512];
+        sector.copy_from_slice(&page[..512]);
+        bank.write(1, 128, &sector)?;
+        sector.copy_from_slice(&page[512..]);
+        bank.write(1, 129, &sector)?;
+        Ok(bank)
+    }
+
+    #[test]
+    fn a_page_is_given_where_it_stands(rt: HostRuntime) -> Result<(), Fail> {
+        let page = page_of_nine();
+        let uber = uber_with(&page);
+        let mut bank = bank_with(rt.alloc(), &page)?;
+        assert!(rt; uber.is_right() && bank.devices() == 2 && bank.sectors() == 192);
+        let Ok(Some(entries)) = read_page(rt.alloc(), &mut bank, &uber, 1) else {
+            panic!(rt; "the page was not given");
+        };
+        assert_eq!(rt; entries.len(), 9);
+        for (index, entry) in entries.iter().enumerate() {
+            assert_eq!(rt; entry.id, index as u64 + 1);
+            assert_eq!(rt; (entry.start, entry.len, entry.birth), (0, 3, 4));
+        }
+        let blank = read_page(rt.alloc(), &mut bank, &uber, 0);
+        assert!(rt; matches!(blank, Ok(None)), "a device of zeros");
+        Ok(())
+    }
+
+    #[test]
+    fn one_wrong_byte_and_it_is_not_given(rt: HostRuntime) -> Result<(), Fail> {
+        let page = page_of_nine();
+        for place in [7, 511, 529, 1023] {
+            let mut spoiled = page;
+            spoiled[place] = 99;
+            let mut bank = bank_with(rt.alloc(), &spoiled)?;
+            for (uber, why) in [
+                (uber_with(&page), "its digest is another"),
+                (uber_with(&spoiled), "it is no page"),
+            ] {
+                assert!(rt; uber.is_right() && bank.devices() == 2 && bank.sectors() == 192);
+                let given = read_page(rt.alloc(), &mut bank, &uber, 1);
+                assert!(rt; matches!(given, Ok(None)), "at {place}: {why}");
+            }
+        }
+        Ok(())
+    }
+
+    #[test]
+    fn a_sector_that_fails_is_told(rt: HostRuntime) -> Result<(), Fail> {
+        let page = page_of_nine();
+        let uber = uber_with(&page);
+        let mut bank = bank_with(rt.alloc(), &page)?;
+        bank.fail_at(&[(1, 3)])?; // after two writes and the read of the first sector
+        assert!(rt; uber.is_right() && bank.devices() == 2 && bank.sectors() == 192);
+        let given = read_page(rt.alloc(), &mut bank, &uber, 1);
+        assert!(rt; matches!(given, Err(PageFault::Failed)));
+        Ok(())
+    }
+}

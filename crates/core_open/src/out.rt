@@ -1,0 +1,93 @@
+// Which devices of a pool are out when it is opened, and which lack its uberblock.
+ghost use Rattle.std.specs.Prelude.{◌≡◌, ◌<◌, ◌≤◌, ◌↔◌, ℕ, true, false, IsTrue};
+ghost use Rattle.uberblock_ring.specs.Devices.{has_device};
+ghost use Rattle.core_open.specs.Sets.{IsNewDevice, IsOutBy, ListOut, ShowPool, StandOn};
+
+use crate::reading::Rings;
+use crate::uber_copy::UberCopy;
+use reflow_mark::{Reflow, State};
+use uberblock_ring::{DeviceSet, Uber};
+
+/// The devices of the pool that are out. `devices` is how many the bank has.
+pub fn devices_out(devices: u32, rings: &Rings, candidates: &[UberCopy], uber: &Uber) -> DeviceSet
+    requires narrow { uber.now.reflow.to ≤ 16 }
+    ensures { (device : ℕ) → has_device result device ≡ true
+        ↔ ((device < uber.now.reflow.to) × IsOutBy devices rings.now.silent
+        rings.now.copies.items candidates.now uber.now device) }
+{
+    let mut out = DeviceSet::empty();
+    for device in 0..uber.reflow().to {
+        if is_out(devices, rings, candidates, uber, device) {
+            out.insert(device);
+        }
+    }
+    out
+}
+
+/// The devices in use on which no candidate stands.
+pub fn devices_lacking(candidates: &[UberCopy], to: u32, out: DeviceSet) -> DeviceSet
+    requires narrow { to ≤ 16 }
+    ensures { (device : ℕ) → has_device result device ≡ true
+        ↔ ((device < to) × ((has_device out device ≡ false)
+        × (StandOn candidates.now device → ⊥))) }
+{
+    let mut lacking = DeviceSet::empty();
+    for device in 0..to {
+        if is_lacking(candidates, out, device) {
+            lacking.insert(device);
+        }
+    }
+    lacking
+}
+
+fn is_lacking(candidates: &[UberCopy], out: DeviceSet, device: u32) -> bool
+    ensures { IsTrue result ↔ ((has_device out device ≡ false)
+        × (StandOn candidates.now device → ⊥)) }
+{
+    !out.has(device) && !stand_on(candidates, device)
+}
+
+fn is_out(devices: u32, rings: &Rings, candidates: &[UberCopy], uber: &Uber, device: u32) -> bool
+    ensures { IsTrue result ↔ IsOutBy devices rings.now.silent rings.now.copies.items
+        candidates.now uber.now device }
+{
+    list_out(candidates, device)
+        || rings.silent.has(device)
+        || device >= devices
+        || is_blank(&rings.copies, uber, device)
+}
+
+/// Whether nothing of the pool stands on a device that ought to have it.
+fn is_blank(copies: &[UberCopy], uber: &Uber, device: u32) -> bool
+    ensures { IsTrue result ↔ ((ShowPool copies.now uber.now.pool device → ⊥)
+        × (IsNewDevice uber.now.reflow device → ⊥)) }
+{
+    !show_pool(copies, uber.pool(), device) && !is_new_device(&uber.reflow(), device)
+}
+
+/// An attach has a pool without a copied sector on its last device.
+fn is_new_device(reflow: &Reflow, device: u32) -> bool
+    ensures { IsTrue result ↔ IsNewDevice reflow.now device }
+{
+    reflow.state == State::None && device == reflow.from
+}
+
+fn list_out(copies: &[UberCopy], device: u32) -> bool
+    ensures { IsTrue result ↔ ListOut copies.now device }
+{
+    copies.iter().any(|copy| copy.uber.out().has(device))
+}
+
+fn stand_on(copies: &[UberCopy], device: u32) -> bool
+    ensures { IsTrue result ↔ StandOn copies.now device }
+{
+    copies.iter().any(|copy| copy.device == device)
+}
+
+fn show_pool(copies: &[UberCopy], pool: u64, device: u32) -> bool
+    ensures { IsTrue result ↔ ShowPool copies.now pool device }
+{
+    copies
+        .iter()
+        .any(|copy| copy.device == device && copy.uber.pool() == pool)
+}

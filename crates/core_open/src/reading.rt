@@ -1,0 +1,104 @@
+// Reading the rings of a bank's devices.
+ghost use Rattle.std.specs.Prelude.{◌≡◌, ◌<◌, ◌≤◌, ◌+◌, OnOk, OnErr, IfOk, IfSome};
+ghost use Rattle.std.specs.List.Sorted.{IsPermutation};
+ghost use Rattle.bank_trait.specs.Causes.{Rose};
+ghost use Rattle.bank_trait.specs.Disk.{Image, Unchanged};
+ghost use Rattle.uberblock_ring.specs.Valid.{IsRightUber};
+ghost use Rattle.core_state.specs.Shown.{read_devices};
+ghost use Rattle.core_open.specs.Copies.{AreByDevice, AreByGroup, AreRight, AreShown, ShowsIn};
+ghost use Rattle.core_open.specs.Failing.{HaveFailed, MayLose};
+ghost use Rattle.core_open.specs.Holds.{HoldsImage, shape_of};
+
+use crate::uber_copy::UberCopy;
+use bank_trait::{Bank, Failed};
+use std::alloc::{AllocError, Global};
+use std::cmp::Reverse;
+use uberblock_ring::{DeviceSet, RING_SLOTS, Uber};
+
+/// Devices from this number on are never read.
+pub const READ_DEVICES: u32 = 16;
+
+/// What the rings show, and the devices that failed, which aren't called again. What a silent device
+/// showed before it failed may be among the copies.
+#[derive(Drop)]
+pub struct Rings {
+    pub copies: Vec<UberCopy>,
+    pub silent: DeviceSet,
+}
+
+/// Reads the ring of each device that may be read. The copies stand by group from the greatest down,
+/// and in one group by device.
+pub fn read_rings<B: Bank>(alloc: Global, bank: &mut B) -> Result<Rings, AllocError>
+    ensures unchanged { Unchanged (B.disk bank.old) (B.disk bank.new) }
+    ensures silent { IfOk result (λ rings.
+        HaveFailed (B.disk bank.old) (B.disk bank.new) rings.silent) }
+    ensures right { IfOk result (λ rings.
+        AreRight (read_devices (shape_of (B.disk bank.old))) rings.copies.items) }
+    ensures order { IfOk result (λ rings. AreByGroup rings.copies.items) }
+    ensures shown { IfOk result (λ rings. (image : Image) → HoldsImage (B.disk bank.old) image
+        → AreShown (shape_of (B.disk bank.old)) rings.silent image
+        (read_devices (shape_of (B.disk bank.old))) rings.copies.items) }
+{
+    let mut rings = Rings {
+        copies: Vec::new(alloc),
+        silent: DeviceSet::empty(),
+    };
+    for device in 0..bank.devices().min(READ_DEVICES) {
+        read_ring(bank, device, &mut rings)?;
+    }
+    sort_by_group(&mut rings.copies)?;
+    Ok(rings)
+}
+
+/// The sort is stable, so the devices of a group stay in their order.
+fn sort_by_group(copies: &mut Vec<UberCopy>) -> Result<(), AllocError>
+    requires order { AreByDevice copies.old.items }
+    ensures order { OnOk result (AreByGroup copies.new.items) }
+    ensures same { IsPermutation copies.old.items copies.new.items }
+{
+    copies.sort_by_key(|copy| Reverse(copy.uber.group()))
+}
+
+/// Reads the ring of the next device.
+fn read_ring<B: Bank>(bank: &mut B, device: u32, rings: &mut Rings) -> Result<(), AllocError>
+    requires device { device < read_devices (shape_of (B.disk bank.old)) }
+    requires right { AreRight device rings.old.copies.items }
+    requires order { AreByDevice rings.old.copies.items }
+    ensures unchanged { Unchanged (B.disk bank.old) (B.disk bank.new) }
+    ensures silent { OnOk result (MayLose device (B.disk bank.old) (B.disk bank.new)
+        rings.old.silent rings.new.silent) }
+    ensures right { OnOk result (AreRight (device + 1) rings.new.copies.items) }
+    ensures order { OnOk result (AreByDevice rings.new.copies.items) }
+    ensures shown { OnOk result ((image : Image) → HoldsImage (B.disk bank.old) image
+        → AreShown (shape_of (B.disk bank.old)) rings.old.silent image device rings.old.copies.items
+        → AreShown (shape_of (B.disk bank.old)) rings.new.silent image (device + 1)
+        rings.new.copies.items) }
+{
+    for slot in 0..bank.sectors().min(u64::from(RING_SLOTS)) as u32 {
+        let Ok(found) = read_slot(bank, device, slot) else {
+            rings.silent.insert(device);
+            return Ok(());
+        };
+        if let Some(uber) = found {
+            rings.copies.push(UberCopy { device, uber })?;
+        }
+    }
+    Ok(())
+}
+
+/// The uberblock in a slot, if there is a valid one.
+fn read_slot<B: Bank>(bank: &mut B, device: u32, slot: u32) -> Result<Option<Uber>, Failed>
+    requires device { device < read_devices (shape_of (B.disk bank.old)) }
+    requires slot { slot < (B.disk bank.old).sectors }
+    requires ring { slot < 32 }
+    ensures unchanged { Unchanged (B.disk bank.old) (B.disk bank.new) }
+    ensures failed { OnErr result
+        (Rose ((B.disk bank.old).faults device) ((B.disk bank.new).faults device)) }
+    ensures right { IfOk result (λ found. IfSome found IsRightUber) }
+    ensures shown { IfOk result (λ found. (image : Image) → HoldsImage (B.disk bank.old) image
+        → ShowsIn (shape_of (B.disk bank.old)) image device slot found) }
+{
+    let mut sector = [0; 512];
+    bank.read(device, u64::from(slot), &mut sector)?;
+    Ok(Uber::decode(&sector, device, slot))
+}
