@@ -19,3 +19,4 @@ pub mod SpanOrder
 pub mod Unchanged
 pub mod Voters
 pub mod Voting
+pub mod Opening

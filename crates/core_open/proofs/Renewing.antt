@@ -100,7 +100,7 @@ pairs_more (first ∷ groups) next pairs above (suc one) (suc two) default less 
     (λ kept has. above kept (contains_tail first groups kept has)) one two default (omega (arith, less)) (omega (arith, low))
 
 -- Whether a group of this number is listed.
-find_number : (groups : List Kept) (number : ℕ)
+pub find_number : (groups : List Kept) (number : ℕ)
     → ((kept : Kept) × Contains groups kept × (kept.uber.group ≡ number))
     ⊎ ((kept : Kept) → Contains groups kept → kept.uber.group ≢ number)
 find_number [] number = inr (λ kept has. absurd (contains_none kept has))
@@ -187,7 +187,7 @@ module _ (setting : Setting) (first : Kept) (later : List Kept) (kept : Kept) (u
   group_is : kept.uber.group ≡ uber.group
   group_is = ap (λ (u : Uber). u.group) is.same.alike
 
-  fresh_renews : Renews kept fresh
+  pub fresh_renews : Renews kept fresh
   fresh_renews = record {
     entries = sym is.same.entries;
     map = λ id. refl;
@@ -381,11 +381,11 @@ module _ (setting : Setting) (first : Kept) (later : List Kept) (kept : Kept) (u
     knows_rest = knows_widen setting kept back rest point.disk joins.row
         (λ other has. contains_front (kept ∷ back) joined other has) knows_kept
 
-    next_listed : Contains (kept ∷ rest) next
+    pub next_listed : Contains (kept ∷ rest) next
     next_listed = subst (λ (g : List Kept). Contains g next) (sym joins.last)
         (contains_back front (next ∷ []) next (contains_head next []))
 
-    next_same : SameGroup next fresh
+    pub next_same : SameGroup next fresh
     next_same = record {
       entries = joins.renews.entries ∙ is.same.entries;
       map = joins.renews.map;

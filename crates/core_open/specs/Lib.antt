@@ -4,6 +4,7 @@ pub mod Failing
 pub mod Finding
 pub mod Holds
 pub mod Pages
+pub mod Opens
 pub mod Regions
 pub mod Sets
 pub mod Spans

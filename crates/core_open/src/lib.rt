@@ -10,6 +10,7 @@ mod creating;
 mod finding;
 mod fitting;
 mod index_page;
+mod opening;
 mod out;
 mod reading;
 mod stopped;

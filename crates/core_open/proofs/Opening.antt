@@ -1,0 +1,223 @@
+-- What an opening keeps, from the calls that it made.
+use Rattle.std.proofs.Common.{◌≡◌, ◌⊎◌, inl, inr, ⊎_elim, ℕ, zero, suc, ◌+◌, ◌^◌, ◌<◌, ◌≤◌, List, [], ◌∷◌, ◌++◌, length, Bool, true, false, Some, Result, Ok, Err, refl, sym, ◌∙◌, ap, subst, arith}
+use Rattle.std.specs.Prelude.{Contains, ◌&&◌, unwrap_or}
+use Rattle.std.proofs.lemmas.Bool.{cases_lt}
+use Rattle.bank_trait.specs.Disk.{Image, Disk, Lawful, Unchanged}
+use Rattle.bank_trait.specs.Regions.{Tells}
+use Rattle.block_record.specs.declared.entry.IndexEntry.{IndexEntry}
+use Rattle.uberblock_ring.specs.Devices.{has_device, count_below, IsWithin}
+use Rattle.uberblock_ring.specs.Uberblock.{Uber}
+use Rattle.uberblock_ring.specs.Valid.{IsRightUber, AreAlike}
+use Rattle.core_state.specs.Shown.{Shape}
+use Rattle.core_state.specs.Choosing.{IsChosen}
+use Rattle.core_state.specs.Keeps.{Kept, Setting, IsKept, IsNextOf, Renews, SameGroup}
+use Rattle.core_state.specs.Collision.{HasNoOtherPage}
+use Rattle.core_state.specs.Certain.{IsSound, Knows}
+use Rattle.core_state.specs.Committing.{Point}
+use Rattle.core_state.specs.Moment.{IsRowOf, KeepsSince}
+use Rattle.core_state.proofs.Calls.{true_false}
+use Rattle.core_state.proofs.Finding.{keeps_know}
+use Rattle.core_state.proofs.Frames.{Nowhere, none_lost, unchanged_frames}
+use Rattle.core_state.proofs.Knowing.{present, knows_frame}
+use Rattle.core_state.proofs.Listed.{contains_head, contains_cases, contains_none}
+use Rattle.core_state.proofs.Since.{since_now, since_more}
+use Rattle.core_state.proofs.Chosen.{chosen_held, chosen_same, chosen_sound, chosen_next}
+use Rattle.core_commit.specs.declared.committing.TooManyOut.{TooManyOut}
+use Rattle.core_commit.specs.Copies.{Copied, MayCopy, HasCopy, IsInUse}
+use Rattle.core_open.specs.Holds.{HoldsImage, shape_of}
+use Rattle.core_open.specs.Opens.{MayOpen, IsWithinBelow, AddsOne, HasSpread, HasRenewed, renewed_by, every_device}
+use Rattle.core_open.proofs.ChosenCopies.{AreRead, told_bytes, copied, may_copy, chosen_to}
+use Rattle.core_open.proofs.Renewing.{IsCopied, Joins, find_number, joins_fresh, joins_listed, fresh, fresh_renews, may_renew, knows_next, next_same, next_listed, renewed_right, row_of_rest, row_of_next, parts}
+
+-- A bank that tells what it holds holds what is read.
+pub present_held : (disk : Disk) → Tells disk → HoldsImage disk (present disk)
+present_held disk tells = record {
+  each = λ d x low below.
+      let bytes = told_bytes (disk.reads d x) (tells d x low below) in
+      bytes.1 ∙ ap (λ (b : List ℕ). Some b) (sym (ap (λ o. unwrap_or o []) bytes.1));
+}
+
+-- The mask of every device has each that is read: tried one by one.
+have_all : ℕ → Bool
+have_all zero = true
+have_all (suc device) = has_device every_device device && have_all device
+
+all_set : (device : ℕ) → device < 16 → has_device every_device device ≡ true
+unfolding have_all
+all_set device low = at 16 refl low
+  where
+    both : (one other : Bool) → (one && other) ≡ true → (one ≡ true) × (other ≡ true)
+    both true other is = (refl, is)
+    both false other is = absurd (true_false (sym is))
+
+    at : (count : ℕ) → have_all count ≡ true → device < count → has_device every_device device ≡ true
+    at zero all below = absurd (omega (arith, below))
+    at (suc count) all below =
+        let one = both (has_device every_device count) (have_all count) all in
+        ⊎_elim (λ less. at count one.1 less)
+        (λ above. subst (λ (d : ℕ). has_device every_device d ≡ true) (omega (arith, above, below)) one.0)
+        (cases_lt device count)
+
+module _ (setting : Setting) (first : Kept) (later : List Kept) (old : Disk)
+    (may : MayOpen setting first later old) (lawful : Lawful old) (before : Point)
+    (same : Unchanged old before.disk) (silent device : ℕ) (uber : Uber) (entries : List IndexEntry)
+    (chosen_on : IsChosen (shape_of old) silent (present old) device uber entries)
+    (lack_page lack_uber : ℕ)
+    (read_of : AreRead (shape_of old) silent old uber entries lack_page lack_uber before)
+    (right : IsRightUber uber)
+    (within : IsWithinBelow first.uber.reflow.to silent setting.failed) where
+  knows : Knows setting first later old
+  knows = keeps_know setting first later old lawful may.keeps
+
+  no_other : HasNoOtherPage setting.shape (first ∷ later) (present old)
+  no_other = may.pages (present old) (present_held old may.tells)
+
+  chosen : IsChosen setting.shape silent (present old) device uber entries
+  chosen = subst (λ (s : Shape). IsChosen s silent (present old) device uber entries) (sym may.shape) chosen_on
+
+  read : AreRead setting.shape silent old uber entries lack_page lack_uber before
+  read = subst (λ (s : Shape). AreRead s silent old uber entries lack_page lack_uber before) (sym may.shape) read_of
+
+  to_is : (kept : Kept) → Contains (first ∷ later) kept → kept.uber.reflow.to ≡ first.uber.reflow.to
+  to_is kept listed = (may.width kept listed).0
+
+  abbrev held : (held : IsKept setting (present old) (first ∷ later) uber) × (entries ≡ held.kept.entries)
+  held = chosen_held setting first later old knows lawful silent within no_other device uber entries chosen
+
+  abbrev kept : Kept
+  kept = held.0.kept
+
+  abbrev group_copied_first : Copied
+  group_copied_first = record { setting = setting; first = first; later = later; kept = kept; map = kept.map }
+
+  may_first : MayCopy group_copied_first uber entries lack_page lack_uber before
+  may_first = may_copy setting first later old knows lawful silent within no_other device uber entries chosen
+      may.tells before same to_is lack_page lack_uber read
+
+  row_first : (joined : List Kept) → IsRowOf ((first ∷ later) ++ joined) first later
+  row_first joined = record { before = []; after = joined; row = refl }
+
+  begun : (joined : List Kept) → KeepsSince setting ((first ∷ later) ++ joined) old.clock before.disk
+  begun joined = since_more setting ((first ∷ later) ++ joined) old.clock first later old before.disk
+      (row_first joined) same.goes_on
+      (knows_frame Nowhere none_lost setting first later old before.disk lawful (unchanged_frames same)
+      (λ d x nowhere. absurd nowhere) knows)
+      (since_now setting ((first ∷ later) ++ joined) first later old (row_first joined) knows)
+
+  adds_none : AddsOne (first ∷ later) []
+  adds_none = record { one = omega arith; renews = λ next has. absurd (contains_none next has) }
+
+  -- Reads alone.
+  pub since_read : (joined : List Kept) × AddsOne (first ∷ later) joined
+      × KeepsSince setting ((first ∷ later) ++ joined) old.clock before.disk
+  since_read = ([], adds_none, begun [])
+
+  module _ (mid : Point) (result : Result (Unit {0}) TooManyOut)
+      (spread : HasSpread uber entries lack_page lack_uber before mid result) where
+    since_mid : (joined : List Kept) → KeepsSince setting ((first ∷ later) ++ joined) old.clock mid.disk
+    since_mid joined = spread.keeps.since group_copied_first ((first ∷ later) ++ joined) old.clock may_first
+        (row_first joined) (begun joined)
+
+    -- An opening that stopped among its copies.
+    pub since_copied : (joined : List Kept) × AddsOne (first ∷ later) joined
+        × KeepsSince setting ((first ∷ later) ++ joined) old.clock mid.disk
+    since_copied = ([], adds_none, since_mid [])
+
+  module _ (mid : Point) (value : Unit {0}) (spread : HasSpread uber entries lack_page lack_uber before mid (Ok value))
+      (all_within : IsWithin mid.out setting.failed) (lists : IsWithin uber.out before.out)
+      (out : (mid.out < 2 ^ uber.reflow.to) × (count_below mid.out uber.reflow.to ≤ uber.parity))
+      (limit : uber.group + 2 ≤ 2 ^ 62) where
+    is_copied : IsCopied setting first later kept uber entries mid
+    is_copied = record {
+      listed = held.0.listed;
+      near = chosen_next setting first later old knows lawful silent within no_other device uber entries chosen;
+      same = chosen_same setting first later old knows lawful silent within no_other device uber entries chosen;
+      sound = chosen_sound setting first later old knows lawful silent within no_other device uber entries chosen;
+      right = right;
+      to_is = to_is;
+      parity_is = (may.width kept held.0.listed).1;
+      stays = spread.keeps.stays group_copied_first may_first;
+      copies = λ on in_use. spread.keeps.done group_copied_first may_first on in_use;
+      within = all_within;
+      lists = λ on is. spread.gone.stay on (lists on is);
+      out = out;
+      limit = limit;
+    }
+
+    -- The group that is written, and where it stands.
+    record NextIs : Type 0 where
+      pub next : Kept
+      pub joined : List Kept
+      pub front : List Kept
+      pub joins : Joins setting first later kept uber entries mid is_copied next joined front
+      pub adds : AddsOne (first ∷ later) joined
+
+    next_is : NextIs
+    next_is = ⊎_elim
+        (λ there. let joins = joins_listed setting first later kept uber entries mid is_copied there.0 there.1 there.2 in
+        record { next = there.0; joined = []; front = joins.0; joins = joins.1; adds = adds_none })
+        (λ none. record {
+          next = fresh setting first later kept uber entries mid is_copied;
+          joined = fresh setting first later kept uber entries mid is_copied ∷ [];
+          front = _;
+          joins = joins_fresh setting first later kept uber entries mid is_copied none;
+          adds = record {
+            one = omega arith;
+            renews = λ next has. (
+              kept,
+              held.0.listed,
+              ⊎_elim (λ same. subst (λ (k : Kept). Renews kept k) (sym same)
+                  (fresh_renews setting first later kept uber entries mid is_copied))
+                  (λ nothing. absurd (contains_none next nothing))
+                  (contains_cases (fresh setting first later kept uber entries mid is_copied) [] next has),
+            );
+          };
+        })
+        (find_number (parts setting first later kept uber entries mid is_copied).1 (uber.group + 2))
+
+    abbrev group_renewed : Copied
+    group_renewed = record {
+      setting = setting;
+      first = kept;
+      later = (parts setting first later kept uber entries mid is_copied).1 ++ next_is.joined;
+      kept = next_is.next;
+      map = kept.map;
+    }
+
+    may_next : MayCopy group_renewed (renewed_by uber mid.out) entries 0 every_device mid
+    may_next = may_renew setting first later kept uber entries mid is_copied next_is.next next_is.joined next_is.front
+        next_is.joins every_device all_set
+
+    module _ (after : Point) (result : Result (Unit {0}) TooManyOut)
+        (renews : HasSpread (renewed_by uber mid.out) entries 0 every_device mid after result) where
+      -- An opening that came so far, whether it ended or not.
+      pub since_renewed : (joined : List Kept) × AddsOne (first ∷ later) joined
+          × KeepsSince setting ((first ∷ later) ++ joined) old.clock after.disk
+      since_renewed = (
+        next_is.joined,
+        next_is.adds,
+        renews.keeps.since group_renewed ((first ∷ later) ++ next_is.joined) old.clock may_next
+            (row_of_rest setting first later kept uber entries mid is_copied next_is.next next_is.joined next_is.front
+            next_is.joins)
+            (since_mid mid (Ok value) spread next_is.joined),
+      )
+
+    -- One that ended.
+    pub opened_next : (after : Point) (value_after : Unit {0})
+        → HasSpread (renewed_by uber mid.out) entries 0 every_device mid after (Ok value_after)
+        → IsWithin after.out setting.failed
+        → (chosen : Kept) × (next : Kept) × Contains (first ∷ later) chosen × Renews chosen next
+        × AreAlike (renewed_by uber mid.out) next.uber × (entries ≡ next.entries) × Knows setting next [] after.disk
+    opened_next after value_after renews within_after =
+        let same_next = next_same setting first later kept uber entries mid is_copied next_is.next next_is.joined
+        next_is.front next_is.joins in (
+          kept,
+          next_is.next,
+          held.0.listed,
+          next_is.joins.renews,
+          sym same_next.alike,
+          sym same_next.entries,
+          knows_next setting first later kept uber entries mid is_copied next_is.next next_is.joined next_is.front
+              next_is.joins after within_after (renews.keeps.stays group_renewed may_next).knows
+              (λ on in_use. renews.keeps.done group_renewed may_next on in_use),
+        )

@@ -1,0 +1,111 @@
+-- What an opening keeps of what images kept when it began, and the group with which it ends.
+use Rattle.std.specs.Prelude.{◌≡◌, ◌⊎◌, ℕ, ◌-◌, ◌^◌, ◌+◌, ◌<◌, ◌≤◌, true, List, [], ◌∷◌, ◌++◌, length, Contains, Result, Ok, Err}
+use Rattle.bank_trait.specs.Disk.{Image, Disk}
+use Rattle.bank_trait.specs.Regions.{Tells}
+use Rattle.block_record.specs.declared.entry.IndexEntry.{IndexEntry}
+use Rattle.uberblock_ring.specs.Devices.{has_device, count_below, count_of, IsWithin}
+use Rattle.uberblock_ring.specs.Uberblock.{Uber}
+use Rattle.uberblock_ring.specs.Valid.{AreAlike}
+use Rattle.core_state.specs.Keeps.{Kept, Setting, Renews}
+use Rattle.core_state.specs.Collision.{BankKeeps, HasNoOtherPage}
+use Rattle.core_state.specs.Certain.{Knows}
+use Rattle.core_state.specs.Committing.{Point}
+use Rattle.core_state.specs.Moment.{KeepsSince}
+use Rattle.core_commit.specs.declared.committing.TooManyOut.{TooManyOut}
+use Rattle.core_commit.specs.Copies.{CopyKeeps}
+use Rattle.core_commit.specs.Spared.{HaveGoneOut, Spares}
+use Rattle.core_open.specs.declared.why.OpenWhy.{OpenWhy}
+use Rattle.core_open.specs.declared.why.OpenWhy.TheVariants as reason
+use Rattle.core_open.specs.Holds.{HoldsImage, shape_of}
+
+-- Each image that a crash may leave keeps these groups, all of one width; the bank tells what it holds,
+-- and no page in that is another's by chance.
+pub record MayOpen (setting : Setting) (first : Kept) (later : List Kept) (disk : Disk) : Type 0 where
+  pub keeps : BankKeeps setting first later disk
+  pub shape : setting.shape ≡ shape_of disk
+  pub tells : Tells disk
+  pub pages : (image : Image) → HoldsImage disk image
+      → HasNoOtherPage setting.shape (first ∷ later) image
+  pub width : (kept : Kept) → Contains (first ∷ later) kept
+      → (kept.uber.reflow.to ≡ first.uber.reflow.to) × (kept.uber.parity ≡ first.uber.parity)
+
+-- At most one group joins these, which renews one of them.
+pub record AddsOne (groups joined : List Kept) : Type 0 where
+  pub one : length joined ≤ 1
+  pub renews : (next : Kept) → Contains joined next
+      → (chosen : Kept) × Contains groups chosen × Renews chosen next
+
+-- Those of these devices that are below a number may fail.
+abbrev pub IsWithinBelow : ℕ → ℕ → ℕ → Type 0
+IsWithinBelow width devices others = (device : ℕ) → device < width
+    → has_device devices device ≡ true
+    → has_device others device ≡ true
+
+-- Where the devices that were silent and these others may fail, each image since the opening began keeps
+-- some of the groups that were kept then and the one that it adds.
+pub record OpeningKeeps (silent earlier : ℕ) (old new : Disk) : Type 0 where
+  pub since : (setting : Setting) (first : Kept) (later : List Kept)
+      → MayOpen setting first later old
+      → IsWithinBelow first.uber.reflow.to silent setting.failed
+      → IsWithin earlier setting.failed
+      → (joined : List Kept) × AddsOne (first ∷ later) joined
+      × KeepsSince setting ((first ∷ later) ++ joined) old.clock new
+
+-- A pool is opened with this uberblock and index: where all devices that were silent or are out may fail,
+-- they are those of a group that renews one of the groups kept before, and that is the one kept now.
+pub record IsOpenedWith (uber : Uber) (entries : List IndexEntry) (silent out : ℕ) (old new : Disk) : Type 0
+  where
+    pub kept : (setting : Setting) (first : Kept) (later : List Kept)
+        → MayOpen setting first later old
+        → IsWithinBelow first.uber.reflow.to silent setting.failed → IsWithin out setting.failed
+        → (chosen : Kept) × (next : Kept) × Contains (first ∷ later) chosen × Renews chosen next
+        × AreAlike uber next.uber × (entries ≡ next.entries) × Knows setting next [] new
+
+-- all devices that a mask can have
+abbrev pub every_device : ℕ
+every_device = 2 ^ 64 - 1
+
+-- One run of copies.
+pub record HasSpread (uber : Uber) (entries : List IndexEntry) (lack_page lack_uber : ℕ)
+    (before after : Point) (result : Result (Unit {0}) TooManyOut) : Type 0 where
+  pub keeps : CopyKeeps uber entries lack_page lack_uber before after result
+  pub gone : HaveGoneOut before before.out after
+  pub spares : Spares before after
+
+-- the uberblock of an opening's group
+abbrev pub renewed_by : Uber → ℕ → Uber
+renewed_by uber out = record uber { group = uber.group + 2; out = out }
+
+-- The chosen group was copied to the devices that lack it, and then the next one's uberblock to each.
+pub record HasRenewed (uber : Uber) (entries : List IndexEntry) (lack_page lack_uber : ℕ)
+    (before : Point) (renewed : Uber) (after : Point) (result : Result (Unit {0}) TooManyOut) : Type 0
+  where
+    pub mid : Point
+    pub value : Unit {0}
+    pub copied : HasSpread uber entries lack_page lack_uber before mid (Ok value)
+    pub few : (mid.out < 2 ^ uber.reflow.to) × (count_below mid.out uber.reflow.to ≤ uber.parity)
+    pub renewed_is : renewed ≡ renewed_by uber mid.out
+    pub spread : HasSpread renewed entries 0 every_device mid after result
+
+-- Too many devices went out among the copies of the chosen group.
+pub record StopsCopying (uber : Uber) (entries : List IndexEntry) (lack_page lack_uber : ℕ)
+    (before after : Point) : Type 0 where
+  pub why : TooManyOut
+  pub copied : HasSpread uber entries lack_page lack_uber before after (Err why)
+
+-- Too many went out among the writes of the next one's uberblock.
+pub record StopsRenewing (uber : Uber) (entries : List IndexEntry) (lack_page lack_uber : ℕ)
+    (before after : Point) : Type 0 where
+  pub why : TooManyOut
+  pub renewed : Uber
+  pub ran : HasRenewed uber entries lack_page lack_uber before renewed after (Err why)
+
+-- how the writes of an opening end
+abbrev pub EndsRenewal : Uber → List IndexEntry → ℕ → ℕ → Point → Point → Result Uber OpenWhy → Type 0
+EndsRenewal uber entries lack_page lack_uber before after (Ok renewed) =
+    (value : Unit {0}) × HasRenewed uber entries lack_page lack_uber before renewed after (Ok value)
+    × (count_of after.out ≤ uber.parity)
+EndsRenewal uber entries lack_page lack_uber before after (Err why) =
+    (why ≡ reason.TooManyFailed after.out) × (uber.parity < count_of after.out)
+    × (StopsCopying uber entries lack_page lack_uber before after
+    ⊎ StopsRenewing uber entries lack_page lack_uber before after)
