@@ -1,7 +1,9 @@
-//! A pool's begin and every later opening of it.
+//! A pool's begin, and what each later opening of it finds.
 //!
-//! Creating gives each device an empty ring and the first uberblock. Read `create`. Stands on
-//! `core_state`, whose `specs/Create.antt` says what a new pool is.
+//! Creating gives each device an empty ring and the first uberblock: read `create`. An opening reads
+//! the rings once; then the devices that answered choose a pool, and of that pool the greatest group
+//! that has a candidate: read `find`, with `specs/Finding.antt`. Stands on `core_state`, whose
+//! `specs/Create.antt` says what a new pool is, and `specs/Choosing.antt` what is chosen.
 #![tactic(auto)]
 
 mod candidates;
@@ -14,6 +16,8 @@ mod opening;
 mod out;
 mod reading;
 mod stopped;
+#[cfg(test)]
+mod tests;
 mod uber_copy;
 mod votes;
 mod why;

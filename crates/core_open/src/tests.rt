@@ -1,0 +1,178 @@
+// Pools that are found on banks in memory.
+use crate::{OpenWhy, create, find};
+use bank_mem::MemBank;
+use bank_trait::Bank;
+use sha2::{Digest, Sha256};
+use std::alloc::Global;
+use std::process::Abort;
+use std::test::Fail;
+use uberblock_ring::{DeviceSet, Uber, area_sector, slot};
+
+/// The calls on each device that make a pool: 32 zeros, a sync, the uberblock, a sync.
+const MAKING: u64 = 35;
+/// The reads of a ring.
+const RING: u64 = 32;
+
+/// A bank of three devices on which pool 9 was made, at parity 1.
+fn bank_of_nine(rt: &impl Abort, alloc: Global) -> Result<MemBank, Fail> {
+    let mut bank = MemBank::new(alloc, 3, 256)?;
+    assert!(rt; bank.devices() == 3 && bank.sectors() == 256);
+    create(&mut bank, 1, 3, 9)?;
+    Ok(bank)
+}
+
+/// Writes an uberblock to its slot on a device.
+fn show(rt: &impl Abort, bank: &mut MemBank, uber: &Uber, device: u32) -> Result<(), Fail> {
+    assert!(rt; uber.is_right() && device < bank.devices() && bank.sectors() == 256);
+    bank.write(device, u64::from(slot(uber.group())), &uber.encode(device))?;
+    Ok(())
+}
+
+/// The index page of block 7, three bytes at sector 0, born in group 1.
+fn page_of_one() -> [u8; 512] {
+    let mut page = [0; 512];
+    page[7] = 7;
+    page[19] = 3;
+    page[27] = 1;
+    page
+}
+
+/// Group 2 of the pool, with that page in index area 1.
+fn second_group() -> Uber {
+    let mut uber = Uber::first(9, 1, 3, 64);
+    uber.set_group(2);
+    let page = page_of_one();
+    uber.set_index(1, 1, &Sha256::digest(page));
+    uber
+}
+
+/// Writes that page to a device.
+fn give(rt: &impl Abort, bank: &mut MemBank, device: u32) -> Result<(), Fail> {
+    assert!(rt; device < bank.devices() && bank.sectors() == 256);
+    bank.write(device, area_sector(1), &page_of_one())?;
+    Ok(())
+}
+
+#[test]
+fn a_new_pool_is_found(rt: HostRuntime) -> Result<(), Fail> {
+    let mut bank = bank_of_nine(&rt, rt.alloc())?;
+    let found = find(rt.alloc(), &mut bank)?;
+    assert!(rt; found.uber == Uber::first(9, 1, 3, 64));
+    assert_eq!(rt; (found.device, found.entries.len()), (0, 0));
+    assert_eq!(rt;
+        (
+            found.silent.bits(),
+            found.out.bits(),
+            found.lacks_uber.bits()
+        ),
+        (0, 0, 0)
+    );
+    Ok(())
+}
+
+#[test]
+fn a_device_that_fails_is_silent_and_out(rt: HostRuntime) -> Result<(), Fail> {
+    // (the call of device 0 that fails, where)
+    for (call, place) in [
+        (MAKING, "its first slot"),
+        (MAKING + RING - 1, "its last slot"),
+    ] {
+        let mut bank = bank_of_nine(&rt, rt.alloc())?;
+        bank.fail_at(&[(0, call)])?;
+        let found = find(rt.alloc(), &mut bank)?;
+        assert!(rt; found.uber == Uber::first(9, 1, 3, 64), "{place}");
+        assert_eq!(rt; found.device, 1, "{place}");
+        assert_eq!(rt; (found.silent.bits(), found.out.bits()), (1, 1), "{place}");
+    }
+    Ok(())
+}
+
+#[test]
+fn nothing_is_found_on_blank_devices(rt: HostRuntime) -> Result<(), Fail> {
+    let mut bank = MemBank::new(rt.alloc(), 3, 256)?;
+    assert!(rt; matches!(find(rt.alloc(), &mut bank), Err(OpenWhy::NotPool)));
+    bank.fail_from(2, 0)?;
+    let out = DeviceSet::from_bits(4);
+    match find(rt.alloc(), &mut bank) {
+        Err(why) => assert!(rt; why == OpenWhy::TooManyFailed { out }),
+        Ok(_) => panic!(rt; "a pool was found"),
+    }
+    Ok(())
+}
+
+#[test]
+fn most_devices_choose_the_pool_and_the_lowest_among_equals(rt: HostRuntime) -> Result<(), Fail> {
+    // (the pools that the devices show, the one that is found, on which device)
+    let cases = [
+        ([5, 9, 9], 9, 1),
+        ([9, 5, 9], 9, 0),
+        ([9, 5, 5], 5, 1),
+        ([9, 5, 7], 9, 0),
+    ];
+    for (pools, wanted, lowest) in cases {
+        let mut bank = MemBank::new(rt.alloc(), 3, 256)?;
+        for (device, pool) in pools.into_iter().enumerate() {
+            show(&rt, &mut bank, &Uber::first(pool, 1, 3, 64), device as u32)?;
+        }
+        let found = find(rt.alloc(), &mut bank)?;
+        assert_eq!(rt;
+            (found.uber.pool(), found.device),
+            (wanted, lowest),
+            "{pools:?}"
+        );
+    }
+    Ok(())
+}
+
+#[test]
+fn a_group_is_found_where_any_device_gives_its_page(rt: HostRuntime) -> Result<(), Fail> {
+    let mut bank = bank_of_nine(&rt, rt.alloc())?;
+    show(&rt, &mut bank, &second_group(), 1)?;
+    let found = find(rt.alloc(), &mut bank)?;
+    assert_eq!(rt;
+        (found.uber.group(), found.device),
+        (1, 0),
+        "no device gives the page"
+    );
+    give(&rt, &mut bank, 2)?;
+    let found = find(rt.alloc(), &mut bank)?;
+    assert!(rt; found.uber == second_group());
+    assert_eq!(rt; (found.device, found.entries.len()), (1, 1));
+    assert_eq!(rt;
+        (found.out.bits(), found.lacks_uber.bits()),
+        (0, 5),
+        "devices 0 and 2 lack it"
+    );
+    Ok(())
+}
+
+#[test]
+fn what_any_candidate_of_the_group_lists_is_out(rt: HostRuntime) -> Result<(), Fail> {
+    let mut bank = bank_of_nine(&rt, rt.alloc())?;
+    let mut later = second_group();
+    later.set_out(DeviceSet::from_bits(4));
+    show(&rt, &mut bank, &second_group(), 0)?;
+    show(&rt, &mut bank, &later, 1)?;
+    give(&rt, &mut bank, 0)?;
+    let found = find(rt.alloc(), &mut bank)?;
+    assert!(rt; found.uber == second_group());
+    assert_eq!(rt; (found.out.bits(), found.lacks_uber.bits()), (4, 0));
+    Ok(())
+}
+
+#[test]
+fn a_page_read_that_fails_makes_the_choice_anew(rt: HostRuntime) -> Result<(), Fail> {
+    let mut bank = bank_of_nine(&rt, rt.alloc())?;
+    for device in 0..3 {
+        show(&rt, &mut bank, &second_group(), device)?;
+        give(&rt, &mut bank, device)?;
+    }
+    bank.fail_at(&[(0, MAKING + 2 + RING)])?; // after the copy, the page and the ring
+    let found = find(rt.alloc(), &mut bank)?;
+    assert!(rt; found.uber == second_group());
+    assert_eq!(rt;
+        (found.device, found.silent.bits(), found.out.bits()),
+        (1, 1, 1)
+    );
+    Ok(())
+}
