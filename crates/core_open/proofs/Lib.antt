@@ -19,4 +19,5 @@ pub mod SpanOrder
 pub mod Unchanged
 pub mod Voters
 pub mod Voting
-pub mod Opening
+pub mod Ends
+pub mod Renewal

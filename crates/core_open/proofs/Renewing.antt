@@ -145,7 +145,7 @@ pub record IsCopied (setting : Setting) (first : Kept) (later : List Kept) (kept
   pub out : (point.out < 2 ^ uber.reflow.to) × (count_below point.out uber.reflow.to ≤ uber.parity)
   pub limit : uber.group + 2 ≤ 2 ^ 62
 
-none_above_more : (group more : ℕ) (births : List Birth) → group ≤ more → NoneAbove group births
+pub none_above_more : (group more : ℕ) (births : List Birth) → group ≤ more → NoneAbove group births
     → NoneAbove more births
 none_above_more group more [] low none = none
 none_above_more group more (entry ∷ births) low none =

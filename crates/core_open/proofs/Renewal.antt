@@ -1,0 +1,139 @@
+-- The writes of an opening, from its two runs of copies.
+use Rattle.std.proofs.Common.{◌≡◌, ◌⊎◌, inl, inr, ℕ, ◌+◌, ◌-◌, ◌^◌, ◌<◌, ◌≤◌, List, true, false, Result, Ok, Err, refl, sym, ◌∙◌, ap, subst, arith}
+use Rattle.std.specs.Prelude.{is_err, OnOk, OnErr}
+use Rattle.block_record.specs.declared.entry.IndexEntry.{IndexEntry}
+use Rattle.uberblock_ring.specs.Devices.{count_below, count_of}
+use Rattle.uberblock_ring.specs.Uberblock.{Uber}
+use Rattle.uberblock_ring.specs.Valid.{IsRightUber}
+use Rattle.uberblock_ring.proofs.DeviceSets.{count_above}
+use Rattle.core_state.specs.Committing.{Point}
+use Rattle.core_commit.specs.declared.committing.TooManyOut.{TooManyOut}
+use Rattle.core_commit.specs.Copies.{CopyKeeps}
+use Rattle.core_commit.specs.Spared.{HaveGoneOut, Spares}
+use Rattle.core_open.specs.declared.why.OpenWhy.TheVariants as reason
+use Rattle.core_open.specs.Opens.{HasSpread, HasRenewed, StopsCopying, StopsRenewing, EndsRenewal, renewed_by, every_device}
+use Rattle.core_open.proofs.Renewing.{none_above_more}
+
+abbrev Copying : Type 0
+Copying = Result (Unit {0}) TooManyOut
+
+-- As many devices are out as below the width.
+pub count_within : (out width : ℕ) → out < 2 ^ width → width ≤ 64 → count_of out ≡ count_below out width
+unfolding count_of
+count_within out width below narrow =
+    ap (count_below out) {x = 64} {y = width + (64 - width)} (omega (arith, narrow)) ∙ count_above out width (64 - width) below
+
+pub right_renewed : (uber other : Uber) (out : ℕ) → IsRightUber uber → other ≡ renewed_by uber out
+    → uber.group + 2 ≤ 2 ^ 62 → out < 2 ^ uber.reflow.to → count_of out ≤ uber.parity
+    → IsRightUber other
+right_renewed uber other out right is limit below few = subst IsRightUber (sym is) (record {
+  pool = right.pool;
+  group = (omega arith, limit);
+  parity = right.parity;
+  widths = right.widths;
+  rows = right.rows;
+  reflow = right.reflow;
+  area = right.area;
+  out = (
+    below,
+    (let wide = right.widths.1 in
+        let same = count_within out uber.reflow.to below (omega (arith, wide)) in omega (arith, few, same)),
+  );
+  count = right.count;
+  digest = right.digest;
+  births = record {
+    growing = right.births.growing;
+    few = right.births.few;
+    wide = right.births.wide;
+    last = right.births.last;
+    begun = none_above_more (uber.group + 2) (uber.group + 2 + 2) uber.births (omega arith) right.births.begun;
+  };
+})
+
+ok_of : (result : Copying) → false ≡ is_err result → (value : Unit {0}) × (result ≡ Ok value)
+ok_of (Ok value) is = (value, refl)
+ok_of (Err why) is = absurd (cc)
+
+err_of : (result : Copying) → true ≡ is_err result → (why : TooManyOut) × (result ≡ Err why)
+err_of (Ok value) is = absurd (cc)
+err_of (Err why) is = (why, refl)
+
+-- What holds of a run that went well.
+pub few_of : (result : Copying) (out most : ℕ) → OnOk result (count_of out ≤ most) → false ≡ is_err result
+    → count_of out ≤ most
+few_of result out most few went = subst (λ (r : Copying). OnOk r (count_of out ≤ most)) (ok_of result went).1 few
+
+-- A run of copies with these masks.
+pub spread_of : (uber : Uber) (entries : List IndexEntry) (none all : ℕ) (before after : Point) (result : Copying)
+    → none ≡ 0 → all ≡ every_device → CopyKeeps uber entries none all before after result
+    → HaveGoneOut before before.out after → Spares before after
+    → HasSpread uber entries 0 every_device before after result
+spread_of uber entries none all before after result none_is all_is keeps gone spares = record {
+  keeps = subst (λ (n : ℕ). CopyKeeps uber entries n every_device before after result) none_is
+      (subst (λ (n : ℕ). CopyKeeps uber entries none n before after result) all_is keeps);
+  gone = gone;
+  spares = spares;
+}
+
+module _ (uber : Uber) (entries : List IndexEntry) (lack_page lack_uber : ℕ) (before mid : Point)
+    (result : Copying) (right : IsRightUber uber) (spread : HasSpread uber entries lack_page lack_uber before mid result) where
+  -- It stopped in the first run,
+  pub stops_copying : (after : Point) → after ≡ mid → true ≡ is_err result
+      → OnErr result (uber.parity < count_of mid.out)
+      → EndsRenewal uber entries lack_page lack_uber before mid (Err (reason.TooManyFailed mid.out))
+  stops_copying after same fails many =
+      let is = err_of result fails in (
+        refl,
+        subst (λ (r : Copying). OnErr r (uber.parity < count_of mid.out)) is.1 many,
+        inl (record {
+          why = is.0;
+          copied = subst (λ (r : Copying). HasSpread uber entries lack_page lack_uber before mid r) is.1 spread;
+        }),
+      )
+
+  module _ (went : false ≡ is_err result) (below : mid.out < 2 ^ uber.reflow.to)
+      (few : OnOk result (count_of mid.out ≤ uber.parity)) (renewed : Uber) (renewed_is : renewed ≡ renewed_by uber mid.out)
+      (after : Point) (result_after : Copying)
+      (spread_after : HasSpread renewed entries 0 every_device mid after result_after) where
+    few_out : count_of mid.out ≤ uber.parity
+    few_out = subst (λ (r : Copying). OnOk r (count_of mid.out ≤ uber.parity)) (ok_of result went).1 few
+
+    ran : (known : Copying) → result_after ≡ known → HasRenewed uber entries lack_page lack_uber before renewed after known
+    ran known is = record {
+      mid = mid;
+      value = (ok_of result went).0;
+      copied = subst (λ (r : Copying). HasSpread uber entries lack_page lack_uber before mid r) (ok_of result went).1
+          spread;
+      few = (
+        below,
+        (let wide = right.widths.1 in
+            let same = count_within mid.out uber.reflow.to below (omega (arith, wide)) in
+            omega (arith, few_out, same)),
+      );
+      renewed_is = renewed_is;
+      spread = subst (λ (r : Copying). HasSpread renewed entries 0 every_device mid after r) is spread_after;
+    }
+
+    -- or in the second,
+    pub stops_renewing : true ≡ is_err result_after → OnErr result_after (renewed.parity < count_of after.out)
+        → EndsRenewal uber entries lack_page lack_uber before after (Err (reason.TooManyFailed after.out))
+    stops_renewing fails many =
+        let is = err_of result_after fails in (
+          refl,
+          (let parity : renewed.parity ≡ uber.parity = ap (λ (u : Uber). u.parity) renewed_is in
+              let more = subst (λ (r : Copying). OnErr r (renewed.parity < count_of after.out)) is.1 many in
+              omega (arith, more, parity)),
+          inr (record { why = is.0; renewed = renewed; ran = ran (Err is.0) is.1 }),
+        )
+
+    -- or made all its writes.
+    pub ends_renewing : false ≡ is_err result_after → OnOk result_after (count_of after.out ≤ renewed.parity)
+        → EndsRenewal uber entries lack_page lack_uber before after (Ok renewed)
+    ends_renewing went_after few_after =
+        let is = ok_of result_after went_after in (
+          is.0,
+          ran (Ok is.0) is.1,
+          (let parity : renewed.parity ≡ uber.parity = ap (λ (u : Uber). u.parity) renewed_is in
+              let more = subst (λ (r : Copying). OnOk r (count_of after.out ≤ renewed.parity)) is.1 few_after in
+              omega (arith, more, parity)),
+        )
