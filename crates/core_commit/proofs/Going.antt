@@ -30,7 +30,7 @@ pub record Went (before after : Point) : Type 0 where
       → (has_device before.out device ≡ true)
       ⊎ Rose (before.disk.faults device) (after.disk.faults device)
 
-rose_wider : (one two three four : ℕ) → one ≤ two → Rose two three → three ≤ four → Rose one four
+pub rose_wider : (one two three four : ℕ) → one ≤ two → Rose two three → three ≤ four → Rose one four
 rose_wider one two three four low rose high = omega (arith, low, rose, high)
 
 pub went_none : (point : Point) → Went point point

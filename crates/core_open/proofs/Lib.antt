@@ -21,3 +21,4 @@ pub mod Voters
 pub mod Voting
 pub mod Ends
 pub mod Renewal
+pub mod Finishing

@@ -23,10 +23,12 @@ unfolding count_of
 count_within out width below narrow =
     ap (count_below out) {x = 64} {y = width + (64 - width)} (omega (arith, narrow)) ∙ count_above out width (64 - width) below
 
-pub right_renewed : (uber other : Uber) (out : ℕ) → IsRightUber uber → other ≡ renewed_by uber out
-    → uber.group + 2 ≤ 2 ^ 62 → out < 2 ^ uber.reflow.to → count_of out ≤ uber.parity
+-- The uberblock of an opening's group is right.
+pub right_with : (uber other : Uber) (out : ℕ) → IsRightUber uber → other ≡ renewed_by uber out
+    → uber.group + 2 ≤ 2 ^ 62
+    → (out < 2 ^ uber.reflow.to) × (count_below out uber.reflow.to ≤ uber.parity)
     → IsRightUber other
-right_renewed uber other out right is limit below few = subst IsRightUber (sym is) (record {
+right_with uber other out right is limit few = subst IsRightUber (sym is) (record {
   pool = right.pool;
   group = (omega arith, limit);
   parity = right.parity;
@@ -34,11 +36,7 @@ right_renewed uber other out right is limit below few = subst IsRightUber (sym i
   rows = right.rows;
   reflow = right.reflow;
   area = right.area;
-  out = (
-    below,
-    (let wide = right.widths.1 in
-        let same = count_within out uber.reflow.to below (omega (arith, wide)) in omega (arith, few, same)),
-  );
+  out = few;
   count = right.count;
   digest = right.digest;
   births = record {
@@ -49,6 +47,15 @@ right_renewed uber other out right is limit below few = subst IsRightUber (sym i
     begun = none_above_more (uber.group + 2) (uber.group + 2 + 2) uber.births (omega arith) right.births.begun;
   };
 })
+
+pub right_renewed : (uber other : Uber) (out : ℕ) → IsRightUber uber → other ≡ renewed_by uber out
+    → uber.group + 2 ≤ 2 ^ 62 → out < 2 ^ uber.reflow.to → count_of out ≤ uber.parity
+    → IsRightUber other
+right_renewed uber other out right is limit below few = right_with uber other out right is limit (
+  below,
+  (let wide = right.widths.1 in
+      let same = count_within out uber.reflow.to below (omega (arith, wide)) in omega (arith, few, same)),
+)
 
 ok_of : (result : Copying) → false ≡ is_err result → (value : Unit {0}) × (result ≡ Ok value)
 ok_of (Ok value) is = (value, refl)

@@ -5,6 +5,8 @@ pub mod Finding
 pub mod Holds
 pub mod Pages
 pub mod Opens
+pub mod OpensFound
+pub mod Causes
 pub mod Regions
 pub mod Sets
 pub mod Spans

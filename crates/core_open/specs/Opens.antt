@@ -16,6 +16,7 @@ use Rattle.core_commit.specs.Copies.{CopyKeeps}
 use Rattle.core_commit.specs.Spared.{HaveGoneOut, Spares}
 use Rattle.core_open.specs.declared.why.OpenWhy.{OpenWhy}
 use Rattle.core_open.specs.declared.why.OpenWhy.TheVariants as reason
+use Rattle.core_open.specs.Failing.{HaveFailed}
 use Rattle.core_open.specs.Holds.{HoldsImage, shape_of}
 
 -- Each image that a crash may leave keeps these groups, all of one width; the bank tells what it holds,
@@ -50,6 +51,15 @@ pub record OpeningKeeps (silent earlier : ℕ) (old new : Disk) : Type 0 where
       → IsWithin earlier setting.failed
       → (joined : List Kept) × AddsOne (first ∷ later) joined
       × KeepsSince setting ((first ∷ later) ++ joined) old.clock new
+
+-- An opening that was cut short: the devices that were silent failed in it, and those that had to be out
+-- by then are among the ones that are told.
+pub record CutKeeps (why : OpenWhy) (old new : Disk) : Type 0 where
+  pub silent : ℕ
+  pub failed : HaveFailed old new silent
+  pub earlier : ℕ
+  pub told : (out : ℕ) → why ≡ reason.TooManyFailed out → IsWithin earlier out
+  pub keeps : OpeningKeeps silent earlier old new
 
 -- A pool is opened with this uberblock and index: where all devices that were silent or are out may fail,
 -- they are those of a group that renews one of the groups kept before, and that is the one kept now.

@@ -1,17 +1,37 @@
 // Opening a pool.
-ghost use Rattle.std.specs.Prelude.{◌≡◌, ◌≢◌, ◌+◌, ◌^◌, ◌<◌, ◌≤◌, ℕ, false, true, IfErr, IfOk};
-ghost use Rattle.bank_trait.specs.Disk.{Later};
+ghost use Rattle.std.specs.Prelude.{◌≡◌, ◌+◌, ◌^◌, ◌<◌, ◌≤◌, IfErr, IfOk};
 ghost use Rattle.block_record.specs.Page.{IsIndex};
 ghost use Rattle.uberblock_ring.specs.Devices.{count_of};
 ghost use Rattle.uberblock_ring.specs.Valid.{IsRightUber};
 ghost use Rattle.core_commit.specs.Ran.{FitsBank, point_of};
-ghost use Rattle.core_open.specs.Opens.{EndsRenewal};
+ghost use Rattle.core_open.specs.Candidates.{IsIndexFor};
+ghost use Rattle.core_open.specs.Causes.{IsOpenCause};
+ghost use Rattle.core_open.specs.Finding.{FitsOpening};
+ghost use Rattle.core_open.specs.Opens.{CutKeeps, EndsRenewal, IsOpenedWith, OpeningKeeps};
+ghost use Rattle.core_open.specs.OpensFound.{OpensFound};
 
 use crate::OpenWhy;
+use crate::finding::{Found, find};
+use crate::page_lack::devices_without_page;
 use bank_trait::Bank;
 use block_record::IndexEntry;
 use core_commit::copy;
+use std::alloc::Global;
 use uberblock_ring::{DeviceSet, Uber};
+
+/// The greatest number of a group.
+const MAX_GROUP: u64 = 1 << 62;
+
+/// What a pool was opened with: the uberblock of the group that the opening wrote, and its index.
+#[derive(Drop)]
+pub struct Opened {
+    pub uber: Uber,
+    pub entries: Vec<IndexEntry>,
+    /// Devices that failed while the pool was looked for. They weren't called again.
+    pub silent: DeviceSet,
+    /// Devices of the pool that are out.
+    pub out: DeviceSet,
+}
 
 /// Brings the chosen group to the devices in use that lack it, and then writes the uberblock of the group
 /// two above it to each: its index page stands already. Gives that uberblock.
@@ -43,4 +63,52 @@ fn renew<B: Bank>(
         return Err(OpenWhy::TooManyFailed { out: *out });
     }
     Ok(renewed)
+}
+
+/// Opens a pool with what was found.
+fn open_found<B: Bank>(alloc: Global, bank: &mut B, found: Found) -> Result<Opened, OpenWhy>
+    requires right { IsRightUber found.uber }
+    requires index { IsIndexFor found.uber found.entries.items }
+    requires fits { FitsOpening (B.disk bank.old) found }
+    ensures opens { OpensFound found (B.disk bank.old) (B.disk bank.new) result }
+{
+    if found.uber.group() > MAX_GROUP - 2 {
+        return Err(OpenWhy::Limit { group: MAX_GROUP });
+    }
+    let mut out = found.out;
+    if out.len() > found.uber.parity() {
+        return Err(OpenWhy::TooManyFailed { out });
+    }
+    let lack_page = devices_without_page(alloc, bank, &found.uber, &found.entries, &mut out)?;
+    let uber = renew(
+        bank,
+        &found.uber,
+        &found.entries,
+        lack_page,
+        found.lacks_uber,
+        &mut out,
+    )?;
+    Ok(Opened {
+        uber,
+        entries: found.entries,
+        silent: found.silent,
+        out,
+    })
+}
+
+/// Opens the pool that the devices show: the greatest group that they give is copied to those that lack
+/// it, and a group that renews it is written, two above. Answers `Limit` where there is no such number,
+/// before it looks whether too many devices are out.
+pub fn open<B: Bank>(alloc: Global, bank: &mut B) -> Result<Opened, OpenWhy>
+    ensures right { IfOk result (λ opened. IsRightUber opened.uber) }
+    ensures few { IfOk result (λ opened. count_of opened.out ≤ opened.uber.parity) }
+    ensures kept { IfOk result (λ opened. IsOpenedWith opened.uber opened.entries.items
+        opened.silent opened.out (B.disk bank.old) (B.disk bank.new)) }
+    ensures since { IfOk result (λ opened. OpeningKeeps opened.silent opened.uber.out
+        (B.disk bank.old) (B.disk bank.new)) }
+    ensures cause { IfErr result (IsOpenCause (B.disk bank.old) (B.disk bank.new)) }
+    ensures cut { IfErr result (λ why. CutKeeps why (B.disk bank.old) (B.disk bank.new)) }
+{
+    let found = find(alloc, bank)?;
+    open_found(alloc, bank, found)
 }
