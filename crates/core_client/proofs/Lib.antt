@@ -5,3 +5,4 @@ pub mod Spots
 pub mod Gotten
 pub mod LeftOver
 pub mod Enough
+pub mod Stored

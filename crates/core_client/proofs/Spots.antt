@@ -80,7 +80,7 @@ pub record IsOnPool (reflow : Reflow) (spot : Spot) : Type 0 where
   pub device : spot.device < reflow.to
   pub inside : spot.device_sector < first_data_sector + reflow.rows
 
-on_pool : (stand : Stand) (reflow : Reflow) (sector : ℕ) → 0 < reflow.from → reflow.from ≤ reflow.to → sector < sectors_of reflow
+pub on_pool : (stand : Stand) (reflow : Reflow) (sector : ℕ) → 0 < reflow.from → reflow.from ≤ reflow.to → sector < sectors_of reflow
     → IsOnPool reflow (spot_in stand reflow sector)
 on_pool stand reflow sector some grows below = by stand
   where

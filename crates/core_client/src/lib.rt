@@ -12,6 +12,9 @@ mod reading;
 mod refused;
 mod spot;
 mod standing;
+mod storing;
+#[cfg(test)]
+mod tests;
 mod writing;
 
 pub use columns_read::ColumnsRead;
@@ -20,4 +23,5 @@ pub use reading::{read_block, read_column};
 pub use refused::FetchRefused;
 pub use spot::Spot;
 pub use standing::spot_of;
+pub use storing::store_block;
 pub use writing::{write_block, write_column};
