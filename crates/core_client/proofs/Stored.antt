@@ -1,9 +1,8 @@
 -- The writes of a block in its pool are to sectors that the bank has.
-use Rattle.std.proofs.Common.{◌≡◌, ◌⊎◌, ⊎_elim, ℕ, ◌<◌, List, sym, ◌∙◌, subst, arith}
+use Rattle.std.proofs.Common.{◌≡◌, ⊎_elim, ℕ, List, arith}
 use Rattle.std.specs.Prelude.{All, slice_index_or}
 use Rattle.std.proofs.lemmas.List.{get_or_default}
 use Rattle.bank_trait.specs.Disk.{Disk}
-use Rattle.bank_trait.specs.Regions.{TouchesOnly}
 use Rattle.width_map.specs.Place.{first_data_sector}
 use Rattle.reflow_mark.specs.declared.reflow.Reflow.{Reflow}
 use Rattle.reflow_mark.specs.declared.stand.Stand.{Stand}
@@ -16,7 +15,6 @@ use Rattle.shadow_write.specs.declared.write.Write.{Write}
 use Rattle.shadow_write.specs.Required.{IsAt, NeedsScratch, NeedsNew, IsRequiredPlace}
 use Rattle.shadow_write.specs.Writes.{AreRequired}
 use Rattle.reconstruct.specs.Rows.{Rows, IsShaped}
-use Rattle.core_client.specs.declared.spot.Spot.{Spot}
 use Rattle.core_client.specs.Pool.{IsInPool, HasPool}
 use Rattle.core_client.specs.Reading.{spot_in}
 use Rattle.core_client.specs.Writing.{IsInside}

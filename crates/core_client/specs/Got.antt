@@ -6,6 +6,7 @@ use Rattle.reflow_mark.specs.declared.reflow.Reflow.{Reflow}
 use Rattle.row_layout.specs.Layout.{Layout, rows_of, columns_of, columns_in}
 use Rattle.reconstruct.specs.Columns.{zero_sector}
 use Rattle.reconstruct.specs.Rows.{IsShaped, column_at}
+use Rattle.reconstruct.specs.Lost.{HasTooFew}
 use Rattle.uberblock_ring.specs.Devices.{has_device}
 use Rattle.core_client.specs.declared.columns_read.ColumnsRead.{ColumnsRead}
 use Rattle.core_client.specs.Reading.{spot_of, IsGot}
@@ -83,6 +84,10 @@ pub record IsReadOf (layout : Layout) (reflow : Reflow) (known : Known) (before 
   pub has : (row : ℕ) → row < rows_of layout → HasRow layout reflow known before after row read
   pub missing : (row column : ℕ) → row < rows_of layout → columns_in layout row ≤ column
       → column < columns_of layout → got_of read row column ≡ Some zero_sector
+
+-- No row has lost more columns than it has parity.
+pub record HasLostFew (layout : Layout) (read : ColumnsRead) : Type 0 where
+  pub each : (row : ℕ) → row < rows_of layout → HasTooFew layout read.lost.items row → ⊥
 
 -- Of each row at most as many columns as it has parity stand on devices that are out.
 pub record HasEnough (layout : Layout) (reflow : Reflow) (out : ℕ) : Type 0 where

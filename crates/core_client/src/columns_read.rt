@@ -3,7 +3,7 @@ ghost use Rattle.std.specs.Prelude.{◌≡◌, ◌≢◌, ◌⊎◌, ℕ, ◌<�
 ghost use Rattle.reconstruct.specs.Columns.{zero_sector};
 ghost use Rattle.row_layout.specs.Layout.{Layout as LayoutOf, columns_of, rows_of};
 ghost use Rattle.uberblock_ring.specs.Devices.{with_device};
-ghost use Rattle.core_client.specs.Got.{got_of, is_lost, HasPut, IsShapedAs};
+ghost use Rattle.core_client.specs.Got.{got_of, is_lost, HasPut, IsParityLeftOut, IsShapedAs};
 
 use reconstruct::Rows;
 use row_layout::Layout;
@@ -19,7 +19,7 @@ pub struct ColumnsRead {
 
 impl ColumnsRead {
     /// Zeros in all columns, of which none is lost.
-    pub(crate) fn blank(alloc: Global, layout: &Layout) -> Result<ColumnsRead, AllocError>
+    pub fn blank(alloc: Global, layout: &Layout) -> Result<ColumnsRead, AllocError>
         ensures shape { IfOk result (IsShapedAs layout.now) }
         ensures zero { IfOk result (λ read. (row column : ℕ) → row < rows_of layout.now
             → column < columns_of layout.now → got_of read row column ≡ Some zero_sector) }
@@ -29,8 +29,8 @@ impl ColumnsRead {
         Ok(ColumnsRead { rows, lost })
     }
 
-    /// Puts what reading a column gave in its place; none is lost.
-    pub(crate) fn put(&mut self, row: u32, column: u32, got: Option<[u8; 512]>)
+    /// Puts what reading a column gave in its place. It is lost where that is nothing.
+    pub fn put(&mut self, row: u32, column: u32, got: Option<[u8; 512]>)
         requires masks { length self.old.lost.items ≡ self.old.rows.rows }
         requires row { row < self.old.rows.rows }
         requires column { column < self.old.rows.cols }
@@ -41,6 +41,19 @@ impl ColumnsRead {
         match got {
             Some(bytes) => self.rows.put(row, column, &bytes),
             None => self.lose(row, column),
+        }
+    }
+
+    /// Leaves out the parity of a row: all its columns count as lost from then on.
+    pub fn skip_parity(&mut self, layout: &Layout, row: u32)
+        requires row { row < rows_of layout.now }
+        requires shape { IsShapedAs layout.now self.old }
+        requires unread { (column : ℕ) → column < layout.now.parity
+            → is_lost self.old row column ≡ false }
+        ensures { IsParityLeftOut layout.now row self.old self.new }
+    {
+        for column in 0..layout.parity() {
+            self.put(row, column, None);
         }
     }
 
@@ -58,7 +71,7 @@ impl ColumnsRead {
     }
 
     /// Whether a column of the row is lost.
-    pub(crate) fn has_lost(&self, row: u32) -> bool
+    pub fn has_lost(&self, row: u32) -> bool
         requires { row < length self.now.lost.items }
         ensures { result ≡ false → (column : ℕ) → is_lost self.now row column ≡ false }
     {
@@ -66,7 +79,7 @@ impl ColumnsRead {
     }
 
     /// Whether no column behind the parity columns is lost.
-    pub(crate) fn has_all_content(&self, parity: u32) -> bool
+    pub fn has_all_content(&self, parity: u32) -> bool
         requires { parity ≤ 3 }
         ensures { IsTrue result → EachIndex self.now.lost.items
             (λ row. slice_index self.now.lost.items row < 2 ^ parity) }

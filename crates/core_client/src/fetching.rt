@@ -1,14 +1,13 @@
 // The bytes of a block.
-ghost use Rattle.std.specs.Prelude.{◌≡◌, ◌<◌, ◌≤◌, ℕ, List, ◌↔◌, length, IfOk, IsTrue, MatchResult};
+ghost use Rattle.std.specs.Prelude.{◌≡◌, ◌<◌, ◌≤◌, ℕ, List, ◌↔◌, length, Err, IfOk, IsTrue, MatchResult};
 ghost use Rattle.sha2.specs.Sha256.{sha256};
 ghost use Rattle.bank_trait.specs.Disk.{Unchanged};
-ghost use Rattle.row_layout.specs.Layout.{rows_of};
-ghost use Rattle.reconstruct.specs.Lost.{AreBytes, HasTooFew, IsLeftOver};
+ghost use Rattle.reconstruct.specs.Lost.{AreBytes, IsFirstTooFew, IsLeftOver};
 ghost use Rattle.reconstruct.specs.Rows.{sectors_for};
 ghost use Rattle.uberblock_ring.specs.Devices.{count_below};
 ghost use Rattle.core_client.specs.Outs.{point_of, OnlyFailedGoOut};
 ghost use Rattle.core_client.specs.Pool.{IsInPool, HasPool};
-ghost use Rattle.core_client.specs.Got.{HasEnough, IsShapedAs};
+ghost use Rattle.core_client.specs.Got.{HasEnough, HasLostFew, IsShapedAs};
 ghost use Rattle.core_client.specs.Fetching.{IsStored};
 
 use crate::{ColumnsRead, FetchRefused, read_block};
@@ -48,7 +47,31 @@ pub fn fetch_block<B: Bank>(
         (point_of out.new (B.disk bank.new)) }
 {
     let read = read_block(alloc, bank, layout, reflow, out)?;
-    let bytes = bytes_of(alloc, layout, &read, len)?;
+    checked_bytes(alloc, layout, &read, len, digest)
+}
+
+/// The bytes of a block whose columns were read, where they have this digest.
+pub fn checked_bytes(
+    alloc: Global,
+    layout: &Layout,
+    read: &ColumnsRead,
+    len: usize,
+    digest: &[u8; 32],
+) -> Result<Vec<u8>, FetchRefused>
+    requires len { sectors_for len ≡ layout.now.sectors }
+    requires shape { IsShapedAs layout.now read.now }
+    ensures len { IfOk result (λ bytes. length bytes.items ≡ len) }
+    ensures digest { IfOk result (λ bytes. sha256 bytes.items ≡ digest.now) }
+    ensures too_few { (row : ℕ) → IsFirstTooFew layout.now read.now.lost.items row
+        → result ≡ Err FetchRefused.Damaged }
+
+    // Whatever bytes the columns are left of come back.
+    ensures back { (wanted : List ℕ) → IsLeftOver layout.now wanted read.now.rows read.now.lost.items
+        → length wanted ≡ len → AreBytes wanted → sha256 wanted ≡ digest.now
+        → HasLostFew layout.now read.now
+        → MatchResult result (λ bytes. bytes.items ≡ wanted) (λ why. why ≡ FetchRefused.NoMemory) }
+{
+    let bytes = bytes_of(alloc, layout, read, len)?;
     if has_digest(&bytes, digest) {
         Ok(bytes)
     } else {
@@ -77,8 +100,10 @@ fn bytes_of(
         → bytes.items ≡ wanted) }
 
     // why
-    ensures damaged { result ≡ Err FetchRefused.Damaged → (row : ℕ) × (row < rows_of layout.now)
-        × HasTooFew layout.now read.now.lost.items row }
+    ensures too_few { (row : ℕ) → IsFirstTooFew layout.now read.now.lost.items row
+        → result ≡ Err FetchRefused.Damaged }
+    ensures cause_damaged { result ≡ Err FetchRefused.Damaged
+        → HasLostFew layout.now read.now → ⊥ }
 {
     if read.has_all_content(layout.parity()) {
         return Ok(content(alloc, layout, &read.rows, len)?);

@@ -18,7 +18,7 @@ mod tests;
 mod writing;
 
 pub use columns_read::ColumnsRead;
-pub use fetching::fetch_block;
+pub use fetching::{checked_bytes, fetch_block};
 pub use reading::{read_block, read_column};
 pub use refused::FetchRefused;
 pub use spot::Spot;

@@ -7,7 +7,7 @@ ghost use Rattle.reconstruct.specs.Lost.{IsLeftOver};
 ghost use Rattle.core_client.specs.Outs.{point_of, OnlyFailedGoOut};
 ghost use Rattle.core_client.specs.Pool.{IsInPool, HasPool, IsRightBlock};
 ghost use Rattle.core_client.specs.Reading.{spot_of, IsGot, IsPassedOrRead};
-ghost use Rattle.core_client.specs.Got.{is_lost, AreGot, IsReadOf, IsParityLeftOut, IsRowRead, IsShapedAs};
+ghost use Rattle.core_client.specs.Got.{is_lost, AreGot, HasEnough, HasLostFew, IsReadOf, IsRowRead, IsShapedAs};
 
 use crate::{ColumnsRead, Spot, spot_of};
 use bank_trait::Bank;
@@ -91,19 +91,6 @@ fn read_columns<B: Bank>(
     }
 }
 
-/// Leaves out the parity of a row, none of whose columns is lost.
-fn skip_parity(layout: &Layout, row: u32, read: &mut ColumnsRead)
-    requires row { row < rows_of layout.now }
-    requires shape { IsShapedAs layout.now read.old }
-    requires unread { (column : ℕ) → column < layout.now.parity
-        → is_lost read.old row column ≡ false }
-    ensures { IsParityLeftOut layout.now row read.old read.new }
-{
-    for column in 0..layout.parity() {
-        read.put(row, column, None);
-    }
-}
-
 /// Reads a row's content, and where some of that is lost, its parity.
 fn read_row<B: Bank>(
     bank: &mut B,
@@ -131,7 +118,7 @@ fn read_row<B: Bank>(
     if read.has_lost(row) {
         read_columns(bank, layout, reflow, row, 0, parity, read, out);
     } else {
-        skip_parity(layout, row, read);
+        read.skip_parity(layout, row);
     }
 }
 
@@ -153,6 +140,8 @@ pub fn read_block<B: Bank>(
         → IsFrontIn reflow.now.state reflow.now done
         → IsRightBlock layout.now bytes reflow.now done (B.disk bank.old).reads out.old
         → IsLeftOver layout.now bytes read.rows read.lost.items) }
+    ensures few { IfOk result (λ read. HasEnough layout.now reflow.now out.new
+        → HasLostFew layout.now read) }
     ensures unchanged { Unchanged (B.disk bank.old) (B.disk bank.new) }
     ensures out { OnlyFailedGoOut (point_of out.old (B.disk bank.old))
         (point_of out.new (B.disk bank.new)) }

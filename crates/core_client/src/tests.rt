@@ -53,7 +53,15 @@ fn a_block_comes_back_while_one_device_fails(rt: HostRuntime) -> Result<(), Fail
             bank.fail_from(device, 1)?;
         }
         assert!(rt; bank.devices() == 3 && bank.sectors() == 256);
-        let fetched = fetch_block(rt.alloc(), &mut bank, &layout, &reflow, LEN, &digest, &mut out);
+        let fetched = fetch_block(
+            rt.alloc(),
+            &mut bank,
+            &layout,
+            &reflow,
+            LEN,
+            &digest,
+            &mut out,
+        );
         match fetched {
             Ok(back) => assert!(rt; comes && back.as_slice() == bytes.as_slice(), "{name}"),
             Err(why) => assert!(rt; !comes && why == FetchRefused::Damaged, "{name}"),
@@ -73,7 +81,15 @@ fn other_bytes_at_a_place_are_damage(rt: HostRuntime) -> Result<(), Fail> {
     store_block(rt.alloc(), &mut bank, &layout, &reflow, 0, &bytes, &mut out)?;
     assert!(rt; bank.devices() == 3 && bank.sectors() == 256);
     bank.spoil(2, 194, 7)?;
-    let fetched = fetch_block(rt.alloc(), &mut bank, &layout, &reflow, LEN, &digest, &mut out);
+    let fetched = fetch_block(
+        rt.alloc(),
+        &mut bank,
+        &layout,
+        &reflow,
+        LEN,
+        &digest,
+        &mut out,
+    );
     assert!(rt; matches!(fetched, Err(FetchRefused::Damaged)));
     Ok(())
 }
@@ -136,7 +152,10 @@ fn comes_back(alloc: Global, start: u64, reflow: &Reflow, done: u64) -> Result<b
 #[test]
 fn a_block_is_fetched_from_where_it_stands(rt: HostRuntime) -> Result<(), Fail> {
     assert!(rt; comes_back(rt.alloc(), 120, &valid(), 0)?, "scratch place");
-    assert!(rt; comes_back(rt.alloc(), 126, &valid(), 0)?, "across the mark");
+    assert!(rt;
+        comes_back(rt.alloc(), 126, &valid(), 0)?,
+        "across the mark"
+    );
     assert!(rt; comes_back(rt.alloc(), 120, &moved(), 140)?, "new place");
     assert!(rt; comes_back(rt.alloc(), 139, &moved(), 140)?, "old place");
     Ok(())

@@ -3,6 +3,7 @@ use Rattle.row_layout.proofs.Parts.{row_few}
 use Rattle.core_client.specs.Outs.{point_of}
 use Rattle.core_client.proofs.Outs.{outs_none, outs_then}
 use Rattle.core_client.proofs.Gotten.{rows_none, rows_more, rows_whole, parity_in_row, unchanged_none, unchanged_then}
+use Rattle.core_client.proofs.Enough.{few_lost}
 use Rattle.core_client.proofs.LeftOver.{left_over}
 use Rattle.core_client.proofs.reading.read_block.Goals as goal
 
@@ -42,3 +43,10 @@ returns-clause-left_over g c = λ done bytes front right.
     done bytes c.requires.pool
     (rows_whole c.args.layout.now c.args.reflow.now (g.B.Bank.disk c.args.bank.now).reads c.args.out.now c.loop-row.out c.loop-row.row
     c.loop-row.read (omega arith) c.loop-row.invariant.rows) front right
+
+pub returns-clause-few : goal.returns-clause-few
+returns-clause-few g c =
+    few_lost c.args.layout.now c.args.reflow.now (g.B.Bank.disk c.args.bank.now).reads c.args.out.now c.loop-row.out c.loop-row.read
+    c.requires.pool.within.is
+    (rows_whole c.args.layout.now c.args.reflow.now (g.B.Bank.disk c.args.bank.now).reads c.args.out.now c.loop-row.out c.loop-row.row
+    c.loop-row.read (omega arith) c.loop-row.invariant.rows)

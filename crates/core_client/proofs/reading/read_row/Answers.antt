@@ -15,7 +15,7 @@ returns-then-has_lost-clause-row g c =
 pub returns-else-has_lost-clause-row : goal.returns-else-has_lost-clause-row
 returns-else-has_lost-clause-row g c =
     row_content c.args.layout.now c.args.reflow.now (g.B.Bank.disk c.args.bank.now).reads c.args.out.now c.read_columns.new.out c.args.row
-    c.parity-parity.result c.columns_in-end.result c.args.read.now c.read_columns.new.read c.skip_parity.new.read c.requires.row
+    c.parity-parity.result c.columns_in-end.result c.args.read.now c.read_columns.new.read c.skip_parity.new.self c.requires.row
     c.parity-parity.ensures.value c.columns_in-end.ensures.value
     (omega (arith, c.columns_in-end.ensures.parity, c.parity-parity.ensures.value)) c.columns_in-end.ensures.few
     c.read_columns.ensures.got (c.has_lost.ensures c.if-has_lost.false) c.skip_parity.ensures

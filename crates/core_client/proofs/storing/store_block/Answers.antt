@@ -1,4 +1,4 @@
-use Rattle.std.proofs.Common.{◌≡◌, ◌∙◌, sym, subst, List}
+use Rattle.std.proofs.Common.{◌∙◌, sym, subst, List}
 use Rattle.std.specs.Prelude.{All}
 use Rattle.bank_trait.proofs.Touches.{touches_none}
 use Rattle.shadow_write.specs.declared.write.Write.{Write}
