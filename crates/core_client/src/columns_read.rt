@@ -1,5 +1,6 @@
 // A block's columns as they were read.
-ghost use Rattle.std.specs.Prelude.{◌≡◌, ◌≢◌, ◌⊎◌, ℕ, ◌<◌, ◌≤◌, Option, IfOk, Some, IsTrue, length, false, true, ◌^◌, EachIndex, slice_index};
+ghost use Rattle.std.specs.Prelude.{◌≡◌, ◌≢◌, ◌⊎◌, ℕ, ◌<◌, ◌≤◌, Option, IfOk, Some, IsTrue, length, false, true, ◌^◌, ◌↔◌, EachIndex, slice_index};
+ghost use Rattle.gf_solve.specs.Row.{is_masked};
 ghost use Rattle.reconstruct.specs.Columns.{zero_sector};
 ghost use Rattle.row_layout.specs.Layout.{Layout as LayoutOf, columns_of, rows_of};
 ghost use Rattle.uberblock_ring.specs.Devices.{with_device};
@@ -73,15 +74,16 @@ impl ColumnsRead {
     /// Whether a column of the row is lost.
     pub fn has_lost(&self, row: u32) -> bool
         requires { row < length self.now.lost.items }
-        ensures { result ≡ false → (column : ℕ) → is_lost self.now row column ≡ false }
+        ensures some { result ≡ true → (column : ℕ) × (is_lost self.now row column ≡ true) }
+        ensures none { result ≡ false → (column : ℕ) → is_lost self.now row column ≡ false }
     {
-        self.lost[row as usize] != 0
+        has_columns(self.lost[row as usize])
     }
 
     /// Whether no column behind the parity columns is lost.
-    pub fn has_all_content(&self, parity: u32) -> bool
+    pub(crate) fn has_all_content(&self, parity: u32) -> bool
         requires { parity ≤ 3 }
-        ensures { IsTrue result → EachIndex self.now.lost.items
+        ensures { IsTrue result ↔ EachIndex self.now.lost.items
             (λ row. slice_index self.now.lost.items row < 2 ^ parity) }
     {
         self.lost.iter().all(|mask| *mask < 1 << parity)
@@ -94,4 +96,12 @@ fn with_column(mask: u64, column: u32) -> u64
     ensures { result ≡ with_device mask column }
 {
     mask | 1 << column
+}
+
+/// Whether the mask has any column.
+fn has_columns(mask: u64) -> bool
+    ensures some { result ≡ true → (column : ℕ) × (is_masked mask column ≡ true) }
+    ensures none { result ≡ false → (column : ℕ) → is_masked mask column ≡ false }
+{
+    mask != 0
 }

@@ -14,6 +14,7 @@ use bank_trait::Bank;
 use reflow_mark::Reflow;
 use row_layout::Layout;
 use std::alloc::{AllocError, Global};
+use std::ops::Range;
 use uberblock_ring::DeviceSet;
 
 /// Reads a column where its row stands. None where its device is out, or goes out at this read.
@@ -60,32 +61,31 @@ fn read_spot<B: Bank>(bank: &mut B, spot: Spot, out: &mut DeviceSet) -> Option<[
     Some(bytes)
 }
 
-/// Reads the columns of a row from `first` up to `end`, which were not read before.
+/// Reads some columns of a row, which were not read before.
 fn read_columns<B: Bank>(
     bank: &mut B,
     layout: &Layout,
     reflow: &Reflow,
     row: u32,
-    first: u32,
-    end: u32,
+    columns: Range<u32>,
     read: &mut ColumnsRead,
     out: &mut DeviceSet,
 )
     requires pool { IsInPool layout.now reflow.now }
     requires bank { HasPool reflow.now (B.disk bank.old) }
     requires row { row < rows_of layout.now }
-    requires order { first ≤ end }
-    requires end { end ≤ columns_in layout.now row }
+    requires order { columns.start ≤ columns.end }
+    requires end { columns.end ≤ columns_in layout.now row }
     requires shape { IsShapedAs layout.now read.old }
-    requires unread { (column : ℕ) → first ≤ column → column < end
+    requires unread { (column : ℕ) → columns.start ≤ column → column < columns.end
         → is_lost read.old row column ≡ false }
-    ensures got { AreGot layout.now reflow.now (B.disk bank.old).reads out.old out.new row first end
-        read.old read.new }
+    ensures got { AreGot layout.now reflow.now (B.disk bank.old).reads out.old out.new row
+        columns.start columns.end read.old read.new }
     ensures unchanged { Unchanged (B.disk bank.old) (B.disk bank.new) }
     ensures out { OnlyFailedGoOut (point_of out.old (B.disk bank.old))
         (point_of out.new (B.disk bank.new)) }
 {
-    for column in first..end {
+    for column in columns.start..columns.end {
         let got = read_column(bank, layout, reflow, row, column, out);
         read.put(row, column, got);
     }
@@ -114,9 +114,9 @@ fn read_row<B: Bank>(
 {
     let parity = layout.parity();
     let end = layout.columns_in(row);
-    read_columns(bank, layout, reflow, row, parity, end, read, out);
+    read_columns(bank, layout, reflow, row, parity..end, read, out);
     if read.has_lost(row) {
-        read_columns(bank, layout, reflow, row, 0, parity, read, out);
+        read_columns(bank, layout, reflow, row, 0..parity, read, out);
     } else {
         read.skip_parity(layout, row);
     }

@@ -8,7 +8,7 @@ pub returns-then-has_all_content-clause-back : goal.returns-then-has_all_content
 returns-then-has_all_content-clause-back c = λ wanted long bytes left.
     c.in_ok-content.ensures.back wanted long
     (all_content c.args.layout.now c.parity.result c.args.read.now.rows c.args.read.now.lost.items wanted c.parity.ensures.value
-    c.parity.ensures.within.is c.requires.shape.masks (c.has_all_content.ensures c.if-has_all_content.true) left)
+    c.parity.ensures.within.is c.requires.shape.masks (c.has_all_content.ensures.0 c.if-has_all_content.true) left)
 
 pub returns-in-Err-TooFew-clause-cause_damaged : goal.returns-in-Err-TooFew-clause-cause_damaged
 returns-in-Err-TooFew-clause-cause_damaged c = λ is few.
@@ -19,9 +19,9 @@ returns-in-Err-TooFew-clause-cause_damaged c = λ is few.
 pub returns-then-has_all_content-clause-too_few : goal.returns-then-has_all_content-clause-too_few
 returns-then-has_all_content-clause-too_few c = λ row first.
     absurd (parity_alone c.args.layout.now c.parity.result c.args.read.now.lost.items c.parity.ensures.value c.parity.ensures.within.is
-    c.requires.shape.masks (c.has_all_content.ensures c.if-has_all_content.true) row first)
+    c.requires.shape.masks (c.has_all_content.ensures.0 c.if-has_all_content.true) row first)
 
 pub returns-in_err-content-clause-too_few : goal.returns-in_err-content-clause-too_few
 returns-in_err-content-clause-too_few c = λ row first.
     absurd (parity_alone c.args.layout.now c.parity.result c.args.read.now.lost.items c.parity.ensures.value c.parity.ensures.within.is
-    c.requires.shape.masks (c.has_all_content.ensures c.if-has_all_content.true) row first)
+    c.requires.shape.masks (c.has_all_content.ensures.0 c.if-has_all_content.true) row first)

@@ -9,7 +9,7 @@ use Rattle.core_client.proofs.reading.read_columns.Goals as goal
 pub loop-column-init : goal.loop-column-init
 loop-column-init g c = record {
   got = got_none c.args.layout.now c.args.reflow.now (g.B.Bank.disk c.args.bank.now).reads c.args.out.now c.args.out.now c.args.row
-      c.args.first c.args.read.now c.requires.shape;
+      c.args.columns.start c.args.read.now c.requires.shape;
   unchanged = unchanged_none (g.B.Bank.disk c.args.bank.now);
   out = outs_none (point_of c.args.out.now (g.B.Bank.disk c.args.bank.now));
 }
@@ -22,7 +22,7 @@ loop-column-preserved g c =
     omega (arith, c.loop-column-test.true, c.requires.end, row_few c.args.layout.now c.args.row c.requires.pool.within.is) in
     record {
       got = got_more c.args.layout.now c.args.reflow.now (g.B.Bank.disk c.args.bank.now).reads (g.B.Bank.disk c.loop-column.bank).reads
-          c.args.out.now c.loop-column.out c.read_column-got.new.out c.args.row c.args.first c.loop-column.column c.read_column-got.result
+          c.args.out.now c.loop-column.out c.read_column-got.new.out c.args.row c.args.columns.start c.loop-column.column c.read_column-got.result
           c.args.read.now c.loop-column.read c.put.new.self c.requires.row column_in c.loop-column.auto.column so_far.got c.put.ensures
           one.got so_far.unchanged.reads so_far.out.still one.out.still;
       unchanged = unchanged_then so_far.unchanged one.unchanged;

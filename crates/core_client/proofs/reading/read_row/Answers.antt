@@ -18,4 +18,4 @@ returns-else-has_lost-clause-row g c =
     c.parity-parity.result c.columns_in-end.result c.args.read.now c.read_columns.new.read c.skip_parity.new.self c.requires.row
     c.parity-parity.ensures.value c.columns_in-end.ensures.value
     (omega (arith, c.columns_in-end.ensures.parity, c.parity-parity.ensures.value)) c.columns_in-end.ensures.few
-    c.read_columns.ensures.got (c.has_lost.ensures c.if-has_lost.false) c.skip_parity.ensures
+    c.read_columns.ensures.got (c.has_lost.ensures.none c.if-has_lost.false) c.skip_parity.ensures
