@@ -46,7 +46,7 @@ pub record AgreeByPlace (rows : Rows) (writes : List Write) : Type 0 where
 
 -- The first writes were made or passed over.
 pub record WroteFirst (rows : Rows) (writes : List Write) (count : ℕ) (before after : Point) : Type 0 where
-  pub only : TouchesOnly (IsPlaceOf writes) before.disk after.disk
+  pub only : TouchesOnly (IsPlaceOf writes before.out) before.disk after.disk
   pub outs : OnlyFailedGoOut before after
   pub held : AgreeByPlace rows writes → TellsAt writes before.disk → (number : ℕ) (write : Write) → number < count
       → IsNumber writes number write → has_device after.out write.device ≡ false
@@ -55,7 +55,7 @@ pub record WroteFirst (rows : Rows) (writes : List Write) (count : ℕ) (before 
 -- No write was made yet.
 pub wrote_none : (rows : Rows) (writes : List Write) (point : Point) → WroteFirst rows writes 0 point point
 wrote_none rows writes point = record {
-  only = touches_none (IsPlaceOf writes) point.disk;
+  only = touches_none (IsPlaceOf writes point.out) point.disk;
   outs = outs_none point;
   held = λ agree tells number write low is used. absurd (omega (arith, low));
 }
@@ -79,8 +79,9 @@ passed_more rows writes count write before mid is so_far out = record {
 made_more : (rows : Rows) (writes : List Write) (count : ℕ) (write : Write) (before mid after : Point) → IsNumber writes count write
     → WroteFirst rows writes count before mid → IsMade rows write mid after → WroteFirst rows writes (count + 1) before after
 made_more rows writes count write before mid after is so_far made = record {
-  only = touches_then (IsPlaceOf writes) (IsPlaceOf writes) (IsPlaceOf writes) (λ d x p. p) (λ d x p. p) so_far.only
-      (wrote_touches (IsPlaceOf writes) (write, listed, refl, refl) made.wrote);
+  only = touches_then here_in here_in here_in (λ d x p. p) (λ d x p. p) so_far.only
+      (wrote_touches here_in
+      (write, listed, was_used before.out mid.out write.device so_far.outs.still made.called.in_use, refl, refl) made.wrote);
   outs = outs_then before mid after so_far.only.later.faults made.wrote.goes_on.later.faults so_far.outs outs;
   held = λ agree tells number other low is_other used. ⊎_elim
       (λ (device : other.device ≡ write.device). ⊎_elim
@@ -93,6 +94,9 @@ made_more rows writes count write before mid after is so_far made = record {
       (cases_eq other.device write.device);
 }
   where
+    here_in : ℕ → ℕ → Type 0
+    here_in = IsPlaceOf writes before.out
+
     listed : Contains writes write
     listed = (count, is.0, is.1)
 

@@ -1,5 +1,5 @@
 -- What the writes of a block do.
-use Rattle.std.specs.Prelude.{◌≡◌, ◌⊎◌, ℕ, ◌<◌, List, true, Result, IsSome, Contains}
+use Rattle.std.specs.Prelude.{◌≡◌, ◌⊎◌, ℕ, ◌<◌, List, true, false, Result, IsSome, Contains}
 use Rattle.bank_trait.specs.declared.Failed.{Failed}
 use Rattle.bank_trait.specs.Disk.{Disk, Wrote}
 use Rattle.reflow_mark.specs.declared.reflow.Reflow.{Reflow}
@@ -36,11 +36,11 @@ IsPassedOrMade rows write before after =
     ((has_device before.out write.device ≡ true) × (after ≡ before))
     ⊎ IsMade rows write before after
 
--- the places that some writes go to
-abbrev pub IsPlaceOf : List Write → ℕ → ℕ → Type 0
-IsPlaceOf writes device device_sector =
-    (write : Write) × Contains writes write × (device ≡ write.device)
-    × (device_sector ≡ write.device_sector)
+-- the places that some writes go to, on devices that aren't out
+abbrev pub IsPlaceOf : List Write → ℕ → ℕ → ℕ → Type 0
+IsPlaceOf writes out device device_sector =
+    (write : Write) × Contains writes write × (has_device out write.device ≡ false)
+    × (device ≡ write.device) × (device_sector ≡ write.device_sector)
 
 -- The bank tells what stands where the writes go.
 abbrev pub TellsAt : List Write → Disk → Type 0

@@ -37,7 +37,7 @@ pub fn store_block<B: Bank>(
     // what a refusal leaves
     ensures err { OnErr result (point_of out.new (B.disk bank.new)
         ≡ point_of out.old (B.disk bank.old)) }
-    ensures only { TouchesOnly (IsPlaceOf (writes_of layout.now reflow.now done))
+    ensures only { TouchesOnly (IsPlaceOf (writes_of layout.now reflow.now done) out.old)
         (B.disk bank.old) (B.disk bank.new) }
     ensures out { OnlyFailedGoOut (point_of out.old (B.disk bank.old))
         (point_of out.new (B.disk bank.new)) }

@@ -33,7 +33,8 @@ pub fn write_column<B: Bank>(bank: &mut B, rows: &Rows, write: &Write, out: &mut
 /// Makes all writes of a plan, in their order.
 pub fn write_block<B: Bank>(bank: &mut B, rows: &Rows, writes: &[Write], out: &mut DeviceSet)
     requires inside { All (IsInside rows.now (B.disk bank.old)) writes.now }
-    ensures only { TouchesOnly (IsPlaceOf writes.now) (B.disk bank.old) (B.disk bank.new) }
+    ensures only { TouchesOnly (IsPlaceOf writes.now out.old)
+        (B.disk bank.old) (B.disk bank.new) }
     ensures out { OnlyFailedGoOut (point_of out.old (B.disk bank.old))
         (point_of out.new (B.disk bank.new)) }
 

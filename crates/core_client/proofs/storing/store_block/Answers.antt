@@ -9,11 +9,11 @@ use Rattle.core_client.proofs.storing.store_block.Goals as goal
 
 pub returns-in_err-rows-clause-only : goal.returns-in_err-rows-clause-only
 returns-in_err-rows-clause-only g c =
-    touches_none (IsPlaceOf (writes_of c.args.layout.now c.args.reflow.now c.args.done)) (g.B.Bank.disk c.args.bank.now)
+    touches_none (IsPlaceOf (writes_of c.args.layout.now c.args.reflow.now c.args.done) c.args.out.now) (g.B.Bank.disk c.args.bank.now)
 
 pub returns-in_err-plan-clause-only : goal.returns-in_err-plan-clause-only
 returns-in_err-plan-clause-only g c =
-    touches_none (IsPlaceOf (writes_of c.args.layout.now c.args.reflow.now c.args.done)) (g.B.Bank.disk c.args.bank.now)
+    touches_none (IsPlaceOf (writes_of c.args.layout.now c.args.reflow.now c.args.done) c.args.out.now) (g.B.Bank.disk c.args.bank.now)
 
 pub write_block-requires : goal.write_block-requires
 write_block-requires g c = record {
