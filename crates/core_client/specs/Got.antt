@@ -32,11 +32,12 @@ pub record HasPut (row column : ℕ) (got : Option (List ℕ)) (old new : Column
   pub masks : length new.lost.items ≡ length old.lost.items
   pub here : got_of new row column ≡ got
   pub others : (other_row other : ℕ) → other_row < old.rows.rows → other < old.rows.cols
-      → (other_row ≢ row) ⊎ (other ≢ column) → got_of new other_row other ≡ got_of old other_row other
+      → (other_row ≢ row) ⊎ (other ≢ column)
+      → got_of new other_row other ≡ got_of old other_row other
 
--- The columns of a row from one on were read, and all others are as they were.
-pub record AreGot (layout : Layout) (reflow : Reflow) (known : Known) (before after row first end : ℕ)
-    (old new : ColumnsRead) : Type 0 where
+-- The columns of a row from `first` up to `end` were read, and all others are as they were.
+pub record AreGot (layout : Layout) (reflow : Reflow) (known : Known) (before after : ℕ)
+    (row first end : ℕ) (old new : ColumnsRead) : Type 0 where
   pub shape : IsShapedAs layout new
   pub got : (column : ℕ) → first ≤ column → column < end
       → IsGot known before after (spot_of layout reflow row column) (got_of new row column)
@@ -53,8 +54,8 @@ pub record IsParityLeftOut (layout : Layout) (row : ℕ) (old new : ColumnsRead)
       → got_of new other_row other ≡ got_of old other_row other
 
 -- All content of the row was read, and its parity, which isn't needed then, is left out.
-pub record HasContentAlone (layout : Layout) (reflow : Reflow) (known : Known) (before after row : ℕ)
-    (read : ColumnsRead) : Type 0 where
+pub record HasContentAlone (layout : Layout) (reflow : Reflow) (known : Known) (before after : ℕ)
+    (row : ℕ) (read : ColumnsRead) : Type 0 where
   pub content : (column : ℕ) → layout.parity ≤ column → column < columns_in layout row
       → (is_lost read row column ≡ false)
       × IsGot known before after (spot_of layout reflow row column) (got_of read row column)

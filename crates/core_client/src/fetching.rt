@@ -66,7 +66,8 @@ pub fn checked_bytes(
         → result ≡ Err FetchRefused.Damaged }
 
     // Whatever bytes the columns are left of come back.
-    ensures back { (wanted : List ℕ) → IsLeftOver layout.now wanted read.now.rows read.now.lost.items
+    ensures back { (wanted : List ℕ)
+        → IsLeftOver layout.now wanted read.now.rows read.now.lost.items
         → length wanted ≡ len → AreBytes wanted → sha256 wanted ≡ digest.now
         → HasLostFew layout.now read.now
         → MatchResult result (λ bytes. bytes.items ≡ wanted) (λ why. why ≡ FetchRefused.NoMemory) }

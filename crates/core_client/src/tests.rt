@@ -131,7 +131,8 @@ fn moved() -> Reflow
 /// Whether a block that starts here is fetched after it was stored.
 fn comes_back(alloc: Global, start: u64, reflow: &Reflow, done: u64) -> Result<bool, AllocError>
     requires start { start ≤ 180 }
-    requires pool { IsInPool (record { start = start; sectors = 2; parity = 1; width = 3 }) reflow.now }
+    requires pool { IsInPool
+        (record { start = start; sectors = 2; parity = 1; width = 3 }) reflow.now }
     requires to { reflow.now.to ≡ 4 }
     requires rows { reflow.now.rows ≡ 64 }
     requires front { IsFrontOf reflow.now done }
