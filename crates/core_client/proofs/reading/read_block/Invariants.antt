@@ -1,0 +1,12 @@
+use Rattle.bank_trait.specs.Disk.{Unchanged}
+use Rattle.core_client.specs.Outs.{point_of, OnlyFailedGoOut}
+use Rattle.core_client.proofs.Gotten.{AreRowsRead}
+use Rattle.core_client.proofs.reading.read_block.Given as goal
+
+abbrev pub invariant-loop-row : goal.invariant-loop-row
+invariant-loop-row g l = record {
+  rows : AreRowsRead l.layout l.reflow (g.B.Bank.disk l.initial.bank).reads l.initial.out l.out l.row l.read;
+  unchanged : Unchanged (g.B.Bank.disk l.initial.bank) (g.B.Bank.disk l.bank);
+  out : OnlyFailedGoOut (point_of l.initial.out (g.B.Bank.disk l.initial.bank))
+      (point_of l.out (g.B.Bank.disk l.bank));
+}

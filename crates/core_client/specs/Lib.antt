@@ -1,0 +1,6 @@
+pub mod Outs
+pub mod Pool
+pub mod Writing
+pub mod Reading
+pub mod Got
+pub mod Fetching

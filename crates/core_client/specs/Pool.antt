@@ -1,0 +1,36 @@
+-- A block in its pool, the bank that the pool stands on, and when the block is right there.
+use Rattle.std.specs.Prelude.{◌≡◌, ℕ, ◌+◌, ◌≤◌, max, List, []}
+use Rattle.bank_trait.specs.Disk.{Known, Disk}
+use Rattle.width_map.specs.Place.{first_data_sector, limit_of}
+use Rattle.reflow_mark.specs.declared.reflow.State.TheVariants.{Moved}
+use Rattle.reflow_mark.specs.declared.reflow.Reflow.{Reflow}
+use Rattle.reflow_mark.specs.Reflow.{sectors_of, IsRightReflow}
+use Rattle.row_layout.specs.Layout.{Layout, total_of}
+use Rattle.row_layout.specs.Standing.{IsWithinLimits}
+use Rattle.shadow_write.specs.Required.{IsFrontIn}
+use Rattle.core_state.specs.Whole.{Cell, IsCell, RightAt}
+
+-- The block lies in a pool of this reflow, and is no wider than it.
+pub record IsInPool (layout : Layout) (reflow : Reflow) : Type 0 where
+  pub within : IsWithinLimits layout
+  pub right : IsRightReflow reflow
+  pub width : layout.width ≤ reflow.from
+  pub few : reflow.to ≤ 16
+  pub rows : reflow.rows ≤ 65536
+  pub end : layout.start + total_of layout ≤ sectors_of reflow
+
+-- The bank has the devices and the data rows of the pool.
+pub record HasPool (reflow : Reflow) (disk : Disk) : Type 0 where
+  pub devices : reflow.to ≤ disk.devices
+  pub sectors : first_data_sector + reflow.rows ≤ disk.sectors
+
+-- The front is where it may be: no job has copied over what may still be read.
+pub record IsFrontOf (reflow : Reflow) (done : ℕ) : Type 0 where
+  pub front : IsFrontIn reflow.state reflow done
+  pub limit : reflow.state ≡ Moved → done ≤ max reflow.mark (limit_of reflow.from reflow.mark)
+
+-- Each sector of a block of these bytes is right wherever it may be read, but for devices that are
+-- out.
+pub record IsRightBlock (layout : Layout) (bytes : List ℕ) (reflow : Reflow) (done : ℕ)
+    (known : Known) (out : ℕ) : Type 0 where
+  pub each : (cell : Cell) → IsCell layout bytes cell → RightAt known reflow done out [] cell

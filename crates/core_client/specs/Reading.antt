@@ -1,0 +1,62 @@
+-- Where a column is read, and what a reading has of it.
+use Rattle.std.specs.Prelude.{◌≡◌, ◌⊎◌, ℕ, ◌+◌, List, Option, Some, None, true, false, Result, Ok, Err, OnErr}
+use Rattle.bank_trait.specs.declared.Failed.{Failed}
+use Rattle.bank_trait.specs.Causes.{Rose}
+use Rattle.bank_trait.specs.Disk.{Known, Unchanged}
+use Rattle.width_map.specs.declared.position.Place.{Place}
+use Rattle.width_map.specs.Place.{first_data_sector}
+use Rattle.reflow_mark.specs.declared.reflow.Reflow.{Reflow}
+use Rattle.reflow_mark.specs.declared.stand.Stand.{Stand}
+use Rattle.reflow_mark.specs.declared.stand.Stand.TheVariants.{Old, Scratch, New}
+use Rattle.reflow_mark.specs.Standing.{standing}
+use Rattle.scratch_area.specs.Scratch.{old_place, new_place, scratch_place, first_scratch_sector}
+use Rattle.row_layout.specs.Layout.{Layout, columns_in, sector_of}
+use Rattle.uberblock_ring.specs.Devices.{has_device}
+use Rattle.core_state.specs.Committing.{Point, Called}
+use Rattle.core_client.specs.declared.spot.Spot.{Spot}
+
+-- the sector of a place, where rows begin at `first`
+abbrev pub spot_at : ℕ → Place → Spot
+spot_at first place = record { device = place.device; device_sector = first + place.row }
+
+-- where a sector is read that stands so
+abbrev pub spot_in : Stand → Reflow → ℕ → Spot
+spot_in Old reflow sector = spot_at first_data_sector (old_place reflow sector)
+spot_in Scratch reflow sector = spot_at first_scratch_sector (scratch_place reflow.to sector)
+spot_in New reflow sector = spot_at first_data_sector (new_place reflow sector)
+
+-- where a column of a block is read
+abbrev pub spot_of : Layout → Reflow → ℕ → ℕ → Spot
+spot_of layout reflow row column =
+    spot_in (standing reflow (sector_of layout row 0) (columns_in layout row)) reflow
+    (sector_of layout row column)
+
+-- What reading a spot gave while devices went out: nothing where its device is out by then, else
+-- the bytes that stand there, where that is told.
+abbrev pub IsGot : Known → ℕ → ℕ → Spot → Option (List ℕ) → Type 0
+IsGot known before after spot None = has_device after spot.device ≡ true
+IsGot known before after spot (Some bytes) =
+    (has_device before spot.device ≡ false)
+    × ((told : List ℕ) → known spot.device spot.device_sector ≡ Some told → bytes ≡ told)
+
+-- The read gave what stands there, where that is told, and nothing where it failed.
+abbrev pub HasGiven : Known → Spot → Result (Unit {0}) Failed → Option (List ℕ) → Type 0
+HasGiven known spot (Ok done) (Some bytes) =
+    (told : List ℕ) → known spot.device spot.device_sector ≡ Some told → bytes ≡ told
+HasGiven known spot (Ok done) None = ⊥
+HasGiven known spot (Err why) (Some bytes) = ⊥
+HasGiven known spot (Err why) None = Unit {0}
+
+-- The read was made, and its device is out from then on where it failed.
+pub record IsRead (spot : Spot) (given : Option (List ℕ)) (before after : Point) : Type 0 where
+  pub result : Result (Unit {0}) Failed
+  pub gave : HasGiven before.disk.reads spot result given
+  pub failed : OnErr result (Rose (before.disk.faults spot.device) (after.disk.faults spot.device))
+  pub unchanged : Unchanged before.disk after.disk
+  pub called : Called spot.device result before after
+
+-- Of a device that is out nothing is read; else the read is made.
+abbrev pub IsPassedOrRead : Spot → Option (List ℕ) → Point → Point → Type 0
+IsPassedOrRead spot given before after =
+    ((has_device before.out spot.device ≡ true) × (given ≡ None) × (after ≡ before))
+    ⊎ IsRead spot given before after

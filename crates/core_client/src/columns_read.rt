@@ -1,0 +1,107 @@
+// A block's columns as they were read.
+ghost use Rattle.std.specs.Prelude.{◌≡◌, ◌≢◌, ◌⊎◌, ℕ, ◌<◌, ◌≤◌, Option, IfOk, Some, IsTrue, length, false, true, ◌^◌, ◌↔◌, EachIndex, slice_index};
+ghost use Rattle.gf_solve.specs.Row.{is_masked};
+ghost use Rattle.reconstruct.specs.Columns.{zero_sector};
+ghost use Rattle.row_layout.specs.Layout.{Layout as LayoutOf, columns_of, rows_of};
+ghost use Rattle.uberblock_ring.specs.Devices.{with_device};
+ghost use Rattle.core_client.specs.Got.{got_of, is_lost, HasPut, IsParityLeftOut, IsShapedAs};
+
+use reconstruct::Rows;
+use row_layout::Layout;
+use std::alloc::{AllocError, Global};
+
+/// A block's columns as far as they are there, and a mask for each row of those that are lost. What
+/// stands in a lost column means nothing.
+#[derive(Drop)]
+pub struct ColumnsRead {
+    pub rows: Rows,
+    pub lost: Vec<u64>,
+}
+
+impl ColumnsRead {
+    /// Zeros in all columns, of which none is lost.
+    pub fn blank(alloc: Global, layout: &Layout) -> Result<ColumnsRead, AllocError>
+        ensures shape { IfOk result (IsShapedAs layout.now) }
+        ensures zero { IfOk result (λ read. (row column : ℕ) → row < rows_of layout.now
+            → column < columns_of layout.now → got_of read row column ≡ Some zero_sector) }
+    {
+        let rows = Rows::blank(alloc, layout)?;
+        let lost = vec![in alloc; 0; layout.rows() as usize]?;
+        Ok(ColumnsRead { rows, lost })
+    }
+
+    /// Puts what reading a column gave in its place. It is lost where that is nothing.
+    pub fn put(&mut self, row: u32, column: u32, got: Option<[u8; 512]>)
+        requires masks { length self.old.lost.items ≡ self.old.rows.rows }
+        requires row { row < self.old.rows.rows }
+        requires column { column < self.old.rows.cols }
+        requires narrow { self.old.rows.cols ≤ 64 }
+        requires unread { is_lost self.old row column ≡ false }
+        ensures { HasPut row column got self.old self.new }
+    {
+        match got {
+            Some(bytes) => self.rows.put(row, column, &bytes),
+            None => self.lose(row, column),
+        }
+    }
+
+    /// Leaves out the parity of a row: all its columns count as lost from then on.
+    pub fn skip_parity(&mut self, layout: &Layout, row: u32)
+        requires row { row < rows_of layout.now }
+        requires shape { IsShapedAs layout.now self.old }
+        requires unread { (column : ℕ) → column < layout.now.parity
+            → is_lost self.old row column ≡ false }
+        ensures { IsParityLeftOut layout.now row self.old self.new }
+    {
+        for column in 0..layout.parity() {
+            self.put(row, column, None);
+        }
+    }
+
+    fn lose(&mut self, row: u32, column: u32)
+        requires row { row < length self.old.lost.items }
+        requires column { column < 64 }
+        ensures rows { self.new.rows ≡ self.old.rows }
+        ensures masks { length self.new.lost.items ≡ length self.old.lost.items }
+        ensures here { is_lost self.new row column ≡ true }
+        ensures others { (other_row other : ℕ) → (other_row ≢ row) ⊎ (other ≢ column)
+            → is_lost self.new other_row other ≡ is_lost self.old other_row other }
+    {
+        let row = row as usize;
+        self.lost[row] = with_column(self.lost[row], column);
+    }
+
+    /// Whether a column of the row is lost.
+    pub fn has_lost(&self, row: u32) -> bool
+        requires { row < length self.now.lost.items }
+        ensures some { result ≡ true → (column : ℕ) × (is_lost self.now row column ≡ true) }
+        ensures none { result ≡ false → (column : ℕ) → is_lost self.now row column ≡ false }
+    {
+        has_columns(self.lost[row as usize])
+    }
+
+    /// Whether no column behind the parity columns is lost.
+    pub(crate) fn has_all_content(&self, parity: u32) -> bool
+        requires { parity ≤ 3 }
+        ensures { IsTrue result ↔ EachIndex self.now.lost.items
+            (λ row. slice_index self.now.lost.items row < 2 ^ parity) }
+    {
+        self.lost.iter().all(|mask| *mask < 1 << parity)
+    }
+}
+
+/// The mask with a column more.
+fn with_column(mask: u64, column: u32) -> u64
+    requires { column < 64 }
+    ensures { result ≡ with_device mask column }
+{
+    mask | 1 << column
+}
+
+/// Whether the mask has any column.
+fn has_columns(mask: u64) -> bool
+    ensures some { result ≡ true → (column : ℕ) × (is_masked mask column ≡ true) }
+    ensures none { result ≡ false → (column : ℕ) → is_masked mask column ≡ false }
+{
+    mask != 0
+}

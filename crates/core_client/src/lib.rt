@@ -1,0 +1,27 @@
+//! The device calls of one block: its columns are written to each place at which they have to be
+//! right, and read where their rows stand.
+//!
+//! A device whose call fails is out from then on, and one that is out is passed over. Read
+//! `specs/Outs.antt`, then `specs/Writing.antt`, `specs/Reading.antt` and `specs/Got.antt`. Stands
+//! on `core_state`, `shadow_write` and `reconstruct`.
+#![tactic(auto)]
+
+mod columns_read;
+mod fetching;
+mod reading;
+mod refused;
+mod spot;
+mod standing;
+mod storing;
+#[cfg(test)]
+mod tests;
+mod writing;
+
+pub use columns_read::ColumnsRead;
+pub use fetching::{checked_bytes, fetch_block};
+pub use reading::{read_block, read_column};
+pub use refused::FetchRefused;
+pub use spot::Spot;
+pub use standing::spot_of;
+pub use storing::store_block;
+pub use writing::{write_block, write_column};
