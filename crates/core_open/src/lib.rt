@@ -11,6 +11,7 @@ mod finding;
 mod fitting;
 mod index_page;
 mod out;
+mod page_lack;
 mod reading;
 mod stopped;
 mod uber_copy;
