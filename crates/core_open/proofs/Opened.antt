@@ -1,8 +1,9 @@
 -- From the candidates of the chosen group to what an opening has to know.
-use Rattle.std.proofs.Common.{◌≡◌, ◌≢◌, ◌⊎◌, inl, inr, ⊎_elim, ℕ, ◌<◌, ◌≤◌, List, [], ◌∷◌, Some, true, false, refl, sym, ◌∙◌, subst, arith}
+use Rattle.std.proofs.Common.{◌≡◌, ◌≢◌, ◌⊎◌, inl, inr, ⊎_elim, ℕ, ◌<◌, ◌≤◌, List, [], ◌∷◌, Some, true, false, Bool, eqb, eqb-true, eq-eqb, refl, sym, ◌∙◌, subst, arith}
 use Rattle.std.specs.Prelude.{Contains, slice_get, ◌↔◌}
-use Rattle.std.specs.List.{Any}
+use Rattle.std.specs.List.{Any, list_any}
 use Rattle.std.proofs.lemmas.Bool.{cases_Bool, false≢true}
+use Rattle.std.proofs.lemmas.List.Folds.{Any-from_list_any, list_any-from_Any}
 use Rattle.std.proofs.lemmas.List.Elements.{All-contains}
 use Rattle.bank_trait.specs.Disk.{Image}
 use Rattle.block_record.specs.declared.entry.IndexEntry.{IndexEntry}
@@ -13,6 +14,7 @@ use Rattle.core_state.specs.Choosing.{IsBlank, IsChosen, IsChosenPool, IsListedO
 use Rattle.core_open.specs.declared.uber_copy.UberCopy.{UberCopy}
 use Rattle.core_open.specs.Candidates.{AreNewest}
 use Rattle.core_open.specs.Copies.{AreShown}
+use Rattle.core_open.specs.Finding.{ShowsTwin}
 use Rattle.core_open.specs.Sets.{IsNewDevice, IsOutBy, ShowPool, StandOn}
 use Rattle.core_open.proofs.Newest.{of_one_group}
 use Rattle.core_open.proofs.ReadTo.{copy_on}
@@ -21,6 +23,20 @@ use Rattle.core_open.proofs.ReadTo.{copy_on}
 pub first_of : (copies : List UberCopy) (first : UberCopy) → slice_get copies 0 ≡ Some first → Contains copies first
 first_of [] first nothing = absurd (cc)
 first_of (one ∷ copies) first there = let here : one ≡ first = cc in (0, omega arith, here)
+
+-- A copy stands on the device, or none does.
+stand_on_unless_none : (copies : List UberCopy) (device : ℕ)
+    → ((StandOn copies device → ⊥) → ⊥) → StandOn copies device
+stand_on_unless_none copies device not_none = ⊎_elim
+    (λ (some : list_any on_it copies ≡ true). let any = Any-from_list_any on_it copies some in
+    (any.0, any.1, any.2, any.3, eqb-true any.1.device device any.4))
+    (λ (none : list_any on_it copies ≡ false). absurd (not_none (λ any. false≢true
+    (sym none ∙ list_any-from_Any on_it copies
+    (any.0, any.1, any.2, any.3, eq-eqb any.1.device device any.4)))))
+    (cases_Bool (list_any on_it copies))
+  where
+    on_it : UberCopy → Bool
+    on_it copy = eqb copy.device device
 
 module _ (shape : Shape) (silent : ℕ) (image : Image) (all candidates : List UberCopy) (entries : List IndexEntry)
     (first : UberCopy) (is : slice_get candidates 0 ≡ Some first)
@@ -158,3 +174,21 @@ module _ (shape : Shape) (silent : ℕ) (image : Image) (all candidates : List U
           (λ quiet. absurd (false≢true (sym not_out ∙ (outs device).1 (low, inr (inl quiet)))))
           (λ works. works)
           (cases_Bool (has_device silent device))
+
+  -- The others in use show it.
+  pub shows_twin : (out lacks : ℕ)
+      → ((device : ℕ) → has_device lacks device ≡ true
+      ↔ ((device < first.uber.reflow.to) × ((has_device out device ≡ false) × (StandOn candidates device → ⊥))))
+      → (device : ℕ) → device < first.uber.reflow.to → has_device out device ≡ false
+      → has_device lacks device ≡ false
+      → ShowsTwin shape silent image first.uber device
+  shows_twin out lacks each device low used has =
+      let any = stand_on_unless_none candidates device
+      (λ none. false≢true (sym has ∙ (each device).1 (low, (used, none)))) in
+      let listed : Contains candidates any.1 = (any.0, any.2, any.3) in
+      let good = sound any.1 listed in (
+        any.1.uber,
+        good.1.0,
+        subst (λ d. IsCandidate shape silent first.uber.pool image d any.1.uber good.1.0) any.4 good.1.1,
+        sym (after_first any.1 listed).0,
+      )

@@ -1,14 +1,15 @@
 -- How an index page is read, sector by sector, and what it shows then.
-use Rattle.std.proofs.Common.{◌≡◌, ℕ, zero, suc, ◌+◌, ◌<◌, List, ◌++◌, length, Option, None, Some, sym, ◌∙◌, ap, subst, arith, append_assoc, length-append, add-one}
+use Rattle.std.proofs.Common.{◌≡◌, ℕ, zero, suc, ◌+◌, ◌<◌, List, ◌++◌, length, Option, None, Some, sym, ◌∙◌, ap, subst, arith, append_assoc, length-append, length-drop, add-one, ⊎_elim, ◌*◌, ◌≤◌, take, drop}
 use Rattle.std.specs.Prelude.{min, IfNone}
-use Rattle.std.proofs.lemmas.List.{append-nil}
+use Rattle.std.proofs.lemmas.Bool.{cases_lt}
+use Rattle.std.proofs.lemmas.List.{append-nil, drop-append-le, drop_at, take-append-le, take_all}
 use Rattle.sha2.specs.Sha256.{sha256}
 use Rattle.bank_trait.specs.Disk.{Image, Disk, Unchanged}
 use Rattle.block_record.specs.declared.entry.IndexEntry.{IndexEntry}
 use Rattle.block_record.specs.Page.{IsPageOf, page_sectors}
 use Rattle.uberblock_ring.specs.Uberblock.{Uber, area_sector}
 use Rattle.core_state.specs.Shown.{page_on, sectors_from}
-use Rattle.core_open.specs.Pages.{AreSectors, IsGiven, IsNotGiven, IsRecordedPage}
+use Rattle.core_open.specs.Pages.{part_of, AreSectors, IsGiven, IsNotGiven, IsRecordedPage}
 use Rattle.core_open.proofs.Unchanged.{unchanged_then}
 
 -- One sector more stands at the end.
@@ -32,6 +33,21 @@ pub record IsReadTo (old : Disk) (device first count : ℕ) (new : Disk) (bytes 
     pub same : Unchanged old new
     pub are : AreSectors old device first count bytes
 
+-- What was read before stays where it is, and the next sector stands behind it.
+part_before : (bytes sector : List ℕ) (count part : ℕ) → length bytes ≡ 512 * count → part < count
+    → part_of (bytes ++ sector) part ≡ part_of bytes part
+part_before bytes sector count part wide low =
+    ap (λ (rest : List ℕ). take 512 rest)
+    (drop-append-le (512 * part) bytes sector (omega (arith, wide, low)))
+    ∙ take-append-le 512 (drop (512 * part) bytes) sector
+    (omega (arith, length-drop (512 * part) bytes, wide, low))
+
+part_next : (bytes sector : List ℕ) (count : ℕ) → length bytes ≡ 512 * count → length sector ≡ 512
+    → part_of (bytes ++ sector) count ≡ sector
+part_next bytes sector count wide full =
+    ap (λ (rest : List ℕ). take 512 rest) (drop_at bytes sector (512 * count) wide)
+    ∙ take_all 512 sector (omega (arith, full))
+
 pub read_more : (old mid new : Disk) (device first count : ℕ) (bytes sector : List ℕ)
     → device < old.devices → first + count < old.sectors
     → IsReadTo old device first count mid bytes → Unchanged mid new → length sector ≡ 512
@@ -42,6 +58,15 @@ read_more old mid new device first count bytes sector in_bank on_device so_far s
       same = unchanged_then so_far.same same;
       are = record {
         wide = omega (arith, length-append bytes sector, so_far.are.wide, wide);
+        told = λ part there low is. ⊎_elim
+            (λ (before : part < count). so_far.are.told part there before is
+            ∙ sym (part_before bytes sector count part so_far.are.wide before))
+            (λ (after : count ≤ part). let last : part ≡ count = omega (arith, low, after) in
+            sym (told there (so_far.same.reads device (first + count)
+            ∙ subst (λ (k : ℕ). old.reads device (first + k) ≡ Some there) last is))
+            ∙ sym (part_next bytes sector count so_far.are.wide wide)
+            ∙ ap (part_of (bytes ++ sector)) (sym last))
+            (cases_lt part count);
         each = λ image holds.
             let place = first + count in
             let next : sector ≡ image device place = told (image device place)
@@ -73,6 +98,8 @@ unfolding page_on
 page_given uber disk device bytes entries below are recorded = record {
   index = recorded.page.index;
   counted = recorded.page.counted;
+  parts = λ part told low is. are.told part told low is
+      ∙ ap (λ (page : List ℕ). part_of page part) recorded.page.page;
   each = λ image holds. record {
     device_in = below;
     digest = subst (λ (page : List ℕ). sha256 page ≡ uber.digest) (are.each image holds)

@@ -1,8 +1,11 @@
 -- What an opening found, and why it found nothing.
-use Rattle.std.specs.Prelude.{◌≡◌, ◌≢◌, ℕ, ⊤}
+use Rattle.std.specs.Prelude.{◌≡◌, ◌≢◌, ℕ, ◌<◌, List, false, ⊤}
 use Rattle.bank_trait.specs.Disk.{Image, Disk}
+use Rattle.block_record.specs.declared.entry.IndexEntry.{IndexEntry}
+use Rattle.uberblock_ring.specs.Devices.{has_device}
+use Rattle.uberblock_ring.specs.Uberblock.{Uber}
 use Rattle.core_state.specs.Map.{Map}
-use Rattle.core_state.specs.Shown.{Shape}
+use Rattle.core_state.specs.Shown.{Shape, IsCandidate}
 use Rattle.core_state.specs.Choosing.{IsChosen, IsNotPool}
 use Rattle.core_state.specs.Opening.{Found as FoundOf, AreOut, LackUber}
 use Rattle.core_open.specs.declared.finding.Found.{Found}
@@ -20,12 +23,21 @@ found_of shape image found map = record {
   chosen = record { uber = found.uber; entries = found.entries.items; map = map };
 }
 
--- It is what the devices that answered had to be opened with.
+-- The device shows a candidate of the uberblock's pool and group.
+abbrev pub ShowsTwin : Shape → ℕ → Image → Uber → ℕ → Type 0
+ShowsTwin shape silent image uber device = (twin : Uber) × (entries : List IndexEntry)
+    × IsCandidate shape silent uber.pool image device twin entries × (twin.group ≡ uber.group)
+
+-- It is what the devices that answered had to be opened with: of the devices in use each shows the
+-- chosen group or is listed as lacking it.
 pub record IsFoundIn (shape : Shape) (image : Image) (found : Found) : Type 0 where
   pub chosen : IsChosen shape found.silent image found.device found.uber found.entries.items
   pub out : (map : Map) → AreOut (found_of shape image found map) found.out
   pub lacks_uber : (map : Map)
       → LackUber (found_of shape image found map) found.out found.lacks_uber
+  pub shows : (device : ℕ) → device < found.uber.reflow.to → has_device found.out device ≡ false
+      → has_device found.lacks_uber device ≡ false
+      → ShowsTwin shape found.silent image found.uber device
 
 -- Nothing is there to open, and these devices failed.
 abbrev pub IsNothingFound : ℕ → OpenWhy → Type 0

@@ -3,6 +3,7 @@ pub mod Copies
 pub mod Failing
 pub mod Finding
 pub mod Holds
+pub mod Lacking
 pub mod Pages
 pub mod Opens
 pub mod OpensFound

@@ -14,6 +14,7 @@ mod fitting;
 mod index_page;
 mod opening;
 mod out;
+mod page_lack;
 mod reading;
 mod stopped;
 #[cfg(test)]

@@ -6,7 +6,7 @@ use Rattle.uberblock_ring.specs.Devices.{has_device}
 use Rattle.uberblock_ring.specs.Valid.{IsRightUber}
 use Rattle.core_open.specs.declared.uber_copy.UberCopy.{UberCopy}
 use Rattle.core_open.specs.Sets.{IsOutBy, StandOn}
-use Rattle.core_open.proofs.Opened.{first_chosen, first_of, lacks_is, out_is}
+use Rattle.core_open.proofs.Opened.{first_chosen, first_of, lacks_is, out_is, shows_twin}
 use Rattle.core_open.proofs.finding.conclude.Goals as goal
 
 pub returns-clause-found : goal.returns-clause-found
@@ -25,17 +25,20 @@ returns-clause-found c = λ shape image same shown chosen.
     (subst (λ (list : List UberCopy). (device : ℕ) → has_device c.devices_out-out.result device ≡ true
     ↔ ((device < first.uber.reflow.to) × IsOutBy c.args.devices silent all list first.uber device)) c.deref-2.ensures.value
     c.devices_out-out.ensures)) in
+    let lacks =
+    subst (λ (reflow : Reflow). (device : ℕ) → has_device c.devices_lacking-lacks_uber.result device ≡ true
+    ↔ ((device < reflow.to) × ((has_device c.devices_out-out.result device ≡ false) × (StandOn candidates device → ⊥))))
+    c.reflow.ensures.value
+    (subst (λ (list : List UberCopy). (device : ℕ) → has_device c.devices_lacking-lacks_uber.result device ≡ true
+    ↔ ((device < c.reflow.result.to) × ((has_device c.devices_out-out.result device ≡ false) × (StandOn list device → ⊥))))
+    c.deref-3.ensures.value c.devices_lacking-lacks_uber.ensures) in
     record {
       chosen = first_chosen shape silent image all candidates entries first there shown parts.1 parts.0;
       out = λ map. outs;
       lacks_uber = λ map. lacks_is shape silent image all candidates entries first there shown parts.1 c.devices_out-out.result
-          c.devices_lacking-lacks_uber.result outs
-          (subst (λ (reflow : Reflow). (device : ℕ) → has_device c.devices_lacking-lacks_uber.result device ≡ true
-          ↔ ((device < reflow.to) × ((has_device c.devices_out-out.result device ≡ false) × (StandOn candidates device → ⊥))))
-          c.reflow.ensures.value
-          (subst (λ (list : List UberCopy). (device : ℕ) → has_device c.devices_lacking-lacks_uber.result device ≡ true
-          ↔ ((device < c.reflow.result.to) × ((has_device c.devices_out-out.result device ≡ false) × (StandOn list device → ⊥))))
-          c.deref-3.ensures.value c.devices_lacking-lacks_uber.ensures));
+          c.devices_lacking-lacks_uber.result outs lacks;
+      shows = shows_twin shape silent image all candidates entries first there shown parts.1 c.devices_out-out.result
+          c.devices_lacking-lacks_uber.result lacks;
     }
 
 pub returns-clause-right : goal.returns-clause-right
