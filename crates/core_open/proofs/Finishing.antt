@@ -1,6 +1,6 @@
 -- What an opening promises, from what was found and what was done with it.
 use Rattle.std.proofs.Common.{◌≡◌, ◌≢◌, ◌⊎◌, inl, inr, ⊎_elim, ℕ, ◌+◌, ◌^◌, ◌<◌, ◌≤◌, List, [], ◌∷◌, ◌++◌, length, Bool, true, false, Some, Result, Ok, Err, refl, sym, ◌∙◌, ap, subst, arith}
-use Rattle.std.specs.Prelude.{Contains}
+use Rattle.std.specs.Prelude.{Contains, IfOk, IfErr}
 use Rattle.std.proofs.lemmas.Bool.{cases_lt}
 use Rattle.bank_trait.specs.Causes.{Rose}
 use Rattle.bank_trait.specs.Disk.{Image, Disk, Lawful, Later, Unchanged}
@@ -364,3 +364,32 @@ module _ (found : Found) (old mid new : Disk) (lawful : Lawful old) (same_found 
     unchanged_cut (reason.TooManyFailed out) old new lawful (unchanged_then same_found read.0),
   )
   refused_promises (reason.TooManyFailed out) (inr writes) = refused_writes out writes
+
+  -- Either way.
+  pub promises : (result : Result Opened OpenWhy) → OpensFound found mid new result
+      → IfOk result (λ opened. IsRightUber opened.uber)
+      × IfOk result (λ opened. count_of opened.out ≤ opened.uber.parity)
+      × IfOk result (λ opened. IsOpenedWith opened.uber opened.entries.items opened.silent opened.out old new)
+      × IfOk result (λ opened. OpeningKeeps opened.silent opened.uber.out old new)
+      × IfErr result (IsOpenCause old new) × IfErr result (λ why. CutKeeps why old new)
+  promises (Ok opened) opens =
+      let kept = opened_promises opened opens in (kept.2, kept.3, kept.0, kept.1, tt, tt)
+  promises (Err why) opens =
+      let refused = refused_promises why opens in (tt, tt, tt, tt, refused.0, refused.1)
+
+-- The bank goes on to fit what was found.
+pub fits_then : (found : Found) (old mid : Disk) → Unchanged old mid → FitsOpening old found
+    → FitsOpening mid found
+fits_then found old mid same fits = record {
+  room = (let room = fits.room in let sectors = same.goes_on.later.sectors in omega (arith, room, sectors));
+  devices = λ device below used. let low = fits.devices device below used in
+      let devices = same.goes_on.later.devices in omega (arith, low, devices);
+  below = fits.below;
+  silent = fits.silent;
+}
+
+-- However it was refused, an opening that only read keeps what was kept.
+pub cut_all : (result : Result Opened OpenWhy) (old new : Disk) → Lawful old → Unchanged old new
+    → IfErr result (λ why. CutKeeps why old new)
+cut_all (Ok opened) old new lawful same = tt
+cut_all (Err why) old new lawful same = unchanged_cut why old new lawful same

@@ -1,19 +1,27 @@
 -- How a set of devices is gathered, device by device.
-use Rattle.std.proofs.Common.{◌≡◌, ⊎_elim, ℕ, ◌+◌, ◌<◌, ◌≤◌, true, sym, ◌∙◌, subst, arith}
+use Rattle.std.proofs.Common.{◌≡◌, ⊎_elim, ℕ, ◌+◌, ◌^◌, ◌<◌, ◌≤◌, true, sym, ◌∙◌, subst, arith}
 use Rattle.std.specs.Prelude.{◌↔◌}
 use Rattle.std.proofs.lemmas.Bool.{cases_eq, true≢false}
+use Rattle.std.proofs.Math.Pow.{pow_mono}
 use Rattle.uberblock_ring.specs.Devices.{has_device, with_device}
-use Rattle.uberblock_ring.proofs.DeviceSets.{has_with, none_in, others_with}
+use Rattle.uberblock_ring.proofs.DeviceSets.{has_with, none_in, others_with, with_below}
 
 -- Of the devices below this one the set has those that have P.
 pub record IsGathered (P : ℕ → Type 0) (device set : ℕ) : Type 0 where
   pub has : (other : ℕ) → has_device set other ≡ true → (other < device) × P other
   pub each : (other : ℕ) → other < device → P other → has_device set other ≡ true
+  pub below : set < 2 ^ device
+
+below_next : (device set : ℕ) → set < 2 ^ device → set < 2 ^ (device + 1)
+below_next device set below =
+    let wider : 2 ^ device ≤ 2 ^ (device + 1) = pow_mono (omega arith) in
+    omega (arith, below, wider)
 
 pub gathered_none : (P : ℕ → Type 0) → IsGathered P 0 0
 gathered_none P = record {
   has = λ other is. absurd (true≢false (sym is ∙ none_in other));
   each = λ other low. absurd (omega (arith, low));
+  below = omega arith;
 }
 
 pub gathered_with : (P : ℕ → Type 0) (device set : ℕ) → IsGathered P device set → P device
@@ -28,6 +36,7 @@ gathered_with P device set so_far is = record {
       (λ (same : other ≡ device). subst (λ d. has_device (with_device set device) d ≡ true) (sym same) (has_with set device))
       (λ apart. others_with set device other apart ∙ so_far.each other (omega (arith, low, apart)) has)
       (cases_eq other device);
+  below = with_below set device (device + 1) (below_next device set so_far.below) (omega arith);
 }
 
 pub gathered_without : (P : ℕ → Type 0) (device set : ℕ) → IsGathered P device set → (P device → ⊥)
@@ -38,6 +47,7 @@ gathered_without P device set so_far not_it = record {
       (λ (same : other ≡ device). absurd (not_it (subst P same has)))
       (λ apart. so_far.each other (omega (arith, low, apart)) has)
       (cases_eq other device);
+  below = below_next device set so_far.below;
 }
 
 pub gathered_all : (P : ℕ → Type 0) (device set limit : ℕ) → IsGathered P device set → device ≤ limit → limit ≤ device

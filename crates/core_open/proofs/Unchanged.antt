@@ -1,8 +1,10 @@
 -- Runs of reads, which change nothing but counts of faults.
-use Rattle.std.proofs.Common.{◌≡◌, ℕ, refl, ◌∙◌, arith}
+use Rattle.std.proofs.Common.{◌≡◌, ℕ, List, refl, sym, ◌∙◌, subst, arith}
 use Rattle.bank_trait.specs.Causes.{Rose}
 use Rattle.bank_trait.specs.Disk.{Image, Disk, Unchanged}
 use Rattle.bank_trait.proofs.Moments.{later_refl, later_trans}
+use Rattle.core_open.specs.declared.uber_copy.UberCopy.{UberCopy}
+use Rattle.core_open.specs.Candidates.{FirstHasRoom}
 use Rattle.core_open.specs.Holds.{HoldsImage, shape_of}
 
 -- no call
@@ -53,3 +55,9 @@ shape_then same = λ i. record {
   devices = same.goes_on.later.devices i;
   sectors = same.goes_on.later.sectors i;
 }
+
+-- What has room on its devices had it.
+pub room_then : {old mid : Disk} (copies : List UberCopy) → Unchanged old mid
+    → FirstHasRoom mid.sectors copies → FirstHasRoom old.sectors copies
+room_then copies same room =
+    subst (λ sectors. FirstHasRoom sectors copies) same.goes_on.later.sectors room

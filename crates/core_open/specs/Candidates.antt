@@ -45,6 +45,11 @@ abbrev pub FirstFits : List UberCopy → List IndexEntry → Type 0
 FirstFits copies entries =
     (first : UberCopy) → slice_get copies 0 ≡ Some first → IsIndexFor first.uber entries
 
+-- that its data rows are within so many sectors of a device,
+abbrev pub FirstHasRoom : ℕ → List UberCopy → Type 0
+FirstHasRoom sectors copies = (first : UberCopy) → slice_get copies 0 ≡ Some first
+    → 192 + first.uber.reflow.rows ≤ sectors
+
 -- and that it has this index.
 abbrev pub FirstHas : Shape → ℕ → Image → List UberCopy → List IndexEntry → Type 0
 FirstHas shape silent image copies entries = (first : UberCopy) → slice_get copies 0 ≡ Some first

@@ -1,5 +1,5 @@
 -- What an opening found, and why it found nothing.
-use Rattle.std.specs.Prelude.{◌≡◌, ◌≢◌, ℕ, ◌<◌, List, false, ⊤}
+use Rattle.std.specs.Prelude.{◌≡◌, ◌≢◌, ℕ, ◌+◌, ◌^◌, ◌<◌, ◌≤◌, List, true, false, ⊤}
 use Rattle.bank_trait.specs.Disk.{Image, Disk}
 use Rattle.block_record.specs.declared.entry.IndexEntry.{IndexEntry}
 use Rattle.uberblock_ring.specs.Devices.{has_device}
@@ -13,6 +13,7 @@ use Rattle.core_open.specs.declared.why.OpenWhy.{OpenWhy}
 use Rattle.core_open.specs.declared.why.OpenWhy.TheVariants.{NotPool, TooManyFailed, Limit, NoMemory}
 use Rattle.core_open.specs.Failing.{HaveFailed}
 use Rattle.core_open.specs.Holds.{HoldsImage, shape_of}
+use Rattle.core_open.specs.Lacking.{HasAllBut}
 
 -- what was read of the image and chosen, with the map of the chosen group
 abbrev pub found_of : Shape → Image → Found → Map → FoundOf
@@ -38,6 +39,16 @@ pub record IsFoundIn (shape : Shape) (image : Image) (found : Found) : Type 0 wh
   pub shows : (device : ℕ) → device < found.uber.reflow.to → has_device found.out device ≡ false
       → has_device found.lacks_uber device ≡ false
       → ShowsTwin shape found.silent image found.uber device
+
+-- Whatever the bank tells, an opening may go on with what was found: the data rows are on the
+-- devices, each device in use is one of the bank's that didn't fail, and those that are out are
+-- devices of the pool.
+pub record FitsOpening (disk : Disk) (found : Found) : Type 0 where
+  pub room : 192 + found.uber.reflow.rows ≤ disk.sectors
+  pub devices : HasAllBut disk found.uber.reflow.to found.out
+  pub below : found.out < 2 ^ found.uber.reflow.to
+  pub silent : (device : ℕ) → device < found.uber.reflow.to
+      → has_device found.silent device ≡ true → has_device found.out device ≡ true
 
 -- Nothing is there to open, and these devices failed.
 abbrev pub IsNothingFound : ℕ → OpenWhy → Type 0

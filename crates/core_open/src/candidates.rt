@@ -1,10 +1,10 @@
 // Which copies of uberblocks are candidates.
-ghost use Rattle.std.specs.Prelude.{◌≡◌, ◌≢◌, ◌⊎◌, ◌↔◌, ◌<◌, ◌≤◌, ◌++◌, ◌∷◌, [], Some, slice_get, IfErr, IfOk, IfSome, IsTrue, OnOk};
+ghost use Rattle.std.specs.Prelude.{◌≡◌, ◌≢◌, ◌⊎◌, ◌↔◌, ◌+◌, ◌<◌, ◌≤◌, ◌++◌, ◌∷◌, [], Some, slice_get, IfErr, IfOk, IfSome, IsTrue, OnOk};
 ghost use Rattle.bank_trait.specs.Disk.{Image, Unchanged};
 ghost use Rattle.uberblock_ring.specs.Valid.{AreAlike, IsRightUber};
 ghost use Rattle.core_state.specs.Shown.{read_devices};
 ghost use Rattle.core_open.specs.declared.uber_copy.UberCopy.{UberCopy as CopyOf};
-ghost use Rattle.core_open.specs.Candidates.{FirstFits, FirstHas, IsConsidered, IsGivenIndex, IsIndexChoice, IsIndexFor};
+ghost use Rattle.core_open.specs.Candidates.{FirstFits, FirstHas, FirstHasRoom, IsConsidered, IsGivenIndex, IsIndexChoice, IsIndexFor};
 ghost use Rattle.core_open.specs.Failing.{HasStopped, HasStoppedOn};
 ghost use Rattle.core_open.specs.Holds.{HoldsImage, shape_of};
 
@@ -60,9 +60,12 @@ impl Candidates {
     ) -> Result<(), Stopped>
         requires right { IsRightUber copy.now.uber }
         requires first { FirstFits self.old.copies.items self.old.entries.items }
+        requires room { FirstHasRoom (B.disk bank.old).sectors self.old.copies.items }
         ensures unchanged { Unchanged (B.disk bank.old) (B.disk bank.new) }
         ensures stopped { IfErr result (HasStopped silent (B.disk bank.old) (B.disk bank.new)) }
         ensures first { OnOk result (FirstFits self.new.copies.items self.new.entries.items) }
+        ensures room { OnOk result
+            (FirstHasRoom (B.disk bank.old).sectors self.new.copies.items) }
         ensures considered { OnOk result ((image : Image) → HoldsImage (B.disk bank.old) image
             → FirstHas (shape_of (B.disk bank.old)) silent image
             self.old.copies.items self.old.entries.items
@@ -162,6 +165,8 @@ pub fn find_index<B: Bank>(
     ensures stopped { IfErr result (HasStopped silent (B.disk bank.old) (B.disk bank.new)) }
     ensures fits { IfOk result (λ found. IfSome found (λ entries.
         IsIndexFor uber.now entries.items)) }
+    ensures room { IfOk result (λ found. IfSome found (λ _.
+        192 + uber.now.reflow.rows ≤ (B.disk bank.old).sectors)) }
     ensures found { IfOk result (λ found. (image : Image) → HoldsImage (B.disk bank.old) image
         → IsIndexChoice (shape_of (B.disk bank.old)) silent image uber.now found) }
 {

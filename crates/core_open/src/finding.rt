@@ -1,13 +1,13 @@
 // How an opening finds its pool.
 ghost use Rattle.std.specs.Prelude.{◌≡◌, [], All, Contains, IfErr, IfOk, OnErr};
-ghost use Rattle.bank_trait.specs.Disk.{Image, Unchanged};
+ghost use Rattle.bank_trait.specs.Disk.{Disk, Image, Unchanged};
 ghost use Rattle.uberblock_ring.specs.Devices.{IsWithin};
 ghost use Rattle.uberblock_ring.specs.Valid.{IsRightUber};
 ghost use Rattle.core_state.specs.Shown.{Shape, read_devices};
-ghost use Rattle.core_open.specs.Candidates.{AreChosen, FirstFits, IsIndexFor};
+ghost use Rattle.core_open.specs.Candidates.{AreChosen, FirstFits, FirstHasRoom, IsIndexFor};
 ghost use Rattle.core_open.specs.Copies.{AreByGroup, AreRight, AreShown};
 ghost use Rattle.core_open.specs.Failing.{HaveFailed, HaveFailedSince};
-ghost use Rattle.core_open.specs.Finding.{IsFindCause, IsFoundIn, IsNothingFound};
+ghost use Rattle.core_open.specs.Finding.{FitsOpening, IsFindCause, IsFoundIn, IsNothingFound};
 ghost use Rattle.core_open.specs.Holds.{HoldsImage, shape_of};
 
 use crate::OpenWhy;
@@ -44,6 +44,7 @@ pub fn find<B: Bank>(alloc: Global, bank: &mut B) -> Result<Found, OpenWhy>
         → IsFoundIn (shape_of (B.disk bank.old)) image found) }
     ensures right { IfOk result (λ found. IsRightUber found.uber) }
     ensures index { IfOk result (λ found. IsIndexFor found.uber found.entries.items) }
+    ensures fits { IfOk result (FitsOpening (B.disk bank.old)) }
     ensures silent { IfOk result (λ found.
         HaveFailed (B.disk bank.old) (B.disk bank.new) found.silent) }
     ensures cause { IfErr result (IsFindCause (B.disk bank.old) (B.disk bank.new)) }
@@ -71,6 +72,8 @@ fn choose_anew<B: Bank>(
         All (Contains rings.old.copies.items) candidates.copies.items) }
     ensures first { IfOk result (λ candidates.
         FirstFits candidates.copies.items candidates.entries.items) }
+    ensures room { IfOk result (λ candidates.
+        FirstHasRoom (B.disk bank.old).sectors candidates.copies.items) }
     ensures chosen { IfOk result (λ candidates. (image : Image)
         → HoldsImage (B.disk bank.old) image
         → AreShown (shape_of (B.disk bank.old)) rings.new.silent image
@@ -101,6 +104,8 @@ fn conclude(devices: u32, rings: &Rings, candidates: Candidates) -> Result<Found
         → IsFoundIn shape image found) }
     ensures right { IfOk result (λ found. IsRightUber found.uber) }
     ensures index { IfOk result (λ found. IsIndexFor found.uber found.entries.items) }
+    ensures fits { IfOk result (λ found. (disk : Disk) → disk.devices ≡ devices
+        → FirstHasRoom disk.sectors candidates.copies.items → FitsOpening disk found) }
     ensures silent { IfOk result (λ found. found.silent ≡ rings.now.silent) }
     ensures none { OnErr result (candidates.copies.items ≡ []) }
     ensures cause { IfErr result (IsNothingFound rings.now.silent) }

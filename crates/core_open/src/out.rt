@@ -1,5 +1,5 @@
 // Which devices of a pool are out when it is opened, and which lack its uberblock.
-ghost use Rattle.std.specs.Prelude.{◌≡◌, ◌<◌, ◌≤◌, ◌↔◌, ℕ, true, false, IsTrue};
+ghost use Rattle.std.specs.Prelude.{◌≡◌, ◌^◌, ◌<◌, ◌≤◌, ◌↔◌, ℕ, true, false, IsTrue};
 ghost use Rattle.uberblock_ring.specs.Devices.{has_device};
 ghost use Rattle.core_open.specs.Sets.{IsNewDevice, IsOutBy, ListOut, ShowPool, StandOn};
 
@@ -11,7 +11,8 @@ use uberblock_ring::{DeviceSet, Uber};
 /// The devices of the pool that are out. `devices` is how many the bank has.
 pub fn devices_out(devices: u32, rings: &Rings, candidates: &[UberCopy], uber: &Uber) -> DeviceSet
     requires narrow { uber.now.reflow.to ≤ 16 }
-    ensures { (device : ℕ) → has_device result device ≡ true
+    ensures below { result < 2 ^ uber.now.reflow.to }
+    ensures each { (device : ℕ) → has_device result device ≡ true
         ↔ ((device < uber.now.reflow.to) × IsOutBy devices rings.now.silent
         rings.now.copies.items candidates.now uber.now device) }
 {

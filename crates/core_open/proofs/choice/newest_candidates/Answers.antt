@@ -5,7 +5,7 @@ use Rattle.core_open.specs.declared.uber_copy.UberCopy.{UberCopy}
 use Rattle.core_open.specs.Candidates.{FirstHas, IsConsidered}
 use Rattle.core_open.specs.Holds.{shape_of}
 use Rattle.core_open.proofs.Newest.{AreFrom, from_more, from_past, group_ends, newest_more, newest_past, newest_whole}
-use Rattle.core_open.proofs.Unchanged.{holds_then, shape_then, unchanged_then}
+use Rattle.core_open.proofs.Unchanged.{holds_then, room_then, shape_then, unchanged_then}
 use Rattle.core_open.proofs.choice.newest_candidates.Goals as goal
 
 pub returns-then-are_of_another_group-clause-listed : goal.returns-then-are_of_another_group-clause-listed
@@ -53,6 +53,7 @@ loop-copy-preserved-then-not-is_open g c =
       unchanged = c.loop-copy.invariant.unchanged;
       from = from_past all seen c.loop-copy.candidates.copies.items c.loop-copy.invariant.from;
       fits = c.loop-copy.invariant.fits;
+      room = c.loop-copy.invariant.room;
       newest = λ image holds. newest_past (shape_of (g.B.Bank.disk c.args.bank.now)) c.args.rings.now.silent image c.args.pool all
           seen copy below is c.loop-copy.candidates.copies.items c.loop-copy.candidates.entries.items
           (λ opens. false≢true (c.if-not-is_open.ensures.1 opens)) (c.loop-copy.invariant.newest image holds);
@@ -84,6 +85,7 @@ loop-copy-preserved g c =
           (λ other. false≢true (c.if-are_of_another_group.ensures.1 other)) so_far.from))
           one.copies;
       fits = one.first;
+      room = room_then after so_far.unchanged one.room;
       newest = λ image holds.
           let found = so_far.newest image holds in
           let considered = subst (λ (shape : Shape). IsConsidered shape silent image copy before after × FirstHas shape silent image after later)

@@ -24,7 +24,7 @@ returns-clause-found c = λ shape image same shown chosen.
     ↔ ((device < first.uber.reflow.to) × IsOutBy devices silent all candidates first.uber device)) (sym same)
     (subst (λ (list : List UberCopy). (device : ℕ) → has_device c.devices_out-out.result device ≡ true
     ↔ ((device < first.uber.reflow.to) × IsOutBy c.args.devices silent all list first.uber device)) c.deref-2.ensures.value
-    c.devices_out-out.ensures)) in
+    c.devices_out-out.ensures.each)) in
     let lacks =
     subst (λ (reflow : Reflow). (device : ℕ) → has_device c.devices_lacking-lacks_uber.result device ≡ true
     ↔ ((device < reflow.to) × ((has_device c.devices_out-out.result device ≡ false) × (StandOn candidates device → ⊥))))

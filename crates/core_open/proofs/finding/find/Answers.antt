@@ -8,6 +8,7 @@ use Rattle.core_open.specs.Finding.{IsFindCause, IsNothingFound}
 use Rattle.core_open.specs.Holds.{shape_of}
 use Rattle.core_open.proofs.Failures.{failed_since}
 use Rattle.core_open.proofs.Settled.{chosen_after, find_cause, shown_after}
+use Rattle.core_open.proofs.Unchanged.{room_then}
 use Rattle.core_open.proofs.finding.find.Goals as goal
 
 pub conclude-requires-clause-listed : goal.conclude-requires-clause-listed
@@ -30,6 +31,16 @@ returns-clause-found g c =
     c.in_ok-rings.rings.copies.items rings.shown c.in_ok-candidates.candidates.copies.items c.in_ok-candidates.candidates.entries.items
     choice.chosen image holds))
     c.conclude.ensures.found
+
+pub returns-clause-fits : goal.returns-clause-fits
+returns-clause-fits g c =
+    let rings = c.in_ok-rings.ensures in
+    let choice = c.in_ok-candidates.ensures in
+    IfOk-weaker c.conclude.result _ _
+    (λ found fits. fits (g.B.Bank.disk c.args.bank.now)
+    (omega (arith, c.devices.ensures, rings.unchanged.goes_on.later.devices, choice.unchanged.goes_on.later.devices))
+    (room_then c.in_ok-candidates.candidates.copies.items rings.unchanged choice.room))
+    c.conclude.ensures.fits
 
 pub returns-clause-cause : goal.returns-clause-cause
 returns-clause-cause g c = by c.conclude.result c.conclude.ensures.none c.conclude.ensures.cause
