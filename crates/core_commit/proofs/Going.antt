@@ -162,36 +162,36 @@ AreInside uber plan = (call : CommitCall) → Among plan call → IsInside uber 
 
 module _ (uber : Uber) (entries : List IndexEntry) (area : uber.area ≤ 1) (count : uber.count ≤ 512)
   where
-  went_one : (call : CommitCall) (before after : Point)
-      → IsInside uber call → MadeOne uber entries call before after
-      → Went before after
-  went_one (IndexWrite device part) before after inside made =
-      went_write device (area_sector uber.area + part) _ made.result before after
-      (inr (omega (arith, area), (let low = inside.1 in omega (arith, low, count, area)))) made.called made.made
-  went_one (BaseSync device) before after inside made =
-      went_sync device made.result before after made.called made.made
-  went_one (UberWrite device) before after inside made =
-      went_write device (slot_of uber.group) _ made.result before after (inl (omega arith)) made.called made.made
-  went_one (UberSync device) before after inside made =
-      went_sync device made.result before after made.called made.made
+    went_one : (call : CommitCall) (before after : Point)
+        → IsInside uber call → MadeOne uber entries call before after
+        → Went before after
+    went_one (IndexWrite device part) before after inside made =
+        went_write device (area_sector uber.area + part) _ made.result before after
+        (inr (omega (arith, area), (let low = inside.1 in omega (arith, low, count, area)))) made.called made.made
+    went_one (BaseSync device) before after inside made =
+        went_sync device made.result before after made.called made.made
+    went_one (UberWrite device) before after inside made =
+        went_write device (slot_of uber.group) _ made.result before after (inl (omega arith)) made.called made.made
+    went_one (UberSync device) before after inside made =
+        went_sync device made.result before after made.called made.made
 
-  -- Any calls of a plan.
-  pub went_all : (Kind : CommitCall → Type 0) (steps : List Step) (plan left : List CommitCall)
-      (point now : Point) → RanBy Kind uber entries steps plan point left now → AreInside uber plan
-      → Went point now × AreInside uber left
-  went_all Kind [] plan left point now ran inside = (
-    subst (Went point) (sym ran.1) (went_none point),
-    subst (AreInside uber) (sym ran.0) inside,
-  )
-  went_all Kind (step ∷ steps) plan left point now ran inside =
-      let before = went_all Kind steps plan ran.0 point step.before ran.1 inside in (
-        went_on point step.before now before.0
-            (subst (Went step.before) (sym ran.6)
-            (went_one step.call step.before step.after
-            (before.1 step.call (next_among step.before.out ran.0 step.call ran.3)) ran.4)),
-        subst (AreInside uber) (sym ran.5) (λ other among. before.1 other
-            (rest_among step.before.out ran.0 step.call other ran.3 among)),
-      )
+    -- Any calls of a plan.
+    pub went_all : (Kind : CommitCall → Type 0) (steps : List Step) (plan left : List CommitCall)
+        (point now : Point) → RanBy Kind uber entries steps plan point left now → AreInside uber plan
+        → Went point now × AreInside uber left
+    went_all Kind [] plan left point now ran inside = (
+      subst (Went point) (sym ran.1) (went_none point),
+      subst (AreInside uber) (sym ran.0) inside,
+    )
+    went_all Kind (step ∷ steps) plan left point now ran inside =
+        let before = went_all Kind steps plan ran.0 point step.before ran.1 inside in (
+          went_on point step.before now before.0
+              (subst (Went step.before) (sym ran.6)
+              (went_one step.call step.before step.after
+              (before.1 step.call (next_among step.before.out ran.0 step.call ran.3)) ran.4)),
+          subst (AreInside uber) (sym ran.5) (λ other among. before.1 other
+              (rest_among step.before.out ran.0 step.call other ran.3 among)),
+        )
 
 -- The calls of an ordered plan are.
 pub ordered_inside : (uber : Uber) (plan : List CommitCall)

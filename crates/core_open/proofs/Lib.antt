@@ -8,7 +8,7 @@ pub mod Gathering
 pub mod Lacking
 pub mod Leading
 pub mod Newest
-pub mod Opened
+pub mod Concluded
 pub mod PageReading
 pub mod ReadTo
 pub mod Rings

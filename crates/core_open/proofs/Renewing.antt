@@ -84,9 +84,12 @@ pairs_more [] next pairs above one two default less low = absurd (omega (arith, 
 pairs_more (first ∷ groups) next pairs above zero zero default less low = absurd (omega (arith, less))
 pairs_more (first ∷ groups) next pairs above (suc one) zero default less low = absurd (omega (arith, less))
 pairs_more (first ∷ groups) next pairs above zero (suc two) default less low =
-    at (slice_index_or (groups ++ next ∷ []) two default)
-    (two, omega (arith, low), get_or_default (groups ++ next ∷ []) two
-    (slice_index_or (groups ++ next ∷ []) two default) default (omega (arith, low)))
+    at (slice_index_or (groups ++ next ∷ []) two default) (
+      two,
+      omega (arith, low),
+      get_or_default (groups ++ next ∷ []) two
+          (slice_index_or (groups ++ next ∷ []) two default) default (omega (arith, low)),
+    )
   where
     at : (other : Kept) → Contains (groups ++ next ∷ []) other → first.uber.group < other.uber.group
     at other has = ⊎_elim (λ one. pairs_head first groups other pairs one)

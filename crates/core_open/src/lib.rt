@@ -1,9 +1,10 @@
-//! A pool's begin, and what each later opening of it finds.
+//! A pool's begin and every later opening of it.
 //!
-//! Creating gives each device an empty ring and the first uberblock: read `create`. An opening reads
-//! the rings once; then the devices that answered choose a pool, and of that pool the greatest group
-//! that has a candidate: read `find`, with `specs/Finding.antt`. Stands on `core_state`, whose
-//! `specs/Create.antt` says what a new pool is, and `specs/Choosing.antt` what is chosen.
+//! Creating gives each device an empty ring and the first uberblock: read `create`. An opening
+//! reads the rings once; the devices that answered choose a pool, and of that pool the greatest
+//! group that has a candidate is copied to those that lack it and renewed: read `open`, with
+//! `specs/Opens.antt`. Stands on `core_commit`, and on `core_state`, whose `specs/Create.antt` says
+//! what a new pool is, and `specs/Choosing.antt` what is chosen.
 #![tactic(auto)]
 
 mod candidates;
@@ -25,4 +26,5 @@ mod why;
 
 pub use creating::{create, data_rows};
 pub use finding::{Found, find};
+pub use opening::{Opened, open};
 pub use why::OpenWhy;

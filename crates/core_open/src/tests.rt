@@ -1,5 +1,5 @@
 // Pools that are found on banks in memory.
-use crate::{OpenWhy, create, find};
+use crate::{OpenWhy, create, find, open};
 use bank_mem::MemBank;
 use bank_trait::Bank;
 use sha2::{Digest, Sha256};
@@ -174,5 +174,18 @@ fn a_page_read_that_fails_makes_the_choice_anew(rt: HostRuntime) -> Result<(), F
         (found.device, found.silent.bits(), found.out.bits()),
         (1, 1, 1)
     );
+    Ok(())
+}
+
+#[test]
+fn each_opening_takes_two_more(rt: HostRuntime) -> Result<(), Fail> {
+    let mut bank = bank_of_nine(&rt, rt.alloc())?;
+    let opened = open(rt.alloc(), &mut bank)?;
+    assert!(rt; opened.uber.group() == 3 && opened.entries.is_empty() && opened.out.is_empty());
+    bank.fail_from(1, MAKING + RING + 2)?;
+    let opened = open(rt.alloc(), &mut bank)?;
+    let mut out = DeviceSet::empty();
+    out.insert(1);
+    assert!(rt; opened.uber.group() == 5 && opened.out == out && opened.uber.out() == out);
     Ok(())
 }

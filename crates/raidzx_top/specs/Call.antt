@@ -1,8 +1,8 @@
 -- One call of the top call: what it was given, and what it left.
 use Rattle.std.specs.Prelude.{◌≡◌, ℕ, ◌<◌, List, [], Option, Some, None, ⊤}
-use Rattle.bank_trait.specs.Disk.{Image, Disk}
+use Rattle.bank_trait.specs.Disk.{Disk}
 use Rattle.core_state.specs.declared.item.Item.{Item}
-use Rattle.core_state.specs.Shown.{Shape}
+pub use Rattle.core_open.specs.Holds.{HoldsImage, shape_of}
 use Rattle.client_script.specs.Script.{Script, IsScript}
 use Rattle.raidzx_top.specs.declared.status.Status.{Status}
 use Rattle.raidzx_top.specs.Words.{Command, Create, Run, Replay, Load, load_script}
@@ -45,14 +45,6 @@ call_of words old new source source_after sink sink_after status journal turns =
 
 abbrev pub stream_of : Option (List ℕ) → ℕ → Stream
 stream_of bytes faults = record { bytes = bytes; faults = faults }
-
-abbrev pub shape_of : Disk → Shape
-shape_of disk = record { devices = disk.devices; sectors = disk.sectors }
-
--- The sectors of the bank hold what the image has.
-pub record HoldsImage (disk : Disk) (image : Image) : Type 0 where
-  pub each : (device device_sector : ℕ) → device < disk.devices → device_sector < disk.sectors
-      → disk.reads device device_sector ≡ Some (image device device_sector)
 
 -- Commands that read a script from the source, make a pool, open one.
 abbrev pub ReadsScript : Command → Type 0

@@ -6,7 +6,7 @@ use Rattle.uberblock_ring.specs.Devices.{has_device}
 use Rattle.uberblock_ring.specs.Valid.{IsRightUber}
 use Rattle.core_open.specs.declared.uber_copy.UberCopy.{UberCopy}
 use Rattle.core_open.specs.Sets.{IsOutBy, StandOn}
-use Rattle.core_open.proofs.Opened.{first_chosen, first_of, lacks_is, out_is, shows_twin}
+use Rattle.core_open.proofs.Concluded.{first_chosen, first_of, lacks_is, out_is, shows_twin}
 use Rattle.core_open.proofs.finding.conclude.Goals as goal
 
 pub returns-clause-found : goal.returns-clause-found
