@@ -10,12 +10,14 @@ pub record IsGathered (P : ℕ → Type 0) (device set : ℕ) : Type 0 where
   pub has : (other : ℕ) → has_device set other ≡ true → (other < device) × P other
   pub each : (other : ℕ) → other < device → P other → has_device set other ≡ true
 
+-- at the beginning,
 pub gathered_none : (P : ℕ → Type 0) → IsGathered P 0 0
 gathered_none P = record {
   has = λ other is. absurd (true≢false (sym is ∙ none_in other));
   each = λ other low. absurd (omega (arith, low));
 }
 
+-- with one more device,
 pub gathered_with : (P : ℕ → Type 0) (device set : ℕ) → IsGathered P device set → P device
     → IsGathered P (device + 1) (with_device set device)
 gathered_with P device set so_far is = record {
@@ -30,6 +32,7 @@ gathered_with P device set so_far is = record {
       (cases_eq other device);
 }
 
+-- without it,
 pub gathered_without : (P : ℕ → Type 0) (device set : ℕ) → IsGathered P device set → (P device → ⊥)
     → IsGathered P (device + 1) set
 gathered_without P device set so_far not_it = record {
@@ -40,6 +43,7 @@ gathered_without P device set so_far not_it = record {
       (cases_eq other device);
 }
 
+-- and at the end.
 pub gathered_all : (P : ℕ → Type 0) (device set limit : ℕ) → IsGathered P device set → device ≤ limit → limit ≤ device
     → (other : ℕ) → has_device set other ≡ true ↔ ((other < limit) × P other)
 gathered_all P device set limit gathered low high other = (

@@ -23,7 +23,7 @@ use uberblock_ring::{DeviceSet, Uber};
 
 /// What an opening found: the chosen uberblock, the lowest device that shows it as a candidate, and
 /// its index.
-#[derive(Drop)]
+#[derive(Debug, Drop)]
 pub struct Found {
     /// Devices that failed. They weren't called again.
     pub silent: DeviceSet,
