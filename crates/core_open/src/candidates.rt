@@ -49,8 +49,8 @@ impl Candidates {
         }
     }
 
-    /// Adds a copy if it is a candidate. An uberblock that differs from the first one's in its out set
-    /// alone has the same index, which is not read again.
+    /// Adds a copy if it is a candidate. An uberblock that differs from the first one's in its out
+    /// set alone has the same index, which is not read again.
     pub fn consider<B: Bank>(
         &mut self,
         alloc: Global,

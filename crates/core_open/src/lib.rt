@@ -1,8 +1,8 @@
 //! A pool's begin, and what each later opening of it finds.
 //!
-//! Creating gives each device an empty ring and the first uberblock: read `create`. An opening reads
-//! the rings once; then the devices that answered choose a pool, and of that pool the greatest group
-//! that has a candidate: read `find`, with `specs/Finding.antt`. Stands on `core_state`, whose
+//! Creating gives each device an empty ring and the first uberblock: read `create`. An opening
+//! reads the rings once; then the devices that answered choose a pool, and of that pool the greatest
+//! group that has a candidate: read `find`, with `specs/Finding.antt`. Stands on `core_state`, whose
 //! `specs/Create.antt` says what a new pool is, and `specs/Choosing.antt` what is chosen.
 #![tactic(auto)]
 
