@@ -32,6 +32,7 @@ pub record AreAsked (silent device : ℕ) (uber : Uber) (old new : Disk) : Type 
   pub room : 192 + uber.reflow.rows ≤ old.sectors
   pub none : (image : Image) → HoldsImage old image → NoneGive (shape_of old) silent image uber device
 
+-- None was asked yet.
 pub asked_none : (silent : ℕ) (uber : Uber) (disk : Disk) → 192 + uber.reflow.rows ≤ disk.sectors
     → AreAsked silent 0 uber disk disk
 asked_none silent uber disk room = record {

@@ -57,6 +57,7 @@ pub record AreCast (copies : List UberCopy) (silent device : ℕ) (votes : List 
   pub order : AllPairs (λ one other. one.device < other.device) votes
   pub below : All (λ vote. vote.device < device) votes
 
+-- No device was asked yet.
 pub cast_none : (copies : List UberCopy) (silent : ℕ) → AreCast copies silent 0 []
 cast_none copies silent = record {
   each = All-nil _;
@@ -103,6 +104,7 @@ module _ (copies : List UberCopy) (silent device : ℕ) (votes : List Vote) (so_
     below = All-push (λ (v : Vote). v.device < device + 1) votes vote wider (omega (arith, here));
   }
 
+  -- All were asked.
   pub cast_all : AreRight device copies → AreVotes copies silent votes
   cast_all right = record {
     each = so_far.each;

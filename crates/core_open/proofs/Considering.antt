@@ -55,6 +55,7 @@ without_index shape silent image uber entries has = record {
   fitting = record { births = has.fitting.births; below = has.fitting.below; apart = has.fitting.apart };
 }
 
+-- So alike uberblocks have the same index.
 pub alike_index : (shape : Shape) (silent : ℕ) (image : Image) (one other : Uber) (entries : List IndexEntry)
     → AreAlike one other → HasIndex shape silent image one entries
     → HasIndex shape silent image other entries

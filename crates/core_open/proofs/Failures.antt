@@ -1,17 +1,16 @@
 -- Which devices failed so far, as reads go on.
-use Rattle.std.proofs.Common.{◌≡◌, ⊎_elim, inl, inr, ℕ, ◌<◌, sym, subst, arith}
-use Rattle.std.proofs.lemmas.Bool.{cases_eq}
+use Rattle.std.proofs.Common.{◌≡◌, ⊎_elim, inl, inr, ℕ, ◌<◌, sym, ◌∙◌, subst, arith}
+use Rattle.std.proofs.lemmas.Bool.{cases_eq, true≢false}
 use Rattle.bank_trait.specs.Causes.{Rose}
 use Rattle.bank_trait.specs.Disk.{Disk, Unchanged}
 use Rattle.uberblock_ring.specs.Devices.{with_device}
 use Rattle.uberblock_ring.proofs.DeviceSets.{none_in, others_with}
-use Rattle.std.proofs.lemmas.Bool.{true≢false}
-use Rattle.std.proofs.Common.{◌∙◌}
 use Rattle.core_state.specs.Shown.{read_devices}
 use Rattle.core_open.specs.Failing.{HaveFailed, HaveFailedSince, MayLose}
 use Rattle.core_open.specs.Holds.{shape_of}
 use Rattle.core_open.proofs.Unchanged.{rose_then, then_rose}
 
+-- No device has failed.
 pub none_failed : (old new : Disk) → HaveFailed old new 0
 none_failed old new device has = absurd (true≢false (sym has ∙ none_in device))
 
@@ -33,6 +32,7 @@ failed_with old mid new devices device failed first next low rose other has = �
     (λ apart. failed_on old mid new devices failed next other (sym (others_with devices device other apart) ∙ has))
     (cases_eq other device)
 
+-- After the reads of one more device.
 pub failed_more : (old mid new : Disk) (before after device : ℕ) → HaveFailed old mid before → Unchanged old mid
     → Unchanged mid new → device < read_devices (shape_of old) → MayLose device mid new before after
     → HaveFailed old new after
@@ -41,10 +41,11 @@ failed_more old mid new before after device failed first next low (inl same) =
 failed_more old mid new before after device failed first next low (inr (is, rose)) =
     subst (λ devices. HaveFailed old new devices) (sym is) (failed_with old mid new before device failed first next low rose)
 
--- The same beside those that had failed before.
+-- The same beside those that had failed before: at the beginning,
 pub since_none : (disk : Disk) (devices : ℕ) → HaveFailedSince disk disk devices devices
 since_none disk devices device has = inl has
 
+-- after more reads,
 pub since_on : (old mid new : Disk) (before after : ℕ) → HaveFailedSince old mid before after → Unchanged mid new
     → HaveFailedSince old new before after
 since_on old mid new before after failed same device has = ⊎_elim
@@ -53,6 +54,7 @@ since_on old mid new before after failed same device has = ⊎_elim
     inr (rose.0, rose_then old device rose.1 same))
     (failed device has)
 
+-- after one more failed,
 pub since_with : (old mid new : Disk) (before after device : ℕ) → HaveFailedSince old mid before after → Unchanged old mid
     → Unchanged mid new → device < read_devices (shape_of mid) → Rose (mid.faults device) (new.faults device)
     → HaveFailedSince old new before (with_device after device)
@@ -64,6 +66,7 @@ since_with old mid new before after device failed first next low rose other has 
     (λ apart. since_on old mid new before after failed next other (sym (others_with after device other apart) ∙ has))
     (cases_eq other device)
 
+-- and both together.
 pub failed_since : (old mid new : Disk) (before after : ℕ) → HaveFailed old mid before → Unchanged old mid
     → Unchanged mid new → HaveFailedSince mid new before after
     → HaveFailed old new after

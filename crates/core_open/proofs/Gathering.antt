@@ -17,6 +17,7 @@ below_next device set below =
     let wider : 2 ^ device ≤ 2 ^ (device + 1) = pow_mono (omega arith) in
     omega (arith, below, wider)
 
+-- at the beginning,
 pub gathered_none : (P : ℕ → Type 0) → IsGathered P 0 0
 gathered_none P = record {
   has = λ other is. absurd (true≢false (sym is ∙ none_in other));
@@ -24,6 +25,7 @@ gathered_none P = record {
   below = omega arith;
 }
 
+-- with one more device,
 pub gathered_with : (P : ℕ → Type 0) (device set : ℕ) → IsGathered P device set → P device
     → IsGathered P (device + 1) (with_device set device)
 gathered_with P device set so_far is = record {
@@ -39,6 +41,7 @@ gathered_with P device set so_far is = record {
   below = with_below set device (device + 1) (below_next device set so_far.below) (omega arith);
 }
 
+-- without it,
 pub gathered_without : (P : ℕ → Type 0) (device set : ℕ) → IsGathered P device set → (P device → ⊥)
     → IsGathered P (device + 1) set
 gathered_without P device set so_far not_it = record {
@@ -50,6 +53,7 @@ gathered_without P device set so_far not_it = record {
   below = below_next device set so_far.below;
 }
 
+-- and at the end.
 pub gathered_all : (P : ℕ → Type 0) (device set limit : ℕ) → IsGathered P device set → device ≤ limit → limit ≤ device
     → (other : ℕ) → has_device set other ≡ true ↔ ((other < limit) × P other)
 gathered_all P device set limit gathered low high other = (

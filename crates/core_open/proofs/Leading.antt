@@ -13,10 +13,12 @@ pub record IsLeader (votes : List Vote) (seen pool most : ℕ) : Type 0 where
   pub most_of : (k : ℕ) → k < seen → (d : Vote) → votes_for (get_or votes k d).pool votes ≤ most
   pub first : (k : ℕ) (d : Vote) → k < place → votes_for (get_or votes k d).pool votes < most
 
+-- So it is after some votes, or none was seen.
 abbrev pub IsLeading : List Vote → ℕ → Option ℕ → ℕ → Type 0
 IsLeading votes seen None most = (seen ≡ 0) × (most ≡ 0)
 IsLeading votes seen (Some pool) most = IsLeader votes seen pool most
 
+-- No pool seen so far has more.
 most_so_far : (votes : List Vote) (seen : ℕ) (winner : Option ℕ) (most : ℕ) → IsLeading votes seen winner most
     → (k : ℕ) → k < seen → (d : Vote) → votes_for (get_or votes k d).pool votes ≤ most
 most_so_far votes seen None most none k low d = absurd (omega (arith, low, none.0))
@@ -59,6 +61,7 @@ module _ (votes : List Vote) (seen : ℕ) (winner : Option ℕ) (most : ℕ) (so
         first = leader.first;
       }
 
+-- All votes were seen.
 pub leader_wins : (votes : List Vote) (seen pool most : ℕ) → seen ≤ length votes → length votes ≤ seen
     → IsLeader votes seen pool most
     → IsWinner votes pool

@@ -1,6 +1,6 @@
 -- How the candidates of the greatest group that has any are found, copy by copy.
 use Rattle.std.proofs.Common.{◌≡◌, ◌≢◌, ◌⊎◌, inl, inr, ⊎_elim, ℕ, zero, suc, ◌+◌, ◌<◌, ◌≤◌, false, List, [], ◌∷◌, ◌++◌, length, Some, refl, sym, ◌∙◌, ap, subst, arith, get_or}
-use Rattle.std.specs.Prelude.{All, AllPairs, Contains, slice_get}
+use Rattle.std.specs.Prelude.{All, Contains, slice_get}
 use Rattle.std.proofs.lemmas.Bool.{cases_eq, cases_lt}
 use Rattle.std.proofs.lemmas.List.{get_or_default}
 use Rattle.std.proofs.lemmas.List.Elements.{All-contains, All-nil, All-push, All-weaker, Contains-append_left, Contains-push}
@@ -11,7 +11,7 @@ use Rattle.uberblock_ring.specs.Devices.{has_device}
 use Rattle.uberblock_ring.specs.Uberblock.{Uber}
 use Rattle.core_state.specs.Shown.{Shape, Shows, IsCandidate, read_devices}
 use Rattle.core_open.specs.declared.uber_copy.UberCopy.{UberCopy}
-use Rattle.core_open.specs.Copies.{AreByGroup, AreShown}
+use Rattle.core_open.specs.Copies.{AreByGroup, AreOfOneGroup, AreShown}
 use Rattle.core_open.specs.Candidates.{AreNewest, FirstHas, HasIndex, IsConsidered}
 use Rattle.core_open.proofs.ReadTo.{copy_on}
 
@@ -19,14 +19,12 @@ use Rattle.core_open.proofs.ReadTo.{copy_on}
 abbrev pub StandsBefore : List UberCopy → ℕ → UberCopy → Type 0
 StandsBefore all seen copy = (k : ℕ) × (k < seen) × (k < length all) × (get_or all k copy ≡ copy)
 
-abbrev InGroup : UberCopy → UberCopy → Type 0
-InGroup one other = (one.uber.group ≡ other.uber.group) × (one.device ≤ other.device)
-
 -- They are some of the first copies, of one group, by device.
 pub record AreFrom (all : List UberCopy) (seen : ℕ) (copies : List UberCopy) : Type 0 where
   pub listed : All (StandsBefore all seen) copies
-  pub order : AllPairs (λ one other. (one.uber.group ≡ other.uber.group) × (one.device ≤ other.device)) copies
+  pub order : AreOfOneGroup copies
 
+-- none yet,
 pub from_none : (all : List UberCopy) → AreFrom all 0 []
 from_none all = record { listed = All-nil _; order = λ i j d low high. absurd (omega (arith, high)) }
 
@@ -35,6 +33,7 @@ stands_on : (all : List UberCopy) (seen : ℕ) (copies : List UberCopy) → All 
 stands_on all seen copies listed = All-weaker (StandsBefore all seen) (StandsBefore all (seen + 1))
     (λ copy there. (there.0, omega (arith, there.1), there.2, there.3)) copies listed
 
+-- a copy more that is not one of them,
 pub from_past : (all : List UberCopy) (seen : ℕ) (copies : List UberCopy) → AreFrom all seen copies
     → AreFrom all (seen + 1) copies
 from_past all seen copies so_far =
@@ -42,7 +41,7 @@ from_past all seen copies so_far =
 
 -- All are of the first one's group.
 pub of_one_group : (copies : List UberCopy) (first : UberCopy) → slice_get copies 0 ≡ Some first
-    → AllPairs (λ one other. (one.uber.group ≡ other.uber.group) × (one.device ≤ other.device)) copies
+    → AreOfOneGroup copies
     → All (λ copy. (first.uber.group ≡ copy.uber.group) × (first.device ≤ copy.device)) copies
 of_one_group [] first is order k d low = absurd (omega (arith, low))
 of_one_group (one ∷ copies) first is order zero d low =
@@ -67,6 +66,7 @@ module _ (all : List UberCopy) (order : AreByGroup all) (seen : ℕ) (copy : Ube
   stands_here : StandsBefore all (seen + 1) copy
   stands_here = (seen, omega arith, below, sym is)
 
+  -- and one more of the same group.
   pub from_more : (copies : List UberCopy) → (IsOfAnother copies copy → ⊥) → AreFrom all seen copies
       → AreFrom all (seen + 1) (copies ++ copy ∷ [])
   from_more copies same so_far = record {
@@ -135,6 +135,7 @@ module _ (all : List UberCopy) (order : AreByGroup all) (seen : ℕ) (copy : Ube
           here = cc
 
 module _ (shape : Shape) (silent : ℕ) (image : Image) (pool : ℕ) (all : List UberCopy) where
+  -- A copy of the pool, on a device that isn't silent.
   abbrev pub IsOpen : UberCopy → Type 0
   IsOpen copy = (copy.uber.pool ≡ pool) × (has_device silent copy.device ≡ false)
 
@@ -147,6 +148,7 @@ module _ (shape : Shape) (silent : ℕ) (image : Image) (pool : ℕ) (all : List
         → Contains copies copy
     pub first : FirstHas shape silent image copies entries
 
+  -- No copy was looked at yet.
   pub newest_none : AreNewestOf 0 [] []
   newest_none = record {
     sound = All-nil _;

@@ -18,6 +18,7 @@ use Rattle.core_open.specs.Copies.{AreByDevice, AreRight, AreShown, ShowsIn}
 use Rattle.core_open.specs.Holds.{HoldsImage, shape_of}
 use Rattle.core_open.proofs.Unchanged.{holds_then, shape_then, unchanged_none, unchanged_then}
 
+-- a copy on a device
 abbrev pub copy_on : ℕ → Uber → UberCopy
 copy_on device uber = record { device = device; uber = uber }
 
@@ -40,12 +41,14 @@ shown_once shape image device one other shows also same =
     (valid_tells one other device device (slot_of one.group) (slot_of one.group) (image device (slot_of one.group))
     (omega (arith, low)) (omega (arith, low)) shows.valid here).0
 
+-- No device was read yet,
 pub read_none : (shape : Shape) (image : Image) → AreShown shape 0 image 0 []
 read_none shape image = record {
   each = All-nil _;
   every = λ device uber low. absurd (omega (arith, low));
 }
 
+-- and no slot of this one.
 pub read_begins : (shape : Shape) (silent : ℕ) (image : Image) (device : ℕ) (copies : List UberCopy)
     → AreShown shape silent image device copies
     → IsReadTo shape silent image device 0 copies
@@ -133,10 +136,12 @@ pub record IsReading (device slot silent : ℕ) (old new : Disk) (before copies 
   pub shown : (image : Image) → HoldsImage old image → AreShown (shape_of old) silent image device before
       → IsReadTo (shape_of old) silent image device slot copies
 
+-- They are so below a higher device too.
 pub right_wider : (devices more : ℕ) (copies : List UberCopy) → devices ≤ more → AreRight devices copies
     → AreRight more copies
 right_wider devices more copies wide right k d low = (omega (arith, wide, (right k d low).0), (right k d low).1)
 
+-- No slot was read yet,
 pub reading_begins : (device silent : ℕ) (disk : Disk) (copies : List UberCopy) → AreRight device copies
     → AreByDevice copies
     → IsReading device 0 silent disk disk copies copies
@@ -149,6 +154,7 @@ reading_begins device silent disk copies right order = record {
 
 module _ (device slot silent : ℕ) (old mid new : Disk) (before copies : List UberCopy)
     (so_far : IsReading device slot silent old mid before copies) (same : Unchanged mid new) where
+  -- a slot without an uberblock,
   pub reading_past : ((image : Image) → HoldsImage mid image → ShowsIn (shape_of mid) image device slot None)
       → IsReading device (slot + 1) silent old new before copies
   reading_past empty = record {
@@ -160,6 +166,7 @@ module _ (device slot silent : ℕ) (old mid new : Disk) (before copies : List U
         (empty image (holds_then so_far.unchanged holds)));
   }
 
+  -- and one with this one.
   pub reading_more : (uber : Uber) → IsRightUber uber
       → ((image : Image) → HoldsImage mid image → ShowsIn (shape_of mid) image device slot (Some uber))
       → IsReading device (slot + 1) silent old new before (copies ++ copy_on device uber ∷ [])

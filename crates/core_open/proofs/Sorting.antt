@@ -1,5 +1,5 @@
 -- Copies that stood by device are sorted by group, each group's devices in their order.
-use Rattle.std.proofs.Common.{◌≡◌, ◌⊎◌, inl, inr, ⊎_elim, ℕ, zero, suc, ◌+◌, ◌-◌, ◌<◌, ◌≤◌, List, Bool, true, false, ◌∙◌, subst, arith, get_or}
+use Rattle.std.proofs.Common.{◌≡◌, inl, inr, ⊎_elim, ℕ, zero, suc, ◌+◌, ◌-◌, ◌<◌, ◌≤◌, List, Bool, true, false, ◌∙◌, subst, arith, get_or}
 use Rattle.std.specs.Prelude.{length}
 use Rattle.std.specs.Ordering.{is_lt, nat_cmp}
 use Rattle.std.specs.List.Sorted.{IsSortedBy, IsStableBy, ties}
@@ -8,27 +8,27 @@ use Rattle.std.proofs.lemmas.Bool.Decides.{nat_tests}
 use Rattle.std.proofs.lemmas.Cmp.{nat_cmp_total}
 use Rattle.std.proofs.lemmas.List.Sorted.{IsStrictWeakOrder-flip, ranks_by, ties_stay_sorted}
 use Rattle.core_open.specs.declared.uber_copy.UberCopy.{UberCopy}
-use Rattle.core_open.specs.Copies.{AreByDevice, AreByGroup}
+use Rattle.core_open.specs.Copies.{AreByDevice, AreByGroup, GoesBefore}
 
+-- the order in which they stood, and the one by which they are sorted
 abbrev by_device : UberCopy → UberCopy → Bool
 by_device one other = is_lt (nat_cmp one.device other.device)
 
 abbrev pub by_group : UberCopy → UberCopy → Bool
 by_group one other = is_lt (nat_cmp other.uber.group one.uber.group)
 
+-- What the tests of the order say of numbers.
 below_not : (n m : ℕ) → n ≤ m → is_lt (nat_cmp m n) ≡ false
 below_not n m le = grind (arith, nat_tests)
 
 not_below : (n m : ℕ) → is_lt (nat_cmp m n) ≡ false → n ≤ m
 not_below n m is = grind (arith, nat_tests)
 
+-- Copies of one group tie.
 tie : (one other : UberCopy) → one.uber.group ≡ other.uber.group → ties by_group one other ≡ true
 tie one other same = grind (arith, nat_tests)
 
--- One copy goes before another, or is it.
-abbrev GoesBefore : UberCopy → UberCopy → Type 0
-GoesBefore one other = (other.uber.group < one.uber.group) ⊎ ((one.uber.group ≡ other.uber.group) × (one.device ≤ other.device))
-
+-- The order joins up.
 before_then : (one mid other : UberCopy) → GoesBefore one mid → GoesBefore mid other → GoesBefore one other
 before_then one mid other first next = ⊎_elim
     (λ (less : mid.uber.group < one.uber.group). inl (⊎_elim
@@ -57,6 +57,7 @@ all_from_next copies next one other d apart below = far (other - one - 1) one ot
         (next one d (omega (arith, is, below)))
         (far gap (one + 1) other d (omega (arith, is)) below)
 
+-- A stable sort by group leaves each group's devices in their order.
 pub sorted_by_group : (before after : List UberCopy) → AreByDevice before → IsSortedBy by_group after
     → IsStableBy by_group before after
     → AreByGroup after

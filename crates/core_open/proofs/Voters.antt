@@ -5,23 +5,24 @@ use Rattle.std.specs.List.{IsDistinct, list_any, Any, filter}
 use Rattle.std.proofs.lemmas.Bool.{eq-eqb, eqb-true, ne_eqb}
 use Rattle.std.proofs.lemmas.Cmp.{nat_eq_equiv}
 use Rattle.std.proofs.lemmas.List.{get_or_default}
-use Rattle.std.proofs.lemmas.List.Elements.{All-cons, All-nil, All-contains}
+use Rattle.std.proofs.lemmas.List.Elements.{All-cons, All-nil, All-contains, recursion_from_All}
 use Rattle.std.proofs.lemmas.List.Folds.{Any-from_list_any, list_any-from_Any}
 use Rattle.std.proofs.lemmas.List.Sums.{length-filter}
 use Rattle.std.proofs.lemmas.Map.Keys.{IsDistinct-cons}
 use Rattle.std.proofs.lemmas.Map.Made.{length-le_from_is_member}
-use Rattle.std.proofs.lemmas.List.Elements.{recursion_from_All}
 use Rattle.core_open.specs.declared.votes.Vote.{Vote}
 use Rattle.core_open.specs.Votes.{votes_for}
 
+-- a device's vote for a pool
 abbrev pub vote_by : ℕ → ℕ → Vote
 vote_by pool device = record { device = device; pool = pool }
 
--- those of them that vote for the pool
+-- the devices that vote for a pool
 abbrev pub voters : ℕ → List Vote → List ℕ
 voters pool [] = []
 voters pool (vote ∷ votes) = if vote.pool == pool then vote.device ∷ voters pool votes else voters pool votes
 
+-- They are as many as the pool has votes.
 pub length-voters : (pool : ℕ) (votes : List Vote) → length (voters pool votes) ≡ votes_for pool votes
 length-voters pool votes = filtered votes ∙ length-filter (λ (vote : Vote). vote.pool == pool) votes
   where
@@ -75,6 +76,7 @@ each_voter P pool (vote ∷ votes) each = by (vote.pool == pool) refl
         (each vote.device (0, omega arith, λ i. record { device = vote.device; pool = eqb-true vote.pool pool is i })) rest
     by false is rest = rest
 
+-- They stand by device.
 abbrev pub InOrder : List Vote → Type 0
 InOrder votes = AllPairs (λ one other. one.device < other.device) votes
 

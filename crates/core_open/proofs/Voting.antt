@@ -17,6 +17,7 @@ use Rattle.core_open.specs.Votes.{AreVotes, IsPoolChoice, IsVote, IsWinner, vote
 use Rattle.core_open.proofs.ReadTo.{shown_once}
 use Rattle.core_open.proofs.Voters.{each_voter, length-voters, some_votes, vote_by, voters, voters_distinct, voters_most, voter_listed}
 
+-- the vote at a place
 abbrev vote_at : List Vote → ℕ → Vote
 vote_at votes place = get_or votes place (vote_by 0 0)
 

@@ -1,5 +1,5 @@
 -- Which uberblocks of a pool are candidates, and those of the greatest group that has any.
-use Rattle.std.specs.Prelude.{◌≡◌, ◌⊎◌, ℕ, ◌+◌, ◌<◌, ◌≤◌, List, [], ◌∷◌, ◌++◌, Option, Some, None, length, All, AllPairs, Contains, slice_get, false}
+use Rattle.std.specs.Prelude.{◌≡◌, ◌⊎◌, ℕ, ◌+◌, ◌<◌, ◌≤◌, List, [], ◌∷◌, ◌++◌, Option, Some, None, length, All, Contains, slice_get, false}
 use Rattle.std.specs.declared.alloc.Global.{Global}
 use Rattle.std.specs.Prelude.{Vec}
 use Rattle.bank_trait.specs.Disk.{Image}
@@ -11,6 +11,7 @@ use Rattle.core_state.specs.Index.{IsFitting}
 use Rattle.core_state.specs.Shown.{Shape, Gives, IsCandidate}
 use Rattle.core_state.specs.Choosing.{IsChosenPool, IsNotPool}
 use Rattle.core_open.specs.declared.uber_copy.UberCopy.{UberCopy}
+use Rattle.core_open.specs.Copies.{AreOfOneGroup}
 
 -- The data rows are on the devices, and one outside the set gives the page, which fits.
 pub record HasIndex (shape : Shape) (silent : ℕ) (image : Image) (uber : Uber)
@@ -75,8 +76,7 @@ pub record AreNewest (shape : Shape) (silent : ℕ) (image : Image) (pool : ℕ)
       → IsCandidate shape silent pool image device uber listed
       → Contains copies (record { device = device; uber = uber })
       ⊎ ((copy : UberCopy) × Contains copies copy × (uber.group < copy.uber.group))
-  pub order : AllPairs (λ one other. (one.uber.group ≡ other.uber.group)
-      × (one.device ≤ other.device)) copies
+  pub order : AreOfOneGroup copies
   pub first : (copy : UberCopy) → slice_get copies 0 ≡ Some copy
       → IsCandidate shape silent pool image copy.device copy.uber entries
 

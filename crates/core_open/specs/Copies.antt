@@ -31,7 +31,16 @@ AreRight devices copies = All (λ copy. (copy.device < devices) × IsRightUber c
 abbrev pub AreByDevice : List UberCopy → Type 0
 AreByDevice copies = AllPairs (λ one other. one.device ≤ other.device) copies
 
+-- The first copy has the greater group, or in one group no higher device.
+abbrev pub GoesBefore : UberCopy → UberCopy → Type 0
+GoesBefore one other = (other.uber.group < one.uber.group)
+    ⊎ ((one.uber.group ≡ other.uber.group) × (one.device ≤ other.device))
+
 -- They stand by group from the greatest down, and in one group by device.
 abbrev pub AreByGroup : List UberCopy → Type 0
-AreByGroup copies = AllPairs (λ one other. (other.uber.group < one.uber.group)
-    ⊎ ((one.uber.group ≡ other.uber.group) × (one.device ≤ other.device))) copies
+AreByGroup copies = AllPairs GoesBefore copies
+
+-- They are of one group, and stand by device.
+abbrev pub AreOfOneGroup : List UberCopy → Type 0
+AreOfOneGroup copies = AllPairs
+    (λ one other. (one.uber.group ≡ other.uber.group) × (one.device ≤ other.device)) copies

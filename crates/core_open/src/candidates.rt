@@ -49,8 +49,8 @@ impl Candidates {
         }
     }
 
-    /// Adds a copy if it is a candidate. An uberblock that differs from the first one's in its out set
-    /// alone has the same index, which is not read again.
+    /// Adds a copy if it is a candidate. An uberblock that differs from the first one's in its out
+    /// set alone has the same index, which is not read again.
     pub fn consider<B: Bank>(
         &mut self,
         alloc: Global,
@@ -102,7 +102,7 @@ impl Candidates {
     }
 
     fn first_is_alike(&self, uber: &Uber) -> bool
-        ensures { IsTrue result → ((first : CopyOf)
+        ensures { IsTrue result ↔ ((first : CopyOf)
             × (slice_get self.now.copies.items 0 ≡ Some first)
             × AreAlike first.uber uber.now) }
     {
@@ -115,7 +115,7 @@ impl Candidates {
 
 /// Whether they differ in nothing but their out sets.
 fn are_alike(one: &Uber, other: &Uber) -> bool
-    ensures { IsTrue result → AreAlike one.now other.now }
+    ensures { IsTrue result ↔ AreAlike one.now other.now }
 {
     if one.pool() != other.pool() || one.group() != other.group() {
         return false;
@@ -124,15 +124,15 @@ fn are_alike(one: &Uber, other: &Uber) -> bool
 }
 
 fn have_same_page(one: &Uber, other: &Uber) -> bool
-    ensures { IsTrue result → (one.now.area ≡ other.now.area)
-        × (one.now.count ≡ other.now.count) × (one.now.digest ≡ other.now.digest) }
+    ensures { IsTrue result ↔ ((one.now.area ≡ other.now.area)
+        × (one.now.count ≡ other.now.count) × (one.now.digest ≡ other.now.digest)) }
 {
     one.area() == other.area() && one.count() == other.count() && one.digest() == other.digest()
 }
 
 fn have_same_widths(one: &Uber, other: &Uber) -> bool
-    ensures { IsTrue result → (one.now.parity ≡ other.now.parity)
-        × (one.now.reflow ≡ other.now.reflow) × (one.now.births ≡ other.now.births) }
+    ensures { IsTrue result ↔ ((one.now.parity ≡ other.now.parity)
+        × (one.now.reflow ≡ other.now.reflow) × (one.now.births ≡ other.now.births)) }
 {
     if one.parity() != other.parity() {
         return false;
@@ -141,13 +141,13 @@ fn have_same_widths(one: &Uber, other: &Uber) -> bool
 }
 
 fn have_same_reflow(one: &Uber, other: &Uber) -> bool
-    ensures { IsTrue result → (one.now.reflow ≡ other.now.reflow) }
+    ensures { IsTrue result ↔ (one.now.reflow ≡ other.now.reflow) }
 {
     one.reflow() == other.reflow()
 }
 
 fn have_same_births(one: &Uber, other: &Uber) -> bool
-    ensures { IsTrue result → (one.now.births ≡ other.now.births) }
+    ensures { IsTrue result ↔ (one.now.births ≡ other.now.births) }
 {
     one.births().as_slice() == other.births().as_slice()
 }

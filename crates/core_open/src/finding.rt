@@ -23,7 +23,7 @@ use uberblock_ring::{DeviceSet, Uber};
 
 /// What an opening found: the chosen uberblock, the lowest device that shows it as a candidate, and
 /// its index.
-#[derive(Drop)]
+#[derive(Debug, Drop)]
 pub struct Found {
     /// Devices that failed. They weren't called again.
     pub silent: DeviceSet,
@@ -36,9 +36,9 @@ pub struct Found {
     pub lacks_uber: DeviceSet,
 }
 
-/// Finds what a pool is to be opened with, by reads alone. A device that fails isn't called again, and
-/// the choice is made among the others. Whether too many are out is left to the caller, and so is the
-/// limit of groups.
+/// Finds what a pool is to be opened with, by reads alone. A device that fails isn't called again,
+/// and the choice is made among the others. Whether too many are out is left to the caller, and so
+/// is the limit of groups.
 pub fn find<B: Bank>(alloc: Global, bank: &mut B) -> Result<Found, OpenWhy>
     ensures found { IfOk result (λ found. (image : Image) → HoldsImage (B.disk bank.old) image
         → IsFoundIn (shape_of (B.disk bank.old)) image found) }

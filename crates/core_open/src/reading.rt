@@ -18,16 +18,16 @@ use uberblock_ring::{DeviceSet, RING_SLOTS, Uber};
 /// Devices from this number on are never read.
 pub const READ_DEVICES: u32 = 16;
 
-/// What the rings show, and the devices that failed, which aren't called again. What a silent device
-/// showed before it failed may be among the copies.
+/// What the rings show, and the devices that failed, which aren't called again. What a silent
+/// device showed before it failed may be among the copies.
 #[derive(Drop)]
 pub struct Rings {
     pub copies: Vec<UberCopy>,
     pub silent: DeviceSet,
 }
 
-/// Reads the ring of each device that may be read. The copies stand by group from the greatest down,
-/// and in one group by device.
+/// Reads the ring of each device that may be read. The copies stand by group from the greatest
+/// down, and in one group by device.
 pub fn read_rings<B: Bank>(alloc: Global, bank: &mut B) -> Result<Rings, AllocError>
     ensures unchanged { Unchanged (B.disk bank.old) (B.disk bank.new) }
     ensures silent { IfOk result (λ rings.

@@ -15,7 +15,10 @@ same_birth one other = (
 )
 
 pub returns : goal.returns
-returns c = λ is.
-    let same : c.as_slice.result.now ≡ c.as_slice-2.result.now =
-    (slice_eq-Decides same_birth c.as_slice.result.now c.as_slice-2.result.now c.eq.result c.eq.ensures).0 is in
-    sym (c.as_slice.ensures.value ∙ c.births.ensures.value) ∙ same ∙ c.as_slice-2.ensures.value ∙ c.births-2.ensures.value
+returns c =
+    let decides = slice_eq-Decides same_birth c.as_slice.result.now c.as_slice-2.result.now c.eq.result c.eq.ensures in
+    let one : c.as_slice.result.now ≡ c.args.one.now.births = c.as_slice.ensures.value ∙ c.births.ensures.value in
+    let other : c.as_slice-2.result.now ≡ c.args.other.now.births = c.as_slice-2.ensures.value ∙ c.births-2.ensures.value in (
+      (λ is. sym one ∙ decides.0 is ∙ other),
+      (λ same. decides.1 (one ∙ same ∙ sym other)),
+    )

@@ -13,7 +13,7 @@ returns-then-first_is_alike-clause-considered g c = λ image holds has.
     let shape = shape_of (g.B.Bank.disk c.args.bank.now) in
     let copies = c.args.self.now.copies.items in
     let entries = c.args.self.now.entries.items in
-    let there = c.if-first_is_alike.ensures refl in
+    let there = c.if-first_is_alike.ensures.0 refl in
     let pushed : c.push.new.self.items ≡ copies ++ c.args.copy.now ∷ [] = c.in_ok-push.ensures.items in (
       inl (pushed, (entries, alike_index shape c.args.silent image there.0.uber c.args.copy.now.uber entries there.2 (has there.0 there.1))),
       subst (λ (list : List UberCopy). (first : UberCopy) → slice_get list 0 ≡ Some first → HasIndex shape c.args.silent image first.uber entries)
