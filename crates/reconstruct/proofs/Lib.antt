@@ -1,4 +1,5 @@
 pub mod Worked
+pub mod Pairs
 pub mod Cutting
 pub mod Places
 pub mod Contents

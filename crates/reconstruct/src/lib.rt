@@ -13,6 +13,7 @@ mod reading;
 mod refusal;
 mod rows;
 mod sectors;
+mod suspecting;
 
 pub use decoding::decode;
 pub use encoding::encode;
@@ -20,6 +21,7 @@ pub use pair::Pair;
 pub use reading::content;
 pub use refusal::DecodeRefused;
 pub use rows::Rows;
+pub use suspecting::suspects;
 
 #[cfg(test)]
 mod tests;

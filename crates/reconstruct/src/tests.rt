@@ -1,6 +1,7 @@
-use crate::{DecodeRefused, Rows, content, decode, encode};
+use crate::{DecodeRefused, Pair, Rows, content, decode, encode, suspects};
 use row_layout::Layout;
 use std::alloc::AllocError;
+use width_map::Births;
 
 // Five sectors and not all of the last one, at sector 10, parity 1, width 4.
 const LEN: usize = 2500;
@@ -59,5 +60,19 @@ fn lost_columns_come_back_or_are_too_many(rt: HostRuntime) -> Result<(), AllocEr
         matches!(refused, Err(DecodeRefused::TooFew { row: 0 })),
         "columns 1 and 2 of row 0"
     );
+    Ok(())
+}
+
+// Widths 3 and 4.
+#[test]
+fn suspects_go_from_the_present_width_down(rt: HostRuntime) -> Result<(), AllocError> {
+    let mut births = Births::first(3);
+    births.add(9);
+    let pairs = suspects(rt.alloc(), &births, 4)?;
+    let wanted = [(4, 0), (4, 1), (4, 2), (4, 3), (3, 0), (3, 1), (3, 2)];
+    assert!(rt; pairs.len() == wanted.len());
+    for (pair, (width, device)) in pairs.iter().zip(wanted) {
+        assert_eq!(rt; *pair, Pair { width, device });
+    }
     Ok(())
 }
