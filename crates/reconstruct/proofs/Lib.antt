@@ -6,4 +6,6 @@ pub mod Contents
 pub mod Readback
 pub mod RowAgain
 pub mod Masks
-pub mod RowsAgain
+pub mod RowSolved
+pub mod SolvedRows
+pub mod Solution
