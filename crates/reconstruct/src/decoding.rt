@@ -115,13 +115,11 @@ fn solve_row(layout: &Layout, row: u32, columns: &mut [[u8; 512]], mask: u64)
     requires few { count_lost (is_masked mask) 0 (columns_in layout.now row) ≤ layout.now.parity }
     ensures { IsSolvedRow layout.now row mask columns.old columns.new }
 {
+    let parity = layout.parity();
     let present = layout.columns_in(row);
     clear_behind(columns, present as usize);
-    solve(
-        layout.parity(),
-        columns,
-        mask & (u64::MAX >> (64 - present)),
-    );
+    let lost = mask & (u64::MAX >> (64 - present));
+    solve(parity, columns, lost);
 }
 
 /// Missing columns count as zeros, whatever stands there.
