@@ -9,3 +9,5 @@ pub mod Masks
 pub mod RowSolved
 pub mod SolvedRows
 pub mod Solution
+pub mod SameBytes
+pub mod Telling

@@ -60,6 +60,14 @@ pub record BeginsSolution (layout : Layout) (columns : Columns) (lost : ℕ → 
   pub begins : take (length bytes) whole ≡ bytes
   pub solves : IsSolution layout columns lost (512 * layout.sectors) whole
 
+-- The columns that aren't lost are enough to tell these bytes, which have the digest.
+pub record Tells (layout : Layout) (columns : Columns) (lost : ℕ → ℕ → Bool) (len : ℕ)
+    (sha bytes : List ℕ) : Type 0 where
+  pub enough : IsPassedOver layout lost → ⊥
+  pub solves : IsSolution layout columns lost len bytes
+  pub are_bytes : AreBytes bytes
+  pub digest : sha256 bytes ≡ sha
+
 -- what is asked: a block's columns, length and digest, and the suspects
 pub record Question : Type 0 where
   pub layout : Layout
@@ -71,12 +79,9 @@ pub record Question : Type 0 where
 -- A choice gives these bytes, which have the digest.
 pub record IsGiven (question : Question) (choice : Choice) (bytes : List ℕ) : Type 0 where
   pub choice_is : IsChoice question.suspects question.layout.parity choice
-  pub tried : IsPassedOver question.layout
-      (is_lost question.layout question.columns question.suspects choice) → ⊥
-  pub solves : IsSolution question.layout question.columns
-      (is_lost question.layout question.columns question.suspects choice) question.len bytes
-  pub are_bytes : AreBytes bytes
-  pub digest : sha256 bytes ≡ question.sha
+  pub told : Tells question.layout question.columns
+      (is_lost question.layout question.columns question.suspects choice) question.len question.sha
+      bytes
 
 -- the answer: the bytes of the first choice that gives any
 pub record IsDecoded (question : Question) (bytes : List ℕ) : Type 0 where

@@ -33,6 +33,8 @@ pub fn decode(
     // The rows are looked at before anything else.
     ensures cause_too_few { (row : ℕ) → IsErrOf result (TooFew row)
         ↔ IsFirstTooFew layout.now lost.now row }
+    ensures enough { IfOk result (λ _bytes. (row : ℕ) → row < rows_of layout.now
+        → HasTooFew layout.now lost.now row → ⊥) }
     ensures len { IfOk result (λ bytes. length bytes.items ≡ len) }
 
     // Whatever bytes these columns are left of come back.

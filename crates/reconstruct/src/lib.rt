@@ -6,6 +6,7 @@
 //! order (`specs/Suspects.antt`). Stands on `gf_parity`, `gf_solve`, `row_layout` and `width_map`.
 #![tactic(auto)]
 
+mod checking;
 mod decoding;
 mod encoding;
 mod pair;
