@@ -6,6 +6,7 @@ pub mod Contents
 pub mod Readback
 pub mod RowAgain
 pub mod Masks
+pub mod Suspected
 pub mod RowSolved
 pub mod SolvedRows
 pub mod Solution

@@ -9,6 +9,7 @@
 mod checking;
 mod decoding;
 mod encoding;
+mod masking;
 mod pair;
 mod reading;
 mod refusal;
