@@ -12,3 +12,4 @@ pub mod SolvedRows
 pub mod Solution
 pub mod SameBytes
 pub mod Telling
+pub mod Choices

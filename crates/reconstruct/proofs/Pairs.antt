@@ -5,7 +5,7 @@ use Rattle.std.proofs.lemmas.List.Elements.{All-append, All-nil, All-cons}
 use Rattle.width_map.specs.declared.birth.Birth.{Birth}
 use Rattle.width_map.specs.Births.{first_width}
 use Rattle.reconstruct.specs.declared.pair.Pair.{Pair}
-use Rattle.reconstruct.specs.Suspects.{pairs_of_width, pairs_down, suspects_of}
+use Rattle.reconstruct.specs.Suspects.{pairs_of_width, pairs_down, suspects_of, AreInside}
 
 -- The pairs of one width more stand before those of narrower ones.
 pub one_width_more : (lowest width : ℕ) (pairs new all : List Pair) → lowest < width → pairs ++ pairs_down lowest (width - lowest) ≡ all
@@ -34,5 +34,5 @@ inside_down lowest (suc more) =
     (inside_down lowest more)
 
 -- Each suspect's device is one of its width's.
-pub all_inside : (births : List Birth) (to : ℕ) (pairs : List Pair) → pairs ≡ suspects_of births to → All (λ pair. pair.device < pair.width) pairs
+pub all_inside : (births : List Birth) (to : ℕ) (pairs : List Pair) → pairs ≡ suspects_of births to → AreInside pairs
 all_inside births to pairs is = rw is (inside_down (first_width births) (to - first_width births))

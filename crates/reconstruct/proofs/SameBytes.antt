@@ -1,16 +1,15 @@
 -- Bytes that are filled up with zeros are the same block.
-use Rattle.std.proofs.Common.{◌≡◌, ℕ, zero, suc, ◌+◌, ◌-◌, ◌*◌, ◌<◌, ◌≤◌, List, [], ◌∷◌, ◌++◌, length, length-append, Bool, refl, sym, ◌∙◌, ap, subst, arith, ⊎_elim}
-use Rattle.std.specs.Prelude.{take, drop, replicate, slice_index, if◌then◌else◌, nat_lt}
+use Rattle.std.proofs.Common.{◌≡◌, ℕ, zero, suc, ◌+◌, ◌-◌, ◌*◌, ◌<◌, ◌≤◌, List, [], ◌∷◌, ◌++◌, length, Bool, refl, sym, ◌∙◌, ap, arith, ⊎_elim}
+use Rattle.std.specs.Prelude.{take, drop, replicate, slice_index}
 use Rattle.std.proofs.lemmas.Bool.{cases_lt}
 use Rattle.std.proofs.lemmas.Grind.{same_number_lists}
-use Rattle.std.proofs.lemmas.List.{get_or_append_left, get_or-append-add, get_or-take, get_or-drop, get_or_past, length-take, length-drop, length-replicate}
+use Rattle.std.proofs.lemmas.List.{get_or_append_left, get_or-append-add, get_or-take, get_or-drop, get_or_past, length-take}
 use Rattle.gf_parity.specs.Parity.{parity_column}
 use Rattle.gf_solve.proofs.Restored.{zero_there}
 use Rattle.row_layout.specs.declared.column.Part.{Part}
 use Rattle.row_layout.specs.declared.column.Part.TheVariants.{Parity, Content, Missing}
 use Rattle.row_layout.specs.Layout.{Layout, columns_of, part_of, content_part}
 use Rattle.reconstruct.specs.Columns.{content_sector, content_bytes, row_contents, part_bytes, column_bytes}
-use Rattle.reconstruct.specs.Lost.{AreBytes}
 use Rattle.reconstruct.specs.Solved.{Columns, IsSolution}
 use Rattle.reconstruct.proofs.Cutting.{length-content_sector}
 

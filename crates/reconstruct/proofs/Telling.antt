@@ -1,5 +1,5 @@
 -- What whole sectors that were told say of the bytes in them.
-use Rattle.std.proofs.Common.{◌≡◌, ℕ, ◌+◌, ◌-◌, ◌*◌, ◌<◌, ◌≤◌, List, ◌++◌, false, IsTrue, length, length-append, sym, ◌∙◌, ap, subst, arith}
+use Rattle.std.proofs.Common.{◌≡◌, ℕ, ◌-◌, ◌*◌, ◌<◌, ◌≤◌, List, ◌++◌, false, IsTrue, length, length-append, sym, ◌∙◌, ap, subst, arith}
 use Rattle.std.specs.Prelude.{take, replicate, slice_index}
 use Rattle.std.proofs.lemmas.List.{get_or_past, take_all, length-take, length-replicate}
 use Rattle.std.proofs.Math.Seq.{take-append_seam}
@@ -8,7 +8,7 @@ use Rattle.row_layout.specs.Layout.{Layout, rows_of}
 use Rattle.reconstruct.specs.Rows.{sectors_for}
 use Rattle.reconstruct.specs.Lost.{AreBytes, HasTooFew, IsFirstTooFew}
 use Rattle.reconstruct.specs.Solved.{Columns, lost_by, IsPassedOver, IsSolution, BeginsSolution, Tells}
-use Rattle.reconstruct.proofs.SameBytes.{AreAlike, zeros_behind, zeros_cut, solution_alike}
+use Rattle.reconstruct.proofs.SameBytes.{zeros_behind, zeros_cut, solution_alike}
 
 pub never : IsTrue false → ⊥
 never is = absurd cc

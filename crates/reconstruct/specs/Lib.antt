@@ -4,3 +4,4 @@ pub mod Lost
 pub mod SolvedRow
 pub mod Suspects
 pub mod Solved
+pub mod Tried

@@ -76,12 +76,27 @@ pub record Question : Type 0 where
   pub sha : List ℕ
   pub suspects : List Pair
 
+-- what is asked of columns in memory
+abbrev pub question_with : Layout → Rows → List ℕ → ℕ → List ℕ → List Pair → Question
+question_with layout rows masks len sha suspects = record {
+  layout = layout;
+  columns = columns_with rows masks;
+  len = len;
+  sha = sha;
+  suspects = suspects;
+}
+
+-- The columns that a choice leaves tell these bytes.
+abbrev pub Told : Question → Choice → List ℕ → Type 0
+Told question choice bytes =
+    Tells question.layout question.columns
+    (is_lost question.layout question.columns question.suspects choice) question.len question.sha
+    bytes
+
 -- A choice gives these bytes, which have the digest.
 pub record IsGiven (question : Question) (choice : Choice) (bytes : List ℕ) : Type 0 where
   pub choice_is : IsChoice question.suspects question.layout.parity choice
-  pub told : Tells question.layout question.columns
-      (is_lost question.layout question.columns question.suspects choice) question.len question.sha
-      bytes
+  pub told : Told question choice bytes
 
 -- the answer: the bytes of the first choice that gives any
 pub record IsDecoded (question : Question) (bytes : List ℕ) : Type 0 where

@@ -3,6 +3,7 @@
 ghost use Rattle.std.specs.Prelude.{◌≡◌, ◌↔◌, ℕ, ◌≤◌, List, length, slice_index, IfOk, IfSome, IfNone, IsTrue};
 ghost use Rattle.sha2.specs.Sha256.{sha256};
 ghost use Rattle.row_layout.specs.Layout.{rows_of};
+ghost use Rattle.row_layout.specs.Standing.{IsWithinLimits};
 ghost use Rattle.reconstruct.specs.Rows.{IsShaped, sectors_for};
 ghost use Rattle.reconstruct.specs.Lost.{AreBytes};
 ghost use Rattle.reconstruct.specs.Solved.{columns_with, lost_by, Tells};
@@ -24,6 +25,7 @@ pub fn decode_matching(
     requires len { sectors_for len ≡ layout.now.sectors }
     requires shape { IsShaped layout.now rows.now }
     requires masks { length lost.now ≡ rows_of layout.now }
+    ensures within { IfOk result (λ _found. IsWithinLimits layout.now) }
     ensures some { IfOk result (λ found. IfSome found (λ bytes. Tells layout.now
         (columns_with rows.now lost.now) (lost_by lost.now) len digest.now bytes.items)) }
     ensures none { IfOk result (λ found. IfNone found ((bytes : List ℕ) → Tells layout.now

@@ -7,6 +7,7 @@
 #![tactic(auto)]
 
 mod checking;
+mod choosing;
 mod decoding;
 mod encoding;
 mod masking;
@@ -17,11 +18,12 @@ mod rows;
 mod sectors;
 mod suspecting;
 
+pub use choosing::decode_checked;
 pub use decoding::decode;
 pub use encoding::encode;
 pub use pair::Pair;
 pub use reading::content;
-pub use refusal::DecodeRefused;
+pub use refusal::{CheckRefused, DecodeRefused};
 pub use rows::Rows;
 pub use suspecting::suspects;
 

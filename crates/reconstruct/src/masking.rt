@@ -3,6 +3,7 @@
 ghost use Rattle.std.specs.Prelude.{◌≡◌, ℕ, ◌<◌, ◌≤◌, length, slice_index, ◌||◌, IfOk};
 ghost use Rattle.gf_solve.specs.Row.{is_masked};
 ghost use Rattle.row_layout.specs.Layout.{rows_of, columns_in, sector_of};
+ghost use Rattle.row_layout.specs.Standing.{IsWithinLimits};
 ghost use Rattle.reconstruct.specs.Suspects.{is_suspect};
 
 use crate::Pair;
@@ -18,6 +19,7 @@ pub fn with_suspect(
 ) -> Result<Vec<u64>, AllocError>
     requires masks { length lost.now ≡ rows_of layout.now }
     requires some { 0 < pair.now.width }
+    ensures within { IfOk result (λ _masks. IsWithinLimits layout.now) }
     ensures long { IfOk result (λ masks. length masks.items ≡ rows_of layout.now) }
     ensures value { IfOk result (λ masks. (row column : ℕ) → row < rows_of layout.now
         → column < columns_in layout.now row → is_masked (slice_index masks.items row) column

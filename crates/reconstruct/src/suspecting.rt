@@ -1,7 +1,7 @@
 // All pairs that may come under suspicion.
 
-ghost use Rattle.std.specs.Prelude.{◌≡◌, ◌++◌, ◌<◌, All, IfOk, OnOk};
-ghost use Rattle.reconstruct.specs.Suspects.{pairs_of_width, suspects_of};
+ghost use Rattle.std.specs.Prelude.{◌≡◌, ◌++◌, IfOk, OnOk};
+ghost use Rattle.reconstruct.specs.Suspects.{pairs_of_width, suspects_of, AreInside};
 
 use crate::Pair;
 use std::alloc::{AllocError, Global};
@@ -11,7 +11,7 @@ use width_map::Births;
 /// width upwards.
 pub fn suspects(alloc: Global, births: &Births, to: u32) -> Result<Vec<Pair>, AllocError>
     ensures value { IfOk result (λ pairs. pairs.items ≡ suspects_of births.now to) }
-    ensures inside { IfOk result (λ pairs. All (λ pair. pair.device < pair.width) pairs.items) }
+    ensures inside { IfOk result (λ pairs. AreInside pairs.items) }
 {
     let first = births.as_slice()[0].width;
     let mut pairs = Vec::new(alloc);

@@ -1,4 +1,4 @@
-use Rattle.std.proofs.Common.{◌≡◌, ◌∙◌, ℕ, ◌*◌, List, Err, refl, sym, ap, subst, arith}
+use Rattle.std.proofs.Common.{◌≡◌, ◌∙◌, ℕ, ◌*◌, List, Err, refl, sym, ap, subst}
 use Rattle.std.specs.Prelude.{take, slice_index}
 use Rattle.sha2.specs.Sha256.{sha256}
 use Rattle.reconstruct.specs.Lost.{AreBytes}
