@@ -3,7 +3,8 @@
 //! All columns of a block stand in one piece of memory, row after row, the missing ones zero. What
 //! each one holds is told by `specs/Columns.antt`: read it first, then `specs/Rows.antt`. Where
 //! bytes don't have the block's digest, pairs of a width and a device are suspected in a fixed
-//! order (`specs/Suspects.antt`). Stands on `gf_parity`, `gf_solve`, `row_layout` and `width_map`.
+//! order: read `specs/Suspects.antt`, then `specs/Solved.antt`. Stands on `gf_parity`, `gf_solve`,
+//! `row_layout` and `width_map`.
 #![tactic(auto)]
 
 mod checking;
