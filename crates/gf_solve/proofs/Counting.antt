@@ -105,6 +105,49 @@ count_but_one lost to there below before behind =
       count_all lost (0 + there + 1) (to - (there + 1)) (λ k from low. behind k (omega (arith, from)) (omega (arith, low, below))),
     )
 
+-- Where none is lost, none counts.
+pub count_nothing : (lost : ℕ → Bool) (first some : ℕ) → ((k : ℕ) → first ≤ k → k < first + some → lost k ≡ false) → count_lost lost first some ≡ 0
+count_nothing lost first zero none = refl
+count_nothing lost first (suc some) none =
+    ap (λ (t : Bool). (if t then 1 else 0) + count_lost lost (first + 1) some) (none first (omega arith) (omega arith))
+    ∙ ap (λ (k : ℕ). 0 + k) (count_nothing lost (first + 1) some (λ k from below. none k (omega (arith, from)) (omega (arith, below))))
+
+-- No more count than there are.
+pub count_few : (lost : ℕ → Bool) (first some : ℕ) → count_lost lost first some ≤ some
+count_few lost first zero = omega arith
+count_few lost first (suc some) = one_more (lost first) (count_few lost (first + 1) some)
+  where
+    one_more : (test : Bool) → count_lost lost (first + 1) some ≤ some → (if test then 1 else 0) + count_lost lost (first + 1) some ≤ suc some
+    one_more true few = omega (arith, few)
+    one_more false few = omega (arith, few)
+
+-- A run of columns is counted in front of one, at it, and behind it.
+count_at : (lost : ℕ → Bool) (first column to : ℕ) → first ≤ column → column < to
+    → count_lost lost first (to - first) ≡ count_lost lost first (column - first) + ((if lost column then 1 else 0) + count_lost lost (column + 1) (to - (column + 1)))
+count_at lost first column to from below =
+    let parts : to - first ≡ (column - first) + suc (to - (column + 1)) = omega (arith, from, below) in
+    let here : first + (column - first) ≡ column = omega (arith, from) in
+    ap (count_lost lost first) parts ∙ count_split lost first (column - first) (suc (to - (column + 1)))
+    ∙ ap (λ (k : ℕ). count_lost lost first (column - first) + count_lost lost k (suc (to - (column + 1)))) here
+
+-- The first lost column counts one, and then those behind it.
+pub count_first : (lost : ℕ → Bool) (first column to : ℕ) → first ≤ column → column < to → ((k : ℕ) → first ≤ k → k < column → lost k ≡ false) → lost column ≡ true
+    → count_lost lost first (to - first) ≡ 1 + count_lost lost (column + 1) (to - (column + 1))
+count_first lost first column to from below none is =
+    count_at lost first column to from below
+    ∙ ap (λ (k : ℕ). k + ((if lost column then 1 else 0) + count_lost lost (column + 1) (to - (column + 1))))
+    (count_nothing lost first (column - first) (λ k least low. none k least (omega (arith, low, from))))
+    ∙ ap (λ (t : Bool). 0 + ((if t then 1 else 0) + count_lost lost (column + 1) (to - (column + 1)))) is ∙ omega arith
+
+-- A column that is there doesn't count.
+pub count_room : (lost : ℕ → Bool) (first column to : ℕ) → first ≤ column → column < to → lost column ≡ false
+    → count_lost lost first (to - first) ≤ (column - first) + count_lost lost (column + 1) (to - (column + 1))
+count_room lost first column to from below is =
+    let counted : count_lost lost first (to - first) ≡ count_lost lost first (column - first) + (0 + count_lost lost (column + 1) (to - (column + 1))) =
+    count_at lost first column to from below
+    ∙ ap (λ (t : Bool). count_lost lost first (column - first) + ((if t then 1 else 0) + count_lost lost (column + 1) (to - (column + 1)))) is in
+    omega (arith, counted, count_few lost first (column - first))
+
 -- One column more.
 pub count_more : (lost : ℕ → Bool) (to : ℕ) → count_lost lost 0 (to + 1) ≡ count_lost lost 0 to + (if lost to then 1 else 0)
 count_more lost to =

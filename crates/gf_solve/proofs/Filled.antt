@@ -17,11 +17,11 @@ byte_of was place at = slice_index (slice_index_or was place []) at
 pub record IsLack (which : ℕ) (content : List (List ℕ)) (parity lack : List ℕ) : Type 0 where
   pub byte : (at : ℕ) → at < 512 → slice_index lack at ≡ bit_xor (parity_byte which (bytes_at at content)) (slice_index parity at)
 
-zero_at : (content : List (List ℕ)) (place at : ℕ) (zeros : List ℕ) → place < length content → ((k : ℕ) → slice_index zeros k ≡ 0)
+pub zero_at : (content : List (List ℕ)) (place at : ℕ) (zeros : List ℕ) → place < length content → ((k : ℕ) → slice_index zeros k ≡ 0)
     → slice_index (slice_index_or (slice_set content place zeros) place []) at ≡ 0
 zero_at content place at zeros low none = ap (λ (c : List ℕ). slice_index c at) (get_or-set_same content place zeros [] low) ∙ none at
 
-zero_stays : (content : List (List ℕ)) (place other at : ℕ) (zeros : List ℕ) → other ≢ place → slice_index (slice_index_or content other []) at ≡ 0
+pub zero_stays : (content : List (List ℕ)) (place other at : ℕ) (zeros : List ℕ) → other ≢ place → slice_index (slice_index_or content other []) at ≡ 0
     → slice_index (slice_index_or (slice_set content place zeros) other []) at ≡ 0
 zero_stays content place other at zeros differ none = ap (λ (c : List ℕ). slice_index c at) (get_or-set_other content place other zeros [] differ) ∙ none
 
@@ -51,7 +51,7 @@ module _ (was content : List (List ℕ)) (zeros : List ℕ) (sectors : AreSector
       bytes at low =
           found at (byte_of was first at) low ((sectors.each first in_was).bytes at)
           (lacks.byte at low
-          ∙ lack_of_one which at first was (slice_set content first zeros) parity few low sectors in_was empty (zero_at content first at zeros first_in blank) parity_is
+          ∙ lack_of_one which at first was (slice_set content first zeros) parity few low ((sectors.each first in_was).bytes at) in_was empty (zero_at content first at zeros first_in blank) parity_is
           ∙ ap (λ (k : ℕ). share which k (byte_of was first at)) (sym point))
 
   pub filled_two : (first second sooner later x y : ℕ) (sooner_parity later_parity low high first_found second_found : List ℕ) → sooner < 3 → later < 3
@@ -100,7 +100,7 @@ module _ (was content : List (List ℕ)) (zeros : List ℕ) (sectors : AreSector
           → slice_index lack at ≡ two_shares which x y (byte_of was first at) (byte_of was second at)
       shares which at few small parity lack parity_is lack_is =
           lack_is.byte at small
-          ∙ lack_of_two which at first second was (slice_set (slice_set content first zeros) second zeros) parity few small sectors first_was second_was apart empty
+          ∙ lack_of_two which at first second was (slice_set (slice_set content first zeros) second zeros) parity few small ((sectors.each first first_was).bytes at) ((sectors.each second second_was).bytes at) first_was second_was apart empty
           (none_first at) (none_second at) parity_is
           ∙ ap (λ (k : ℕ). two_shares which k (point_of (length was) second) (byte_of was first at) (byte_of was second at)) (sym (x_is ∙ ap (λ (k : ℕ). point_of k first) agree.long))
           ∙ ap (λ (k : ℕ). two_shares which x k (byte_of was first at) (byte_of was second at)) (sym (y_is ∙ ap (λ (k : ℕ). point_of k second) agree.long))
@@ -182,7 +182,7 @@ module _ (was content : List (List ℕ)) (zeros : List ℕ) (sectors : AreSector
           → slice_index lack at ≡ three_shares which x y z (byte_of was first at) (byte_of was second at) (byte_of was third at)
       shares which at few small parity lack parity_is lack_is =
           lack_is.byte at small
-          ∙ lack_of_three which at first second third was (slice_set (slice_set (slice_set content first zeros) second zeros) third zeros) parity few small sectors
+          ∙ lack_of_three which at first second third was (slice_set (slice_set (slice_set content first zeros) second zeros) third zeros) parity few small ((sectors.each first first_was).bytes at) ((sectors.each second second_was).bytes at) ((sectors.each third third_was).bytes at)
           first_was second_was third_was second_first third_first third_second empty (none_first at) (none_second at) (none_third at) parity_is
           ∙ ap (λ (k : ℕ). three_shares which k (point_of (length was) second) (point_of (length was) third) (byte_of was first at) (byte_of was second at) (byte_of was third at))
           (sym (x_is ∙ ap (λ (k : ℕ). point_of k first) agree.long))

@@ -1,10 +1,11 @@
 -- Three lost columns that were found are all.
 use Rattle.std.proofs.Common.{◌≡◌, ◌≢◌, ℕ, ◌+◌, ◌-◌, ◌<◌, ◌≤◌, Bool, true, false, refl, ◌∙◌, ap, arith, inl, inr, ⊎_elim}
 use Rattle.std.proofs.lemmas.Bool.{cases_lt, cases_eq}
-use Rattle.gf_solve.specs.declared.gaps.Gaps.TheVariants.{Three}
+use Rattle.gf_solve.specs.declared.gaps.Gaps.{Gaps}
+use Rattle.gf_solve.specs.declared.gaps.Gaps.TheVariants.{Whole, One, Two, Three}
 use Rattle.gf_solve.specs.Row.{count_lost}
 use Rattle.gf_solve.specs.Gaps.{IsGap, AreGaps}
-use Rattle.gf_solve.proofs.Counting.{count_here, count_three}
+use Rattle.gf_solve.proofs.Counting.{count_here, count_first, count_nothing, count_three}
 
 -- what isn't true is false
 pub not_true : (test : Bool) → (test ≡ true → ⊥) → test ≡ false
@@ -52,6 +53,69 @@ three_gaps lost to first second third few first_in second_up second_in third_up 
       where
         above : (low high : ℕ) → low ≤ high → high ≢ low → low + 1 ≤ high
         above low high at_least differ = ⊎_elim (λ less. omega (arith, less)) (λ at_most. absurd (differ (omega (arith, at_least, at_most)))) (cases_lt low high)
+
+-- how many gaps there are
+abbrev pub number_of : Gaps → ℕ
+number_of Whole = 0
+number_of (One first) = 1
+number_of (Two first second) = 2
+number_of (Three first second third) = 3
+
+whole : (to : ℕ) → to ≡ to - 0
+whole to = omega arith
+
+-- As many columns are lost as there are gaps.
+pub count_gaps : (lost : ℕ → Bool) (to : ℕ) (gaps : Gaps) → AreGaps lost to gaps → count_lost lost 0 to ≡ number_of gaps
+count_gaps lost to Whole are = count_nothing lost 0 to (λ k from below. are.others k (omega (arith, below)) (λ is. is))
+count_gaps lost to (One first) are =
+    let first_in : first < to = are.inside first refl in
+    let rest : count_lost lost (first + 1) (to - (first + 1)) ≡ 0 =
+    count_nothing lost (first + 1) (to - (first + 1)) (λ k from below. are.others k (omega (arith, below, first_in)) (λ is. omega (arith, from, is))) in
+    ap (count_lost lost 0) (whole to)
+    ∙ count_first lost 0 first to (omega arith) first_in (λ k from below. are.others k (omega (arith, below, first_in)) (λ is. omega (arith, below, is))) (are.lost_there first refl)
+    ∙ omega (arith, rest)
+count_gaps lost to (Two first second) are =
+    let second_in : second < to = are.inside second (inr refl) in
+    let ascend : first < second = are.ascend in
+    let rest : count_lost lost (second + 1) (to - (second + 1)) ≡ 0 =
+    count_nothing lost (second + 1) (to - (second + 1))
+    (λ k from below. are.others k (omega (arith, below, second_in)) (λ is. ⊎_elim (λ a. omega (arith, from, a, ascend)) (λ b. omega (arith, from, b)) is)) in
+    ap (count_lost lost 0) (whole to)
+    ∙ count_first lost 0 first to (omega arith) (omega (arith, ascend, second_in))
+    (λ k from below. are.others k (omega (arith, below, ascend, second_in)) (λ is. ⊎_elim (λ a. omega (arith, below, a)) (λ b. omega (arith, below, b, ascend)) is))
+    (are.lost_there first (inl refl))
+    ∙ omega (
+      arith,
+      rest,
+      count_first lost (first + 1) second to (omega (arith, ascend)) second_in
+          (λ k from below. are.others k (omega (arith, below, second_in)) (λ is. ⊎_elim (λ a. omega (arith, from, a)) (λ b. omega (arith, below, b)) is))
+          (are.lost_there second (inr refl)),
+    )
+count_gaps lost to (Three first second third) are =
+    let third_in : third < to = are.inside third (inr (inr refl)) in
+    let ascend : first < second = are.ascend.0 in
+    let ascend_more : second < third = are.ascend.1 in
+    let rest : count_lost lost (third + 1) (to - (third + 1)) ≡ 0 =
+    count_nothing lost (third + 1) (to - (third + 1))
+    (λ k from below. are.others k (omega (arith, below, third_in))
+    (λ is. ⊎_elim (λ a. omega (arith, from, a, ascend, ascend_more)) (λ more. ⊎_elim (λ b. omega (arith, from, b, ascend_more)) (λ last. omega (arith, from, last)) more) is)) in
+    ap (count_lost lost 0) (whole to)
+    ∙ count_first lost 0 first to (omega arith) (omega (arith, ascend, ascend_more, third_in))
+    (λ k from below. are.others k (omega (arith, below, ascend, ascend_more, third_in))
+    (λ is. ⊎_elim (λ a. omega (arith, below, a)) (λ more. ⊎_elim (λ b. omega (arith, below, b, ascend)) (λ last. omega (arith, below, last, ascend, ascend_more)) more) is))
+    (are.lost_there first (inl refl))
+    ∙ omega (
+      arith,
+      rest,
+      count_first lost (first + 1) second to (omega (arith, ascend)) (omega (arith, ascend_more, third_in))
+          (λ k from below. are.others k (omega (arith, below, ascend_more, third_in))
+          (λ is. ⊎_elim (λ a. omega (arith, from, a)) (λ more. ⊎_elim (λ b. omega (arith, below, b)) (λ last. omega (arith, below, last, ascend_more)) more) is))
+          (are.lost_there second (inr (inl refl))),
+      count_first lost (second + 1) third to (omega (arith, ascend_more)) third_in
+          (λ k from below. are.others k (omega (arith, below, third_in))
+          (λ is. ⊎_elim (λ a. omega (arith, from, a, ascend)) (λ more. ⊎_elim (λ b. omega (arith, from, b)) (λ last. omega (arith, below, last)) more) is))
+          (are.lost_there third (inr (inr refl))),
+    )
 
 -- Three gaps are three lost columns.
 pub three_count : (lost : ℕ → Bool) (to first second third : ℕ) → AreGaps lost to (Three first second third) → 3 ≤ count_lost lost 0 to

@@ -6,4 +6,7 @@ pub mod Counting
 pub mod Found
 pub mod Restored
 pub mod Filled
+pub mod Serving
 pub mod Solved
+pub mod Returned
+pub mod Fitting

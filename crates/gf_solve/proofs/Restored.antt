@@ -61,6 +61,10 @@ pub all_bytes : (columns : List (List ℕ)) → AreSectors columns → (at k : �
 all_bytes columns sectors at k =
     rw (bytes_at-get at columns k) (⊎_elim (λ low. (sectors.each k low).bytes at) (λ past. rw (get_or_past columns k [] past) (omega arith)) (cases_lt k (length columns)))
 
+-- A column's byte is one of the bytes at its offset.
+byte_is : (at : ℕ) (columns : List (List ℕ)) (k : ℕ) → slice_index (slice_index_or columns k []) at < 256 → slice_index (bytes_at at columns) k < 256
+byte_is at columns k byte = rw (bytes_at-get at columns k) byte
+
 -- A run of zeros has nothing but zeros.
 pub zero_there : (count at : ℕ) → slice_index (replicate count 0) at ≡ 0
 zero_there zero at = refl
@@ -104,13 +108,14 @@ byte_cleared at cleared k none = bytes_at-get at cleared k ∙ none
 
 -- ---- what a parity lacks
 
-pub lack_of_one : (which at first : ℕ) (was cleared : List (List ℕ)) (column : List ℕ) → which < 3 → at < 512 → AreSectors was → first < length was
+pub lack_of_one : (which at first : ℕ) (was cleared : List (List ℕ)) (column : List ℕ) → which < 3 → at < 512
+    → slice_index (slice_index_or was first []) at < 256 → first < length was
     → AgreeBut (IsGap (One first)) was cleared → slice_index (slice_index_or cleared first []) at ≡ 0 → column ≡ parity_column which was
     → bit_xor (parity_byte which (bytes_at at cleared)) (slice_index column at)
     ≡ share which (point_of (length was) first) (slice_index (slice_index_or was first []) at)
-lack_of_one which at first was cleared column few low sectors first_in agree none parity_is =
+lack_of_one which at first was cleared column few low byte first_in agree none parity_is =
     lack_by_bytes which at was cleared column (slice_set (bytes_at at was) first 0) low parity_is bytes
-    ∙ lacks_one which (bytes_at at was) first few (omega (arith, first_in, length-bytes_at at was)) (all_bytes was sectors at) ∙ share_is which at was first
+    ∙ lacks_one which (bytes_at at was) first few (omega (arith, first_in, length-bytes_at at was)) (byte_is at was first byte) ∙ share_is which at was first
   where
     bytes : bytes_at at cleared ≡ slice_set (bytes_at at was) first 0
     bytes =
@@ -122,15 +127,16 @@ lack_of_one which at first was cleared column few low sectors first_in agree non
         (λ differs. byte_there (IsGap (One first)) at was cleared k agree (omega (arith, k_in, length-bytes_at at cleared, agree.long)) differs
         ∙ sym (get_or-set_other (bytes_at at was) first k 0 0 differs)) (cases_eq k first))
 
-pub lack_of_two : (which at first second : ℕ) (was cleared : List (List ℕ)) (column : List ℕ) → which < 3 → at < 512 → AreSectors was → first < length was
+pub lack_of_two : (which at first second : ℕ) (was cleared : List (List ℕ)) (column : List ℕ) → which < 3 → at < 512
+    → slice_index (slice_index_or was first []) at < 256 → slice_index (slice_index_or was second []) at < 256 → first < length was
     → second < length was → second ≢ first
     → AgreeBut (IsGap (Two first second)) was cleared → slice_index (slice_index_or cleared first []) at ≡ 0 → slice_index (slice_index_or cleared second []) at ≡ 0
     → column ≡ parity_column which was
     → bit_xor (parity_byte which (bytes_at at cleared)) (slice_index column at)
     ≡ two_shares which (point_of (length was) first) (point_of (length was) second) (slice_index (slice_index_or was first []) at) (slice_index (slice_index_or was second []) at)
-lack_of_two which at first second was cleared column few low sectors first_in second_in differ agree none_first none_second parity_is =
+lack_of_two which at first second was cleared column few low byte other first_in second_in differ agree none_first none_second parity_is =
     lack_by_bytes which at was cleared column (slice_set (slice_set (bytes_at at was) first 0) second 0) low parity_is bytes
-    ∙ lacks_two which (bytes_at at was) first second few (omega (arith, first_in, length-bytes_at at was)) (omega (arith, second_in, length-bytes_at at was)) differ (all_bytes was sectors at)
+    ∙ lacks_two which (bytes_at at was) first second few (omega (arith, first_in, length-bytes_at at was)) (omega (arith, second_in, length-bytes_at at was)) differ (byte_is at was first byte) (byte_is at was second other)
     ∙ ap (λ (k : ℕ). bit_xor k (place_share which (bytes_at at was) second)) (share_is which at was first)
     ∙ ap (bit_xor (share which (point_of (length was) first) (slice_index (slice_index_or was first []) at))) (share_is which at was second)
   where
@@ -148,7 +154,8 @@ lack_of_two which at first second was cleared column few low sectors first_in se
         ∙ sym (get_or-set_other (bytes_at at was) first k 0 0 no_first) ∙ sym (get_or-set_other (slice_set (bytes_at at was) first 0) second k 0 0 no_second))
         (cases_eq k first)) (cases_eq k second))
 
-pub lack_of_three : (which at first second third : ℕ) (was cleared : List (List ℕ)) (column : List ℕ) → which < 3 → at < 512 → AreSectors was
+pub lack_of_three : (which at first second third : ℕ) (was cleared : List (List ℕ)) (column : List ℕ) → which < 3 → at < 512
+    → slice_index (slice_index_or was first []) at < 256 → slice_index (slice_index_or was second []) at < 256 → slice_index (slice_index_or was third []) at < 256
     → first < length was → second < length was → third < length was → second ≢ first → third ≢ first → third ≢ second
     → AgreeBut (IsGap (Three first second third)) was cleared
     → slice_index (slice_index_or cleared first []) at ≡ 0 → slice_index (slice_index_or cleared second []) at ≡ 0 → slice_index (slice_index_or cleared third []) at ≡ 0
@@ -156,10 +163,10 @@ pub lack_of_three : (which at first second third : ℕ) (was cleared : List (Lis
     → bit_xor (parity_byte which (bytes_at at cleared)) (slice_index column at)
     ≡ three_shares which (point_of (length was) first) (point_of (length was) second) (point_of (length was) third)
     (slice_index (slice_index_or was first []) at) (slice_index (slice_index_or was second []) at) (slice_index (slice_index_or was third []) at)
-lack_of_three which at first second third was cleared column few low sectors first_in second_in third_in differ differ_first differ_second agree none_first none_second none_third parity_is =
+lack_of_three which at first second third was cleared column few low byte other last first_in second_in third_in differ differ_first differ_second agree none_first none_second none_third parity_is =
     lack_by_bytes which at was cleared column (slice_set (slice_set (slice_set (bytes_at at was) first 0) second 0) third 0) low parity_is bytes
     ∙ lacks_three which (bytes_at at was) first second third few (omega (arith, first_in, length-bytes_at at was)) (omega (arith, second_in, length-bytes_at at was))
-    (omega (arith, third_in, length-bytes_at at was)) differ differ_first differ_second (all_bytes was sectors at)
+    (omega (arith, third_in, length-bytes_at at was)) differ differ_first differ_second (byte_is at was first byte) (byte_is at was second other) (byte_is at was third last)
     ∙ ap (λ (k : ℕ). bit_xor (bit_xor k (place_share which (bytes_at at was) second)) (place_share which (bytes_at at was) third)) (share_is which at was first)
     ∙ ap (λ (k : ℕ). bit_xor (bit_xor (share which (point_of (length was) first) (slice_index (slice_index_or was first []) at)) k) (place_share which (bytes_at at was) third)) (share_is which at was second)
     ∙ ap (bit_xor (two_shares which (point_of (length was) first) (point_of (length was) second) (slice_index (slice_index_or was first []) at) (slice_index (slice_index_or was second []) at))) (share_is which at was third)

@@ -4,9 +4,11 @@ use Rattle.std.specs.Prelude.{slice_index_or, drop, ◌==◌}
 use Rattle.std.proofs.lemmas.Bool.{cases_lt}
 use Rattle.std.proofs.lemmas.Nat.{shr-shr}
 use Rattle.std.proofs.lemmas.List.{get_or_append_left, get_or-append-add, get_or-drop, length-drop, length-append, ext_get_or}
+use Rattle.std.proofs.Math.Seq.{drop-append_seam}
 use Rattle.gf_parity.specs.Parity.{parity_column}
 use Rattle.gf_solve.specs.declared.gaps.Gaps.{Gaps}
-use Rattle.gf_solve.specs.Row.{AreSectors, IsParityOf, AreParitiesOf, IsRow, IsLeftOf, is_masked, count_lost}
+use Rattle.gf_solve.specs.Row.{AreSectors, IsParityOf, IsRow, IsLeftOf, is_masked, count_lost}
+use Rattle.gf_solve.specs.Serving.{AreServingOf, IsServedBy}
 use Rattle.gf_solve.specs.Gaps.{IsGap, AreGaps, AgreeBut}
 use Rattle.gf_solve.proofs.Counting.{count_split, count_alike}
 
@@ -22,19 +24,23 @@ agree_but_gaps was content lost gaps left are = record {
 pub masked_behind : (lost before column : ℕ) → is_masked lost (before + column) ≡ is_masked (lost / 2 ^ before) column
 masked_behind lost before column = ap (λ (k : ℕ). (k % 2) == 1) (sym (shr-shr lost before column))
 
+-- Lost columns behind some are counted by that mask.
+pub counted_behind : (lost before behind : ℕ) → count_lost (is_masked lost) before behind ≡ count_lost (is_masked (lost / 2 ^ before)) 0 behind
+counted_behind lost before behind =
+    count_alike (is_masked lost) (is_masked (lost / 2 ^ before)) before 0 behind
+    (λ k low. masked_behind lost before k ∙ ap (is_masked (lost / 2 ^ before)) (zero_plus k))
+  where
+    zero_plus : (a : ℕ) → a ≡ 0 + a
+    zero_plus a = omega arith
+
 -- Lost columns are counted in front and behind.
 pub counted_apart : (lost before behind : ℕ)
     → count_lost (is_masked lost) 0 (before + behind) ≡ count_lost (is_masked lost) 0 before + count_lost (is_masked (lost / 2 ^ before)) 0 behind
 counted_apart lost before behind =
-    count_split (is_masked lost) 0 before behind
-    ∙ ap (λ (k : ℕ). count_lost (is_masked lost) 0 before + k)
-    (count_alike (is_masked lost) (is_masked (lost / 2 ^ before)) (0 + before) 0 behind
-    (λ k low. ap (is_masked lost) (plus before k) ∙ masked_behind lost before k ∙ ap (is_masked (lost / 2 ^ before)) (zero_plus k)))
+    count_split (is_masked lost) 0 before behind ∙ ap (λ (k : ℕ). count_lost (is_masked lost) 0 before + count_lost (is_masked lost) k behind) (zero_plus before)
+    ∙ ap (λ (k : ℕ). count_lost (is_masked lost) 0 before + k) (counted_behind lost before behind)
   where
-    plus : (a b : ℕ) → 0 + a + b ≡ a + b
-    plus a b = omega arith
-
-    zero_plus : (a : ℕ) → a ≡ 0 + a
+    zero_plus : (a : ℕ) → 0 + a ≡ a
     zero_plus a = omega arith
 
 -- The content columns of a row are sectors.
@@ -60,13 +66,81 @@ left_behind parity lost was parities content columns is long left =
     }
 
 -- The parity columns that are left are those of the content.
-pub parities_left : (parity lost : ℕ) (was parities content columns : List (List ℕ)) → columns ≡ parities ++ content → length parities ≡ parity
-    → parity < length was → IsRow parity was → IsLeftOf was (is_masked lost) columns → AreParitiesOf (drop parity was) parities (is_masked lost)
-parities_left parity lost was parities content columns is long room row left = record {
-  each = λ which below there.
-      sym (get_or_append_left parities content [] which below) ∙ ap (λ (k : List (List ℕ)). slice_index_or k which []) (sym is)
-      ∙ left.there which (omega (arith, below, long, room)) there ∙ row.parities which (omega (arith, below, long));
+pub parity_left : (parity lost : ℕ) (was parities content columns : List (List ℕ)) → columns ≡ parities ++ content → length parities ≡ parity
+    → parity < length was → IsRow parity was → IsLeftOf was (is_masked lost) columns
+    → (which : ℕ) → which < length parities → is_masked lost which ≡ false → IsParityOf (drop parity was) parities which
+parity_left parity lost was parities content columns is long room row left which below there =
+    sym (get_or_append_left parities content [] which below) ∙ ap (λ (k : List (List ℕ)). slice_index_or k which []) (sym is)
+    ∙ left.there which (omega (arith, below, long, room)) there ∙ row.parities which (omega (arith, below, long))
+
+-- So are those that serve.
+pub parities_left : (parity lost gaps : ℕ) (was parities content columns : List (List ℕ)) → columns ≡ parities ++ content → length parities ≡ parity
+    → parity < length was → IsRow parity was → IsLeftOf was (is_masked lost) columns
+    → AreServingOf (drop parity was) parities (is_masked lost) (length parities) gaps
+parities_left parity lost gaps was parities content columns is long room row left = record {
+  each = λ which serves. parity_left parity lost was parities content columns is long room row left which serves.among serves.there;
 }
+
+-- Columns that are served by some content, in front and behind.
+pub served_behind : (parity lost : ℕ) (was parities content columns : List (List ℕ)) → columns ≡ parities ++ content → length parities ≡ parity
+    → IsServedBy was parity (is_masked lost) columns → IsLeftOf was (is_masked (lost / 2 ^ parity)) content
+served_behind parity lost was parities content columns is long served =
+    let all : length columns ≡ length parities + length content = ap length is ∙ length-append parities content in
+    record {
+      long = omega (arith, served.long, all, long);
+      there = λ column below there.
+          let shift : length parities + column ≡ parity + column = omega (arith, long) in
+          sym (get_or-append-add parities content column []) ∙ ap (λ (k : ℕ). slice_index_or (parities ++ content) k []) shift
+          ∙ ap (λ (k : List (List ℕ)). slice_index_or k (parity + column) []) (sym is)
+          ∙ served.there column below (masked_behind lost parity column ∙ there);
+    }
+
+pub served_front : (parity lost : ℕ) (was parities content columns : List (List ℕ)) → columns ≡ parities ++ content → length parities ≡ parity
+    → IsServedBy was parity (is_masked lost) columns
+    → AreServingOf was parities (is_masked lost) (length parities) (count_lost (is_masked (lost / 2 ^ parity)) 0 (length content))
+served_front parity lost was parities content columns is long served =
+    let all : length columns ≡ length parities + length content = ap length is ∙ length-append parities content in
+    let wide : length was ≡ length content = omega (arith, served.long, all, long) in
+    record {
+      each = λ which serves.
+          sym (get_or_append_left parities content [] which serves.among) ∙ ap (λ (k : List (List ℕ)). slice_index_or k which []) (sym is)
+          ∙ served.serving.each which (record {
+            among = omega (arith, serves.among, long);
+            there = serves.there;
+            lowest = omega (arith, serves.lowest, ap (count_lost (is_masked lost) parity) wide, counted_behind lost parity (length content));
+          });
+    }
+
+-- The content that was found is what stands behind.
+pub behind_parities : (parity : ℕ) (parities content : List (List ℕ)) → length parities ≡ parity → drop parity (parities ++ content) ≡ content
+behind_parities parity parities content long = ap (λ (k : ℕ). drop k (parities ++ content)) (sym long) ∙ drop-append_seam parities content
+
+-- The parity columns that serve are those of the content that was found.
+pub found_fits : (parity lost : ℕ) (parities content columns new_parities new_content : List (List ℕ)) → columns ≡ parities ++ content → length parities ≡ parity
+    → length new_parities ≡ parity
+    → AreServingOf new_content parities (is_masked lost) (length parities) (count_lost (is_masked (lost / 2 ^ parity)) 0 (length content))
+    → AreServingOf (drop parity (new_parities ++ new_content)) columns (is_masked lost) parity (count_lost (is_masked lost) parity (length columns - parity))
+found_fits parity lost parities content columns new_parities new_content is long new_long serving =
+    let all : length columns ≡ length parities + length content = ap length is ∙ length-append parities content in
+    let wide : length columns - parity ≡ length content = omega (arith, all, long) in
+    record {
+      each = λ which serves.
+          ap (λ (k : List (List ℕ)). slice_index_or k which []) is ∙ get_or_append_left parities content [] which (omega (arith, serves.among, long))
+          ∙ serving.each which (record {
+            among = omega (arith, serves.among, long);
+            there = serves.there;
+            lowest = omega (arith, serves.lowest, ap (count_lost (is_masked lost) parity) wide, counted_behind lost parity (length content));
+          })
+          ∙ ap (parity_column which) (sym (behind_parities parity new_parities new_content new_long));
+    }
+
+-- Lost parity columns are those of the content that was found.
+pub found_made : (parity lost : ℕ) (new_parities new_content : List (List ℕ)) → length new_parities ≡ parity
+    → ((which : ℕ) → which < parity → is_masked lost which ≡ true → IsParityOf new_content new_parities which)
+    → (which : ℕ) → which < parity → is_masked lost which ≡ true → IsParityOf (drop parity (new_parities ++ new_content)) (new_parities ++ new_content) which
+found_made parity lost new_parities new_content long made which low is =
+    get_or_append_left new_parities new_content [] which (omega (arith, low, long)) ∙ made which low is
+    ∙ ap (parity_column which) (sym (behind_parities parity new_parities new_content long))
 
 -- With content as it was, and the lost parities made from it, the row is as it was.
 pub row_again : (parity lost : ℕ) (was parities content columns new_parities new_content : List (List ℕ)) → columns ≡ parities ++ content → length parities ≡ parity
@@ -86,7 +160,7 @@ row_again parity lost was parities content columns new_parities new_content is l
         filled which (omega (arith, low, long)) (sym test) ∙ ap (parity_column which) content_is ∙ sym (row.parities which low)
     by_mask which low false test =
         same which (omega (arith, low, long)) (sym test)
-        ∙ (parities_left parity lost was parities content columns is long room row left).each which (omega (arith, low, long)) (sym test) ∙ sym (row.parities which low)
+        ∙ parity_left parity lost was parities content columns is long room row left which (omega (arith, low, long)) (sym test) ∙ sym (row.parities which low)
 
     each : (column : ℕ) → column < length (new_parities ++ new_content) → slice_index_or (new_parities ++ new_content) column [] ≡ slice_index_or was column []
     each column below =

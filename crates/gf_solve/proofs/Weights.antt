@@ -55,11 +55,11 @@ abbrev pub place_share : ℕ → List ℕ → ℕ → ℕ
 place_share which bytes place = product (weight which (point_of (length bytes) place)) (slice_index bytes place)
 
 -- A parity lacks the share of a place that is cleared.
-cleared_one : (which : ℕ) (bytes : List ℕ) (place : ℕ) → which < 3 → place < length bytes → ((at : ℕ) → slice_index bytes at < 256)
+cleared_one : (which : ℕ) (bytes : List ℕ) (place : ℕ) → which < 3 → place < length bytes → slice_index bytes place < 256
     → parity_byte which (slice_set bytes place 0) ≡ bit_xor (parity_byte which bytes) (place_share which bytes place)
-cleared_one which bytes place few low all =
+cleared_one which bytes place few low byte =
     let difference : bit_xor 0 (slice_index bytes place) ≡ slice_index bytes place = xor_zero_l (slice_index bytes place) in
-    parity-set which bytes place 0 few low (rw difference (all place))
+    parity-set which bytes place 0 few low (rw difference byte)
     ∙ ap (λ (k : ℕ). bit_xor (parity_byte which bytes) (product (weight which (point_of (length bytes) place)) k)) difference
 
 -- The share of a place is the same when another one is cleared.
@@ -68,45 +68,43 @@ other_share which bytes place other differ =
     ap (λ (k : ℕ). product (weight which (point_of k other)) (slice_index (slice_set bytes place 0) other)) (length-set bytes place 0)
     ∙ ap (product (weight which (point_of (length bytes) other))) (get_or-set_other bytes place other 0 0 differ)
 
-still_bytes : (bytes : List ℕ) (place : ℕ) → ((at : ℕ) → slice_index bytes at < 256) → (at : ℕ) → slice_index (slice_set bytes place 0) at < 256
-still_bytes [] place all at = all at
-still_bytes (first ∷ bytes) zero all zero = omega arith
-still_bytes (first ∷ bytes) zero all (suc at) = all (suc at)
-still_bytes (first ∷ bytes) (suc place) all zero = all zero
-still_bytes (first ∷ bytes) (suc place) all (suc at) = still_bytes bytes place (λ k. all (suc k)) at
+-- Another place is as it was.
+still_byte : (bytes : List ℕ) (place other : ℕ) → other ≢ place → slice_index bytes other < 256 → slice_index (slice_set bytes place 0) other < 256
+still_byte bytes place other differ byte = rw (get_or-set_other bytes place other 0 0 differ) byte
 
 -- What is missing of a parity, once one place is cleared.
-pub lacks_one : (which : ℕ) (bytes : List ℕ) (first : ℕ) → which < 3 → first < length bytes → ((at : ℕ) → slice_index bytes at < 256)
+pub lacks_one : (which : ℕ) (bytes : List ℕ) (first : ℕ) → which < 3 → first < length bytes → slice_index bytes first < 256
     → bit_xor (parity_byte which (slice_set bytes first 0)) (parity_byte which bytes) ≡ place_share which bytes first
-lacks_one which bytes first few low all =
-    ap (λ (k : ℕ). bit_xor k (parity_byte which bytes)) (cleared_one which bytes first few low all) ∙ first_twice (parity_byte which bytes) (place_share which bytes first)
+lacks_one which bytes first few low byte =
+    ap (λ (k : ℕ). bit_xor k (parity_byte which bytes)) (cleared_one which bytes first few low byte) ∙ first_twice (parity_byte which bytes) (place_share which bytes first)
 
 -- once two are
 pub lacks_two : (which : ℕ) (bytes : List ℕ) (first second : ℕ) → which < 3 → first < length bytes → second < length bytes → second ≢ first
-    → ((at : ℕ) → slice_index bytes at < 256)
+    → slice_index bytes first < 256 → slice_index bytes second < 256
     → bit_xor (parity_byte which (slice_set (slice_set bytes first 0) second 0)) (parity_byte which bytes)
     ≡ bit_xor (place_share which bytes first) (place_share which bytes second)
-lacks_two which bytes first second few low high differ all =
+lacks_two which bytes first second few low high differ byte other =
     ap (λ (k : ℕ). bit_xor k (parity_byte which bytes))
-    (cleared_one which (slice_set bytes first 0) second few (omega (arith, high, length-set bytes first 0)) (still_bytes bytes first all)
-    ∙ ap (λ (k : ℕ). bit_xor k (place_share which (slice_set bytes first 0) second)) (cleared_one which bytes first few low all)
+    (cleared_one which (slice_set bytes first 0) second few (omega (arith, high, length-set bytes first 0)) (still_byte bytes first second differ other)
+    ∙ ap (λ (k : ℕ). bit_xor k (place_share which (slice_set bytes first 0) second)) (cleared_one which bytes first few low byte)
     ∙ ap (bit_xor (bit_xor (parity_byte which bytes) (place_share which bytes first))) (other_share which bytes first second differ)
     ∙ xor_assoc (parity_byte which bytes) (place_share which bytes first) (place_share which bytes second))
     ∙ first_twice (parity_byte which bytes) (bit_xor (place_share which bytes first) (place_share which bytes second))
 
 -- once three are
 pub lacks_three : (which : ℕ) (bytes : List ℕ) (first second third : ℕ) → which < 3 → first < length bytes → second < length bytes → third < length bytes
-    → second ≢ first → third ≢ first → third ≢ second → ((at : ℕ) → slice_index bytes at < 256)
+    → second ≢ first → third ≢ first → third ≢ second
+    → slice_index bytes first < 256 → slice_index bytes second < 256 → slice_index bytes third < 256
     → bit_xor (parity_byte which (slice_set (slice_set (slice_set bytes first 0) second 0) third 0)) (parity_byte which bytes)
     ≡ bit_xor (bit_xor (place_share which bytes first) (place_share which bytes second)) (place_share which bytes third)
-lacks_three which bytes first second third few low high highest differ differ_first differ_second all =
+lacks_three which bytes first second third few low high highest differ differ_first differ_second byte other last =
     ap (λ (k : ℕ). bit_xor k (parity_byte which bytes))
     (cleared_one which (slice_set (slice_set bytes first 0) second 0) third few
-    (omega (arith, highest, length-set bytes first 0, length-set (slice_set bytes first 0) second 0)) (still_bytes (slice_set bytes first 0) second (still_bytes bytes first all))
+    (omega (arith, highest, length-set bytes first 0, length-set (slice_set bytes first 0) second 0)) (still_byte (slice_set bytes first 0) second third differ_second (still_byte bytes first third differ_first last))
     ∙ ap (bit_xor (parity_byte which (slice_set (slice_set bytes first 0) second 0)))
     (other_share which (slice_set bytes first 0) second third differ_second ∙ other_share which bytes first third differ_first))
     ∙ moved (parity_byte which (slice_set (slice_set bytes first 0) second 0)) (place_share which bytes third) (parity_byte which bytes)
-    ∙ ap (λ (k : ℕ). bit_xor k (place_share which bytes third)) (lacks_two which bytes first second few low high differ all)
+    ∙ ap (λ (k : ℕ). bit_xor k (place_share which bytes third)) (lacks_two which bytes first second few low high differ byte other)
   where
     moved : (a b c : ℕ) → bit_xor (bit_xor a b) c ≡ bit_xor (bit_xor a c) b
     moved a b c = xor_assoc a b c ∙ ap (bit_xor a) (xor_comm b c) ∙ sym (xor_assoc a c b)

@@ -2,3 +2,4 @@ pub mod Inverse
 pub mod Weight
 pub mod Row
 pub mod Gaps
+pub mod Serving

@@ -37,8 +37,3 @@ pub record IsLeftOf (was : List (List ℕ)) (lost : ℕ → Bool) (columns : Lis
     pub long : length columns ≡ length was
     pub there : (column : ℕ) → column < length was → lost column ≡ false
         → slice_index_or columns column [] ≡ slice_index_or was column []
-
--- The parity columns that aren't lost are those of some content columns.
-pub record AreParitiesOf (content parities : List (List ℕ)) (lost : ℕ → Bool) : Type 0 where
-  pub each : (which : ℕ) → which < length parities → lost which ≡ false
-      → IsParityOf content parities which

@@ -28,7 +28,8 @@ pub fn lack(which: u32, content: &[[u8; 512]], column: &[u8; 512]) -> [u8; 512]
 
 /// Adds a column times a byte.
 pub fn add_times(out: &mut [u8; 512], column: &[u8; 512], factor: u8)
-    ensures { (at : ℕ) → at < 512 → slice_index out.new at
+    ensures bytes { (at : ℕ) → at < 512 → slice_index column.now at < 256 }
+    ensures value { (at : ℕ) → at < 512 → slice_index out.new at
         ≡ bit_xor (slice_index out.old at) (product factor (slice_index column.now at)) }
 {
     for (at, byte) in column.iter().enumerate() {
@@ -38,7 +39,8 @@ pub fn add_times(out: &mut [u8; 512], column: &[u8; 512], factor: u8)
 
 /// Multiplies a column by a byte.
 pub fn scale(out: &mut [u8; 512], factor: u8)
-    ensures { (at : ℕ) → at < 512
+    ensures bytes { (at : ℕ) → at < 512 → slice_index out.old at < 256 }
+    ensures value { (at : ℕ) → at < 512
         → slice_index out.new at ≡ product factor (slice_index out.old at) }
 {
     for byte in out.iter_mut() {
@@ -50,10 +52,17 @@ pub fn scale(out: &mut [u8; 512], factor: u8)
 /// times `y`, the second and the first are left.
 pub fn split(sum: &mut [u8; 512], weighted: &mut [u8; 512], x: u8, y: u8)
     requires { x ≢ y }
-    ensures { (at first second : ℕ) → at < 512 → first < 256
+    ensures found { (at first second : ℕ) → at < 512 → first < 256
         → slice_index sum.old at ≡ bit_xor first second
         → slice_index weighted.old at ≡ bit_xor (product x first) (product y second)
         → (slice_index weighted.new at ≡ first) × (slice_index sum.new at ≡ second) }
+
+    // Whatever the sums are, what is left gives them.
+    ensures gives { (at : ℕ) → at < 512
+        → (bit_xor (slice_index weighted.new at) (slice_index sum.new at)
+        ≡ slice_index sum.old at)
+        × (bit_xor (product x (slice_index weighted.new at)) (product y (slice_index sum.new at))
+        ≡ slice_index weighted.old at) }
 {
     add_times(weighted, sum, y);
     scale(weighted, inverse(x ^ y));

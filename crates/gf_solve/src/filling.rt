@@ -17,6 +17,7 @@ pub fn fill_one(parities: &[[u8; 512]], content: &mut [[u8; 512]], first: usize,
     ensures filled { (was : List (List ℕ)) → AreSectors was
         → AgreeBut (IsGap (One first)) was content.old → IsParityOf was parities.now which
         → content.new ≡ was }
+    ensures fits { IsParityOf content.new parities.now which }
     ensures others { (column : ℕ) → column ≢ first
         → slice_index_or content.new column [] ≡ slice_index_or content.old column [] }
 {
@@ -45,6 +46,8 @@ pub fn fill_two(
     ensures filled { (was : List (List ℕ)) → AreSectors was
         → AgreeBut (IsGap (Two first second)) was content.old → IsParityOf was parities.now sooner
         → IsParityOf was parities.now later → content.new ≡ was }
+    ensures fits_sooner { IsParityOf content.new parities.now sooner }
+    ensures fits_later { IsParityOf content.new parities.now later }
     ensures others { (column : ℕ) → column ≢ first → column ≢ second
         → slice_index_or content.new column [] ≡ slice_index_or content.old column [] }
 {
@@ -77,6 +80,7 @@ pub fn fill_three(
     ensures filled { (was : List (List ℕ)) → AreSectors was
         → AgreeBut (IsGap (Three first second third)) was content.old
         → ((which : ℕ) → which < 3 → IsParityOf was parities.now which) → content.new ≡ was }
+    ensures fits { (which : ℕ) → which < 3 → IsParityOf content.new parities.now which }
     ensures others { (column : ℕ) → column ≢ first → column ≢ second → column ≢ third
         → slice_index_or content.new column [] ≡ slice_index_or content.old column [] }
 {

@@ -11,8 +11,13 @@ use gf_parity::{add, mul};
 pub fn single_out_one(which: u32, x: u8, lack: &mut [u8; 512])
     requires which { which < 3 }
     requires x { x ≢ 0 }
-    ensures { (at first : ℕ) → at < 512 → first < 256
+    ensures found { (at first : ℕ) → at < 512 → first < 256
         → slice_index lack.old at ≡ share which x first → slice_index lack.new at ≡ first }
+
+    // Whatever the parity lacks, the column gives it.
+    ensures bytes { (at : ℕ) → at < 512 → slice_index lack.new at < 256 }
+    ensures gives { (at : ℕ) → at < 512
+        → share which x (slice_index lack.new at) ≡ slice_index lack.old at }
 {
     scale(lack, inverse(weight(which, x)));
 }
@@ -31,10 +36,20 @@ pub fn single_out_two(
     requires x { x ≢ 0 }
     requires y { y ≢ 0 }
     requires differ { x ≢ y }
-    ensures { (at first second : ℕ) → at < 512 → first < 256 → second < 256
+    ensures found { (at first second : ℕ) → at < 512 → first < 256 → second < 256
         → slice_index sooner.old at ≡ two_shares sooner_which x y first second
         → slice_index later.old at ≡ two_shares later_which x y first second
         → (slice_index later.new at ≡ first) × (slice_index sooner.new at ≡ second) }
+
+    // Whatever the parities lack, the columns give it.
+    ensures bytes { (at : ℕ) → at < 512
+        → (slice_index later.new at < 256) × (slice_index sooner.new at < 256) }
+    ensures gives_sooner { (at : ℕ) → at < 512
+        → two_shares sooner_which x y (slice_index later.new at) (slice_index sooner.new at)
+        ≡ slice_index sooner.old at }
+    ensures gives_later { (at : ℕ) → at < 512
+        → two_shares later_which x y (slice_index later.new at) (slice_index sooner.new at)
+        ≡ slice_index later.old at }
 {
     let between = later_which - sooner_which;
     split(sooner, later, weight(between, x), weight(between, y));
@@ -66,12 +81,25 @@ pub fn single_out_three(
     requires x_y { x ≢ y }
     requires x_z { x ≢ z }
     requires y_z { y ≢ z }
-    ensures { (at first second third : ℕ) → at < 512 → first < 256 → second < 256 → third < 256
+    ensures found { (at first second third : ℕ) → at < 512 → first < 256 → second < 256 → third < 256
         → slice_index p.old at ≡ three_shares 0 x y z first second third
         → slice_index q.old at ≡ three_shares 1 x y z first second third
         → slice_index r.old at ≡ three_shares 2 x y z first second third
         → (slice_index r.new at ≡ first) × (slice_index q.new at ≡ second)
         × (slice_index p.new at ≡ third) }
+
+    // Whatever the parities lack, the columns give it.
+    ensures bytes { (at : ℕ) → at < 512 → (slice_index r.new at < 256)
+        × (slice_index q.new at < 256) × (slice_index p.new at < 256) }
+    ensures gives_p { (at : ℕ) → at < 512
+        → three_shares 0 x y z (slice_index r.new at) (slice_index q.new at) (slice_index p.new at)
+        ≡ slice_index p.old at }
+    ensures gives_q { (at : ℕ) → at < 512
+        → three_shares 1 x y z (slice_index r.new at) (slice_index q.new at) (slice_index p.new at)
+        ≡ slice_index q.old at }
+    ensures gives_r { (at : ℕ) → at < 512
+        → three_shares 2 x y z (slice_index r.new at) (slice_index q.new at) (slice_index p.new at)
+        ≡ slice_index r.old at }
 {
     add_times(r, q, z);
     add_times(q, p, z);

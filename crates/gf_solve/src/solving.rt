@@ -1,7 +1,8 @@
 // All lost columns of a row, content first.
 
-ghost use Rattle.std.specs.Prelude.{◌≡◌, ◌≢◌, ℕ, ◌+◌, ◌<◌, ◌≤◌, List, [], length, slice_index_or, true, false};
-ghost use Rattle.gf_solve.specs.Row.{AreSectors, IsParityOf, AreParitiesOf, IsRow, IsLeftOf, is_masked, count_lost};
+ghost use Rattle.std.specs.Prelude.{◌≡◌, ◌≢◌, ℕ, ◌+◌, ◌-◌, ◌<◌, ◌≤◌, List, [], length, drop, slice_index_or, true, false};
+ghost use Rattle.gf_solve.specs.Row.{AreSectors, IsParityOf, IsRow, IsLeftOf, is_masked, count_lost};
+ghost use Rattle.gf_solve.specs.Serving.{AreServingOf, IsServedBy};
 ghost use Rattle.gf_solve.specs.Gaps.{IsGap, AgreeBut};
 ghost use Rattle.gf_solve.specs.declared.gaps.Gaps.TheVariants.{One, Two};
 
@@ -21,6 +22,16 @@ pub fn solve(parity: u32, columns: &mut [[u8; 512]], lost: u64)
     // Whatever row these columns are left of is there again.
     ensures solved { (was : List (List ℕ)) → IsRow parity was
         → IsLeftOf was (is_masked lost) columns.old → columns.new ≡ was }
+
+    // Only the parity columns that serve tell the content, also where others contradict them.
+    ensures served { (was : List (List ℕ)) → AreSectors was
+        → IsServedBy was parity (is_masked lost) columns.old → drop parity columns.new ≡ was }
+
+    // Whatever the columns hold, the content that is found has the parity that serves.
+    ensures fits { AreServingOf (drop parity columns.new) columns.old (is_masked lost) parity
+        (count_lost (is_masked lost) parity (length columns.old - parity)) }
+    ensures made { (which : ℕ) → which < parity → is_masked lost which ≡ true
+        → IsParityOf (drop parity columns.new) columns.new which }
     ensures same { (column : ℕ) → column < length columns.old → is_masked lost column ≡ false
         → slice_index_or columns.new column [] ≡ slice_index_or columns.old column [] }
 {
@@ -36,7 +47,10 @@ fn fill_content(parities: &[[u8; 512]], content: &mut [[u8; 512]], lost: u64, lo
         + count_lost (is_masked lost_content) 0 (length content.old) ≤ length parities.now }
     ensures filled { (was : List (List ℕ)) → AreSectors was
         → IsLeftOf was (is_masked lost_content) content.old
-        → AreParitiesOf was parities.now (is_masked lost) → content.new ≡ was }
+        → AreServingOf was parities.now (is_masked lost) (length parities.now)
+        (count_lost (is_masked lost_content) 0 (length content.old)) → content.new ≡ was }
+    ensures fits { AreServingOf content.new parities.now (is_masked lost) (length parities.now)
+        (count_lost (is_masked lost_content) 0 (length content.old)) }
     ensures same { (column : ℕ) → column < length content.old
         → is_masked lost_content column ≡ false
         → slice_index_or content.new column [] ≡ slice_index_or content.old column [] }
@@ -55,7 +69,9 @@ fn fill_single(parities: &[[u8; 512]], content: &mut [[u8; 512]], first: usize, 
     requires first { first < length content.old }
     ensures filled { (was : List (List ℕ)) → AreSectors was
         → AgreeBut (IsGap (One first)) was content.old
-        → AreParitiesOf was parities.now (is_masked lost) → content.new ≡ was }
+        → AreServingOf was parities.now (is_masked lost) (length parities.now) 1
+        → content.new ≡ was }
+    ensures fits { AreServingOf content.new parities.now (is_masked lost) (length parities.now) 1 }
     ensures others { (column : ℕ) → column ≢ first
         → slice_index_or content.new column [] ≡ slice_index_or content.old column [] }
 {
@@ -78,7 +94,9 @@ fn fill_pair(
     requires second { second < length content.old }
     ensures filled { (was : List (List ℕ)) → AreSectors was
         → AgreeBut (IsGap (Two first second)) was content.old
-        → AreParitiesOf was parities.now (is_masked lost) → content.new ≡ was }
+        → AreServingOf was parities.now (is_masked lost) (length parities.now) 2
+        → content.new ≡ was }
+    ensures fits { AreServingOf content.new parities.now (is_masked lost) (length parities.now) 2 }
     ensures others { (column : ℕ) → column ≢ first → column ≢ second
         → slice_index_or content.new column [] ≡ slice_index_or content.old column [] }
 {

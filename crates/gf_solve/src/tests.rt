@@ -44,3 +44,17 @@ fn up_to_three_lost_columns_come_back(rt: HostRuntime) {
     assert!(rt; comes_back(0b100_1010), "two content columns, by P and R");
     assert!(rt; comes_back(0b101_1000), "three content columns");
 }
+
+#[test]
+fn the_lowest_parity_that_is_there_tells_the_content(rt: HostRuntime) {
+    let was = row();
+    let mut columns = was;
+    columns[1] = [0x11; 512];
+    columns[4] = [0xee; 512];
+    solve(3, &mut columns, 0b001_0000);
+    assert!(rt; columns[4] == was[4], "the content, by P");
+    assert!(rt; columns[1] == [0x11; 512], "Q, which contradicts it");
+    columns[4] = [0xee; 512];
+    solve(3, &mut columns, 0b001_0001);
+    assert!(rt; columns[4] != was[4], "the content, by Q");
+}

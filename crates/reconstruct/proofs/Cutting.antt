@@ -2,13 +2,19 @@
 use Rattle.std.proofs.Common.{◌≡◌, ℕ, ◌+◌, ◌-◌, ◌*◌, List, ◌++◌, length, sym, ◌∙◌, ap, arith, ⊎_elim}
 use Rattle.std.specs.Prelude.{take, drop, replicate, min}
 use Rattle.std.proofs.lemmas.Bool.{cases_lt}
-use Rattle.std.proofs.lemmas.List.{take-append-le, take-replicate, drop-replicate, take_all, drop_all, length-drop, length-take, append-nil, length-replicate}
+use Rattle.std.proofs.lemmas.List.{take-append-le, take-replicate, drop-replicate, take_all, drop_all, length-drop, length-take, length-append, append-nil, length-replicate}
 use Rattle.std.proofs.Math.Seq.{take-append-add}
 use Rattle.reconstruct.specs.Columns.{zero_sector, content_sector}
 
 pub length-zero_sector : length zero_sector ≡ 512
 unfolding zero_sector
 length-zero_sector = length-replicate {A = ℕ} 512 0
+
+pub length-content_sector : (bytes : List ℕ) (number : ℕ) → length (content_sector bytes number) ≡ 512
+unfolding content_sector
+length-content_sector bytes number =
+    length-take 512 (drop (512 * number) bytes ++ replicate 512 0)
+    ∙ omega (arith, length-append (drop (512 * number) bytes) (replicate 512 0), length-replicate {A = ℕ} 512 0)
 
 -- The front of a list, filled up with zeros.
 filled_up : (rest : List ℕ) (count : ℕ) → count ≡ min 512 (length rest)

@@ -1,8 +1,15 @@
 pub mod Worked
+pub mod Pairs
 pub mod Cutting
 pub mod Places
 pub mod Contents
 pub mod Readback
 pub mod RowAgain
 pub mod Masks
-pub mod RowsAgain
+pub mod Suspected
+pub mod RowSolved
+pub mod SolvedRows
+pub mod Solution
+pub mod SameBytes
+pub mod Telling
+pub mod Choices

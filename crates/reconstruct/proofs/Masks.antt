@@ -1,10 +1,13 @@
 -- A mask without the columns that are missing.
-use Rattle.std.proofs.Common.{◌≡◌, ℕ, zero, suc, ◌+◌, ◌-◌, ◌*◌, ◌/◌, ◌%◌, ◌^◌, ◌<◌, ◌≤◌, Bool, true, false, refl, sym, ◌∙◌, ap, arith, ⊎_elim}
-use Rattle.std.specs.Prelude.{bit_and, ◌&&◌, ◌==◌, nat_lt}
+use Rattle.std.proofs.Common.{◌≡◌, ◌≢◌, ℕ, zero, suc, ◌+◌, ◌-◌, ◌*◌, ◌/◌, ◌%◌, ◌^◌, ◌<◌, ◌≤◌, Bool, true, false, refl, sym, ◌∙◌, ap, arith, ⊎_elim}
+use Rattle.std.specs.Prelude.{bit_and, bit_or, ◌&&◌, ◌||◌, ◌==◌, nat_lt, max}
+use Rattle.std.specs.Int.{w64, from_bool}
 use Rattle.std.proofs.lemmas.Bool.{cases_lt}
 use Rattle.std.proofs.lemmas.Bool.Decides.{nat_tests}
 use Rattle.std.proofs.lemmas.Nat.{and_mask, field_of, mod-pow-add, pow-add, pow_pos, shr_high, shr_below}
-use Rattle.std.proofs.Math.Nat.{pow-le-pow_right, mod-lt, add-mul, one-mul}
+use Rattle.std.specs.Int.Bits.{or_zero_r}
+use Rattle.std.proofs.lemmas.Nat.Bits.{bit_at_or, bit_at_set_same, bit_at_set_other}
+use Rattle.std.proofs.Math.Nat.{pow-le-pow_right, mod-lt, add-mul, one-mul, zero-mul}
 use Rattle.gf_solve.specs.Row.{is_masked, count_lost}
 use Rattle.gf_solve.proofs.Counting.{count_split, count_alike}
 
@@ -73,3 +76,35 @@ counted_low mask width columns few room =
   where
     low : ℕ → Bool
     low = is_masked (bit_and mask (18446744073709551615 / 2 ^ (64 - width)))
+
+-- ---- masks of more columns
+
+either_bit : (x y : ℕ) → x < 2 → y < 2 → (max x y == 1) ≡ ((x == 1) || (y == 1))
+either_bit zero zero low_x low_y = refl
+either_bit zero (suc zero) low_x low_y = refl
+either_bit (suc zero) zero low_x low_y = refl
+either_bit (suc zero) (suc zero) low_x low_y = refl
+either_bit zero (suc (suc y)) low_x low_y = absurd (omega (arith, low_y))
+either_bit (suc zero) (suc (suc y)) low_x low_y = absurd (omega (arith, low_y))
+either_bit (suc (suc x)) y low_x low_y = absurd (omega (arith, low_x))
+
+-- A column is in two masks together where it is in one of them.
+pub masked_or : (a b column : ℕ) → is_masked (bit_or a b) column ≡ (is_masked a column || is_masked b column)
+masked_or a b column = ap (λ (k : ℕ). k == 1) (bit_at_or a b column) ∙ either_bit ((a / 2 ^ column) % 2) ((b / 2 ^ column) % 2) (omega arith) (omega arith)
+
+-- A column is put into a mask, or isn't; others stay.
+pub put_here : (mask column bit : ℕ) (test : Bool) → column < 64 → bit ≡ from_bool test → is_masked mask column ≡ false
+    → is_masked (bit_or mask (bit * 2 ^ column % 18446744073709551616)) column ≡ test
+put_here mask column bit true within is none =
+    ap (λ (k : ℕ). is_masked (bit_or mask (k * 2 ^ column % 18446744073709551616)) column) is ∙ ap (λ (k : ℕ). k == 1) (bit_at_set_same w64 mask column within)
+put_here mask column bit false within is none =
+    ap (λ (k : ℕ). is_masked (bit_or mask (k * 2 ^ column % 18446744073709551616)) column) is
+    ∙ ap (λ (k : ℕ). is_masked (bit_or mask (k % 18446744073709551616)) column) (zero-mul (2 ^ column)) ∙ ap (λ (k : ℕ). is_masked k column) (or_zero_r mask) ∙ none
+
+pub put_elsewhere : (mask column bit other : ℕ) (test : Bool) → column < 64 → bit ≡ from_bool test → other ≢ column
+    → is_masked (bit_or mask (bit * 2 ^ column % 18446744073709551616)) other ≡ is_masked mask other
+put_elsewhere mask column bit other true within is differ =
+    ap (λ (k : ℕ). is_masked (bit_or mask (k * 2 ^ column % 18446744073709551616)) other) is ∙ ap (λ (k : ℕ). k == 1) (bit_at_set_other w64 mask column within other differ)
+put_elsewhere mask column bit other false within is differ =
+    ap (λ (k : ℕ). is_masked (bit_or mask (k * 2 ^ column % 18446744073709551616)) other) is
+    ∙ ap (λ (k : ℕ). is_masked (bit_or mask (k % 18446744073709551616)) other) (zero-mul (2 ^ column)) ∙ ap (λ (k : ℕ). is_masked k other) (or_zero_r mask)

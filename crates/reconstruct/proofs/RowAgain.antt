@@ -1,46 +1,18 @@
--- The columns of a row of a block are a row: sectors, with the parity of the content.
-use Rattle.std.proofs.Common.{◌≡◌, ℕ, zero, suc, ◌+◌, ◌-◌, ◌*◌, ◌<◌, ◌≤◌, List, [], ◌∷◌, ◌++◌, length, Bool, true, false, refl, sym, ◌∙◌, ap, arith, ⊎_elim, length-append}
+-- The columns of a row of a block: parity, and the content that it is of.
+use Rattle.std.proofs.Common.{◌≡◌, ℕ, zero, suc, ◌+◌, ◌-◌, ◌*◌, ◌<◌, List, [], ◌∷◌, ◌++◌, length, Bool, true, false, refl, sym, ◌∙◌, ap, arith, ⊎_elim, length-append}
 use Rattle.std.specs.Prelude.{take, drop, replicate, slice_index, slice_index_or, nat_lt, if◌then◌else◌}
 use Rattle.std.proofs.lemmas.Bool.{cases_lt}
-use Rattle.std.proofs.lemmas.Nat.{xor_of_8}
 use Rattle.std.proofs.lemmas.List.{get_or_append_left, get_or-append-add, get_or_push, get_or-take, get_or-drop, get_or_past, length-take, length-replicate}
-use Rattle.std.proofs.Math.Seq.{drop-append_seam}
-use Rattle.gf_parity.specs.Field.{product, power_of}
-use Rattle.gf_parity.specs.Parity.{sum_of, weighted_sum, p_of, q_of, r_of, parity_byte, bytes_at, parity_column}
-use Rattle.gf_parity.proofs.Laws.{product_below}
-use Rattle.gf_parity.proofs.Horner.{power_below, parity_column-at, length-parity_column}
-use Rattle.gf_solve.specs.Row.{IsSector, IsRow}
-use Rattle.gf_solve.proofs.Restored.{all_bytes}
+use Rattle.gf_parity.specs.Parity.{parity_column}
+use Rattle.gf_solve.specs.Row.{IsSector, AreSectors}
 use Rattle.row_layout.specs.declared.column.Part.TheVariants.{Content, Missing}
 use Rattle.row_layout.specs.Layout.{Layout, columns_of, height_of, content_before}
-use Rattle.reconstruct.specs.Columns.{zero_sector, content_sector, content_bytes, row_contents, column_bytes}
+use Rattle.row_layout.proofs.Parts.{parity_here}
+use Rattle.reconstruct.specs.Columns.{zero_sector, content_sector, content_bytes, row_contents, part_bytes, column_bytes}
 use Rattle.reconstruct.specs.Lost.{AreBytes}
 use Rattle.reconstruct.proofs.Contents.{length-row_contents, row_contents-at, row_holds}
 
 -- ---- sectors
-
-sum_below : (bytes : List ℕ) → AreBytes bytes → sum_of bytes < 256
-sum_below [] all = omega arith
-sum_below (byte ∷ bytes) all = xor_of_8 byte (sum_of bytes) (all 0) (sum_below bytes (λ at. all (suc at)))
-
-weighted_below : (by : ℕ) (bytes : List ℕ) → by < 256 → weighted_sum by bytes < 256
-weighted_below by [] low = omega arith
-weighted_below by (byte ∷ bytes) low =
-    xor_of_8 (product (power_of by (length bytes)) byte) (weighted_sum by bytes) (product_below (power_of by (length bytes)) byte (power_below by (length bytes) low)) (weighted_below by bytes low)
-
-parity_below : (which : ℕ) (bytes : List ℕ) → AreBytes bytes → parity_byte which bytes < 256
-unfolding p_of q_of r_of
-parity_below zero bytes all = sum_below bytes all
-parity_below (suc zero) bytes all = weighted_below 2 bytes (omega arith)
-parity_below (suc (suc which)) bytes all = weighted_below 4 bytes (omega arith)
-
--- Where all columns are of bytes, so is a parity column.
-parity_sector : (which : ℕ) (content : List (List ℕ)) → ((at : ℕ) → AreBytes (bytes_at at content)) → IsSector (parity_column which content)
-parity_sector which content all = record {
-  wide = length-parity_column which content;
-  bytes = λ at. ⊎_elim (λ low. rw (parity_column-at which at content low) (parity_below which (bytes_at at content) (all at)))
-      (λ past. rw (get_or_past (parity_column which content) at 0 (omega (arith, past, length-parity_column which content))) (omega arith)) (cases_lt at 512);
-}
 
 zeros_below : (count at : ℕ) → slice_index (replicate count 0) at < 256
 zeros_below zero at = omega arith
@@ -99,12 +71,6 @@ content_of_row layout bytes row = row_contents layout bytes row (columns_of layo
 pub block_row : Layout → List ℕ → ℕ → List (List ℕ)
 block_row layout bytes row = parity_list layout.parity (content_of_row layout bytes row) ++ content_of_row layout bytes row
 
-pub length-block_row : (layout : Layout) (bytes : List ℕ) (row : ℕ) → layout.parity ≤ columns_of layout → length (block_row layout bytes row) ≡ columns_of layout
-unfolding block_row content_of_row
-length-block_row layout bytes row room =
-    length-append (parity_list layout.parity (content_of_row layout bytes row)) (content_of_row layout bytes row)
-    ∙ omega (arith, room, length-parity_list layout.parity (content_of_row layout bytes row), length-row_contents layout bytes row (columns_of layout - layout.parity))
-
 pub block_row-at : (layout : Layout) (bytes : List ℕ) (row column : ℕ) → column < columns_of layout
     → slice_index_or (block_row layout bytes row) column [] ≡ column_bytes layout bytes row column
 unfolding block_row content_of_row
@@ -121,48 +87,29 @@ content_column_sector layout bytes row columns column all low =
     of_part true number = sector_of_bytes bytes number all
     of_part false number = missing_sector
 
-content_bytes_below : (layout : Layout) (bytes : List ℕ) (row : ℕ) → AreBytes bytes → (at : ℕ) → AreBytes (bytes_at at (content_of_row layout bytes row))
+-- The content columns of a row are sectors.
+pub content_sectors : (layout : Layout) (bytes : List ℕ) (row : ℕ) → AreBytes bytes → AreSectors (content_of_row layout bytes row)
 unfolding content_of_row
-content_bytes_below layout bytes row all at =
-    all_bytes (content_of_row layout bytes row) (record {
-      each = λ column low. content_column_sector layout bytes row (columns_of layout - layout.parity) column all
-          (omega (arith, low, length-row_contents layout bytes row (columns_of layout - layout.parity)));
-    }) at
-
--- The columns of a row of a block are a row.
-pub is_row : (layout : Layout) (bytes : List ℕ) (row : ℕ) → layout.parity ≤ columns_of layout → AreBytes bytes → IsRow layout.parity (block_row layout bytes row)
-unfolding block_row content_of_row
-is_row layout bytes row room all = record {
-  sectors = record { each = λ column low. each column low };
-  parities = λ which few.
-      get_or_append_left (parity_list layout.parity content) content [] which (omega (arith, few, length-parity_list layout.parity content))
-      ∙ parity_list-at layout.parity content which few ∙ ap (parity_column which) (sym behind);
+content_sectors layout bytes row all = record {
+  each = λ column low. content_column_sector layout bytes row (columns_of layout - layout.parity) column all
+      (omega (arith, low, length-row_contents layout bytes row (columns_of layout - layout.parity)));
 }
-  where
-    content : List (List ℕ)
-    content = content_of_row layout bytes row
 
-    behind : drop layout.parity (parity_list layout.parity (content_of_row layout bytes row) ++ content_of_row layout bytes row) ≡ content_of_row layout bytes row
-    behind =
-        ap (λ (k : ℕ). drop k (parity_list layout.parity (content_of_row layout bytes row) ++ content_of_row layout bytes row)) (sym (length-parity_list layout.parity (content_of_row layout bytes row)))
-        ∙ drop-append_seam (parity_list layout.parity (content_of_row layout bytes row)) (content_of_row layout bytes row)
+-- How many they are, and what stands in each, and in each parity column.
+pub length-content_of_row : (layout : Layout) (bytes : List ℕ) (row : ℕ) → length (content_of_row layout bytes row) ≡ columns_of layout - layout.parity
+unfolding content_of_row
+length-content_of_row layout bytes row = length-row_contents layout bytes row (columns_of layout - layout.parity)
 
-    each : (column : ℕ) → column < length (parity_list layout.parity (content_of_row layout bytes row) ++ content_of_row layout bytes row)
-        → IsSector (slice_index_or (parity_list layout.parity (content_of_row layout bytes row) ++ content_of_row layout bytes row) column [])
-    each column low =
-        ⊎_elim (λ few. rw (get_or_append_left (parity_list layout.parity (content_of_row layout bytes row)) (content_of_row layout bytes row) [] column (omega (arith, few, length-parity_list layout.parity (content_of_row layout bytes row))))
-        (rw (parity_list-at layout.parity (content_of_row layout bytes row) column few) (parity_sector column (content_of_row layout bytes row) (content_bytes_below layout bytes row all))))
-        (λ many. let shift : column ≡ length (parity_list layout.parity (content_of_row layout bytes row)) + (column - layout.parity) =
-        omega (arith, many, length-parity_list layout.parity (content_of_row layout bytes row)) in
-        let inside : column - layout.parity < columns_of layout - layout.parity =
-        omega (
-          arith,
-          low,
-          many,
-          length-append (parity_list layout.parity (content_of_row layout bytes row)) (content_of_row layout bytes row),
-          length-parity_list layout.parity (content_of_row layout bytes row),
-          length-row_contents layout bytes row (columns_of layout - layout.parity),
-        ) in
-        rw shift (rw (get_or-append-add (parity_list layout.parity (content_of_row layout bytes row)) (content_of_row layout bytes row) (column - layout.parity) [])
-        (content_column_sector layout bytes row (columns_of layout - layout.parity) (column - layout.parity) all inside)))
-        (cases_lt column layout.parity)
+pub content_of_row-at : (layout : Layout) (bytes : List ℕ) (row column : ℕ) → layout.parity + column < columns_of layout
+    → slice_index_or (content_of_row layout bytes row) column [] ≡ column_bytes layout bytes row (layout.parity + column)
+unfolding block_row
+content_of_row-at layout bytes row column low =
+    let shift : layout.parity + column ≡ length (parity_list layout.parity (content_of_row layout bytes row)) + column =
+    omega (arith, length-parity_list layout.parity (content_of_row layout bytes row)) in
+    sym (get_or-append-add (parity_list layout.parity (content_of_row layout bytes row)) (content_of_row layout bytes row) column [])
+    ∙ ap (λ (k : ℕ). slice_index_or (block_row layout bytes row) k []) (sym shift) ∙ block_row-at layout bytes row (layout.parity + column) low
+
+pub parity_of_row : (layout : Layout) (bytes : List ℕ) (row which : ℕ) → which < layout.parity
+    → column_bytes layout bytes row which ≡ parity_column which (content_of_row layout bytes row)
+unfolding column_bytes content_of_row
+parity_of_row layout bytes row which low = ap (part_bytes layout bytes row) (parity_here layout row which low)

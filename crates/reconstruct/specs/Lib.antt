@@ -1,5 +1,7 @@
 pub mod Columns
 pub mod Rows
 pub mod Lost
+pub mod SolvedRow
 pub mod Suspects
 pub mod Solved
+pub mod Tried

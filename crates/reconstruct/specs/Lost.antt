@@ -31,8 +31,3 @@ pub record IsLeftOver (layout : Layout) (bytes : List ℕ) (rows : Rows) (masks 
 -- numbers that are bytes
 abbrev pub AreBytes : List ℕ → Type 0
 AreBytes bytes = (at : ℕ) → slice_index bytes at < 256
-
--- rows of these columns, as many as the layout has
-abbrev pub rows_with : Layout → List (List ℕ) → Rows
-rows_with layout columns =
-    record { rows = rows_of layout; cols = columns_of layout; columns = columns }

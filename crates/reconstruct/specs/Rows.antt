@@ -14,6 +14,11 @@ pub record Rows : Type 0 where
 abbrev pub column_at : Rows → ℕ → ℕ → List ℕ
 column_at rows row column = slice_index_or rows.columns (row * rows.cols + column) []
 
+-- Each column has 512 bytes.
+abbrev pub AreWide : List (List ℕ) → Type 0
+AreWide columns = (place : ℕ) → place < length columns
+    → length (slice_index_or columns place []) ≡ 512
+
 -- The rows and columns are as many as the layout has.
 pub record IsShaped (layout : Layout) (rows : Rows) : Type 0 where
   pub rows_are : rows.rows ≡ rows_of layout

@@ -1,10 +1,13 @@
 -- The bytes that the columns of a block tell, for each choice of what is lost.
-use Rattle.std.specs.Prelude.{◌≡◌, ℕ, ◌-◌, ◌/◌, ◌%◌, ◌^◌, ◌<◌, ◌≤◌, List, length, Bool, false, ◌||◌, ◌==◌}
+use Rattle.std.specs.Prelude.{◌≡◌, ℕ, ◌-◌, ◌/◌, ◌%◌, ◌^◌, ◌*◌, ◌<◌, ◌≤◌, List, take, length, slice_index, Bool, false, ◌||◌, ◌==◌}
 use Rattle.sha2.specs.Sha256.{sha256}
-use Rattle.gf_solve.specs.Row.{count_lost}
+use Rattle.gf_solve.specs.Row.{is_masked, count_lost}
+use Rattle.gf_solve.specs.Serving.{Serves}
 use Rattle.row_layout.specs.Layout.{Layout, IsColumn, rows_of, sector_of, columns_in}
 use Rattle.reconstruct.specs.declared.pair.Pair.{Pair}
 use Rattle.reconstruct.specs.Columns.{column_bytes}
+use Rattle.reconstruct.specs.Rows.{Rows, column_at}
+use Rattle.reconstruct.specs.Lost.{AreBytes}
 use Rattle.reconstruct.specs.Suspects.{Choice, IsChoice, IsTriedBefore, suspects_sector}
 
 -- A block's columns as they were read, by row and column; `lost` has a mask of columns for each
@@ -12,6 +15,14 @@ use Rattle.reconstruct.specs.Suspects.{Choice, IsChoice, IsTriedBefore, suspects
 pub record Columns : Type 0 where
   pub read : ℕ → ℕ → List ℕ
   pub lost : ℕ → ℕ
+
+-- columns in memory, and masks of what is lost
+abbrev pub columns_with : Rows → List ℕ → Columns
+columns_with rows masks = record { read = column_at rows; lost = slice_index masks }
+
+-- what the masks alone say is lost
+abbrev pub lost_by : List ℕ → ℕ → ℕ → Bool
+lost_by masks row column = is_masked (slice_index masks row) column
 
 -- The column couldn't be read, or a pair of the choice suspects it.
 abbrev pub is_lost : Layout → Columns → List Pair → Choice → ℕ → ℕ → Bool
@@ -25,13 +36,11 @@ pub record IsPassedOver (layout : Layout) (lost : ℕ → ℕ → Bool) : Type 0
   pub row_in : row < rows_of layout
   pub many : layout.parity < count_lost (lost row) 0 (columns_in layout row)
 
--- The parity column serves for solving: of those that aren't lost the lowest do, as many as content
--- columns are lost.
-pub record Serves (layout : Layout) (lost : ℕ → ℕ → Bool) (row which : ℕ) : Type 0 where
-  pub parity : which < layout.parity
-  pub there : lost row which ≡ false
-  pub wanted : which - count_lost (lost row) 0 which
-      < count_lost (lost row) layout.parity (columns_in layout row - layout.parity)
+-- The parity column serves for solving the row.
+abbrev pub ServesRow : Layout → (ℕ → ℕ → Bool) → ℕ → ℕ → Type 0
+ServesRow layout lost row which =
+    Serves (lost row) layout.parity
+    (count_lost (lost row) layout.parity (columns_in layout row - layout.parity)) which
 
 -- The bytes have the length, and the content columns that are there and the parity that serves are
 -- theirs.
@@ -41,8 +50,23 @@ pub record IsSolution (layout : Layout) (columns : Columns) (lost : ℕ → ℕ
   pub content : (row column : ℕ) → IsColumn layout row column → layout.parity ≤ column
       → lost row column ≡ false
       → columns.read row column ≡ column_bytes layout bytes row column
-  pub parity : (row which : ℕ) → row < rows_of layout → Serves layout lost row which
+  pub parity : (row which : ℕ) → row < rows_of layout → ServesRow layout lost row which
       → columns.read row which ≡ column_bytes layout bytes row which
+
+-- Filled up in some way to whole sectors, the bytes are a solution.
+pub record BeginsSolution (layout : Layout) (columns : Columns) (lost : ℕ → ℕ → Bool)
+    (bytes : List ℕ) : Type 0 where
+  pub whole : List ℕ
+  pub begins : take (length bytes) whole ≡ bytes
+  pub solves : IsSolution layout columns lost (512 * layout.sectors) whole
+
+-- The columns that aren't lost are enough to tell these bytes, which have the digest.
+pub record Tells (layout : Layout) (columns : Columns) (lost : ℕ → ℕ → Bool) (len : ℕ)
+    (sha bytes : List ℕ) : Type 0 where
+  pub enough : IsPassedOver layout lost → ⊥
+  pub solves : IsSolution layout columns lost len bytes
+  pub are_bytes : AreBytes bytes
+  pub digest : sha256 bytes ≡ sha
 
 -- what is asked: a block's columns, length and digest, and the suspects
 pub record Question : Type 0 where
@@ -52,14 +76,27 @@ pub record Question : Type 0 where
   pub sha : List ℕ
   pub suspects : List Pair
 
+-- what is asked of columns in memory
+abbrev pub question_with : Layout → Rows → List ℕ → ℕ → List ℕ → List Pair → Question
+question_with layout rows masks len sha suspects = record {
+  layout = layout;
+  columns = columns_with rows masks;
+  len = len;
+  sha = sha;
+  suspects = suspects;
+}
+
+-- The columns that a choice leaves tell these bytes.
+abbrev pub Told : Question → Choice → List ℕ → Type 0
+Told question choice bytes =
+    Tells question.layout question.columns
+    (is_lost question.layout question.columns question.suspects choice) question.len question.sha
+    bytes
+
 -- A choice gives these bytes, which have the digest.
 pub record IsGiven (question : Question) (choice : Choice) (bytes : List ℕ) : Type 0 where
   pub choice_is : IsChoice question.suspects question.layout.parity choice
-  pub tried : IsPassedOver question.layout
-      (is_lost question.layout question.columns question.suspects choice) → ⊥
-  pub solves : IsSolution question.layout question.columns
-      (is_lost question.layout question.columns question.suspects choice) question.len bytes
-  pub digest : sha256 bytes ≡ question.sha
+  pub told : Told question choice bytes
 
 -- the answer: the bytes of the first choice that gives any
 pub record IsDecoded (question : Question) (bytes : List ℕ) : Type 0 where

@@ -2,6 +2,7 @@
 
 ghost use Rattle.std.specs.Prelude.{◌≡◌};
 ghost use Rattle.reconstruct.specs.declared.refusal.DecodeRefused.TheVariants.{NoMemory};
+ghost use Rattle.reconstruct.specs.declared.refusal.CheckRefused.TheVariants.{NoMemory as NoMemoryToCheck};
 
 use std::alloc::AllocError;
 
@@ -17,5 +18,20 @@ impl From<AllocError> for DecodeRefused {
 
     fn from(_error: AllocError) -> DecodeRefused {
         DecodeRefused::NoMemory
+    }
+}
+
+#[derive(Clone, Copy, Debug, PartialEq, Eq)]
+pub enum CheckRefused {
+    /// No choice of suspects gives bytes with the digest.
+    Damaged,
+    NoMemory,
+}
+
+impl From<AllocError> for CheckRefused {
+    ghost from_gives = { λ _ why. why ≡ NoMemoryToCheck };
+
+    fn from(_error: AllocError) -> CheckRefused {
+        CheckRefused::NoMemory
     }
 }

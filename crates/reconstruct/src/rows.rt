@@ -3,7 +3,7 @@
 ghost use Rattle.std.specs.Prelude.{◌≡◌, ◌≢◌, ◌⊎◌, ℕ, ◌+◌, ◌*◌, ◌<◌, [], length, slice_index_or, IfOk};
 ghost use Rattle.row_layout.specs.Layout.{rows_of, columns_of};
 ghost use Rattle.reconstruct.specs.Columns.{zero_sector};
-ghost use Rattle.reconstruct.specs.Rows.{column_at, IsShaped};
+ghost use Rattle.reconstruct.specs.Rows.{column_at, AreWide, IsShaped};
 
 use crate::sectors::zero_columns;
 use row_layout::Layout;
@@ -67,6 +67,7 @@ impl Rows {
         requires column { column < self.now.cols }
         ensures value { result.now ≡ column_at self.now row column }
         ensures wide { length result.now ≡ 512 }
+        ensures all_wide { AreWide self.now.columns }
     {
         one_of(&self.columns, row as usize * self.cols + column as usize)
     }
@@ -90,6 +91,7 @@ fn one_of(columns: &[[u8; 512]], place: usize) -> &[u8; 512]
     requires { place < length columns.now }
     ensures value { result.now ≡ slice_index_or columns.now place [] }
     ensures wide { length result.now ≡ 512 }
+    ensures all_wide { AreWide columns.now }
 {
     &columns[place]
 }

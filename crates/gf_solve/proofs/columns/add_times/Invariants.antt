@@ -7,5 +7,6 @@ use Rattle.gf_solve.proofs.columns.add_times.Given as goal
 abbrev pub invariant-loop-at : goal.invariant-loop-at
 invariant-loop-at l = record {
   below : (k : ℕ) → k < l.at → get_or l.out k 0 ≡ bit_xor (get_or l.fn.out k 0) (product l.factor (get_or l.column k 0));
+  bytes : (k : ℕ) → k < l.at → get_or l.column k 0 < 256;
   above : (k : ℕ) → l.at ≤ k → get_or l.out k 0 ≡ get_or l.fn.out k 0;
 }

@@ -1,0 +1,101 @@
+// Choices of suspects, tried one after the other.
+
+ghost use Rattle.std.specs.Prelude.{◌≡◌, length, IfOk, IfSome, IfNone, IsErrOf};
+ghost use Rattle.row_layout.specs.Layout.{rows_of};
+ghost use Rattle.reconstruct.specs.Rows.{IsShaped, sectors_for};
+ghost use Rattle.reconstruct.specs.Suspects.{AreInside};
+ghost use Rattle.reconstruct.specs.Solved.{question_with, IsDecoded, IsDamaged};
+ghost use Rattle.reconstruct.specs.Tried.{IsFirstTold, NoneTold};
+ghost use Rattle.reconstruct.specs.declared.refusal.CheckRefused.TheVariants.{Damaged};
+
+use crate::checking::decode_matching;
+use crate::masking::with_suspect;
+use crate::{CheckRefused, Pair, Rows};
+use row_layout::Layout;
+use std::alloc::{AllocError, Global};
+
+/// What is asked of a block: bytes of this length and digest, from its columns.
+#[derive(Drop)]
+struct Search<'a> {
+    layout: &'a Layout,
+    rows: &'a Rows,
+    len: usize,
+    digest: &'a [u8; 32],
+    suspects: &'a [Pair],
+}
+
+/// The first of the choices of so many `more` suspects, at `from` or behind, that tells bytes with
+/// the digest: columns are left out that are lost, and those that are suspected.
+fn try_choices(
+    alloc: Global,
+    search: &Search,
+    lost: &[u64],
+    from: usize,
+    more: u32,
+) -> Result<Option<Vec<u8>>, AllocError>
+    requires len { sectors_for search.now.len ≡ search.now.layout.now.sectors }
+    requires shape { IsShaped search.now.layout.now search.now.rows.now }
+    requires masks { length lost.now ≡ rows_of search.now.layout.now }
+    requires pairs { AreInside search.now.suspects.now }
+    ensures some { IfOk result (λ found. IfSome found (λ bytes. IsFirstTold
+        (question_with search.now.layout.now search.now.rows.now lost.now search.now.len
+        search.now.digest.now search.now.suspects.now) from more bytes.items)) }
+    ensures none { IfOk result (λ found. IfNone found (NoneTold
+        (question_with search.now.layout.now search.now.rows.now lost.now search.now.len
+        search.now.digest.now search.now.suspects.now) from more)) }
+{
+    if more == 0 {
+        return decode_matching(
+            alloc,
+            search.layout,
+            search.rows,
+            search.len,
+            lost,
+            search.digest,
+        );
+    }
+    for place in from..search.suspects.len() {
+        let fewer = with_suspect(alloc, search.layout, lost, &search.suspects[place])?;
+        if let Some(bytes) = try_choices(alloc, search, &fewer, place + 1, more - 1)? {
+            return Ok(Some(bytes));
+        }
+    }
+    Ok(None)
+}
+
+/// The block's bytes by the first choice of at most as many suspects as there is parity that gives
+/// bytes with the digest. Fewer suspects come first, and none at all before any.
+pub fn decode_checked(
+    alloc: Global,
+    layout: &Layout,
+    rows: &Rows,
+    len: usize,
+    lost: &[u64],
+    digest: &[u8; 32],
+    suspects: &[Pair],
+) -> Result<Vec<u8>, CheckRefused>
+    requires len { sectors_for len ≡ layout.now.sectors }
+    requires shape { IsShaped layout.now rows.now }
+    requires masks { length lost.now ≡ rows_of layout.now }
+    requires pairs { AreInside suspects.now }
+    ensures ok { IfOk result (λ bytes. IsDecoded
+        (question_with layout.now rows.now lost.now len digest.now suspects.now) bytes.items) }
+
+    // No choice gives such bytes.
+    ensures cause_damaged { IsErrOf result Damaged → IsDamaged
+        (question_with layout.now rows.now lost.now len digest.now suspects.now) }
+{
+    let search = Search {
+        layout,
+        rows,
+        len,
+        digest,
+        suspects,
+    };
+    for size in 0..layout.parity() + 1 {
+        if let Some(bytes) = try_choices(alloc, &search, lost, 0, size)? {
+            return Ok(bytes);
+        }
+    }
+    Err(CheckRefused::Damaged)
+}
