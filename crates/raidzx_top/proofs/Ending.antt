@@ -4,6 +4,10 @@ use Rattle.std.specs.Prelude.{take, true, false}
 use Rattle.std.proofs.lemmas.Bool.{cases_lt, cases_eq}
 use Rattle.std.proofs.lemmas.List.{append-nil}
 use Rattle.bank_trait.specs.Causes.{Rose}
+use Rattle.bank_trait.specs.Disk.{Disk}
+use Rattle.bank_trait.specs.Regions.{TouchesOnly}
+use Rattle.bank_trait.proofs.Touches.{touches_none}
+use Rattle.core_open.specs.Regions.{IsOnBelow}
 use Rattle.uberblock_ring.specs.Devices.{has_device, with_device}
 use Rattle.uberblock_ring.proofs.DeviceSets.{has_with, others_with}
 use Rattle.core_state.proofs.Fresh.{IsSized, none_in}
@@ -113,6 +117,13 @@ module _ (call : Call) (made : NewPool) (served_as : IsServedAs call.words (serv
   same : (given : NewPool) → IsServedAs call.words (served.Create given) → made ≡ given
   same given is = one_create call.words made given served_as is
 
+  -- devices from this pool's width on are those from the width asked for on
+  below_width : (given : NewPool) → IsServedAs call.words (served.Create given)
+      → TouchesOnly (IsOnBelow made.width) call.old call.new
+      → TouchesOnly (IsOnBelow given.width) call.old call.new
+  below_width given is only =
+      subst (λ (n : NewPool). TouchesOnly (IsOnBelow n.width) call.old call.new) (same given is) only
+
   too_small : IsSmallFor made call.old
       → IsTooSmall call (Create made.parity made.width made.id)
   too_small small = ((made.parity, made.width), refl, small)
@@ -213,16 +224,17 @@ module _ (call : Call) (made : NewPool) (served_as : IsServedAs call.words (serv
       quiet = λ m served_m. still;
       keeps = λ m served_m carried tells.
           subst (λ (n : NewPool). CreatePromises call n.parity n.width n.id) (same m served_m)
-          (kept makes.0 (makes.1 tells));
+          (kept makes.0 (makes.2 tells));
       text = λ m served_m carried.
           subst (λ (n : NewPool). TextIsRight call (create_text n.parity n.width n.id (rows_for call.old.sectors)))
           (same m served_m) text;
       refused = λ not. absurd (not (⊎_elim (λ d. inl (is ∙ d)) (λ f. inr (is ∙ f.0)) done));
+      others = λ m served_m. below_width m served_m makes.1;
       untouched = λ refusal. absurd (⊎_elim
           (λ usage. neither (sym is ∙ usage) done) (λ small. neither_small (sym is ∙ small) done) refusal);
     };
     complete = record {
-      done = λ m served_m fits quiet sink. ⊎_elim (λ d. inl (is ∙ d)) (λ f. absurd (sink f.1)) done;
+      done = λ m served_m fits quiet sink. ⊎_elim (λ d. is ∙ d) (λ f. absurd (sink f.1)) done;
     };
   }
     where
@@ -263,11 +275,12 @@ module _ (call : Call) (made : NewPool) (served_as : IsServedAs call.words (serv
       → (given ≡ status.TooSmall → call.new ≡ call.old)
       → (NoneRose call → given ≡ status.TooSmall)
       → (given ≡ status.TooSmall → IsSmallFor made call.old)
+      → TouchesOnly (IsOnBelow made.width) call.old call.new
       → IsLineFor given given
       → IsSaid call.sink.bytes call.sink_after.bytes call.sink.faults call.sink_after.faults
       (status_line given)
       → CallPromises call
-  refused given is no_usage no_done no_fault cause small untouched quiet_small is_small_for line said = record {
+  refused given is no_usage no_done no_fault cause small untouched quiet_small is_small_for only line said = record {
     cause = caused given is no_usage cause;
     comes = comes (λ less. inl (is ∙ small less));
     create = record {
@@ -277,6 +290,7 @@ module _ (call : Call) (made : NewPool) (served_as : IsServedAs call.words (serv
       refused = λ not. said_right call given
           (subst (λ (s : Status). IsLineFor s given) (sym is) line)
           (λ done. no_done (sym is ∙ done)) said;
+      others = λ m served_m. below_width m served_m only;
       untouched = λ refusal. ⊎_elim
           (λ usage. absurd (no_usage (sym is ∙ usage))) (λ less. untouched (sym is ∙ less)) refusal;
     };
@@ -301,15 +315,17 @@ module _ (call : Call) (made : NewPool) (served_as : IsServedAs call.words (serv
       (part_right call _ is ends.1 ends.2)
   created (status.TooManyFailed out) is ends =
       refused (status.TooManyFailed out) is (λ equal. cc) (λ equal. cc) (λ equal. cc)
-      (inr (inl ((made.parity, made.width), refl, still.0, risen call out ends.0.1)))
+      (inr (inl ((made.parity, made.width), refl, still.0, risen call out ends.0.2)))
       (λ less. absurd (ends.0.0 less)) (λ equal. absurd (no_small equal))
-      (λ quiet. absurd (quiet ends.0.1.device ends.0.1.rose)) (λ equal. absurd (no_small equal)) refl ends.1
+      (λ quiet. absurd (quiet ends.0.2.device ends.0.2.rose)) (λ equal. absurd (no_small equal)) ends.0.1 refl ends.1
     where
       no_small : status.TooManyFailed out ≡ status.TooSmall → ⊥
       no_small equal = cc
   created status.TooSmall is ends =
       refused status.TooSmall is (λ equal. cc) (λ equal. cc) (λ equal. cc)
-      (too_small ends.0.0) (λ less. refl) (λ same. ends.0.1) (λ quiet. refl) (λ same. ends.0.0) refl ends.1
+      (too_small ends.0.0) (λ less. refl) (λ same. ends.0.1) (λ quiet. refl) (λ same. ends.0.0)
+      (subst (λ (disk : Disk). TouchesOnly (IsOnBelow made.width) call.old disk) (sym ends.0.1)
+      (touches_none (IsOnBelow made.width) call.old)) refl ends.1
   created status.Usage is ends = absurd ends
   created (status.ScriptFault line) is ends = absurd ends
   created status.NotPool is ends = absurd ends
@@ -327,7 +343,7 @@ refused_words : (call : Call) → (call.journal ≡ []) × (call.turns ≡ 0)
 refused_words call still is none equal said = record {
   cause = record { usage = λ usage. none; others = λ given served_as. absurd (none (given, served_as)) };
   comes = record {
-    usage = λ no_command. inl is;
+    usage = λ no_command. is;
     limit = λ given bytes served_as read over. absurd (none (given, served_as));
     fault = λ given bytes line served_as read at. absurd (none (given, served_as));
     too_small = λ given served_as small. absurd (none (given, served_as));
@@ -339,6 +355,7 @@ refused_words call still is none equal said = record {
     refused = λ not. said_right call status.Usage
         (subst (λ (s : Status). IsLineFor s status.Usage) (sym is) refl)
         (λ done. no_done (sym is ∙ done)) said;
+    others = λ m served_m. absurd (none (served.Create m, served_m));
     untouched = λ refusal. equal;
   };
   complete = record { done = λ m served_m fits quiet sink. absurd (none (served.Create m, served_m)) };

@@ -2,7 +2,7 @@ use Rattle.std.proofs.Common.{◌≡◌, arith, rules}
 use Rattle.std.specs.Prelude.{◌++◌, codes}
 use Rattle.raidzx_top.proofs.WordTexts.{same_sectors}
 use Rattle.raidzx_top.proofs.images.memory_of.Goals as goal
-use Rattle.raidzx_top.proofs.images.memory_of.Goals.{then-sectors-lt1-via-then-sectors-lt1, then-sectors-lt1-via-else-sectors-lt1+then-sectors-gt65728}
+use Rattle.raidzx_top.proofs.images.memory_of.Goals.{then-sectors-lt1-via-then-sectors-lt1, then-sectors-lt1-via-else-sectors-lt1+then-sectors-gt-MOST_SECTORS}
 
 pub returns-then-sectors-lt1-clause-none : goal.returns-then-sectors-lt1-clause-none
 returns-then-sectors-lt1-clause-none c = λ sectors is.
@@ -11,5 +11,5 @@ returns-then-sectors-lt1-clause-none c = λ sectors is.
     (omega arith) (omega (arith, is.few)) spelled c.in_ok-sectors.ensures.some is.spelled in
     elim c.then-sectors-lt1.branch [
       | then-sectors-lt1-via-then-sectors-lt1 w ↦ omega (arith, same, is.some)
-      | then-sectors-lt1-via-else-sectors-lt1+then-sectors-gt65728 w ↦ omega (arith, same, is.few)
+      | then-sectors-lt1-via-else-sectors-lt1+then-sectors-gt-MOST_SECTORS w ↦ omega (arith, same, is.few)
     ]
