@@ -72,6 +72,20 @@ abbrev pub replay : Held → List Call → Held
 replay held [] = held
 replay held (call ∷ calls) = replay (after held call) calls
 
+-- the device that a call is for
+abbrev pub device_of : Call → ℕ
+device_of (Write number d x bytes) = d
+device_of (FailedWrite number d x bytes) = d
+device_of (Sync number d) = d
+device_of (Spoil number d x bytes) = d
+
+-- the sector that a call is for, where it is for one
+abbrev pub sector_of : Call → Option ℕ
+sector_of (Write number d x bytes) = Some x
+sector_of (FailedWrite number d x bytes) = Some x
+sector_of (Sync number d) = None
+sector_of (Spoil number d x bytes) = Some x
+
 -- devices that hold zeros
 abbrev pub blank : ℕ → ℕ → Known
 blank devices sectors d x = if nat_lt d devices && nat_lt x sectors then Some zero_sector else None

@@ -1,6 +1,6 @@
 // A bank of devices in memory.
 ghost use Rattle.std.specs.Prelude.{◌≡◌, ◌<◌, ◌≤◌, ◌^◌, ◌++◌, [], ◌∷◌, ℕ, List, IfOk, Err, OnOk, OnErr, IsTrue, length, slice_index, Some, replicate};
-ghost use Rattle.bank_mem.specs.Sound.{LeadsTo, AllWide};
+ghost use Rattle.bank_mem.specs.Sound.{LeadsTo, AllWide, AllPlaced};
 
 use crate::plan::Plan;
 use crate::record::{self, Call};
@@ -18,6 +18,9 @@ pub struct MemBank {
     plan: Plan,
     ghost same: { LeadsTo first.items calls.items now.items },
     ghost wide: { AllWide now.items sectors },
+    ghost as_many: { length first.items ≡ length now.items },
+    ghost as_wide: { AllWide first.items sectors },
+    ghost placed: { AllPlaced (length now.items) sectors calls.items },
     ghost counted: { length plan.faults.items ≡ length now.items },
     ghost few: { length now.items < 2 ^ 32 },
 }

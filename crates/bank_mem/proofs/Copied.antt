@@ -1,0 +1,59 @@
+-- A copy of some rows is as wide as they are.
+use Rattle.std.proofs.Common.{◌≡◌, ⊎_elim, ℕ, zero, suc, ◌<◌, ◌≤◌, List, [], ◌∷◌, length, Option, Some, None, Vec, refl, sym, ◌∙◌, ap, arith, slice_get, option_and_then}
+use Rattle.std.specs.declared.alloc.Global.{Global}
+use Rattle.std.proofs.lemmas.Bool.{cases_lt}
+use Rattle.std.proofs.lemmas.Option.{slice_get_past}
+use Rattle.bank_mem.specs.Record.{Shelf, content}
+use Rattle.bank_mem.specs.Sound.{AllWide}
+
+-- Lists that have the same element at each place are the same.
+same_list : {A : Type 0} (xs ys : List A) → ((k : ℕ) → slice_get xs k ≡ slice_get ys k) → xs ≡ ys
+same_list [] [] same = refl
+same_list [] (y ∷ ys) same = let none = same 0 in cc
+same_list (x ∷ xs) [] same = let none = same 0 in cc
+same_list (x ∷ xs) (y ∷ ys) same =
+    let first = same 0 in
+    let rest : xs ≡ ys = same_list xs ys (λ k. same (suc k)) in
+    cc
+
+-- A place below the length has an element.
+some_below : {A : Type 0} (xs : List A) (k : ℕ) → k < length xs → (x : A) × (slice_get xs k ≡ Some x)
+some_below [] k below = absurd (omega arith)
+some_below (x ∷ xs) zero below = (x, refl)
+some_below (x ∷ xs) (suc k) below = some_below xs k (omega arith)
+
+-- and one that has an element is below the length
+below_some : {A : Type 0} (xs : List A) (k : ℕ) (x : A) → slice_get xs k ≡ Some x → k < length xs
+below_some [] k x is = absurd (cc)
+below_some (y ∷ xs) zero x is = omega arith
+below_some (y ∷ xs) (suc k) x is = omega (arith, below_some xs k x is)
+
+-- what a shelf holds on a device whose row is known
+content_of : (shelf : Shelf) (d : ℕ) (v : Vec (List ℕ) Global) → slice_get shelf d ≡ Some v
+    → (x : ℕ) → content shelf d x ≡ slice_get v.items x
+content_of shelf d v is x =
+    ap (λ (o : Option (Vec (List ℕ) Global)). option_and_then (λ (w : Vec (List ℕ) Global). slice_get w.items x) o) is
+
+-- All rows are copied: as many, each of them with what it holds.
+pub copied_held : (copy shelf : Shelf) → length copy ≡ length shelf
+    → ((d x : ℕ) → d < length shelf → content copy d x ≡ content shelf d x)
+    → (d x : ℕ) → content copy d x ≡ content shelf d x
+copied_held copy shelf as_many held d x = ⊎_elim
+    (λ below. held d x below)
+    (λ past. none copy d x (omega (arith, as_many)) ∙ sym (none shelf d x past))
+    (cases_lt d (length shelf))
+  where
+    none : (rows : Shelf) (d x : ℕ) → length rows ≤ d → content rows d x ≡ None
+    none rows d x past =
+        ap (λ (o : Option (Vec (List ℕ) Global)). option_and_then (λ (w : Vec (List ℕ) Global). slice_get w.items x) o)
+        (slice_get_past rows d past)
+
+pub copied_wide : (copy shelf : Shelf) → length copy ≡ length shelf
+    → ((d x : ℕ) → d < length shelf → content copy d x ≡ content shelf d x) → (n : ℕ) → AllWide shelf n
+    → AllWide copy n
+copied_wide copy shelf as_many held n wide d v is =
+    let row = some_below shelf d (omega (arith, as_many, below_some copy d v is)) in
+    let same : v.items ≡ row.0.items = same_list v.items row.0.items
+    (λ x. sym (content_of copy d v is x) ∙ copied_held copy shelf as_many held d x
+    ∙ content_of shelf d row.0 row.1 x) in
+    ap length same ∙ wide d row.0 row.1

@@ -1,0 +1,38 @@
+-- Each call on record is for a sector that there is.
+use Rattle.std.proofs.Common.{◌≡◌, ◌⊎◌, inl, inr, ℕ, ◌<◌, List, [], ◌∷◌, ◌++◌, Some, sym, subst}
+use Rattle.std.proofs.lemmas.List.Elements.{All-push}
+use Rattle.bank_mem.specs.declared.record.Call.{Call}
+use Rattle.bank_mem.specs.Record.{device_of, sector_of}
+use Rattle.bank_mem.specs.Sound.{AllPlaced}
+
+-- The call is for a device, and for a sector of it, that there is.
+abbrev Fits : ℕ → ℕ → Call → Type 0
+Fits devices sectors call =
+    (device_of call < devices) × ((x : ℕ) → sector_of call ≡ Some x → x < sectors)
+
+-- one call more
+pub placed_more : (devices sectors many : ℕ) (calls later : List Call) (call : Call)
+    → later ≡ calls ++ call ∷ [] → many ≡ devices
+    → device_of call < devices → ((x : ℕ) → sector_of call ≡ Some x → x < sectors)
+    → AllPlaced devices sectors calls
+    → AllPlaced many sectors later
+placed_more devices sectors many calls later call one_more as_many device sector placed =
+    subst (λ (k : ℕ). AllPlaced k sectors later) (sym as_many)
+    (subst (λ (l : List Call). AllPlaced devices sectors l) (sym one_more)
+    (All-push (Fits devices sectors) calls call placed (device, sector)))
+
+-- one call more, or none
+pub placed_noted : (devices sectors : ℕ) (calls later : List Call) (call : Call)
+    → (later ≡ calls ++ call ∷ []) ⊎ (later ≡ calls)
+    → device_of call < devices → ((x : ℕ) → sector_of call ≡ Some x → x < sectors)
+    → AllPlaced devices sectors calls
+    → AllPlaced devices sectors later
+placed_noted devices sectors calls later call (inl noted) device sector placed =
+    subst (λ (l : List Call). AllPlaced devices sectors l) (sym noted)
+    (All-push (Fits devices sectors) calls call placed (device, sector))
+placed_noted devices sectors calls later call (inr same) device sector placed =
+    subst (λ (l : List Call). AllPlaced devices sectors l) (sym same) placed
+
+-- A sector that there is stays one under another name.
+pub same_sector : (x sectors : ℕ) → x < sectors → (y : ℕ) → Some x ≡ Some y → y < sectors
+same_sector x sectors below y is = let same : x ≡ y = cc in subst (λ (k : ℕ). k < sectors) same below
