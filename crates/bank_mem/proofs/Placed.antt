@@ -1,9 +1,10 @@
 -- Each call on record is for a sector that there is.
-use Rattle.std.proofs.Common.{◌≡◌, ◌⊎◌, inl, inr, ℕ, ◌<◌, List, [], ◌∷◌, ◌++◌, Some, sym, subst}
+use Rattle.std.proofs.Common.{◌≡◌, ◌⊎◌, inl, inr, ℕ, ◌<◌, List, [], ◌∷◌, ◌++◌, length, Some, Vec, slice_get, sym, subst}
+use Rattle.std.specs.declared.alloc.Global.{Global}
 use Rattle.std.proofs.lemmas.List.Elements.{All-push}
 use Rattle.bank_mem.specs.declared.record.Call.{Call}
-use Rattle.bank_mem.specs.Record.{device_of, sector_of}
-use Rattle.bank_mem.specs.Sound.{AllPlaced}
+use Rattle.bank_mem.specs.Record.{Shelf, device_of, sector_of}
+use Rattle.bank_mem.specs.Sound.{AllPlaced, HasPlaceOf}
 
 -- The call is for a device, and for a sector of it, that there is.
 abbrev Fits : ℕ → ℕ → Call → Type 0
@@ -36,3 +37,10 @@ placed_noted devices sectors calls later call (inr same) device sector placed =
 -- A sector that there is stays one under another name.
 pub same_sector : (x sectors : ℕ) → x < sectors → (y : ℕ) → Some x ≡ Some y → y < sectors
 same_sector x sectors below y is = let same : x ≡ y = cc in subst (λ (k : ℕ). k < sectors) same below
+
+-- A call's sector is in the row of its device.
+pub in_row : (shelf : Shelf) (call : Call) (d x : ℕ) → HasPlaceOf shelf call → device_of call ≡ d
+    → sector_of call ≡ Some x
+    → (row : Vec (List ℕ) Global) → slice_get shelf d ≡ Some row → x < length row.items
+in_row shelf call d x place device sector row is =
+    place.1 row x (subst (λ (e : ℕ). slice_get shelf e ≡ Some row) (sym device) is) sector

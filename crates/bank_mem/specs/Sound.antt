@@ -18,3 +18,10 @@ AllWide shelf sectors = (d : ℕ) (v : Vec (List ℕ) Global) → slice_get shel
 abbrev pub AllPlaced : ℕ → ℕ → List Call → Type 0
 AllPlaced devices sectors calls = All (λ call. (device_of call < devices)
     × ((x : ℕ) → sector_of call ≡ Some x → x < sectors)) calls
+
+-- The device of a call is there, and so is its sector.
+abbrev pub HasPlaceOf : Shelf → Call → Type 0
+HasPlaceOf shelf call = (device_of call < length shelf)
+    × ((row : Vec (List ℕ) Global) (x : ℕ) → slice_get shelf (device_of call) ≡ Some row
+    → sector_of call ≡ Some x
+    → x < length row.items)

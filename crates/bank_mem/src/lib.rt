@@ -6,6 +6,7 @@
 #![tactic(auto)]
 
 mod bank;
+mod crash;
 mod plan;
 mod record;
 mod refused;
@@ -16,6 +17,7 @@ mod source;
 mod tests;
 
 pub use bank::MemBank;
+pub use crash::{Tear, Torn};
 pub use record::Call;
 pub use refused::ImagesRefused;
 pub use sink::MemSink;
