@@ -1,5 +1,6 @@
 -- A copy of some rows is as wide as they are.
-use Rattle.std.proofs.Common.{◌≡◌, ⊎_elim, ℕ, zero, suc, ◌<◌, ◌≤◌, List, [], ◌∷◌, length, Option, Some, None, Vec, refl, sym, ◌∙◌, ap, arith, slice_get, option_and_then}
+use Rattle.std.proofs.Common.{◌≡◌, ⊎_elim, ℕ, zero, suc, ◌<◌, ◌≤◌, List, [], ◌∷◌, length, Option, Some, None, Vec, refl, sym, ◌∙◌, ap, subst, arith, slice_get, option_and_then}
+use Rattle.std.specs.Prelude.{IsSome}
 use Rattle.std.specs.declared.alloc.Global.{Global}
 use Rattle.std.proofs.lemmas.Bool.{cases_lt}
 use Rattle.std.proofs.lemmas.Option.{slice_get_past}
@@ -57,3 +58,13 @@ copied_wide copy shelf as_many held n wide d v is =
     (λ x. sym (content_of copy d v is x) ∙ copied_held copy shelf as_many held d x
     ∙ content_of shelf d row.0 row.1 x) in
     ap length same ∙ wide d row.0 row.1
+
+-- A shelf tells what it holds in each of its sectors.
+pub told_in : (shelf : Shelf) (devices sectors : ℕ) → length shelf ≡ devices
+    → AllWide shelf sectors
+    → (d x : ℕ) → d < devices → x < sectors → IsSome (content shelf d x)
+told_in shelf devices sectors many wide d x d_in x_in =
+    let row = some_below shelf d (omega (arith, many)) in
+    let there = some_below row.0.items x (omega (arith, wide d row.0 row.1)) in
+    let is : content shelf d x ≡ Some there.0 = content_of shelf d row.0 row.1 x ∙ there.1 in
+    subst IsSome (sym is) refl

@@ -1,19 +1,21 @@
 -- What a stop leaves in each sector, call by call: before its device's last sync what is read, after
 -- it what its listing says.
-use Rattle.std.proofs.Common.{◌≡◌, ◌≢◌, inl, inr, ⊎_elim, ℕ, ◌+◌, ◌<◌, ◌≤◌, List, [], ◌∷◌, Option, Some, None, refl, sym, ◌∙◌, ap, subst, arith, slice_get}
+use Rattle.std.proofs.Common.{◌≡◌, length, get_or, slice_index, take, ◌≢◌, inl, inr, ⊎_elim, ℕ, ◌+◌, ◌<◌, ◌≤◌, List, [], ◌∷◌, Option, Some, None, refl, sym, ◌∙◌, ap, subst, arith, slice_get}
 use Rattle.std.specs.Prelude.{IsSome, option_to_list}
 use Rattle.std.specs.List.{last_or}
-use Rattle.std.proofs.lemmas.Bool.{cases_eq}
+use Rattle.std.proofs.lemmas.List.{take_more}
+use Rattle.std.proofs.lemmas.Bool.{cases_eq, cases_lt}
 use Rattle.std.proofs.lemmas.Bool.Decides.{nat_tests}
+use Rattle.std.proofs.lemmas.Option.{slice_get-get_or}
 use Rattle.bank_trait.specs.Disk.{Known, Other}
 use Rattle.bank_trait.proofs.Moments.{place_cases}
 use Rattle.bank_mem.specs.declared.record.Call.{Call}
 use Rattle.bank_mem.specs.declared.record.Call.TheVariants.{Write, FailedWrite, Sync, Spoil}
 use Rattle.bank_mem.specs.declared.crash.Tear.{Tear}
 use Rattle.bank_mem.specs.declared.crash.Tear.TheVariants.{Kept, Filled}
-use Rattle.bank_mem.specs.Record.{Held, at_rest, after, put, handed, could_only, filled, device_of, sector_of}
+use Rattle.bank_mem.specs.Record.{Held, at_rest, after, replay, put, handed, could_only, filled, device_of, sector_of}
 use Rattle.bank_mem.specs.Crash.{IsSyncedUpTo, torn_to, torn_after}
-use Rattle.bank_mem.proofs.Steps.{put-same, put-other, handed-same, handed-other}
+use Rattle.bank_mem.proofs.Steps.{replay-append, put-same, put-other, handed-same, handed-other}
 
 -- What a stop leaves of a sector, by how it is listed and by what it could hold, newest first.
 abbrev pub left_of : Option Tear → List (List ℕ) → Option (List ℕ)
@@ -56,11 +58,12 @@ pub record IsLeft (syncs : ℕ → ℕ) (listed : ℕ → ℕ → Option Tear) (
   pub torn : (d x : ℕ) → syncs d ≤ index → known d x ≡ left_of (listed d x) (held.could d x)
 
 -- before the first call
-pub left_first : (syncs : ℕ → ℕ) (listed : ℕ → ℕ → Option Tear) (known : Known)
-    → IsLeft syncs listed 0 (at_rest known) known
-left_first syncs listed known = record {
-  settled = λ d x later. refl;
-  torn = λ d x past. left_one (listed d x) (known d x);
+pub left_first : (syncs : ℕ → ℕ) (listed : ℕ → ℕ → Option Tear) (first known : Known)
+    → ((d x : ℕ) → known d x ≡ first d x)
+    → IsLeft syncs listed 0 (at_rest first) known
+left_first syncs listed first known same = record {
+  settled = λ d x later. same d x;
+  torn = λ d x past. same d x ∙ left_one (listed d x) (first d x);
 }
 
 module _ (syncs : ℕ → ℕ) (listed : ℕ → ℕ → Option Tear) (calls : List Call) (index : ℕ)
@@ -191,3 +194,40 @@ module _ (syncs : ℕ → ℕ) (listed : ℕ → ℕ → Option Tear) (calls : L
       (λ later. absurd (omega (arith, later, past)))
       (λ le. is d x ∙ put-same known d x (Some bytes)
       ∙ ap (λ (l : List (List ℕ)). left_of (listed d x) l) (sym (could_only-same held.could d x (bytes ∷ []))))
+
+-- The next call on record, covered by a sync or not.
+pub left_step : (syncs seen : List ℕ) (listed : ℕ → ℕ → Option Tear) (calls : List Call) (index : ℕ)
+    (other : Call) (start : Held) (known new : Known) → index < length calls
+    → seen ≡ syncs → ((d : ℕ) → IsSyncedUpTo calls d (slice_index syncs d))
+    → ((x : ℕ) → sector_of (get_or calls index other) ≡ Some x
+    → IsSome (known (device_of (get_or calls index other)) x))
+    → (index < slice_index seen (device_of (get_or calls index other)) → (e y : ℕ)
+    → new e y ≡ (after (at_rest known) (get_or calls index other)).reads e y)
+    → (slice_index seen (device_of (get_or calls index other)) ≤ index → (e y : ℕ)
+    → new e y ≡ torn_after listed known (get_or calls index other) e y)
+    → IsLeft (slice_index syncs) listed index (replay start (take index calls)) known
+    → IsLeft (slice_index syncs) listed (index + 1) (replay start (take (index + 1) calls)) new
+left_step syncs seen listed calls index other start known new below same synced some settled torn before =
+    subst (λ (held : Held). IsLeft (slice_index syncs) listed (index + 1) held new) (sym one_more)
+    (⊎_elim
+    (λ later. settled_step (slice_index syncs) listed calls index synced
+    (replay start (take index calls)) known before call found later new
+    (settled (omega (arith, later, reached))))
+    (λ past. torn_step (slice_index syncs) listed calls index synced
+    (replay start (take index calls)) known before call found past some new
+    (torn (omega (arith, past, reached))))
+    (cases_lt index (slice_index syncs (device_of call))))
+  where
+    call : Call
+    call = get_or calls index other
+
+    reached : slice_index seen (device_of call) ≡ slice_index syncs (device_of call)
+    reached = ap (λ (l : List ℕ). slice_index l (device_of call)) same
+
+    found : slice_get calls index ≡ Some call
+    found = slice_get-get_or calls index other below
+
+    one_more : replay start (take (index + 1) calls)
+        ≡ after (replay start (take index calls)) call
+    one_more = ap (replay start) (take_more calls index other below)
+        ∙ replay-append (take index calls) start call

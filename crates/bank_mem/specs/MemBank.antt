@@ -20,7 +20,7 @@ view sectors first now calls faults = record {
 
 -- the devices
 abbrev pub disk_of : MemBank → Disk
-disk_of b = view b.sectors b.first.items b.now.items b.calls.items b.plan.faults.items
+disk_of b = view b.sectors b.first.items b.present.items b.calls.items b.plan.faults.items
 
 -- how many calls were made on each device
 abbrev pub made_on : MemBank → ℕ → ℕ

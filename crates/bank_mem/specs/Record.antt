@@ -16,7 +16,7 @@ abbrev pub content : Shelf → Known
 content shelf d x = option_and_then (λ v. slice_get v.items x) (slice_get shelf d)
 
 -- what is read, what a crash leaves for certain, and what each sector held at its device's last sync
--- or was handed since
+-- or was handed since, the newest first
 pub record Held : Type 0 where
   pub reads : Known
   pub stays : Known

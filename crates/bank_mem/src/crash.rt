@@ -32,7 +32,7 @@ pub struct Torn {
 pub type Tears = HashMap<(u32, u64), Tear>;
 
 /// How each sector is listed: as the last entry that names it says.
-pub fn tears(alloc: Global, torn: &[Torn]) -> Result<Tears, AllocError>
+pub fn listed_tears(alloc: Global, torn: &[Torn]) -> Result<Tears, AllocError>
     ensures { IfOk result (λ tears. (d x : ℕ)
         → get same_place tears (d, x) ≡ listed_as torn.now d x) }
 {

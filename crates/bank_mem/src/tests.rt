@@ -110,3 +110,17 @@ fn images_of_unequal_lengths_are_refused(rt: HostRuntime) -> Result<(), Fail> {
     }
     Ok(())
 }
+
+// The first byte of each sector of a bank of two devices of two sectors.
+fn first_bytes(rt: &HostRuntime, bank: &mut MemBank) -> Result<[u8; 4], Fail> {
+    let mut firsts = [0; 4];
+    for (place, first) in firsts.iter_mut().enumerate() {
+        let device = place as u32 / 2;
+        let sector = place as u64 % 2;
+        assert!(*rt; device < bank.devices() && sector < bank.sectors());
+        let mut bytes = [0; 512];
+        assert_eq!(*rt; bank.read(device, sector, &mut bytes), Ok(()));
+        *first = bytes[0];
+    }
+    Ok(firsts)
+}

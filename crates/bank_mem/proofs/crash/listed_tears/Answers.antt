@@ -1,6 +1,6 @@
 use Rattle.std.proofs.Common.{◌∙◌}
 use Rattle.bank_mem.proofs.Listed.{listed_more}
-use Rattle.bank_mem.proofs.crash.tears.Goals as goal
+use Rattle.bank_mem.proofs.crash.listed_tears.Goals as goal
 
 pub loop-entry-preserved : goal.loop-entry-preserved
 loop-entry-preserved c = λ d x.

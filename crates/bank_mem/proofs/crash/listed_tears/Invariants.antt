@@ -1,7 +1,7 @@
 use Rattle.std.proofs.Common.{◌≡◌, ℕ, take}
 use Rattle.std.specs.HashMap.{get}
 use Rattle.bank_mem.specs.Crash.{listed_as, same_place}
-use Rattle.bank_mem.proofs.crash.tears.Given as goal
+use Rattle.bank_mem.proofs.crash.listed_tears.Given as goal
 
 abbrev pub invariant-loop-entry : goal.invariant-loop-entry
 invariant-loop-entry l =
