@@ -229,7 +229,7 @@ impl Bank for MemBank {
     ghost use Rattle.bank_trait.specs.Causes.{Rose};
     ghost use Rattle.bank_trait.specs.Disk.{Unchanged, Wrote, Synced};
     ghost use Rattle.bank_mem.specs.Listed.{counted_on};
-    ghost use Rattle.bank_mem.specs.MemBank.{disk_of, made_on, FailsNext};
+    ghost use Rattle.bank_mem.specs.MemBank.{disk_of, made_on, SamePlan, FailsNext};
     ghost use Rattle.bank_mem.specs.Laws.{lawful};
 
     ghost disk = { disk_of };
@@ -256,6 +256,7 @@ impl Bank for MemBank {
         ensures listed { OnOk result (FailsNext self.old device → ⊥) }
         ensures only_listed { OnErr result (FailsNext self.old device) }
         ensures made { (d : ℕ) → made_on self.new d ≡ counted_on (made_on self.old) device d }
+        ensures plan { SamePlan self.old self.new }
     {
         if self.plan.fails_now(device) {
             return Err(Failed);
@@ -272,6 +273,7 @@ impl Bank for MemBank {
         ensures wrote { Wrote (disk_of self.old) (disk_of self.new) device sector from.now result }
         ensures listed { OnOk result (FailsNext self.old device → ⊥) }
         ensures made { (d : ℕ) → made_on self.new d ≡ counted_on (made_on self.old) device d }
+        ensures plan { SamePlan self.old self.new }
     {
         let number = self.plan.total;
         if self.plan.fails_now(device) {
@@ -304,6 +306,7 @@ impl Bank for MemBank {
         ensures synced { Synced (disk_of self.old) (disk_of self.new) device result }
         ensures listed { OnOk result (FailsNext self.old device → ⊥) }
         ensures made { (d : ℕ) → made_on self.new d ≡ counted_on (made_on self.old) device d }
+        ensures plan { SamePlan self.old self.new }
     {
         let number = self.plan.total;
         if self.plan.fails_now(device) {

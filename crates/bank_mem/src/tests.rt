@@ -171,7 +171,10 @@ fn a_stop_leaves_what_is_synced_and_tears_the_rest(rt: HostRuntime) -> Result<()
         let images = bank.crash_at(alloc, call, &[])?;
         let mut next = MemBank::from_images(alloc, images)?;
         assert!(rt; first_bytes(&rt, &mut next) == unlisted, "none at {call}");
-        assert!(rt; torn_bytes(&rt, alloc, &bank, call, Tear::Kept)? == kept, "kept at {call}");
+        assert!(rt;
+            torn_bytes(&rt, alloc, &bank, call, Tear::Kept)? == kept,
+            "kept at {call}"
+        );
         let torn = torn_bytes(&rt, alloc, &bank, call, Tear::Filled(0xa5))?;
         assert!(rt; torn == filled, "filled at {call}");
     }
