@@ -3,7 +3,7 @@ use Rattle.std.proofs.Common.{◌≡◌, ⊎_elim, ℕ, zero, suc, ◌<◌, ◌�
 use Rattle.std.specs.Prelude.{IsSome}
 use Rattle.std.specs.declared.alloc.Global.{Global}
 use Rattle.std.proofs.lemmas.Bool.{cases_lt}
-use Rattle.std.proofs.lemmas.Option.{slice_get_past}
+use Rattle.std.proofs.lemmas.Option.{slice_get_past, slice_get_within}
 use Rattle.bank_mem.specs.Record.{Shelf, content}
 use Rattle.bank_mem.specs.Sound.{AllWide}
 
@@ -18,22 +18,20 @@ same_list (x ∷ xs) (y ∷ ys) same =
     cc
 
 -- A place below the length has an element.
-some_below : {A : Type 0} (xs : List A) (k : ℕ) → k < length xs → (x : A) × (slice_get xs k ≡ Some x)
+some_below : {A : Type 0} (xs : List A) (k : ℕ) → k < length xs
+    → (x : A) × (slice_get xs k ≡ Some x)
 some_below [] k below = absurd (omega arith)
 some_below (x ∷ xs) zero below = (x, refl)
 some_below (x ∷ xs) (suc k) below = some_below xs k (omega arith)
 
--- and one that has an element is below the length
-below_some : {A : Type 0} (xs : List A) (k : ℕ) (x : A) → slice_get xs k ≡ Some x → k < length xs
-below_some [] k x is = absurd (cc)
-below_some (y ∷ xs) zero x is = omega arith
-below_some (y ∷ xs) (suc k) x is = omega (arith, below_some xs k x is)
+-- what a row holds in a sector, where there is a row
+abbrev at_sector : ℕ → Option (Vec (List ℕ) Global) → Option (List ℕ)
+at_sector x row = option_and_then (λ v. slice_get v.items x) row
 
 -- what a shelf holds on a device whose row is known
 content_of : (shelf : Shelf) (d : ℕ) (v : Vec (List ℕ) Global) → slice_get shelf d ≡ Some v
     → (x : ℕ) → content shelf d x ≡ slice_get v.items x
-content_of shelf d v is x =
-    ap (λ (o : Option (Vec (List ℕ) Global)). option_and_then (λ (w : Vec (List ℕ) Global). slice_get w.items x) o) is
+content_of shelf d v is x = ap (at_sector x) is
 
 -- All rows are copied: as many, each of them with what it holds.
 pub copied_held : (copy shelf : Shelf) → length copy ≡ length shelf
@@ -45,15 +43,14 @@ copied_held copy shelf as_many held d x = ⊎_elim
     (cases_lt d (length shelf))
   where
     none : (rows : Shelf) (d x : ℕ) → length rows ≤ d → content rows d x ≡ None
-    none rows d x past =
-        ap (λ (o : Option (Vec (List ℕ) Global)). option_and_then (λ (w : Vec (List ℕ) Global). slice_get w.items x) o)
-        (slice_get_past rows d past)
+    none rows d x past = ap (at_sector x) (slice_get_past rows d past)
 
+-- and each as long
 pub copied_wide : (copy shelf : Shelf) → length copy ≡ length shelf
-    → ((d x : ℕ) → d < length shelf → content copy d x ≡ content shelf d x) → (n : ℕ) → AllWide shelf n
-    → AllWide copy n
+    → ((d x : ℕ) → d < length shelf → content copy d x ≡ content shelf d x)
+    → (n : ℕ) → AllWide shelf n → AllWide copy n
 copied_wide copy shelf as_many held n wide d v is =
-    let row = some_below shelf d (omega (arith, as_many, below_some copy d v is)) in
+    let row = some_below shelf d (omega (arith, as_many, slice_get_within copy d v is)) in
     let same : v.items ≡ row.0.items = same_list v.items row.0.items
     (λ x. sym (content_of copy d v is x) ∙ copied_held copy shelf as_many held d x
     ∙ content_of shelf d row.0 row.1 x) in

@@ -5,7 +5,7 @@ use Rattle.bank_mem.specs.declared.record.Call.{Call}
 use Rattle.bank_mem.specs.declared.record.Call.TheVariants.{Write, FailedWrite}
 use Rattle.bank_mem.specs.declared.crash.Tear.{Tear}
 use Rattle.bank_mem.specs.Record.{put}
-use Rattle.bank_mem.specs.Crash.{torn_to, torn_after}
+use Rattle.bank_mem.specs.CrashSteps.{torn_to, torn_after}
 
 -- A write, carried out or failed, of these bytes to this sector.
 abbrev pub Hands : Call → ℕ → ℕ → List ℕ → Type 0

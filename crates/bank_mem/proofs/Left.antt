@@ -1,5 +1,5 @@
--- What a stop leaves in each sector, call by call: before its device's last sync what is read, after
--- it what its listing says.
+-- What a stop leaves in each sector, call by call: before its device's last sync what is read, and
+-- after it what its listing says.
 use Rattle.std.proofs.Common.{◌≡◌, length, get_or, slice_index, take, ◌≢◌, inl, inr, ⊎_elim, ℕ, ◌+◌, ◌<◌, ◌≤◌, List, [], ◌∷◌, Option, Some, None, refl, sym, ◌∙◌, ap, subst, arith, slice_get}
 use Rattle.std.specs.Prelude.{IsSome, option_to_list}
 use Rattle.std.specs.List.{last_or}
@@ -14,7 +14,7 @@ use Rattle.bank_mem.specs.declared.record.Call.TheVariants.{Write, FailedWrite, 
 use Rattle.bank_mem.specs.declared.crash.Tear.{Tear}
 use Rattle.bank_mem.specs.declared.crash.Tear.TheVariants.{Kept, Filled}
 use Rattle.bank_mem.specs.Record.{Held, at_rest, after, replay, put, handed, could_only, filled, device_of, sector_of}
-use Rattle.bank_mem.specs.Crash.{IsSyncedUpTo, torn_to, torn_after}
+use Rattle.bank_mem.specs.CrashSteps.{IsSyncedUpTo, torn_to, torn_after}
 use Rattle.bank_mem.proofs.Steps.{replay-append, put-same, put-other, handed-same, handed-other}
 
 -- What a stop leaves of a sector, by how it is listed and by what it could hold, newest first.
@@ -140,7 +140,8 @@ module _ (syncs : ℕ → ℕ) (listed : ℕ → ℕ → Option Tear) (calls : L
         (is d y ∙ before.settled d y later ∙ left_one (listed d y) (held.reads d y)
         ∙ ap (λ (l : List (List ℕ)). left_of (listed d y) l) (sym (could_here y))))
         (λ ne. is e y
-        ∙ before.torn e y (behind (Sync number d) found e (λ other same. ne (sym (ap device_of same))) past)
+        ∙ before.torn e y
+        (behind (Sync number d) found e (λ other same. ne (sym (ap device_of same))) past)
         ∙ ap (λ (l : List (List ℕ)). left_of (listed e y) l) (sym (could_elsewhere e y ne)))
         (cases_eq e d);
   }
@@ -148,7 +149,8 @@ module _ (syncs : ℕ → ℕ) (listed : ℕ → ℕ → Option Tear) (calls : L
       now : Held
       now = after held (Sync number d)
 
-      could_here : (y : ℕ) → (after held (Sync number d)).could d y ≡ option_to_list (held.reads d y)
+      could_here : (y : ℕ)
+          → (after held (Sync number d)).could d y ≡ option_to_list (held.reads d y)
       could_here y = grind (arith, nat_tests)
 
       could_elsewhere : (e y : ℕ) → e ≢ d → (after held (Sync number d)).could e y ≡ held.could e y
@@ -193,7 +195,8 @@ module _ (syncs : ℕ → ℕ) (listed : ℕ → ℕ → Option Tear) (calls : L
       (λ e y other. could_only-other held.could d x (bytes ∷ []) e y other)
       (λ later. absurd (omega (arith, later, past)))
       (λ le. is d x ∙ put-same known d x (Some bytes)
-      ∙ ap (λ (l : List (List ℕ)). left_of (listed d x) l) (sym (could_only-same held.could d x (bytes ∷ []))))
+      ∙ ap (λ (l : List (List ℕ)). left_of (listed d x) l)
+      (sym (could_only-same held.could d x (bytes ∷ []))))
 
 -- The next call on record, covered by a sync or not.
 pub left_step : (syncs seen : List ℕ) (listed : ℕ → ℕ → Option Tear) (calls : List Call) (index : ℕ)

@@ -38,7 +38,9 @@ placed_noted devices sectors calls later call (inr same) device sector placed =
 
 -- A sector that there is stays one under another name.
 pub same_sector : (x sectors : ℕ) → x < sectors → (y : ℕ) → Some x ≡ Some y → y < sectors
-same_sector x sectors below y is = let same : x ≡ y = cc in subst (λ (k : ℕ). k < sectors) same below
+same_sector x sectors below y is =
+    let same : x ≡ y = cc in
+    subst (λ (k : ℕ). k < sectors) same below
 
 -- A call's sector is in the row of its device.
 pub in_row : (shelf : Shelf) (call : Call) (d x : ℕ) → HasPlaceOf shelf call → device_of call ≡ d

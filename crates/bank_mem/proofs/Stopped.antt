@@ -12,7 +12,8 @@ use Rattle.bank_mem.specs.declared.crash.Torn.{Torn}
 use Rattle.bank_mem.specs.declared.crash.Tear.{Tear}
 use Rattle.bank_mem.specs.declared.crash.Tear.TheVariants.{Kept, Filled}
 use Rattle.bank_mem.specs.Record.{Shelf, content, Held, at_rest, replay, filled}
-use Rattle.bank_mem.specs.Crash.{IsSyncedUpTo, listed_as, held_at_sync, handed_last, image_of}
+use Rattle.bank_mem.specs.Crash.{listed_as, held_at_sync, handed_last, image_of}
+use Rattle.bank_mem.specs.CrashSteps.{IsSyncedUpTo}
 use Rattle.bank_mem.proofs.Could.{counted}
 use Rattle.bank_mem.proofs.Left.{left_of, IsLeft}
 
@@ -22,33 +23,40 @@ pub record IsStopped (torn : List Torn) (first : Known) (calls : List Call) (kno
   pub left : (d x : ℕ)
       → known d x ≡ left_of (listed_as torn d x) ((replay (at_rest first) calls).could d x)
 
+-- As many of the first calls as there are.
+take_min : (calls : List Call) (call : ℕ) → take (min call (length calls)) calls ≡ take call calls
+take_min calls call = ⊎_elim
+    (λ below. let same : min call (length calls) ≡ call = omega (arith, below) in
+    ap (λ (n : ℕ). take n calls) same)
+    (λ past. take_all (min call (length calls)) calls (omega (arith, past))
+    ∙ sym (take_all call calls past))
+    (cases_lt call (length calls))
+
 -- After all calls no sync is still to come.
 pub left_all : (syncs : ℕ → ℕ) (listed : ℕ → ℕ → Option Tear) (torn : List Torn)
-    (first known : Known) (calls record_of : List Call) (call index : ℕ)
-    → record_of ≡ take (min call (length calls)) calls → length record_of ≤ index
-    → ((d : ℕ) → IsSyncedUpTo record_of d (syncs d))
-    → ((d x : ℕ) → listed d x ≡ listed_as torn d x)
-    → IsLeft syncs listed index (replay (at_rest first) (take index record_of)) known
+    (first known : Known) (calls made : List Call) (call index : ℕ)
+    → made ≡ take (min call (length calls)) calls → length made ≤ index
+    → ((d : ℕ) → IsSyncedUpTo made d (syncs d)) → ((d x : ℕ) → listed d x ≡ listed_as torn d x)
+    → IsLeft syncs listed index (replay (at_rest first) (take index made)) known
     → IsStopped torn first (take call calls) known
-left_all syncs listed torn first known calls record_of call index is all synced same left = record {
-  left = λ d x. left.torn d x (⊎_elim
-      (λ later.
-      let sync = (synced d).last (syncs d - 1) (omega (arith, later)) in
-      let below = slice_get_within record_of (syncs d - 1) (Sync sync.0 d) sync.1 in
-      absurd (omega (arith, later, below, all)))
-      (λ past. past)
-      (cases_lt index (syncs d)))
-      ∙ ap (λ (how : Option Tear). left_of how ((replay (at_rest first) (take index record_of)).could d x)) (same d x)
-      ∙ ap (λ (l : List Call). left_of (listed_as torn d x) ((replay (at_rest first) l).could d x))
-      (take_all index record_of all ∙ is ∙ whole);
+left_all syncs listed torn first known calls made call index is all synced same left = record {
+  left = λ d x. left.torn d x (past d)
+      ∙ ap (λ (how : Option Tear). left_of how (could_after (take index made) d x)) (same d x)
+      ∙ ap (λ (l : List Call). left_of (listed_as torn d x) (could_after l d x))
+      (take_all index made all ∙ is ∙ take_min calls call);
 }
   where
-    whole : take (min call (length calls)) calls ≡ take call calls
-    whole = ⊎_elim
-        (λ below. ap (λ (n : ℕ). take n calls) (let m : min call (length calls) ≡ call = omega (arith, below) in m))
-        (λ past. ap (λ (n : ℕ). take n calls) (let m : min call (length calls) ≡ length calls = omega (arith, past) in m)
-        ∙ take_all (length calls) calls (omega arith) ∙ sym (take_all call calls past))
-        (cases_lt call (length calls))
+    could_after : List Call → ℕ → ℕ → List (List ℕ)
+    could_after l = (replay (at_rest first) l).could
+
+    past : (d : ℕ) → syncs d ≤ index
+    past d = ⊎_elim
+        (λ later.
+        let sync = (synced d).last (syncs d - 1) (omega (arith, later)) in
+        let below = slice_get_within made (syncs d - 1) (Sync sync.0 d) sync.1 in
+        absurd (omega (arith, later, below, all)))
+        (λ behind. behind)
+        (cases_lt index (syncs d))
 
 -- what a sector holds that is not listed
 pub left_unlisted : (could : List (List ℕ)) → left_of None could ≡ held_at_sync could
@@ -137,7 +145,8 @@ module _ (torn : List Torn) (first : Known) (calls : List Call) (shelf : Shelf)
       → ((byte : ℕ) → listed_as torn d x ≡ Some (Filled byte) → ⊥)
       → Contains (held.could d x) (image_of shelf d x)
   stopped_could d x some not_filled =
-      let told = left_told (listed_as torn d x) (held.could d x) ((counted first calls).some d x some) in
+      let could = (counted first calls).some d x some in
+      let told = left_told (listed_as torn d x) (held.could d x) could in
       let is : image_of shelf d x ≡ told.0 =
       ap (λ (o : Option (List ℕ)). unwrap_or o []) (stopped.left d x ∙ told.1) in
       subst (λ (bytes : List ℕ). Contains (held.could d x) bytes) (sym is)

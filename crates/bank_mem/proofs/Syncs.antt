@@ -6,7 +6,7 @@ use Rattle.std.proofs.lemmas.Option.{slice_get_within, slice_get-get_or}
 use Rattle.bank_mem.specs.declared.record.Call.{Call}
 use Rattle.bank_mem.specs.declared.record.Call.TheVariants.{Sync}
 use Rattle.bank_mem.specs.Record.{device_of}
-use Rattle.bank_mem.specs.Crash.{IsSyncedUpTo}
+use Rattle.bank_mem.specs.CrashSteps.{IsSyncedUpTo}
 
 -- The last sync of device d among the calls before one is the last of the first n calls.
 pub record SyncedBelow (calls : List Call) (index d n : ℕ) : Type 0 where

@@ -6,3 +6,4 @@ pub mod Laws
 pub mod MemStreams
 pub mod Spoiled
 pub mod Crash
+pub mod CrashSteps

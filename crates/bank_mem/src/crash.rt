@@ -1,7 +1,7 @@
 // What a stop leaves of devices in memory.
 ghost use Rattle.std.specs.Prelude.{◌≡◌, ◌<◌, ◌≤◌, ℕ, IfOk, All, length, slice_index};
-ghost use Rattle.std.specs.HashMap.{get};
-ghost use Rattle.bank_mem.specs.Crash.{listed_as, same_place, torn_after, IsSyncedUpTo};
+ghost use Rattle.bank_mem.specs.Crash.{listed_as};
+ghost use Rattle.bank_mem.specs.CrashSteps.{tear_of, torn_after, IsSyncedUpTo};
 ghost use Rattle.bank_mem.specs.Record.{content, at_rest, after, device_of};
 ghost use Rattle.bank_mem.specs.Sound.{AllWide, HasPlaceOf};
 
@@ -33,8 +33,7 @@ pub type Tears = HashMap<(u32, u64), Tear>;
 
 /// How each sector is listed: as the last entry that names it says.
 pub fn listed_tears(alloc: Global, torn: &[Torn]) -> Result<Tears, AllocError>
-    ensures { IfOk result (λ tears. (d x : ℕ)
-        → get same_place tears (d, x) ≡ listed_as torn.now d x) }
+    ensures { IfOk result (λ tears. (d x : ℕ) → tear_of tears d x ≡ listed_as torn.now d x) }
 {
     let mut tears = HashMap::new(alloc);
     for entry in torn {
@@ -88,7 +87,7 @@ fn put_settled(images: &mut Vec<Vec<[u8; 512]>>, call: &Call)
 fn put_torn(images: &mut Vec<Vec<[u8; 512]>>, call: &Call, tears: &Tears)
     requires { HasPlaceOf images.old.items call.now }
     ensures held { (d x : ℕ) → content images.new.items d x
-        ≡ torn_after (λ e y. get same_place tears.now (e, y)) (content images.old.items) call.now d x }
+        ≡ torn_after (tear_of tears.now) (content images.old.items) call.now d x }
     ensures len { length images.new.items ≡ length images.old.items }
     ensures width { (n : ℕ) → AllWide images.old.items n → AllWide images.new.items n }
 {
@@ -141,7 +140,7 @@ pub fn put_call(
         ≡ (after (at_rest (content images.old.items)) call.now).reads d x }
     ensures torn { slice_index syncs.now (device_of call.now) ≤ index → (d x : ℕ)
         → content images.new.items d x
-        ≡ torn_after (λ e y. get same_place tears.now (e, y)) (content images.old.items) call.now d x }
+        ≡ torn_after (tear_of tears.now) (content images.old.items) call.now d x }
     ensures len { length images.new.items ≡ length images.old.items }
     ensures width { (n : ℕ) → AllWide images.old.items n → AllWide images.new.items n }
 {

@@ -1,7 +1,6 @@
 use Rattle.std.proofs.Common.{⊎_elim, Some, ◌∙◌, ap, sym, refl}
-use Rattle.std.specs.HashMap.{get}
 use Rattle.bank_mem.specs.Record.{content, device_of, sector_of}
-use Rattle.bank_mem.specs.Crash.{same_place}
+use Rattle.bank_mem.specs.CrashSteps.{tear_of}
 use Rattle.bank_mem.specs.declared.crash.Tear.TheVariants.{Kept, Filled}
 use Rattle.bank_mem.proofs.Placed.{in_row}
 use Rattle.bank_mem.proofs.Handed.{torn_put}
@@ -23,15 +22,16 @@ put_sector-requires-in-Some-Filled-clause-sector c = ⊎_elim
 
 pub returns-in-Some-Kept-clause-held : goal.returns-in-Some-Kept-clause-held
 returns-in-Some-Kept-clause-held c =
-    torn_put (λ e y. get same_place c.args.tears.now (e, y)) (content c.args.images.now.items) _
+    torn_put (tear_of c.args.tears.now) (content c.args.images.now.items) _
     c.args.call.now c.in-Write.device c.in-Write.sector c.in-Write.bytes c.in-Write.bytes Kept
     c.in-Write.is (sym c.in-Some-Kept.ensures.value ∙ ap Some c.in-Some-Kept.field-0-is) refl
     c.put_sector-in-Some-Kept.ensures.held
 
 pub returns-in-Some-Filled-clause-held : goal.returns-in-Some-Filled-clause-held
 returns-in-Some-Filled-clause-held c =
-    torn_put (λ e y. get same_place c.args.tears.now (e, y)) (content c.args.images.now.items) _
-    c.args.call.now c.in-Write.device c.in-Write.sector c.in-Write.bytes _ (Filled c.in-Some-Filled.byte)
-    c.in-Write.is (sym c.in-Some-Filled.ensures.value ∙ ap Some c.in-Some-Filled.field-0-is)
+    torn_put (tear_of c.args.tears.now) (content c.args.images.now.items) _
+    c.args.call.now c.in-Write.device c.in-Write.sector c.in-Write.bytes _
+    (Filled c.in-Some-Filled.byte) c.in-Write.is
+    (sym c.in-Some-Filled.ensures.value ∙ ap Some c.in-Some-Filled.field-0-is)
     (ap Some (sym c.filled_sector.ensures))
     c.put_sector-in-Some-Filled.ensures.held
