@@ -14,24 +14,24 @@ use Rattle.bank_mem.specs.Sound.{LeadsTo}
 use Rattle.bank_mem.specs.MemBank.{view}
 
 -- One more call is replayed after the others.
-replay-append : (calls : List Call) (held : Held) (call : Call)
+pub replay-append : (calls : List Call) (held : Held) (call : Call)
     → replay held (calls ++ call ∷ []) ≡ after (replay held calls) call
 replay-append [] held call = refl
 replay-append (c ∷ calls) held call = replay-append calls (after held c) call
 
-put-same : (known : Known) (d x : ℕ) (value : Option (List ℕ)) → put known d x value d x ≡ value
+pub put-same : (known : Known) (d x : ℕ) (value : Option (List ℕ)) → put known d x value d x ≡ value
 put-same known d x value = grind (arith, nat_tests)
 
-put-other : (known : Known) (d x : ℕ) (value : Option (List ℕ)) (e y : ℕ) → Other d x e y
+pub put-other : (known : Known) (d x : ℕ) (value : Option (List ℕ)) (e y : ℕ) → Other d x e y
     → put known d x value e y ≡ known e y
 put-other known d x value e y (inl other) = grind (arith, nat_tests)
 put-other known d x value e y (inr other) = grind (arith, nat_tests)
 
-handed-same : (could : ℕ → ℕ → List (List ℕ)) (d x : ℕ) (bytes : List ℕ)
+pub handed-same : (could : ℕ → ℕ → List (List ℕ)) (d x : ℕ) (bytes : List ℕ)
     → handed could d x bytes d x ≡ bytes ∷ could d x
 handed-same could d x bytes = grind (arith, nat_tests)
 
-handed-other : (could : ℕ → ℕ → List (List ℕ)) (d x : ℕ) (bytes : List ℕ) (e y : ℕ)
+pub handed-other : (could : ℕ → ℕ → List (List ℕ)) (d x : ℕ) (bytes : List ℕ) (e y : ℕ)
     → Other d x e y
     → handed could d x bytes e y ≡ could e y
 handed-other could d x bytes e y (inl other) = grind (arith, nat_tests)

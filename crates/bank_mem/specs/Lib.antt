@@ -5,3 +5,5 @@ pub mod MemBank
 pub mod Laws
 pub mod MemStreams
 pub mod Spoiled
+pub mod Crash
+pub mod CrashSteps

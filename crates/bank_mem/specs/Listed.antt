@@ -6,6 +6,10 @@ abbrev pub IsListed : List (ℕ × ℕ) → List (ℕ × ℕ) → ℕ → ℕ �
 IsListed calls starts device number =
     Contains calls (device, number) ⊎ Any (λ s. (s.0 ≡ device) × (s.1 ≤ number)) starts
 
--- one call more on a device, as far as its type goes
+-- one call more, as far as its type goes
+abbrev pub counted : ℕ → ℕ
+counted made = min (made + 1) (2 ^ 64 - 1)
+
+-- one call more on a device
 abbrev pub counted_on : (ℕ → ℕ) → ℕ → ℕ → ℕ
-counted_on made device d = if d == device then min (made d + 1) (2 ^ 64 - 1) else made d
+counted_on made device d = if d == device then counted (made d) else made d

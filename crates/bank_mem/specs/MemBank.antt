@@ -1,5 +1,5 @@
 -- A bank in memory as contracts see it.
-use Rattle.std.specs.Prelude.{ℕ, List, length, take, slice_index}
+use Rattle.std.specs.Prelude.{◌≡◌, ℕ, List, length, take, slice_index}
 use Rattle.bank_trait.specs.Disk.{Disk}
 use Rattle.bank_mem.specs.Listed.{IsListed}
 use Rattle.bank_mem.specs.Record.{Shelf, content, at_rest, replay}
@@ -20,7 +20,7 @@ view sectors first now calls faults = record {
 
 -- the devices
 abbrev pub disk_of : MemBank → Disk
-disk_of b = view b.sectors b.first.items b.now.items b.calls.items b.plan.faults.items
+disk_of b = view b.sectors b.first.items b.present.items b.calls.items b.plan.faults.items
 
 -- how many calls were made on each device
 abbrev pub made_on : MemBank → ℕ → ℕ
@@ -33,6 +33,11 @@ listed_calls b = b.plan.fails.items
 -- from which number on all calls of a device fail
 abbrev pub listed_starts : MemBank → List (ℕ × ℕ)
 listed_starts b = b.plan.starts.items
+
+-- The same calls are listed to fail.
+abbrev pub SamePlan : MemBank → MemBank → Type 0
+SamePlan old new =
+    (listed_calls new ≡ listed_calls old) × (listed_starts new ≡ listed_starts old)
 
 -- The next call on this device is listed to fail.
 abbrev pub FailsNext : MemBank → ℕ → Type 0

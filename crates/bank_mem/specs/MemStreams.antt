@@ -1,5 +1,5 @@
 -- A source and a sink in memory as contracts see them.
-use Rattle.std.specs.Prelude.{ℕ, List, drop}
+use Rattle.std.specs.Prelude.{ℕ, List, drop, Contains}
 use Rattle.bank_mem.specs.declared.source.MemSource.{MemSource}
 use Rattle.bank_mem.specs.declared.sink.MemSink.{MemSink}
 
@@ -10,6 +10,10 @@ left_of s = drop s.at s.bytes.items
 -- how often a read has failed
 abbrev pub read_faults : MemSource → ℕ
 read_faults s = s.faults
+
+-- how many reads were made
+abbrev pub reads_made : MemSource → ℕ
+reads_made s = s.made
 
 -- the reads that fail, by number
 abbrev pub listed_reads : MemSource → List ℕ
@@ -27,6 +31,18 @@ room_of s = s.room
 abbrev pub write_faults : MemSink → ℕ
 write_faults s = s.faults
 
+-- how many writes were made
+abbrev pub writes_made : MemSink → ℕ
+writes_made s = s.made
+
 -- the writes that fail, by number
 abbrev pub listed_writes : MemSink → List ℕ
 listed_writes s = s.fails.items
+
+-- The next read is listed to fail.
+abbrev pub ReadFailsNext : MemSource → Type 0
+ReadFailsNext s = Contains (listed_reads s) (reads_made s)
+
+-- The next write is listed to fail.
+abbrev pub WriteFailsNext : MemSink → Type 0
+WriteFailsNext s = Contains (listed_writes s) (writes_made s)

@@ -16,7 +16,7 @@ abbrev pub content : Shelf → Known
 content shelf d x = option_and_then (λ v. slice_get v.items x) (slice_get shelf d)
 
 -- what is read, what a crash leaves for certain, and what each sector held at its device's last sync
--- or was handed since
+-- or was handed since, the newest first
 pub record Held : Type 0 where
   pub reads : Known
   pub stays : Known
@@ -71,6 +71,20 @@ after held (Spoil number d x bytes) = record {
 abbrev pub replay : Held → List Call → Held
 replay held [] = held
 replay held (call ∷ calls) = replay (after held call) calls
+
+-- the device that a call is for
+abbrev pub device_of : Call → ℕ
+device_of (Write number d x bytes) = d
+device_of (FailedWrite number d x bytes) = d
+device_of (Sync number d) = d
+device_of (Spoil number d x bytes) = d
+
+-- the sector that a call is for, where it is for one
+abbrev pub sector_of : Call → Option ℕ
+sector_of (Write number d x bytes) = Some x
+sector_of (FailedWrite number d x bytes) = Some x
+sector_of (Sync number d) = None
+sector_of (Spoil number d x bytes) = Some x
 
 -- devices that hold zeros
 abbrev pub blank : ℕ → ℕ → Known

@@ -1,8 +1,8 @@
 -- How the parts of a bank in memory stand to each other.
-use Rattle.std.specs.Prelude.{◌≡◌, ℕ, List, length, Some, slice_get, Vec}
+use Rattle.std.specs.Prelude.{◌≡◌, ℕ, ◌<◌, List, length, Some, slice_get, Vec, All}
 use Rattle.std.specs.declared.alloc.Global.{Global}
 use Rattle.bank_mem.specs.declared.record.Call.{Call}
-use Rattle.bank_mem.specs.Record.{Shelf, content, at_rest, replay}
+use Rattle.bank_mem.specs.Record.{Shelf, content, at_rest, replay, device_of, sector_of}
 
 -- The record leads to what is held.
 abbrev pub LeadsTo : Shelf → List Call → Shelf → Type 0
@@ -13,3 +13,15 @@ LeadsTo first calls now =
 abbrev pub AllWide : Shelf → ℕ → Type 0
 AllWide shelf sectors = (d : ℕ) (v : Vec (List ℕ) Global) → slice_get shelf d ≡ Some v
     → length v.items ≡ sectors
+
+-- Each call on record is for a device, and for a sector of it, that there is.
+abbrev pub AllPlaced : ℕ → ℕ → List Call → Type 0
+AllPlaced devices sectors calls = All (λ call. (device_of call < devices)
+    × ((x : ℕ) → sector_of call ≡ Some x → x < sectors)) calls
+
+-- The device of a call is there, and so is its sector.
+abbrev pub HasPlaceOf : Shelf → Call → Type 0
+HasPlaceOf shelf call = (device_of call < length shelf)
+    × ((row : Vec (List ℕ) Global) (x : ℕ) → slice_get shelf (device_of call) ≡ Some row
+    → sector_of call ≡ Some x
+    → x < length row.items)

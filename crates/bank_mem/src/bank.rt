@@ -1,7 +1,8 @@
 // A bank of devices in memory.
-ghost use Rattle.std.specs.Prelude.{◌≡◌, ◌<◌, ◌≤◌, ◌^◌, ◌++◌, [], ◌∷◌, ℕ, List, IfOk, Err, OnOk, OnErr, IsTrue, length, slice_index, Some, replicate};
-ghost use Rattle.bank_mem.specs.Sound.{LeadsTo, AllWide};
+ghost use Rattle.std.specs.Prelude.{◌≡◌, ◌≢◌, ◌<◌, ◌≤◌, ◌^◌, ◌++◌, [], ◌∷◌, ℕ, List, IfOk, Err, OnOk, OnErr, IsTrue, length, slice_index, Some, None, Contains, replicate};
+ghost use Rattle.bank_mem.specs.Sound.{LeadsTo, AllWide, AllPlaced};
 
+use crate::crash::{self, Torn};
 use crate::plan::Plan;
 use crate::record::{self, Call};
 use crate::refused::ImagesRefused;
@@ -13,13 +14,16 @@ use std::alloc::{AllocError, Global};
 pub struct MemBank {
     sectors: u64,
     first: Vec<Vec<[u8; 512]>>,
-    now: Vec<Vec<[u8; 512]>>,
+    present: Vec<Vec<[u8; 512]>>,
     calls: Vec<Call>,
     plan: Plan,
-    ghost same: { LeadsTo first.items calls.items now.items },
-    ghost wide: { AllWide now.items sectors },
-    ghost counted: { length plan.faults.items ≡ length now.items },
-    ghost few: { length now.items < 2 ^ 32 },
+    ghost same: { LeadsTo first.items calls.items present.items },
+    ghost wide: { AllWide present.items sectors },
+    ghost as_many: { length first.items ≡ length present.items },
+    ghost as_wide: { AllWide first.items sectors },
+    ghost placed: { AllPlaced (length present.items) sectors calls.items },
+    ghost counted: { length plan.faults.items ≡ length present.items },
+    ghost few: { length present.items < 2 ^ 32 },
 }
 
 impl MemBank {
@@ -40,7 +44,7 @@ impl MemBank {
         ensures starts { IfOk result (λ b. listed_starts b ≡ []) }
     {
         let first = shelf::blank_shelf(alloc, devices, sectors)?;
-        let now = shelf::blank_shelf(alloc, devices, sectors)?;
+        let present = shelf::blank_shelf(alloc, devices, sectors)?;
         let faults = shelf::counters(alloc, devices)?;
         let made = shelf::counters(alloc, devices)?;
         let plan = Plan {
@@ -53,7 +57,7 @@ impl MemBank {
         Ok(MemBank {
             sectors,
             first,
-            now,
+            present,
             calls: Vec::new(alloc),
             plan,
         })
@@ -128,7 +132,7 @@ impl MemBank {
         Ok(MemBank {
             sectors,
             first,
-            now: images,
+            present: images,
             calls: Vec::new(alloc),
             plan,
         })
@@ -162,8 +166,62 @@ impl MemBank {
             bytes,
         };
         self.calls.push(call)?;
-        shelf::put_sector(&mut self.now, device as usize, sector as usize, &bytes);
+        shelf::put_sector(&mut self.present, device as usize, sector as usize, &bytes);
         Ok(())
+    }
+}
+
+impl MemBank {
+    ghost use Rattle.bank_trait.specs.Disk.{Fits};
+    ghost use Rattle.bank_mem.specs.Record.{content, filled};
+    ghost use Rattle.bank_mem.specs.MemBank.{disk_of};
+    ghost use Rattle.bank_mem.specs.declared.crash.Tear.TheVariants.{Kept, Filled};
+    ghost use Rattle.bank_mem.specs.Crash.{listed_as, held_at_sync, handed_last, image_of};
+
+    /// How many writes, syncs and spoils are on record.
+    pub fn clock(&self) -> u64
+        ensures { result ≡ (disk_of self.now).clock }
+    {
+        self.calls.len() as u64
+    }
+
+    /// What a stop after so many of the calls on record leaves, or after all of them where they are
+    /// fewer. A sector that was handed bytes since its device's last sync is torn as it is listed,
+    /// by the last entry that names it; one that is not listed holds what it held at that sync.
+    pub fn crash_at(
+        &self,
+        alloc: Global,
+        call: u64,
+        torn: &[Torn],
+    ) -> Result<Vec<Vec<[u8; 512]>>, AllocError>
+        ensures devices { IfOk result (λ images.
+            length images.items ≡ (disk_of self.now).devices) }
+        ensures sectors { IfOk result (λ images.
+            AllWide images.items (disk_of self.now).sectors) }
+        ensures may_leave { IfOk result (λ images.
+            Fits ((disk_of self.now).leaves call) (image_of images.items)) }
+        ensures could { IfOk result (λ images. (d x : ℕ) → d < (disk_of self.now).devices
+            → x < (disk_of self.now).sectors
+            → ((byte : ℕ) → listed_as torn.now d x ≢ Some (Filled byte))
+            → Contains ((disk_of self.now).could call d x) (image_of images.items d x)) }
+        ensures others { IfOk result (λ images. (d x : ℕ) → listed_as torn.now d x ≡ None
+            → content images.items d x ≡ held_at_sync ((disk_of self.now).could call d x)) }
+        ensures kept { IfOk result (λ images. (d x : ℕ) → listed_as torn.now d x ≡ Some Kept
+            → content images.items d x ≡ handed_last ((disk_of self.now).could call d x)) }
+        ensures filled { IfOk result (λ images. (d x byte : ℕ) → d < (disk_of self.now).devices
+            → x < (disk_of self.now).sectors → listed_as torn.now d x ≡ Some (Filled byte)
+            → (disk_of self.now).leaves call d x ≡ None
+            → image_of images.items d x ≡ filled byte) }
+    {
+        let until = (call as usize).min(self.calls.len());
+        let record = &self.calls[..until];
+        let syncs = crash::last_syncs(alloc, self.present.len() as u32, record)?;
+        let tears = crash::listed_tears(alloc, torn)?;
+        let mut images = shelf::copy_shelf(alloc, &self.first)?;
+        for (index, entry) in record.iter().enumerate() {
+            crash::put_call(&mut images, index as u64, entry, &syncs, &tears);
+        }
+        Ok(images)
     }
 }
 
@@ -171,15 +229,15 @@ impl Bank for MemBank {
     ghost use Rattle.bank_trait.specs.Causes.{Rose};
     ghost use Rattle.bank_trait.specs.Disk.{Unchanged, Wrote, Synced};
     ghost use Rattle.bank_mem.specs.Listed.{counted_on};
-    ghost use Rattle.bank_mem.specs.MemBank.{disk_of, made_on, FailsNext};
+    ghost use Rattle.bank_mem.specs.MemBank.{disk_of, made_on, SamePlan, FailsNext};
     ghost use Rattle.bank_mem.specs.Laws.{lawful};
 
     ghost disk = { disk_of };
 
-    ghost lawful = { λ b. lawful b.sectors b.first.items b.now.items b.calls.items b.plan.faults.items b.same };
+    ghost lawful = { λ b. lawful b.sectors b.first.items b.present.items b.calls.items b.plan.faults.items b.same };
 
     fn devices(&self) -> u32 {
-        self.now.len() as u32
+        self.present.len() as u32
     }
 
     fn sectors(&self) -> u64 {
@@ -198,11 +256,12 @@ impl Bank for MemBank {
         ensures listed { OnOk result (FailsNext self.old device → ⊥) }
         ensures only_listed { OnErr result (FailsNext self.old device) }
         ensures made { (d : ℕ) → made_on self.new d ≡ counted_on (made_on self.old) device d }
+        ensures plan { SamePlan self.old self.new }
     {
         if self.plan.fails_now(device) {
             return Err(Failed);
         }
-        let row = &self.now[device as usize];
+        let row = &self.present[device as usize];
         *into = row[sector as usize];
         Ok(())
     }
@@ -214,6 +273,7 @@ impl Bank for MemBank {
         ensures wrote { Wrote (disk_of self.old) (disk_of self.new) device sector from.now result }
         ensures listed { OnOk result (FailsNext self.old device → ⊥) }
         ensures made { (d : ℕ) → made_on self.new d ≡ counted_on (made_on self.old) device d }
+        ensures plan { SamePlan self.old self.new }
     {
         let number = self.plan.total;
         if self.plan.fails_now(device) {
@@ -236,7 +296,7 @@ impl Bank for MemBank {
             self.plan.count_fault(device);
             return Err(Failed);
         }
-        shelf::put_sector(&mut self.now, device as usize, sector as usize, from);
+        shelf::put_sector(&mut self.present, device as usize, sector as usize, from);
         Ok(())
     }
 
@@ -246,6 +306,7 @@ impl Bank for MemBank {
         ensures synced { Synced (disk_of self.old) (disk_of self.new) device result }
         ensures listed { OnOk result (FailsNext self.old device → ⊥) }
         ensures made { (d : ℕ) → made_on self.new d ≡ counted_on (made_on self.old) device d }
+        ensures plan { SamePlan self.old self.new }
     {
         let number = self.plan.total;
         if self.plan.fails_now(device) {

@@ -31,6 +31,22 @@ pub enum Call {
     },
 }
 
+impl Call {
+    ghost use Rattle.bank_mem.specs.Record.{device_of};
+
+    /// The device that it is for.
+    pub fn device(&self) -> u32
+        ensures { result ≡ device_of self.now }
+    {
+        match self {
+            Call::Write { device, .. }
+            | Call::FailedWrite { device, .. }
+            | Call::Sync { device, .. }
+            | Call::Spoil { device, .. } => *device,
+        }
+    }
+}
+
 /// Puts a call on record where there is memory for it.
 pub fn note(calls: &mut Vec<Call>, call: Call)
     ensures { (calls.new.items ≡ calls.old.items ++ call ∷ []) ⊎ (calls.new.items ≡ calls.old.items) }

@@ -84,7 +84,11 @@ pub fn copy_shelf(
     alloc: Global,
     shelf: &[Vec<[u8; 512]>],
 ) -> Result<Vec<Vec<[u8; 512]>>, AllocError>
-    ensures { IfOk result (λ copy. (d x : ℕ) → content copy.items d x ≡ content shelf.now d x) }
+    ensures held { IfOk result (λ copy. (d x : ℕ)
+        → content copy.items d x ≡ content shelf.now d x) }
+    ensures len { IfOk result (λ copy. length copy.items ≡ length shelf.now) }
+    ensures width { IfOk result (λ copy. (n : ℕ)
+        → AllWide shelf.now n → AllWide copy.items n) }
 {
     let mut copy = Vec::new(alloc);
     for row in shelf {

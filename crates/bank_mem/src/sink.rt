@@ -1,5 +1,5 @@
 // A sink for bytes in memory.
-ghost use Rattle.std.specs.Prelude.{◌≡◌, ℕ, ◌≤◌, [], length, Some, IfOk};
+ghost use Rattle.std.specs.Prelude.{◌≡◌, ℕ, ◌-◌, ◌<◌, ◌≤◌, [], length, Some, IfOk, OnOk, min};
 
 use bank_trait::{Failed, Sink};
 use std::alloc::{AllocError, Global};
@@ -18,7 +18,7 @@ pub struct MemSink {
 }
 
 impl MemSink {
-    ghost use Rattle.bank_mem.specs.MemStreams.{held_of, room_of, write_faults, listed_writes};
+    ghost use Rattle.bank_mem.specs.MemStreams.{held_of, room_of, write_faults, writes_made, listed_writes};
 
     /// Takes what still fits in so many bytes; with no room left a write is a fault. The calls of these
     /// numbers, from 0, fail.
@@ -26,6 +26,7 @@ impl MemSink {
         ensures held { IfOk result (λ s. held_of s ≡ []) }
         ensures room { IfOk result (λ s. room_of s ≡ room) }
         ensures faults { IfOk result (λ s. write_faults s ≡ 0) }
+        ensures made { IfOk result (λ s. writes_made s ≡ 0) }
         ensures listed { IfOk result (λ s. listed_writes s ≡ fails.now) }
     {
         Ok(MemSink {
@@ -46,13 +47,28 @@ impl MemSink {
 }
 
 impl Sink for MemSink {
-    ghost use Rattle.bank_mem.specs.MemStreams.{held_of, write_faults};
+    ghost use Rattle.bank_trait.specs.Causes.{HasCause};
+    ghost use Rattle.bank_trait.specs.Stream.{Takes};
+    ghost use Rattle.bank_mem.specs.Listed.{counted};
+    ghost use Rattle.bank_mem.specs.MemStreams.{held_of, room_of, write_faults, writes_made, listed_writes, WriteFailsNext};
 
     ghost held = { λ s. Some (held_of s) };
 
     ghost faults = { write_faults };
 
-    fn write(&mut self, piece: &[u8]) -> Result<usize, Failed> {
+    /// A write fails where it is listed or finds no room, and else only where it finds no memory.
+    fn write(&mut self, piece: &[u8]) -> Result<usize, Failed>
+        ensures bound { IfOk result (λ k. (k ≤ length piece.now)
+            × (0 < length piece.now → 0 < k)) }
+        ensures bytes { Takes (Some (held_of self.old)) (Some (held_of self.new)) result piece.now }
+        ensures cause { HasCause (write_faults self.old) (write_faults self.new) result }
+        ensures count { IfOk result (λ k. k
+            ≡ min (length piece.now) (room_of self.old - length (held_of self.old))) }
+        ensures listed { OnOk result (WriteFailsNext self.old → ⊥) }
+        ensures made { writes_made self.new ≡ counted (writes_made self.old) }
+        ensures room { room_of self.new ≡ room_of self.old }
+        ensures plan { listed_writes self.new ≡ listed_writes self.old }
+    {
         let number = self.made;
         self.made = number.saturating_add(1);
         let room = self.room - self.bytes.len() as u64;

@@ -1,5 +1,5 @@
 // A source of bytes in memory.
-ghost use Rattle.std.specs.Prelude.{◌≡◌, ℕ, ◌≤◌, length, Some, IfOk};
+ghost use Rattle.std.specs.Prelude.{◌≡◌, ℕ, ◌≤◌, length, Some, IfOk, OnOk, OnErr, min};
 
 use bank_trait::{Failed, Source};
 use std::alloc::{AllocError, Global};
@@ -18,12 +18,13 @@ pub struct MemSource {
 }
 
 impl MemSource {
-    ghost use Rattle.bank_mem.specs.MemStreams.{left_of, read_faults, listed_reads};
+    ghost use Rattle.bank_mem.specs.MemStreams.{left_of, read_faults, reads_made, listed_reads};
 
     /// Hands over these bytes. The calls of these numbers, from 0, fail.
     pub fn new(alloc: Global, bytes: &[u8], fails: &[u64]) -> Result<MemSource, AllocError>
         ensures left { IfOk result (λ s. left_of s ≡ bytes.now) }
         ensures faults { IfOk result (λ s. read_faults s ≡ 0) }
+        ensures made { IfOk result (λ s. reads_made s ≡ 0) }
         ensures listed { IfOk result (λ s. listed_reads s ≡ fails.now) }
     {
         Ok(MemSource {
@@ -37,13 +38,26 @@ impl MemSource {
 }
 
 impl Source for MemSource {
-    ghost use Rattle.bank_mem.specs.MemStreams.{left_of, read_faults};
+    ghost use Rattle.bank_trait.specs.Causes.{HasCause};
+    ghost use Rattle.bank_trait.specs.Stream.{Hands};
+    ghost use Rattle.bank_mem.specs.Listed.{counted};
+    ghost use Rattle.bank_mem.specs.MemStreams.{left_of, read_faults, reads_made, listed_reads, ReadFailsNext};
 
     ghost left = { λ s. Some (left_of s) };
 
     ghost faults = { read_faults };
 
-    fn read(&mut self, into: &mut [u8]) -> Result<usize, Failed> {
+    /// A read fails where it is listed, and nowhere else.
+    fn read(&mut self, into: &mut [u8]) -> Result<usize, Failed>
+        ensures bound { IfOk result (λ k. k ≤ length into.new) }
+        ensures bytes { Hands (Some (left_of self.old)) (Some (left_of self.new)) result into.new }
+        ensures cause { HasCause (read_faults self.old) (read_faults self.new) result }
+        ensures count { IfOk result (λ k. k ≡ min (length into.new) (length (left_of self.old))) }
+        ensures listed { OnOk result (ReadFailsNext self.old → ⊥) }
+        ensures only_listed { OnErr result (ReadFailsNext self.old) }
+        ensures made { reads_made self.new ≡ counted (reads_made self.old) }
+        ensures plan { listed_reads self.new ≡ listed_reads self.old }
+    {
         let number = self.made;
         self.made = number.saturating_add(1);
         if self.fails.contains(&number) {

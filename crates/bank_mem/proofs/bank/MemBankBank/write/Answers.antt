@@ -1,5 +1,6 @@
 use Rattle.std.proofs.Common.{◌≡◌, [], ◌∷◌, ◌++◌, rules}
 use Rattle.bank_mem.specs.declared.record.Call.TheVariants.{Write}
+use Rattle.bank_mem.proofs.Placed.{placed_more, placed_noted, same_sector}
 use Rattle.bank_mem.proofs.Steps.{wrote, wrote_leads, write_noted, noted_leads}
 use Rattle.bank_mem.proofs.bank.MemBankBank.write.Goals as goal
 
@@ -23,3 +24,12 @@ returns-clause-wrote c =
 
 pub invariant_of-self-2-clause-wide : goal.invariant_of-self-2-clause-wide
 invariant_of-self-2-clause-wide c = c.put_sector.ensures.width _ c.args.self.now.wide
+
+pub invariant_of-self-clause-placed : goal.invariant_of-self-clause-placed
+invariant_of-self-clause-placed c =
+    placed_noted _ _ _ _ _ c.note.ensures c.requires.device (same_sector _ _ c.requires.sector) c.args.self.now.placed
+
+pub invariant_of-self-2-clause-placed : goal.invariant_of-self-2-clause-placed
+invariant_of-self-2-clause-placed c =
+    let one_more : c.push.new.self.items ≡ c.args.self.now.calls.items ++ Write c.args.self.now.plan.total c.args.device c.args.sector c.args.from.now ∷ [] = search rules in
+    placed_more _ _ _ _ _ _ one_more c.put_sector.ensures.len c.requires.device (same_sector _ _ c.requires.sector) c.args.self.now.placed
