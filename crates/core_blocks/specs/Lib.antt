@@ -1,0 +1,5 @@
+pub mod Refused
+pub mod Runs
+pub mod Blocks
+pub mod Puts
+pub mod Kept
