@@ -4,3 +4,4 @@ pub mod Listed
 pub mod Steps
 pub mod Keeping
 pub mod Fitting
+pub mod Beginning

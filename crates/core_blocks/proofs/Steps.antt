@@ -1,6 +1,7 @@
 -- Each step leaves the table and the space in step.
-use Rattle.std.proofs.Common.{◌≡◌, ◌≢◌, ◌⊎◌, ℕ, ◌+◌, ◌<◌, ◌≤◌, List, refl, sym, ◌∙◌, ap, subst, arith, inl, inr, ⊎_elim, Some, None}
-use Rattle.std.specs.Prelude.{Contains, Option, IfSome}
+use Rattle.std.proofs.Common.{◌≡◌, ◌≢◌, ◌⊎◌, ℕ, ◌+◌, ◌<◌, ◌≤◌, List, refl, sym, ◌∙◌, ap, subst, arith, inl, inr, ⊎_elim, Some, None, true}
+use Rattle.std.specs.Prelude.{Contains, Option, IfSome, nat_eq}
+use Rattle.std.specs.Set.{is_member}
 use Rattle.width_map.specs.declared.birth.Birth.{Birth}
 use Rattle.range_locks.specs.declared.hold.Hold.{Hold}
 use Rattle.space_alloc.specs.Space.{Run, Space, IsFreeRun, IsTaking, IsDropping, after_group}
@@ -12,7 +13,7 @@ use Rattle.core_blocks.specs.Runs.{AreClear, AreSpread, IsInside}
 use Rattle.core_blocks.specs.Blocks.{Blocks, AreInStep, HasLayouts, IsListed, IsStanding, IsUnderWay, put_run, range_of, run_of}
 use Rattle.core_blocks.specs.Puts.{HoldsBack}
 use Rattle.core_blocks.proofs.Lists.{gains_old}
-use Rattle.core_blocks.proofs.Runs.{clear_turned, spread_taking, spread_dropping, spread_holding, spread_after, stays_taken}
+use Rattle.core_blocks.proofs.Runs.{clear_turned, free_of_taken, spread_taking, spread_dropping, spread_holding, spread_after, stays_taken}
 use Rattle.core_blocks.proofs.Listed.{found_id, found_listed, put_cases, left_cases}
 
 module _ (parity : ℕ) (births : List Birth) where
@@ -56,6 +57,20 @@ module _ (parity : ℕ) (births : List Birth) where
       (λ entry listed. let was = same_listed table newer entry same listed in
       (was, gains_old space.taken later.taken run (run_of parity births entry) taking.taken
       (step.each entry was).taken))
+
+  -- From then on it is under way.
+  pub begun_under_way : (table newer : Table) (space later : Space) (holds : List Hold)
+      (range : PutRange) → AreInStep (with_parts table space) → newer.entries ≡ table.entries
+      → (let run : Run = put_run range in IsFreeRun space holds run.start run.len)
+      → Contains later.taken (put_run range) → is_member nat_eq newer.reserved range.id ≡ true
+      → IsUnderWay (with_parts newer later) range
+  begun_under_way table newer space later holds range step same free listed reserved = record {
+    reserved = reserved;
+    taken = listed;
+    clear = λ entry found. free_of_taken space holds (put_run range) free
+        (run_of parity births entry)
+        (step.each entry (same_listed table newer entry same found)).taken;
+  }
 
   -- A refusal leaves the entries and the space.
   pub refused_step : (table newer : Table) (space later : Space)

@@ -1,8 +1,8 @@
 // The sectors of a block, taken and held back.
-ghost use Rattle.std.specs.Prelude.{◌≡◌, ◌≤◌, ◌^◌, Contains, IfOk, IfErr, IfSome, OnErr};
+ghost use Rattle.std.specs.Prelude.{◌≡◌, ◌<◌, ◌≤◌, ◌^◌, Contains, IfOk, IfErr, IfSome, OnErr};
 ghost use Rattle.row_layout.specs.Layout.{allocated_of};
 ghost use Rattle.space_alloc.specs.Space.{IsFirstFit, IsTaking, IsTakeCause};
-ghost use Rattle.core_blocks.specs.Blocks.{HasLayouts, IsStanding, run_of, layout_run};
+ghost use Rattle.core_blocks.specs.Blocks.{HasLayouts, IsStanding, layout_run};
 ghost use Rattle.core_blocks.specs.Puts.{HoldsBack, layout_at, sectors_taken};
 
 use crate::layouts::{layout_at, layout_of};
@@ -32,6 +32,7 @@ pub fn take(
     ensures taken { IfOk result (λ layout.
         IsTaking space.old space.new layout.start (allocated_of layout)) }
     ensures listed { IfOk result (λ layout. Contains space.new.taken (layout_run layout)) }
+    ensures some { IfOk result (λ layout. 0 < allocated_of layout) }
     ensures cause { IfErr result (IsTakeCause space.old locks.now
         (sectors_taken parity births.now len_bytes birth)) }
     ensures err { OnErr result (space.new ≡ space.old) }
