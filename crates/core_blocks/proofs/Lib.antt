@@ -5,3 +5,6 @@ pub mod Steps
 pub mod Keeping
 pub mod Fitting
 pub mod Beginning
+pub mod Loaded
+pub mod Claimed
+pub mod Opened

@@ -36,7 +36,7 @@ found_among (first ∷ entries) id entry found = ⊎_elim
     (found_among entries id entry (sym (entry_past first entries id apart) ∙ found)))
     (cases_eq first.id id)
 
-index_rest : (first : IndexEntry) (entries : List IndexEntry) → IsIndex (first ∷ entries)
+pub index_rest : (first : IndexEntry) (entries : List IndexEntry) → IsIndex (first ∷ entries)
     → IsIndex entries
 index_rest first entries index = record {
   each = λ k d within. index.each (suc k) d (omega (arith, within));
@@ -44,7 +44,7 @@ index_rest first entries index = record {
       index.ascending (suc i) (suc j) d (omega (arith, before)) (omega (arith, within));
 }
 
-index_first : (first : IndexEntry) (entries : List IndexEntry) → IsIndex (first ∷ entries)
+pub index_first : (first : IndexEntry) (entries : List IndexEntry) → IsIndex (first ∷ entries)
     → All (λ e. first.id < e.id) entries
 index_first first entries index k d within =
     index.ascending 0 (suc k) d (omega arith) (omega (arith, within))

@@ -3,3 +3,4 @@ pub mod Runs
 pub mod Blocks
 pub mod Puts
 pub mod Kept
+pub mod Loading

@@ -1,5 +1,5 @@
 // The blocks of a pool and its free sectors.
-ghost use Rattle.std.specs.Prelude.{◌≡◌, ◌≤◌, ◌<◌, ℕ, ◌++◌, ◌∷◌, [], List, Some, None, All, Contains, IfOk, IfErr, OnErr, length};
+ghost use Rattle.std.specs.Prelude.{◌≡◌, ◌≤◌, ◌<◌, ◌^◌, ℕ, ◌++◌, ◌∷◌, [], List, Some, None, All, Contains, IfOk, IfErr, OnErr, length};
 ghost use Rattle.std.specs.Option.{option_copied};
 ghost use Rattle.reflow_mark.specs.Reflow.{sectors_of};
 ghost use Rattle.uberblock_ring.specs.Uberblock.{Uber};
@@ -8,16 +8,18 @@ ghost use Rattle.block_record.specs.Page.{IsIndex, IsRightEntry};
 ghost use Rattle.block_table.specs.Table.{ChangesOnly, IsTable, entry_of, without_one};
 ghost use Rattle.space_alloc.specs.Space.{after_group, IsDropping};
 ghost use Rattle.row_layout.specs.Layout.{allocated_of};
-ghost use Rattle.core_state.specs.Index.{IsFitting};
+ghost use Rattle.core_state.specs.Index.{AreApart, IsFitting, block_end};
 ghost use Rattle.core_blocks.specs.Blocks.{AreInStep, HasLayouts, IsUnderWay, range_of, put_run};
 ghost use Rattle.core_blocks.specs.Puts.{BeginsPut, HoldsBack, IsAsBefore, IsPutCause, IsRangeFor, sectors_taken};
 ghost use Rattle.core_blocks.specs.Kept.{NoneFree, SparesAll};
+ghost use Rattle.core_blocks.specs.Loading.{IsTakenBy};
 
-use crate::{PutRange, PutRefused, sectors};
+use crate::{PutRange, PutRefused, loading, sectors};
 use block_record::IndexEntry;
 use block_table::Table;
 use range_locks::Locks;
 use space_alloc::Space;
+use std::alloc::{AllocError, Global};
 use std::marker::Model;
 use width_map::Births;
 
@@ -51,6 +53,37 @@ impl Model for Blocks {
 }
 
 impl Blocks {
+    /// The blocks of an index that fits a pool of so many sectors; nothing is reserved or held back.
+    pub fn load(
+        alloc: Global,
+        parity: u32,
+        births: Births,
+        capacity: u64,
+        entries: &[IndexEntry],
+    ) -> Result<Blocks, AllocError>
+        requires layouts { HasLayouts parity births }
+        requires small { capacity ≤ 2 ^ 54 }
+        requires index { IsIndex entries.now }
+        requires few { length entries.now ≤ 512 }
+        requires below { All (λ entry. block_end parity births entry ≤ capacity) entries.now }
+        requires apart { AreApart parity births entries.now }
+        ensures parity { IfOk result (λ blocks. blocks.parity ≡ parity) }
+        ensures births { IfOk result (λ blocks. blocks.births ≡ births) }
+        ensures table { IfOk result (λ blocks.
+            blocks.table ≡ record { entries = entries.now; reserved = [] }) }
+        ensures space { IfOk result (λ blocks.
+            IsTakenBy parity births capacity entries.now blocks.space) }
+    {
+        let table = loading::table_of(alloc, entries)?;
+        let space = loading::space_of(alloc, parity, &births, capacity, table.entries())?;
+        Ok(Blocks {
+            table,
+            space,
+            parity,
+            births,
+        })
+    }
+
     /// The entry of a block.
     pub fn get(&self, id: u64) -> Option<&IndexEntry>
         ensures value { option_copied result ≡ entry_of self.now.table.entries id }

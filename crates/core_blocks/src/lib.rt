@@ -9,6 +9,7 @@
 
 mod blocks;
 mod layouts;
+mod loading;
 mod range;
 mod refused;
 mod sectors;
