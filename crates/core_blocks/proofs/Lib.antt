@@ -8,3 +8,4 @@ pub mod Beginning
 pub mod Loaded
 pub mod Claimed
 pub mod Opened
+pub mod UnderWay

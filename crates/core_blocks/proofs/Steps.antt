@@ -41,7 +41,7 @@ module _ (parity : ℕ) (births : List Birth) where
         step.apart one other (left one listed).0 (left other also).0 differ;
   }
 
-  same_listed : (table newer : Table) (entry : IndexEntry) → newer.entries ≡ table.entries
+  pub same_listed : (table newer : Table) (entry : IndexEntry) → newer.entries ≡ table.entries
       → IsListed newer.entries entry → IsListed table.entries entry
   same_listed table newer entry same listed =
       subst (λ (entries : List IndexEntry). IsListed entries entry) same listed
@@ -121,7 +121,7 @@ module _ (parity : ℕ) (births : List Birth) where
       (holding.capacity, spread_holding space later (run_of parity births entry) group holding spread)
 
   -- and one that is clear of them is still taken.
-  held_taken : (space later : Space) (group : ℕ) (gone : Option IndexEntry) (run : Run)
+  pub held_taken : (space later : Space) (group : ℕ) (gone : Option IndexEntry) (run : Run)
       → HoldsBack parity births space later group gone
       → IfSome gone (IsStanding parity births space) → AreSpread space
       → IfSome gone (λ entry. AreClear (run_of parity births entry) run) → Contains space.taken run
@@ -143,7 +143,7 @@ module _ (parity : ℕ) (births : List Birth) where
       (λ same. differ (sym same ∙ found_id table.entries id entry (sym found)))
 
   -- and so is the range of a put under way.
-  put_clear_of_gone : (table : Table) (space : Space) (id : ℕ) (gone : Option IndexEntry)
+  pub put_clear_of_gone : (table : Table) (space : Space) (id : ℕ) (gone : Option IndexEntry)
       (range : PutRange) → IsUnderWay (with_parts table space) range
       → gone ≡ entry_of table.entries id
       → IfSome gone (λ entry. AreClear (run_of parity births entry) (put_run range))

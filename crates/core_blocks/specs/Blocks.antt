@@ -1,7 +1,6 @@
 -- The blocks of a pool and its free sectors, and what keeps them in step.
-use Rattle.std.specs.Prelude.{◌≡◌, ◌≢◌, ◌⊎◌, ℕ, ◌+◌, ◌<◌, ◌≤◌, ◌^◌, true, nat_eq, List, map, Some, AllPairs, Contains}
+use Rattle.std.specs.Prelude.{◌≡◌, ◌≢◌, ◌⊎◌, ℕ, ◌+◌, ◌<◌, ◌≤◌, ◌^◌, true, nat_eq, ◌==◌, List, count_by, Some, AllPairs, Contains}
 use Rattle.std.specs.Set.{is_member}
-use Rattle.std.specs.List.Sorted.{IsPermutation}
 use Rattle.width_map.specs.declared.birth.Birth.{Birth}
 use Rattle.width_map.specs.Births.{width_of_birth}
 use Rattle.row_layout.specs.Layout.{Layout, allocated_of}
@@ -80,11 +79,23 @@ IsOfBlock blocks run =
     (entry : IndexEntry) × IsListed blocks.table.entries entry
     × (run_of blocks.parity blocks.births entry ≡ run)
 
--- These are the ranges of all puts under way: each taken run is theirs or a block's, and each
--- reservation is theirs.
+-- The run is that of one of these puts.
+abbrev pub IsOfPut : List PutRange → Run → Type 0
+IsOfPut ranges run = (range : PutRange) × Contains ranges range × (put_run range ≡ run)
+
+-- how often an id is reserved
+abbrev pub times_reserved : Table → ℕ → ℕ
+times_reserved table id = count_by (λ other. id == other) table.reserved
+
+-- how many of the ranges are of puts of an id
+abbrev pub puts_of : List PutRange → ℕ → ℕ
+puts_of ranges id = count_by (λ range. id == range.id) ranges
+
+-- These are the ranges of all puts under way: no two have a sector in common, each taken run is one
+-- of them or a block's, and an id is reserved once for each of its puts.
 pub record AreUnderWay (blocks : Blocks) (ranges : List PutRange) : Type 0 where
   pub each : (range : PutRange) → Contains ranges range → IsUnderWay blocks range
   pub apart : AllPairs (λ one other. AreClear (put_run one) (put_run other)) ranges
   pub every : (run : Run) → Contains blocks.space.taken run
-      → IsOfBlock blocks run ⊎ Contains (map put_run ranges) run
-  pub reserved : IsPermutation blocks.table.reserved (map (λ range. range.id) ranges)
+      → IsOfBlock blocks run ⊎ IsOfPut ranges run
+  pub reserved : (id : ℕ) → times_reserved blocks.table id ≡ puts_of ranges id

@@ -6,10 +6,11 @@ ghost use Rattle.uberblock_ring.specs.Uberblock.{Uber};
 ghost use Rattle.block_record.specs.declared.entry.IndexEntry.{IndexEntry};
 ghost use Rattle.block_record.specs.Page.{IsIndex, IsRightEntry};
 ghost use Rattle.block_table.specs.Table.{ChangesOnly, IsTable, entry_of, without_one};
-ghost use Rattle.space_alloc.specs.Space.{after_group, IsDropping};
+ghost use Rattle.space_alloc.specs.Space.{after_group, Gains, IsDropping};
 ghost use Rattle.row_layout.specs.Layout.{allocated_of};
 ghost use Rattle.core_state.specs.Index.{AreApart, IsFitting, block_end};
-ghost use Rattle.core_blocks.specs.Blocks.{AreInStep, HasLayouts, IsUnderWay, range_of, put_run};
+ghost use Rattle.core_blocks.specs.Blocks.{AreInStep, AreUnderWay, HasLayouts, IsUnderWay, range_of, put_run};
+ghost use Rattle.core_blocks.specs.declared.range.PutRange.{PutRange};
 ghost use Rattle.core_blocks.specs.Puts.{BeginsPut, HoldsBack, IsAsBefore, IsPutCause, IsRangeFor, sectors_taken};
 ghost use Rattle.core_blocks.specs.Kept.{NoneFree, SparesAll};
 ghost use Rattle.core_blocks.specs.Loading.{IsTakenBy};
@@ -73,6 +74,7 @@ impl Blocks {
             blocks.table ≡ record { entries = entries.now; reserved = [] }) }
         ensures space { IfOk result (λ blocks.
             IsTakenBy parity births capacity entries.now blocks.space) }
+        ensures under { IfOk result (λ blocks. AreUnderWay blocks []) }
     {
         let table = loading::table_of(alloc, entries)?;
         let space = loading::space_of(alloc, parity, &births, capacity, table.entries())?;
@@ -134,6 +136,10 @@ impl Blocks {
         ensures cause { IfErr result (IsPutCause self.old locks.now id
             (sectors_taken self.old.parity self.old.births len_bytes group)) }
         ensures err { OnErr result (IsAsBefore self.old self.new) }
+        ensures under { IfOk result (λ range. (ranges : List PutRange) → AreUnderWay self.old ranges
+            → AreUnderWay self.new (ranges ++ range ∷ [])) }
+        ensures under_err { OnErr result ((ranges : List PutRange) → AreUnderWay self.old ranges
+            → AreUnderWay self.new ranges) }
 
         // No put gets a sector of a block that is kept.
         ensures kept { (past : ℕ) (kept : List IndexEntry) → NoneFree self.old past kept
@@ -177,6 +183,9 @@ impl Blocks {
             group result }
         ensures parity { self.new.parity ≡ self.old.parity }
         ensures births { self.new.births ≡ self.old.births }
+        ensures under { (left ranges : List PutRange)
+            → Gains left ranges (range_of self.old.parity self.old.births entry)
+            → AreUnderWay self.old ranges → AreUnderWay self.new left }
         ensures kept { (past : ℕ) (kept : List IndexEntry) → past < group
             → NoneFree self.old past kept → NoneFree self.new past kept }
     {
@@ -195,6 +204,8 @@ impl Blocks {
             (allocated_of range.layout) }
         ensures parity { self.new.parity ≡ self.old.parity }
         ensures births { self.new.births ≡ self.old.births }
+        ensures under { (left ranges : List PutRange) → Gains left ranges range
+            → AreUnderWay self.old ranges → AreUnderWay self.new left }
         ensures kept { (past : ℕ) (kept : List IndexEntry)
             → SparesAll self.old.parity self.old.births kept (put_run range)
             → NoneFree self.old past kept → NoneFree self.new past kept }
@@ -212,6 +223,8 @@ impl Blocks {
             group result }
         ensures parity { self.new.parity ≡ self.old.parity }
         ensures births { self.new.births ≡ self.old.births }
+        ensures under { (ranges : List PutRange) → AreUnderWay self.old ranges
+            → AreUnderWay self.new ranges }
         ensures kept { (past : ℕ) (kept : List IndexEntry) → past < group
             → NoneFree self.old past kept → NoneFree self.new past kept }
     {
@@ -223,6 +236,8 @@ impl Blocks {
     /// Frees what was held back until this group, which is answered, or an earlier one.
     pub fn synced(&mut self, group: u64)
         ensures value { self.new ≡ record self.old { space = after_group self.old.space group } }
+        ensures under { (ranges : List PutRange) → AreUnderWay self.old ranges
+            → AreUnderWay self.new ranges }
         ensures kept { (past : ℕ) (kept : List IndexEntry) → group ≤ past
             → NoneFree self.old past kept → NoneFree self.new past kept }
     {

@@ -1,13 +1,15 @@
 use Rattle.std.proofs.Common.{◌≡◌, ℕ, List, ◌∷◌, [], ◌++◌, sym, ◌∙◌, ap, subst, refl, Err}
 use Rattle.std.specs.List.Sorted.{IsPermutation}
+use Rattle.std.proofs.lemmas.Result.{err_from_is_err_and}
 use Rattle.space_alloc.specs.Space.{Space, IsFreeRun}
 use Rattle.block_table.specs.Table.{Table, without_one}
-use Rattle.core_blocks.specs.Blocks.{Blocks, layout_run}
+use Rattle.core_blocks.specs.Blocks.{AreUnderWay, Blocks, layout_run}
 use Rattle.core_blocks.specs.Puts.{IsAsBefore, IsPutCause, sectors_taken}
 use Rattle.core_blocks.specs.Kept.{IsInUsePast, NoneFree, SparesAll}
 use Rattle.core_blocks.proofs.Steps.{with_parts, begun_step, refused_step, begun_under_way}
 use Rattle.core_blocks.proofs.Keeping.{kept_where, in_use_taking, free_spares}
 use Rattle.core_blocks.proofs.Beginning.{made_and_ended, space_cause, has_room}
+use Rattle.core_blocks.proofs.UnderWay.{begun_under, refused_under}
 use Rattle.core_blocks.proofs.blocks.Blocks.begin_put.Goals as goal
 
 pub returns-in_err-reserve_id-clause-kept : goal.returns-in_err-reserve_id-clause-kept
@@ -98,3 +100,33 @@ returns-in-Err-clause-kept c past kept free =
     (λ entry sector listed inside used. subst (λ (s : Space). IsInUsePast s past sector)
     (sym c.in-Err.ensures.err) used)
     (subst (λ (b : Blocks). NoneFree b past kept) (sym c.self.view_is) free)
+
+pub returns-in_err-reserve_id-clause-under_err : goal.returns-in_err-reserve_id-clause-under_err
+returns-in_err-reserve_id-clause-under_err c =
+    let p = err_from_is_err_and c.from_residual.result c.from_residual.ensures.1 in
+    rw p.1 (λ ranges under. subst (λ (t : Table). AreUnderWay (with_parts c.self.inside.parity
+    c.self.inside.births t c.self.inside.space) ranges) (sym c.in_err-reserve_id.ensures.err)
+    (subst (λ (b : Blocks). AreUnderWay b ranges) (sym c.self.view_is) under))
+
+pub returns-in-Ok-clause-under : goal.returns-in-Ok-clause-under
+returns-in-Ok-clause-under c ranges under =
+    begun_under c.self.inside.parity c.self.inside.births c.self.inside.table
+    c.reserve_id.new.self c.self.inside.space c.take.new.space c.args.locks.now
+    (record { id = c.args.id; birth = c.args.group; layout = c.in-Ok.layout }) ranges
+    (ap (λ (t : Table). t.entries) c.in_ok-reserve_id.ensures.ok)
+    (ap (λ (t : Table). t.reserved) c.in_ok-reserve_id.ensures.ok) (free_run c)
+    c.in-Ok.ensures.taken (returns-in-Ok-clause-under_way c)
+    (subst (λ (b : Blocks). AreUnderWay b ranges) (sym c.self.view_is) under)
+
+pub returns-in-Err-clause-under_err : goal.returns-in-Err-clause-under_err
+returns-in-Err-clause-under_err c ranges under =
+    let ended : c.release_id.new.self.reserved
+    ≡ without_one c.args.id (c.self.inside.table.reserved ++ c.args.id ∷ []) =
+    ap (λ (t : Table). t.reserved) c.release_id.ensures.value
+    ∙ ap (λ (t : Table). without_one c.args.id t.reserved) c.in_ok-reserve_id.ensures.ok in
+    refused_under c.self.inside.parity c.self.inside.births c.self.inside.table
+    c.release_id.new.self c.self.inside.space c.take.new.space ranges (entries_left c)
+    (subst (λ (left : List ℕ). IsPermutation c.self.inside.table.reserved left) (sym ended)
+    (made_and_ended c.args.id c.self.inside.table.reserved))
+    c.in-Err.ensures.err
+    (subst (λ (b : Blocks). AreUnderWay b ranges) (sym c.self.view_is) under)

@@ -1,10 +1,11 @@
 use Rattle.std.proofs.Common.{sym, subst, refl}
 use Rattle.block_record.specs.declared.entry.IndexEntry.{IndexEntry}
-use Rattle.space_alloc.specs.Space.{Space}
-use Rattle.core_blocks.specs.Blocks.{Blocks, AreInStep, IsUnderWay, range_of}
+use Rattle.space_alloc.specs.Space.{Gains}
+use Rattle.core_blocks.specs.Blocks.{AreUnderWay, Blocks, AreInStep, IsUnderWay, range_of}
 use Rattle.core_blocks.specs.Kept.{NoneFree}
 use Rattle.core_blocks.proofs.Steps.{with_parts, gone_stands, ended_step}
 use Rattle.core_blocks.proofs.Keeping.{kept_where, in_use_held}
+use Rattle.core_blocks.proofs.UnderWay.{ended_under}
 use Rattle.core_blocks.proofs.blocks.Blocks.end_put.Goals as goal
 
 pub hold_back-requires-clause-standing : goal.hold_back-requires-clause-standing
@@ -30,3 +31,16 @@ returns-clause-kept c past kept before free =
     c.self.inside.space c.hold_back.new.space c.args.group past sector c.put-was.result
     c.hold_back.ensures.value before used)
     (subst (λ (b : Blocks). NoneFree b past kept) (sym c.self.view_is) free)
+
+pub returns-clause-under : goal.returns-clause-under
+returns-clause-under c left ranges gains under =
+    let under_way = subst
+    (λ (b : Blocks). IsUnderWay b (range_of b.parity b.births c.args.entry)) (sym c.self.view_is)
+    c.requires.under_way in
+    ended_under c.self.inside.parity c.self.inside.births c.self.inside.table c.put-was.new.self
+    c.self.inside.space c.hold_back.new.space c.args.entry c.args.group c.put-was.result left
+    ranges c.self.invariant under_way c.put-was.ensures.was c.put-was.ensures.change
+    c.put-was.ensures.reserved c.hold_back.ensures.value
+    (subst (λ (b : Blocks). Gains left ranges (range_of b.parity b.births c.args.entry))
+    (sym c.self.view_is) gains)
+    (subst (λ (b : Blocks). AreUnderWay b ranges) (sym c.self.view_is) under)

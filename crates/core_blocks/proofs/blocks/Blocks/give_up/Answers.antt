@@ -2,10 +2,11 @@ use Rattle.std.proofs.Common.{◌≡◌, ℕ, sym, ap, subst, refl}
 use Rattle.row_layout.specs.Layout.{allocated_of}
 use Rattle.space_alloc.specs.Space.{IsDropping}
 use Rattle.block_table.specs.Table.{Table}
-use Rattle.core_blocks.specs.Blocks.{Blocks, IsUnderWay, put_run}
+use Rattle.core_blocks.specs.Blocks.{AreUnderWay, Blocks, IsUnderWay, put_run}
 use Rattle.core_blocks.specs.Kept.{NoneFree, SparesAll}
 use Rattle.core_blocks.proofs.Steps.{with_parts, given_up_step}
 use Rattle.core_blocks.proofs.Keeping.{kept_where, in_use_dropping}
+use Rattle.core_blocks.proofs.UnderWay.{given_up_under}
 use Rattle.core_blocks.proofs.blocks.Blocks.give_up.Goals as goal
 
 dropped : (c : goal.After-drop_run) → IsDropping c.self.inside.space c.drop_run.new.self
@@ -33,3 +34,13 @@ returns-clause-kept c past kept spares free =
     (put_run c.args.range) past sector (dropped c)
     (λ there. apart entry listed sector there inside) used)
     (subst (λ (b : Blocks). NoneFree b past kept) (sym c.self.view_is) free)
+
+pub returns-clause-under : goal.returns-clause-under
+returns-clause-under c left ranges gains under =
+    given_up_under c.self.inside.parity c.self.inside.births c.self.inside.table
+    c.release_id.new.self c.self.inside.space c.drop_run.new.self c.args.range left ranges
+    c.self.invariant
+    (subst (λ (b : Blocks). IsUnderWay b c.args.range) (sym c.self.view_is) c.requires.under_way)
+    (ap (λ (t : Table). t.entries) c.release_id.ensures.value)
+    (ap (λ (t : Table). t.reserved) c.release_id.ensures.value) (dropped c) gains
+    (subst (λ (b : Blocks). AreUnderWay b ranges) (sym c.self.view_is) under)

@@ -5,6 +5,7 @@ use Rattle.core_state.specs.Index.{AreApart, block_end}
 use Rattle.core_blocks.specs.Loading.{IsTakenBy}
 use Rattle.core_blocks.proofs.Loaded.{same_index}
 use Rattle.core_blocks.proofs.Opened.{loaded_step}
+use Rattle.core_blocks.proofs.UnderWay.{none_under_way}
 use Rattle.core_blocks.proofs.blocks.Blocks.load.Goals as goal
 
 pub space_of-requires-clause-below : goal.space_of-requires-clause-below
@@ -50,3 +51,11 @@ returns-clause-space c =
     subst (λ (l : List IndexEntry).
     IsTakenBy c.args.parity c.args.births c.args.capacity l c.in_ok-space.space) same
     c.in_ok-space.ensures.value
+
+pub returns-clause-under : goal.returns-clause-under
+returns-clause-under c =
+    none_under_way c.args.parity c.args.births c.args.capacity c.in_ok-table.table
+    c.in_ok-space.space c.entries.ensures.table.index c.in_ok-table.ensures.reserved
+    (subst (λ (l : List IndexEntry).
+    IsTakenBy c.args.parity c.args.births c.args.capacity l c.in_ok-space.space)
+    c.entries.ensures.value c.in_ok-space.ensures.value)

@@ -1,8 +1,9 @@
 use Rattle.std.proofs.Common.{sym, subst, refl}
-use Rattle.core_blocks.specs.Blocks.{Blocks}
+use Rattle.core_blocks.specs.Blocks.{AreUnderWay, Blocks}
 use Rattle.core_blocks.specs.Kept.{NoneFree}
 use Rattle.core_blocks.proofs.Steps.{with_parts, gone_stands, removed_step}
 use Rattle.core_blocks.proofs.Keeping.{kept_where, in_use_held}
+use Rattle.core_blocks.proofs.UnderWay.{removed_under}
 use Rattle.core_blocks.proofs.blocks.Blocks.remove.Goals as goal
 
 pub hold_back-requires-clause-standing : goal.hold_back-requires-clause-standing
@@ -25,3 +26,11 @@ returns-clause-kept c past kept before free =
     c.self.inside.space c.hold_back.new.space c.args.group past sector c.remove-was.result
     c.hold_back.ensures.value before used)
     (subst (λ (b : Blocks). NoneFree b past kept) (sym c.self.view_is) free)
+
+pub returns-clause-under : goal.returns-clause-under
+returns-clause-under c ranges under =
+    removed_under c.self.inside.parity c.self.inside.births c.self.inside.table
+    c.remove-was.new.self c.self.inside.space c.hold_back.new.space c.args.id c.args.group
+    c.remove-was.result ranges c.self.invariant c.remove-was.ensures.was
+    c.remove-was.ensures.change c.remove-was.ensures.reserved c.hold_back.ensures.value
+    (subst (λ (b : Blocks). AreUnderWay b ranges) (sym c.self.view_is) under)
