@@ -29,11 +29,11 @@ abbrev pub sectors_taken : ℕ → List Birth → ℕ → ℕ → ℕ
 sectors_taken parity births len birth = allocated_of (layout_at parity births 0 len birth)
 
 -- The range is that of a put of so many bytes in this group.
-pub record IsRangeFor (parity : ℕ) (births : List Birth) (id len group : ℕ) (range : PutRange) :
-    Type 0 where
+pub record IsRangeFor (blocks : Blocks) (id len group : ℕ) (range : PutRange) : Type 0 where
   pub id_is : range.id ≡ id
   pub birth_is : range.birth ≡ group
-  pub layout_is : range.layout ≡ layout_at parity births range.layout.start len group
+  pub layout_is : range.layout
+      ≡ layout_at blocks.parity blocks.births range.layout.start len group
 
 -- A put begins: its id is reserved, and the lowest run that fits is taken.
 pub record BeginsPut (old new : Blocks) (holds : List Hold) (range : PutRange) : Type 0 where

@@ -1,5 +1,5 @@
 // The blocks of a pool and its free sectors.
-ghost use Rattle.std.specs.Prelude.{◌≡◌, ◌≤◌, ◌<◌, ◌^◌, ℕ, ◌++◌, ◌∷◌, [], List, Some, None, All, Contains, IfOk, IfErr, OnErr, length};
+ghost use Rattle.std.specs.Prelude.{◌≡◌, ◌≤◌, ◌<◌, ◌^◌, ℕ, ◌++◌, ◌∷◌, [], List, Some, None, All, Contains, IfOk, IfErr, IfSome, OnErr, length};
 ghost use Rattle.std.specs.Option.{option_copied};
 ghost use Rattle.reflow_mark.specs.Reflow.{sectors_of};
 ghost use Rattle.uberblock_ring.specs.Uberblock.{Uber};
@@ -9,7 +9,7 @@ ghost use Rattle.block_table.specs.Table.{ChangesOnly, IsTable, entry_of, withou
 ghost use Rattle.space_alloc.specs.Space.{after_group, Gains, IsDropping};
 ghost use Rattle.row_layout.specs.Layout.{allocated_of};
 ghost use Rattle.core_state.specs.Index.{AreApart, IsFitting, block_end};
-ghost use Rattle.core_blocks.specs.Blocks.{AreInStep, AreUnderWay, HasLayouts, IsUnderWay, range_of, put_run};
+ghost use Rattle.core_blocks.specs.Blocks.{AreInStep, AreUnderWay, HasLayouts, IsStanding, IsUnderWay, range_of, put_run};
 ghost use Rattle.core_blocks.specs.declared.range.PutRange.{PutRange};
 ghost use Rattle.core_blocks.specs.Puts.{BeginsPut, HoldsBack, IsAsBefore, IsPutCause, IsRangeFor, sectors_taken};
 ghost use Rattle.core_blocks.specs.Kept.{NoneFree, SparesAll};
@@ -89,6 +89,8 @@ impl Blocks {
     /// The entry of a block.
     pub fn get(&self, id: u64) -> Option<&IndexEntry>
         ensures value { option_copied result ≡ entry_of self.now.table.entries id }
+        ensures stands { IfSome result (λ entry.
+            IsStanding self.now.parity self.now.births self.now.space entry.now) }
     {
         self.table.get(id)
     }
@@ -128,7 +130,7 @@ impl Blocks {
     ) -> Result<PutRange, PutRefused>
         requires some { 1 ≤ len_bytes }
         requires few { len_bytes ≤ 65536 }
-        ensures range { IfOk result (IsRangeFor self.old.parity self.old.births id len_bytes group) }
+        ensures range { IfOk result (IsRangeFor self.new id len_bytes group) }
         ensures begins { IfOk result (BeginsPut self.old self.new locks.now) }
         ensures under_way { IfOk result (IsUnderWay self.new) }
 

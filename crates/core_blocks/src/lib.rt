@@ -13,6 +13,8 @@ mod loading;
 mod range;
 mod refused;
 mod sectors;
+#[cfg(test)]
+mod tests;
 
 pub use blocks::Blocks;
 pub use range::PutRange;
