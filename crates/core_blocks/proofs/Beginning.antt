@@ -1,7 +1,6 @@
 -- What a put finds when it begins.
-use Rattle.std.proofs.Common.{◌≡◌, ◌≢◌, ℕ, Bool, true, false, List, [], ◌∷◌, ◌++◌, ◌==◌, refl, sym, ◌∙◌, ap, subst, ⊎_elim, Ok, Err, if◌then◌else◌}
-use Rattle.std.specs.Prelude.{◌↔◌, Contains, IfErr, IsErrOf, Result, nat_eq}
-use Rattle.std.specs.Set.{is_member}
+use Rattle.std.proofs.Common.{◌≡◌, ℕ, Bool, true, false, List, [], ◌∷◌, ◌++◌, ◌==◌, refl, subst, Ok, Err, if◌then◌else◌}
+use Rattle.std.specs.Prelude.{◌↔◌, IsErrOf, Result}
 use Rattle.std.specs.List.Sorted.{IsPermutation}
 use Rattle.std.proofs.lemmas.Bool.{eqb-true, eq-eqb}
 use Rattle.std.proofs.lemmas.List.Sorted.{IsPermutation-refl, IsPermutation-sym, IsPermutation-to_front, IsPermutation-cons}

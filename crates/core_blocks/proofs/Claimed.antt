@@ -1,19 +1,17 @@
 -- A space of which the blocks of an index take their sectors, one after the other.
-use Rattle.std.proofs.Common.{◌≡◌, ◌≢◌, ◌⊎◌, ℕ, ◌+◌, ◌<◌, ◌≤◌, List, [], ◌∷◌, ◌++◌, length, take, get_or, refl, sym, ◌∙◌, ap, subst, arith, ⊎_elim}
+use Rattle.std.proofs.Common.{◌≡◌, ◌⊎◌, ℕ, ◌+◌, ◌<◌, ◌≤◌, List, [], ◌∷◌, ◌++◌, length, take, get_or, sym, ◌∙◌, subst, arith, ⊎_elim}
 use Rattle.std.specs.Prelude.{All, AllPairs, Contains}
-use Rattle.std.proofs.lemmas.Bool.{cases_lt}
 use Rattle.std.proofs.lemmas.List.{take_more, get_or-take, get_or_default, length-take-le}
 use Rattle.std.proofs.lemmas.List.Elements.{Contains-append_left, Contains-push, Contains-push_cases}
 use Rattle.width_map.specs.declared.birth.Birth.{Birth}
-use Rattle.range_locks.specs.declared.hold.Hold.{Hold}
-use Rattle.space_alloc.specs.Space.{Run, HeldRun, Space, IsIn, IsFree, IsFreeRun, IsTaking}
+use Rattle.space_alloc.specs.Space.{Run, HeldRun, Space, IsIn, IsFreeRun, IsTaking}
 use Rattle.block_record.specs.declared.entry.IndexEntry.{IndexEntry}
 use Rattle.core_state.specs.Index.{AreApart, block_end}
-use Rattle.core_blocks.specs.Runs.{AreClear, AreSpread, held_sectors}
+use Rattle.core_blocks.specs.Runs.{AreClear, held_sectors}
 use Rattle.core_blocks.specs.Blocks.{run_of}
 use Rattle.core_blocks.specs.Loading.{IsTakenBy}
 use Rattle.core_blocks.proofs.Lists.{gains_old, gains_item, gains_cases, none_listed}
-use Rattle.core_blocks.proofs.Runs.{clear_turned, spread_taking}
+use Rattle.core_blocks.proofs.Runs.{spread_taking}
 
 -- One of them ends before the other begins.
 abbrev pub AreOrdered : Run → Run → Type 0
@@ -107,8 +105,10 @@ module _ (parity : ℕ) (births : List Birth) (capacity : ℕ) (entries : List I
               (Contains-push_cases (take index entries) entry other listed);
           only = λ other listed. ⊎_elim
               (λ same. (entry, Contains-push (take index entries) entry, same))
-              (λ was. let block = claimed.only other was in
-              (block.0, Contains-append_left (take index entries) (entry ∷ []) block.0 block.1,
-              block.2))
+              (λ was. let block = claimed.only other was in (
+                block.0,
+                Contains-append_left (take index entries) (entry ∷ []) block.0 block.1,
+                block.2,
+              ))
               (gains_cases space.taken later.taken run other taking.1.taken listed);
         })

@@ -1,5 +1,5 @@
 -- What is kept stays in use over each step.
-use Rattle.std.proofs.Common.{◌≡◌, ◌⊎◌, ℕ, ◌+◌, ◌<◌, ◌≤◌, List, true, refl, sym, ◌∙◌, ap, subst, arith, inl, inr, ⊎_elim, Some, None}
+use Rattle.std.proofs.Common.{◌≡◌, ℕ, ◌<◌, ◌≤◌, List, sym, subst, arith, inl, inr, ⊎_elim, Some, None}
 use Rattle.std.specs.Prelude.{Contains, Option, nat_lt}
 use Rattle.std.proofs.lemmas.Bool.{lt-ltb}
 use Rattle.width_map.specs.declared.birth.Birth.{Birth}
@@ -39,8 +39,12 @@ pub in_use_taking : (old new : Space) (run : Run) (past sector : ℕ)
     → IsTaking old new run.start run.len → IsInUsePast old past sector → IsInUsePast new past sector
 in_use_taking old new run past sector taking used = ⊎_elim
     (λ taken. inl (taken_more old new run sector taking taken))
-    (λ back. inr (back.0, subst (λ (all : List HeldRun). Contains all back.0) (sym taking.held) back.1,
-    back.2, back.3)) used
+    (λ back. inr (
+      back.0,
+      subst (λ (all : List HeldRun). Contains all back.0) (sym taking.held) back.1,
+      back.2,
+      back.3,
+    )) used
 
 -- one that is dropped only its own sectors,
 pub in_use_dropping : (old new : Space) (run : Run) (past sector : ℕ)
@@ -51,8 +55,13 @@ in_use_dropping old new run past sector dropping outside used = ⊎_elim
     (λ same. absurd (outside (subst (λ (r : Run). IsIn r.start r.len sector) (sym same) taken.2)))
     (λ still. inl (taken.0, still, taken.2))
     (gains_cases new.taken old.taken run taken.0 dropping.taken taken.1))
-    (λ back. inr (back.0, subst (λ (all : List HeldRun). Contains all back.0) (sym dropping.held)
-    back.1, back.2, back.3)) used
+    (λ back. inr (
+      back.0,
+      subst (λ (all : List HeldRun). Contains all back.0) (sym dropping.held)
+          back.1,
+      back.2,
+      back.3,
+    )) used
 
 -- one that is held back none before its group,
 pub in_use_holding : (old new : Space) (run : Run) (group past sector : ℕ)
@@ -62,8 +71,12 @@ in_use_holding old new run group past sector holding before used =
     let back : HeldRun = record { start = run.start; len = run.len; group = group } in
     ⊎_elim
     (λ taken. ⊎_elim
-    (λ same. inr (back, gains_item old.held new.held back holding.held,
-    subst (λ (r : Run). IsIn r.start r.len sector) (sym same) taken.2, before))
+    (λ same. inr (
+      back,
+      gains_item old.held new.held back holding.held,
+      subst (λ (r : Run). IsIn r.start r.len sector) (sym same) taken.2,
+      before,
+    ))
     (λ still. inl (taken.0, still, taken.2))
     (gains_cases new.taken old.taken run taken.0 holding.taken taken.1))
     (λ was. inr (was.0, gains_old old.held new.held back was.0 holding.held was.1, was.2, was.3))
@@ -81,8 +94,13 @@ in_use_held parity births old new group past sector (Some entry) holding before 
 pub in_use_after : (space : Space) (group past sector : ℕ) → group ≤ past
     → IsInUsePast space past sector → IsInUsePast (after_group space group) past sector
 in_use_after space group past sector answered used = ⊎_elim (λ taken. inl taken)
-    (λ back. inr (back.0, filter_listed (λ run. nat_lt group run.group) space.held back.0
-    (lt-ltb group back.0.group (omega (arith, answered, back.3))) back.1, back.2, back.3)) used
+    (λ back. inr (
+      back.0,
+      filter_listed (λ run. nat_lt group run.group) space.held back.0
+          (lt-ltb group back.0.group (omega (arith, answered, back.3))) back.1,
+      back.2,
+      back.3,
+    )) used
 
 -- Free sectors are no kept block's.
 pub free_spares : (blocks : Blocks) (holds : List Hold) (run : Run) (past : ℕ)
@@ -97,6 +115,9 @@ free_spares blocks holds run past kept free none entry listed sector inside its 
 pub blocks_kept : (blocks : Blocks) (past : ℕ) → AreInStep blocks → IsIndex blocks.table.entries
     → NoneFree blocks past blocks.table.entries
 blocks_kept blocks past step index = record {
-  each = λ entry sector listed inside. inl (run_of blocks.parity blocks.births entry,
-      (step.each entry (among_listed blocks.table.entries entry index listed)).taken, inside);
+  each = λ entry sector listed inside. inl (
+    run_of blocks.parity blocks.births entry,
+    (step.each entry (among_listed blocks.table.entries entry index listed)).taken,
+    inside,
+  );
 }

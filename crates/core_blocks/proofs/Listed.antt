@@ -1,10 +1,10 @@
 -- Which entries a table has, and how a change of it changes that.
-use Rattle.std.proofs.Common.{◌≡◌, ◌≢◌, ◌⊎◌, ℕ, suc, ◌+◌, ◌<◌, List, [], ◌∷◌, Bool, true, false, get_or, length, refl, sym, ◌∙◌, ap, subst, arith, inl, inr, ⊎_elim, cond, Some, None}
-use Rattle.std.specs.Prelude.{All, AllPairs, Contains, Option, nat_eq}
-use Rattle.std.proofs.lemmas.Bool.{eqb-true, eq-eqb, cases_eq}
+use Rattle.std.proofs.Common.{◌≡◌, ◌≢◌, ◌⊎◌, ℕ, suc, ◌<◌, List, [], ◌∷◌, sym, ◌∙◌, ap, subst, arith, inl, inr, ⊎_elim, Some, None}
+use Rattle.std.specs.Prelude.{All, Contains}
+use Rattle.std.proofs.lemmas.Bool.{cases_eq}
 use Rattle.std.proofs.lemmas.List.Elements.{All-contains}
 use Rattle.block_record.specs.declared.entry.IndexEntry.{IndexEntry}
-use Rattle.block_record.specs.Page.{IsIndex, IsRightEntry}
+use Rattle.block_record.specs.Page.{IsIndex}
 use Rattle.block_table.specs.Table.{ChangesOnly, entry_of}
 use Rattle.block_table.proofs.Lookups.{entry_here, entry_past}
 use Rattle.core_blocks.specs.Blocks.{IsListed}

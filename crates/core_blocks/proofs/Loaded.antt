@@ -1,7 +1,7 @@
 -- A table into which the entries of an index are put, one after the other, has that index.
-use Rattle.std.proofs.Common.{◌≡◌, ◌≢◌, ◌⊎◌, ℕ, suc, ◌+◌, ◌<◌, ◌≤◌, List, [], ◌∷◌, ◌++◌, Bool, true, false, length, take, drop, get_or, refl, sym, ◌∙◌, ap, subst, arith, ⊎_elim, Some, None, if◌then◌else◌, ◌==◌}
+use Rattle.std.proofs.Common.{◌≡◌, ◌≢◌, ℕ, suc, ◌+◌, ◌<◌, ◌≤◌, List, [], ◌∷◌, ◌++◌, Bool, true, false, length, take, drop, get_or, refl, sym, ◌∙◌, ap, subst, arith, ⊎_elim, Some, None, if◌then◌else◌, ◌==◌}
 use Rattle.std.specs.Prelude.{All, Contains, Option, is_some, nat_eq}
-use Rattle.std.specs.Set.{distinct_count, is_member}
+use Rattle.std.specs.Set.{distinct_count}
 use Rattle.std.specs.Option.{option_or}
 use Rattle.std.proofs.lemmas.Bool.{cases_eq, eq-eqb}
 use Rattle.std.proofs.lemmas.List.{take_more, take-append-drop, length-take-le}
@@ -13,7 +13,6 @@ use Rattle.block_table.specs.Table.{Table, ChangesOnly, IsFull, entry_of, ids_in
 use Rattle.block_table.proofs.Counts.{count_of_ids, count_within, held_is}
 use Rattle.block_table.proofs.Lookups.{entry_here, entry_past}
 use Rattle.block_table.proofs.Orders.{index_front}
-use Rattle.core_blocks.specs.Blocks.{IsListed}
 use Rattle.core_blocks.specs.Loading.{FindSame}
 use Rattle.core_blocks.proofs.Lists.{listed_cases}
 use Rattle.core_blocks.proofs.Listed.{among_listed, found_among, index_first, index_rest}
@@ -116,9 +115,11 @@ first_same one other ones others index indexed same =
     same other.id ∙ entry_here other others other.id refl in
     ⊎_elim (λ is. sym is)
     (λ behind. ⊎_elim (λ is. is)
-    (λ also. absurd (omega (arith,
-    All-contains (λ e. other.id < e.id) others one (index_first other others indexed) behind,
-    All-contains (λ e. one.id < e.id) ones other (index_first one ones index) also)))
+    (λ also. absurd (omega (
+      arith,
+      All-contains (λ e. other.id < e.id) others one (index_first other others indexed) behind,
+      All-contains (λ e. one.id < e.id) ones other (index_first one ones index) also,
+    )))
     (listed_cases one other ones (found_among (one ∷ ones) other.id other here)))
     (listed_cases other one others (found_among (other ∷ others) one.id one there))
 

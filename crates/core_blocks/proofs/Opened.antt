@@ -1,5 +1,5 @@
 -- A loaded index is in step with the sectors that its blocks have taken.
-use Rattle.std.proofs.Common.{◌≡◌, ◌≢◌, ◌⊎◌, ℕ, ◌+◌, ◌<◌, ◌≤◌, ◌^◌, List, get_or, length, sym, ◌∙◌, ap, subst, arith, inl, inr, ⊎_elim}
+use Rattle.std.proofs.Common.{◌≡◌, ◌≢◌, ℕ, ◌≤◌, ◌^◌, List, get_or, sym, ◌∙◌, ap, subst, arith, inl, inr, ⊎_elim}
 use Rattle.std.specs.Prelude.{AllPairs, Contains}
 use Rattle.std.proofs.lemmas.Bool.{cases_lt, cases_eq}
 use Rattle.std.proofs.lemmas.List.{get_or_default}
@@ -10,11 +10,10 @@ use Rattle.block_record.specs.declared.entry.IndexEntry.{IndexEntry}
 use Rattle.block_record.specs.Page.{IsIndex, IsRightEntry}
 use Rattle.block_table.specs.Table.{Table}
 use Rattle.core_state.specs.Index.{AreApart}
-use Rattle.core_blocks.specs.Runs.{AreClear, IsInside}
-use Rattle.core_blocks.specs.Blocks.{AreInStep, HasLayouts, IsListed, run_of}
+use Rattle.core_blocks.specs.Runs.{IsInside}
+use Rattle.core_blocks.specs.Blocks.{AreInStep, HasLayouts, run_of}
 use Rattle.core_blocks.specs.Loading.{IsTakenBy}
 use Rattle.core_blocks.proofs.Listed.{found_among}
-use Rattle.core_blocks.proofs.Runs.{clear_turned}
 use Rattle.core_blocks.proofs.Claimed.{AreOrdered, ordered_clear}
 use Rattle.core_blocks.proofs.Steps.{with_parts}
 

@@ -1,7 +1,7 @@
 -- The runs in use stay spread over each step of the space.
-use Rattle.std.proofs.Common.{◌≡◌, ◌⊎◌, ℕ, ◌+◌, ◌-◌, ◌<◌, ◌≤◌, List, sym, ap, subst, arith, inl, inr, ⊎_elim, true}
+use Rattle.std.proofs.Common.{◌≡◌, ◌⊎◌, ℕ, ◌+◌, ◌-◌, ◌<◌, ◌≤◌, List, sym, subst, arith, inl, inr, ⊎_elim}
 use Rattle.std.specs.Prelude.{AllPairs, Contains, nat_lt}
-use Rattle.std.proofs.lemmas.Bool.{cases_lt, cases_eq}
+use Rattle.std.proofs.lemmas.Bool.{cases_lt}
 use Rattle.range_locks.specs.declared.hold.Hold.{Hold}
 use Rattle.space_alloc.specs.Space.{Run, HeldRun, Space, IsIn, IsFreeRun, Gains, IsTaking, IsDropping, IsHolding, after_group}
 use Rattle.space_alloc.proofs.Pairs.{all_pairs_filter}

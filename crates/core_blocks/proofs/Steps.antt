@@ -1,5 +1,5 @@
 -- Each step leaves the table and the space in step.
-use Rattle.std.proofs.Common.{◌≡◌, ◌≢◌, ◌⊎◌, ℕ, ◌+◌, ◌<◌, ◌≤◌, List, refl, sym, ◌∙◌, ap, subst, arith, inl, inr, ⊎_elim, Some, None, true}
+use Rattle.std.proofs.Common.{◌≡◌, ◌≢◌, ℕ, ◌<◌, List, refl, sym, ◌∙◌, ap, subst, arith, ⊎_elim, Some, None, true}
 use Rattle.std.specs.Prelude.{Contains, Option, IfSome, nat_eq}
 use Rattle.std.specs.Set.{is_member}
 use Rattle.width_map.specs.declared.birth.Birth.{Birth}
@@ -10,7 +10,7 @@ use Rattle.block_record.specs.Page.{IsRightEntry}
 use Rattle.block_table.specs.Table.{Table, ChangesOnly, entry_of}
 use Rattle.core_blocks.specs.declared.range.PutRange.{PutRange}
 use Rattle.core_blocks.specs.Runs.{AreClear, AreSpread, IsInside}
-use Rattle.core_blocks.specs.Blocks.{Blocks, AreInStep, HasLayouts, IsListed, IsStanding, IsUnderWay, put_run, range_of, run_of}
+use Rattle.core_blocks.specs.Blocks.{Blocks, AreInStep, IsListed, IsStanding, IsUnderWay, put_run, range_of, run_of}
 use Rattle.core_blocks.specs.Puts.{HoldsBack}
 use Rattle.core_blocks.proofs.Lists.{gains_old}
 use Rattle.core_blocks.proofs.Runs.{clear_turned, free_of_taken, spread_taking, spread_dropping, spread_holding, spread_after, stays_taken}
@@ -54,9 +54,11 @@ module _ (parity : ℕ) (births : List Birth) where
   begun_step table newer space later holds run some step same free taking =
       fewer table newer space later step taking.capacity
       (spread_taking space later holds run some free taking step.spread)
-      (λ entry listed. let was = same_listed table newer entry same listed in
-      (was, gains_old space.taken later.taken run (run_of parity births entry) taking.taken
-      (step.each entry was).taken))
+      (λ entry listed. let was = same_listed table newer entry same listed in (
+        was,
+        gains_old space.taken later.taken run (run_of parity births entry) taking.taken
+            (step.each entry was).taken,
+      ))
 
   -- From then on it is under way.
   pub begun_under_way : (table newer : Table) (space later : Space) (holds : List Hold)
@@ -91,10 +93,12 @@ module _ (parity : ℕ) (births : List Birth) where
   given_up_step table newer space later range step same under_way dropping =
       fewer table newer space later step dropping.capacity
       (spread_dropping space later (put_run range) dropping step.spread)
-      (λ entry listed. let was = same_listed table newer entry same listed in
-      (was, stays_taken space.taken later.taken (put_run range) (run_of parity births entry)
-      dropping.taken (step.spread.inside (put_run range) under_way.taken).some
-      (under_way.clear entry was) (step.each entry was).taken))
+      (λ entry listed. let was = same_listed table newer entry same listed in (
+        was,
+        stays_taken space.taken later.taken (put_run range) (run_of parity births entry)
+            dropping.taken (step.spread.inside (put_run range) under_way.taken).some
+            (under_way.clear entry was) (step.each entry was).taken,
+      ))
 
   -- A group is answered.
   pub answered_step : (table : Table) (space : Space) (group : ℕ)
@@ -160,11 +164,13 @@ module _ (parity : ℕ) (births : List Birth) where
   removed_step table newer space later id group gone step found change held =
       let spread = held_spread space later group gone held step.spread in
       fewer table newer space later step spread.0 spread.1
-      (λ entry listed. let was = left_cases table.entries newer.entries id entry change listed in
-      (was.0, held_taken space later group gone (run_of parity births entry) held
-      (gone_stands table space id gone step found) step.spread
-      (clear_of_gone table space id gone entry step found was.0 was.1)
-      (step.each entry was.0).taken))
+      (λ entry listed. let was = left_cases table.entries newer.entries id entry change listed in (
+        was.0,
+        held_taken space later group gone (run_of parity births entry) held
+            (gone_stands table space id gone step found) step.spread
+            (clear_of_gone table space id gone entry step found was.0 was.1)
+            (step.each entry was.0).taken,
+      ))
 
   -- A put ends.
   module _ (table newer : Table) (space later : Space) (entry : IndexEntry) (group : ℕ)

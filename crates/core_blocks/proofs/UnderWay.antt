@@ -1,11 +1,9 @@
 -- Which puts are under way over each step.
-use Rattle.std.proofs.Common.{◌≡◌, ◌≢◌, ◌⊎◌, ℕ, ◌+◌, ◌<◌, ◌≤◌, Bool, true, false, cond, List, [], ◌∷◌, ◌++◌, append-nil, ◌==◌, zero-add, refl, sym, ◌∙◌, ap, subst, arith, inl, inr, ⊎_elim, Some, None, if◌then◌else◌}
-use Rattle.std.specs.Prelude.{AllPairs, Contains, Option, IfSome, count_by, nat_eq, ◌||◌}
+use Rattle.std.proofs.Common.{◌≡◌, ℕ, ◌+◌, ◌<◌, Bool, true, false, cond, List, [], ◌∷◌, ◌++◌, append-nil, ◌==◌, zero-add, refl, sym, ◌∙◌, ap, subst, arith, inl, inr, ⊎_elim, Some, None, if◌then◌else◌}
+use Rattle.std.specs.Prelude.{Contains, Option, count_by, nat_eq, ◌||◌}
 use Rattle.std.specs.Set.{is_member}
 use Rattle.std.specs.List.Sorted.{IsPermutation}
 use Rattle.std.proofs.lemmas.Bool.{cases_eq, eqb-true, eq-eqb}
-use Rattle.std.proofs.lemmas.List.{map-append}
-use Rattle.std.proofs.lemmas.List.Elements.{Contains-append_cases, Contains-append_left, Contains-append_right, Contains-push, Contains-push_cases}
 use Rattle.std.proofs.lemmas.List.Sorted.{list_any-IsPermutation, sum_by-IsPermutation}
 use Rattle.std.proofs.lemmas.List.Sums.{sum_by-append}
 use Rattle.width_map.specs.declared.birth.Birth.{Birth}
@@ -16,7 +14,7 @@ use Rattle.block_record.specs.Page.{IsIndex}
 use Rattle.block_table.specs.Table.{Table, ChangesOnly, entry_of, without_one}
 use Rattle.core_blocks.specs.declared.range.PutRange.{PutRange}
 use Rattle.core_blocks.specs.Runs.{AreClear}
-use Rattle.core_blocks.specs.Blocks.{AreInStep, AreUnderWay, IsListed, IsOfBlock, IsUnderWay, put_run, puts_of, range_of, run_of, times_reserved}
+use Rattle.core_blocks.specs.Blocks.{AreInStep, AreUnderWay, IsListed, IsUnderWay, put_run, puts_of, range_of, run_of, times_reserved}
 use Rattle.core_blocks.specs.Loading.{IsTakenBy}
 use Rattle.core_blocks.specs.Puts.{HoldsBack}
 use Rattle.core_blocks.proofs.Lists.{gains_cases, gains_item, gains_old, none_listed, pairs_beside, pairs_gain, pairs_lose, listed_cases}
@@ -117,8 +115,13 @@ booked_left table newer left ranges range gains there ended booked id =
     let now : times_reserved newer id
     ≡ count_by (λ other. id == other) (without_one range.id table.reserved) =
     ap (λ (ids : List ℕ). count_by (λ other. id == other) ids) ended in
-    omega (arith, now, booked id, count_without table.reserved range.id id there,
-    gains_count (λ (r : PutRange). id == r.id) left ranges range gains)
+    omega (
+      arith,
+      now,
+      booked id,
+      count_without table.reserved range.id id there,
+      gains_count (λ (r : PutRange). id == r.id) left ranges range gains,
+    )
 
 -- A list with an item at its end.
 at_end : {T : Type 0} (xs new : List T) (x : T) → new ≡ xs ++ x ∷ [] → Gains xs new x
@@ -163,10 +166,13 @@ module _ (parity : ℕ) (births : List Birth) where
       let gains : Gains ranges (ranges ++ range ∷ []) range =
       at_end ranges (ranges ++ range ∷ []) range refl in
       let booked : (id : ℕ) → times_reserved newer id ≡ puts_of (ranges ++ range ∷ []) id =
-      λ id. omega (arith, under.reserved id,
-      gains_count (λ (other : ℕ). id == other) table.reserved newer.reserved range.id
-      (at_end table.reserved newer.reserved range.id more),
-      gains_count (λ (r : PutRange). id == r.id) ranges (ranges ++ range ∷ []) range gains) in
+      λ id. omega (
+        arith,
+        under.reserved id,
+        gains_count (λ (other : ℕ). id == other) table.reserved newer.reserved range.id
+            (at_end table.reserved newer.reserved range.id more),
+        gains_count (λ (r : PutRange). id == r.id) ranges (ranges ++ range ∷ []) range gains,
+      ) in
       record {
         each = λ r listed. ⊎_elim
             (λ is. subst (IsUnderWay (with_parts parity births newer later)) is begun)
@@ -186,8 +192,11 @@ module _ (parity : ℕ) (births : List Birth) where
             (λ is. inr (range, gains_item ranges (ranges ++ range ∷ []) range gains, is))
             (λ was. ⊎_elim
             (λ block. inl (block.0, listed_back table newer block.0 same block.1, block.2))
-            (λ put. inr (put.0, gains_old ranges (ranges ++ range ∷ []) range put.0 gains put.1,
-            put.2))
+            (λ put. inr (
+              put.0,
+              gains_old ranges (ranges ++ range ∷ []) range put.0 gains put.1,
+              put.2,
+            ))
             (under.every run was))
             (gains_cases space.taken later.taken (put_run range) run taking.taken listed);
         reserved = booked;

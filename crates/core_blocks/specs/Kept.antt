@@ -6,7 +6,7 @@ use Rattle.block_record.specs.declared.entry.IndexEntry.{IndexEntry}
 use Rattle.core_blocks.specs.Runs.{AreClear}
 use Rattle.core_blocks.specs.Blocks.{Blocks, run_of}
 
--- The sector is taken, or held back until a group after this one: no answer up to this group frees it.
+-- The sector is taken, or held back until a group after this one.
 abbrev pub IsInUsePast : Space → ℕ → ℕ → Type 0
 IsInUsePast space past sector =
     IsTaken space sector

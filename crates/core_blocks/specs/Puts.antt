@@ -6,14 +6,14 @@ use Rattle.width_map.specs.Births.{width_of_birth}
 use Rattle.range_locks.specs.declared.hold.Hold.{Hold}
 use Rattle.row_layout.specs.Layout.{Layout, allocated_of}
 use Rattle.space_alloc.specs.declared.refused.TakeRefused.TheVariants as take
-use Rattle.space_alloc.specs.Space.{Run, Space, IsFirstFit, IsTaking, IsHolding, IsTakeCause}
+use Rattle.space_alloc.specs.Space.{Space, IsFirstFit, IsTaking, IsHolding, IsTakeCause}
 use Rattle.block_record.specs.declared.entry.IndexEntry.{IndexEntry}
-use Rattle.block_table.specs.Table.{Table, IsFull}
+use Rattle.block_table.specs.Table.{IsFull}
 use Rattle.core_state.specs.Index.{sectors_for}
 use Rattle.core_blocks.specs.declared.range.PutRange.{PutRange}
 use Rattle.core_blocks.specs.declared.refused.PutRefused.{PutRefused}
 use Rattle.core_blocks.specs.declared.refused.PutRefused.TheVariants.{Full, NoSpace, Busy, NoMemory}
-use Rattle.core_blocks.specs.Blocks.{Blocks, put_run, run_of}
+use Rattle.core_blocks.specs.Blocks.{Blocks, run_of}
 
 -- the layout of a block of so many bytes: its width is that of its birth
 abbrev pub layout_at : ℕ → List Birth → ℕ → ℕ → ℕ → Layout

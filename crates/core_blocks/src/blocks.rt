@@ -1,5 +1,5 @@
 // The blocks of a pool and its free sectors.
-ghost use Rattle.std.specs.Prelude.{◌≡◌, ◌≤◌, ◌<◌, ◌^◌, ℕ, ◌++◌, ◌∷◌, [], List, Some, None, All, Contains, IfOk, IfErr, IfSome, OnErr, length};
+ghost use Rattle.std.specs.Prelude.{◌≡◌, ◌↔◌, IsTrue, ◌≤◌, ◌<◌, ◌^◌, ℕ, ◌++◌, ◌∷◌, [], List, Some, None, All, Contains, IfOk, IfErr, IfSome, OnErr, length};
 ghost use Rattle.std.specs.Option.{option_copied};
 ghost use Rattle.reflow_mark.specs.Reflow.{sectors_of};
 ghost use Rattle.uberblock_ring.specs.Uberblock.{Uber};
@@ -39,22 +39,23 @@ impl Model for Blocks {
     ghost Value = { BlocksOf };
 
     ghost view = { λ blocks. record {
-        parity = blocks.parity;
-        births = blocks.births;
-        table = blocks.table;
-        space = blocks.space;
+      parity = blocks.parity;
+      births = blocks.births;
+      table = blocks.table;
+      space = blocks.space;
     } };
 
     ghost invariant = { λ blocks. AreInStep (record {
-        parity = blocks.parity;
-        births = blocks.births;
-        table = blocks.table;
-        space = blocks.space;
+      parity = blocks.parity;
+      births = blocks.births;
+      table = blocks.table;
+      space = blocks.space;
     }) };
 }
 
 impl Blocks {
-    /// The blocks of an index that fits a pool of so many sectors; nothing is reserved or held back.
+    /// The blocks of an index that fits a pool of so many sectors. Nothing is reserved or held
+    /// back.
     pub fn load(
         alloc: Global,
         parity: u32,
@@ -101,6 +102,12 @@ impl Blocks {
         ensures few { result ≤ 512 }
     {
         self.table.len()
+    }
+
+    pub fn is_empty(&self) -> bool
+        ensures value { IsTrue result ↔ (length self.now.table.entries ≡ 0) }
+    {
+        self.table.is_empty()
     }
 
     /// The entries of all blocks, in the order of their ids: the index of the next group.
@@ -171,8 +178,8 @@ impl Blocks {
         }
     }
 
-    /// Ends a put: its block stands in the table from now on. Gives the entry that it replaces, whose
-    /// sectors are held back until a group is answered.
+    /// Ends a put: its block stands in the table from now on. Gives the entry that it replaces,
+    /// whose sectors are held back until a group is answered.
     pub fn end_put(&mut self, entry: IndexEntry, group: u64) -> Option<IndexEntry>
         requires right { IsRightEntry entry }
         requires under_way { IsUnderWay self.old (range_of self.old.parity self.old.births entry) }
@@ -213,10 +220,12 @@ impl Blocks {
             → NoneFree self.old past kept → NoneFree self.new past kept }
     {
         self.table.release_id(range.id);
-        self.space.drop_run(range.layout.start(), range.layout.alloc_size());
+        let layout = &range.layout;
+        self.space.drop_run(layout.start(), layout.alloc_size());
     }
 
-    /// Takes a block away, and gives its entry. Its sectors are held back until a group is answered.
+    /// Takes a block away, and gives its entry. Its sectors are held back until a group is
+    /// answered.
     pub fn remove(&mut self, id: u64, group: u64) -> Option<IndexEntry>
         ensures was { result ≡ entry_of self.old.table.entries id }
         ensures change { ChangesOnly self.old.table.entries self.new.table.entries id None }
@@ -230,9 +239,9 @@ impl Blocks {
         ensures kept { (past : ℕ) (kept : List IndexEntry) → past < group
             → NoneFree self.old past kept → NoneFree self.new past kept }
     {
-        let was = self.table.remove(id);
-        sectors::hold_back(&mut self.space, self.parity, &self.births, was, group);
-        was
+        let gone = self.table.remove(id);
+        sectors::hold_back(&mut self.space, self.parity, &self.births, gone, group);
+        gone
     }
 
     /// Frees what was held back until this group, which is answered, or an earlier one.

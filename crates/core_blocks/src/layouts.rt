@@ -17,7 +17,8 @@ pub fn layout_at(parity: u32, births: &Births, start: u64, len_bytes: u32, birth
     requires few { len_bytes ≤ 65536 }
     ensures value { result ≡ layout_at parity births.now start len_bytes birth }
 {
-    Layout::of(start, (len_bytes + 511) / 512, parity, width_at(births, birth))
+    let sectors = (len_bytes + 511) / 512;
+    Layout::of(start, sectors, parity, width_at(births, birth))
 }
 
 /// The layout of a block that an index lists.

@@ -12,7 +12,7 @@ pub enum PutRefused {
     Full,
     /// No run of so many free sectors is left.
     NoSpace { sectors: u64 },
-    /// There is one, but each overlaps an exclusive hold; the actor that is in the way of the lowest.
+    /// There is one, but each overlaps an exclusive hold; the actor in the way of the lowest.
     Busy { by: u8 },
     NoMemory,
 }

@@ -1,4 +1,4 @@
-// A small pool through its calls: parity 1 and width 3, where a block of 512 bytes takes two sectors.
+// A small pool through its calls. At parity 1 and width 3 a block of 512 bytes takes two sectors.
 ghost use Rattle.std.specs.Prelude.{◌≤◌, ◌<◌, ◌^◌};
 
 use crate::{Blocks, PutRefused};
@@ -73,7 +73,9 @@ fn sectors_that_are_freed_come_back_with_the_answer(rt: HostRuntime) -> Result<(
 }
 
 #[test]
-fn a_block_that_is_replaced_keeps_its_sectors_until_the_answer(rt: HostRuntime) -> Result<(), Fail> {
+fn a_block_that_is_replaced_keeps_its_sectors_until_the_answer(
+    rt: HostRuntime,
+) -> Result<(), Fail> {
     let locks = Locks::new(rt.alloc());
     let mut blocks = empty_pool(rt.alloc(), 192)?;
     assert_eq!(rt; put(&mut blocks, 1, 2, &locks), Ok(0));

@@ -1,4 +1,4 @@
-use Rattle.std.proofs.Common.{◌≡◌, ℕ, ◌<◌, ◌≤◌, [], sym, ◌∙◌, ap, subst, get_or, rules}
+use Rattle.std.proofs.Common.{◌≡◌, ℕ, ◌<◌, [], sym, ◌∙◌, ap, subst, get_or, rules}
 use Rattle.row_layout.specs.Layout.{Layout, allocated_of}
 use Rattle.space_alloc.specs.Space.{IsFreeRun, IsTaking}
 use Rattle.block_record.specs.declared.entry.IndexEntry.{IndexEntry}
@@ -30,8 +30,9 @@ loop-entry-preserved c =
     let some : 0 < c.alloc_size-sectors.result = search rules in
     claimed_more c.args.parity c.args.births.now c.args.capacity c.args.entries.now
     c.loop-entry.space c.loop-entry.entry-index blank c.loop-entry-test.true c.requires.below
-    c.requires.apart c.loop-entry.invariant c.claim.new.self
-    (subst (λ (len : ℕ). 0 < len) sectors some,
-    subst (λ (len : ℕ). IsTaking c.loop-entry.space c.claim.new.self
-    (get_or c.args.entries.now c.loop-entry.entry-index blank).start len) sectors
-    c.in_ok-claim.ensures.ok)
+    c.requires.apart c.loop-entry.invariant c.claim.new.self (
+      subst (λ (len : ℕ). 0 < len) sectors some,
+      subst (λ (len : ℕ). IsTaking c.loop-entry.space c.claim.new.self
+          (get_or c.args.entries.now c.loop-entry.entry-index blank).start len) sectors
+          c.in_ok-claim.ensures.ok,
+    )

@@ -1,7 +1,6 @@
 use Rattle.std.proofs.Common.{sym, subst, refl}
-use Rattle.block_record.specs.declared.entry.IndexEntry.{IndexEntry}
 use Rattle.space_alloc.specs.Space.{Gains}
-use Rattle.core_blocks.specs.Blocks.{AreUnderWay, Blocks, AreInStep, IsUnderWay, range_of}
+use Rattle.core_blocks.specs.Blocks.{AreUnderWay, Blocks, IsUnderWay, range_of}
 use Rattle.core_blocks.specs.Kept.{NoneFree}
 use Rattle.core_blocks.proofs.Steps.{with_parts, gone_stands, ended_step}
 use Rattle.core_blocks.proofs.Keeping.{kept_where, in_use_held}

@@ -1,4 +1,4 @@
-use Rattle.std.proofs.Common.{◌≡◌, Bor, None, Some, sym, subst}
+use Rattle.std.proofs.Common.{Bor, None, Some, subst}
 use Rattle.std.specs.Prelude.{IfSome, Option}
 use Rattle.std.specs.Option.{option_copied}
 use Rattle.block_record.specs.declared.entry.IndexEntry.{IndexEntry}

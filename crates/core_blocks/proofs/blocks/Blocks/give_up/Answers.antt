@@ -1,4 +1,4 @@
-use Rattle.std.proofs.Common.{◌≡◌, ℕ, sym, ap, subst, refl}
+use Rattle.std.proofs.Common.{ℕ, sym, ap, subst, refl}
 use Rattle.row_layout.specs.Layout.{allocated_of}
 use Rattle.space_alloc.specs.Space.{IsDropping}
 use Rattle.block_table.specs.Table.{Table}

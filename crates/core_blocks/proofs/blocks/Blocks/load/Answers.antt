@@ -1,4 +1,4 @@
-use Rattle.std.proofs.Common.{◌≡◌, ◌≤◌, List, sym, ◌∙◌, subst}
+use Rattle.std.proofs.Common.{◌≤◌, List, sym, ◌∙◌, subst}
 use Rattle.std.specs.Prelude.{All}
 use Rattle.block_record.specs.declared.entry.IndexEntry.{IndexEntry}
 use Rattle.core_state.specs.Index.{AreApart, block_end}

@@ -1,7 +1,7 @@
 use Rattle.std.proofs.Common.{◌≡◌, ℕ, sym, ◌∙◌, ap, subst}
 use Rattle.row_layout.specs.Layout.{Layout}
 use Rattle.core_blocks.specs.declared.range.PutRange.{PutRange}
-use Rattle.core_blocks.specs.Blocks.{Blocks, IsUnderWay, range_of}
+use Rattle.core_blocks.specs.Blocks.{IsUnderWay}
 use Rattle.core_blocks.specs.Puts.{layout_at}
 use Rattle.core_blocks.proofs.range.PutRange.into_entry.Goals as goal
 
