@@ -1,5 +1,5 @@
 -- What a put takes, and why it is refused.
-use Rattle.std.specs.Prelude.{◌≡◌, ℕ, List, [], ◌∷◌, ◌++◌, Option, Some, None}
+use Rattle.std.specs.Prelude.{◌≡◌, ℕ, List, [], ◌∷◌, ◌++◌, Option, Some, None, ⊤}
 use Rattle.std.specs.List.Sorted.{IsPermutation}
 use Rattle.width_map.specs.declared.birth.Birth.{Birth}
 use Rattle.width_map.specs.Births.{width_of_birth}
@@ -44,14 +44,14 @@ pub record BeginsPut (old new : Blocks) (holds : List Hold) (range : PutRange) :
   pub first : IsFirstFit old.space holds (allocated_of range.layout) range.layout.start
   pub taken : IsTaking old.space new.space range.layout.start (allocated_of range.layout)
 
--- Why a put is refused: the table is full, or else the space has no run.
+-- Why a put is refused: the table has no room for its id, or the space no run for its sectors.
 abbrev pub IsPutCause : Blocks → List Hold → ℕ → ℕ → PutRefused → Type 0
 IsPutCause blocks holds id len Full = IsFull blocks.table id
 IsPutCause blocks holds id len (NoSpace sectors) =
-    (IsFull blocks.table id → ⊥) × IsTakeCause blocks.space holds len (take.NoSpace sectors)
+    IsTakeCause blocks.space holds len (take.NoSpace sectors)
 IsPutCause blocks holds id len (Busy by) =
-    (IsFull blocks.table id → ⊥) × IsTakeCause blocks.space holds len (take.Busy by)
-IsPutCause blocks holds id len NoMemory = IsFull blocks.table id → ⊥
+    IsTakeCause blocks.space holds len (take.Busy by)
+IsPutCause blocks holds id len NoMemory = ⊤
 
 -- All is as before, but for the order in which the ids are reserved.
 pub record IsAsBefore (old new : Blocks) : Type 0 where

@@ -1,11 +1,11 @@
 // The blocks of a pool and its free sectors.
-ghost use Rattle.std.specs.Prelude.{◌≡◌, ◌↔◌, IsTrue, ◌≤◌, ◌<◌, ◌^◌, ℕ, ◌++◌, ◌∷◌, [], List, Some, None, All, Contains, IfOk, IfErr, IfSome, OnErr, length};
+ghost use Rattle.std.specs.Prelude.{◌≡◌, ◌↔◌, ◌≤◌, ◌<◌, ◌^◌, ℕ, ◌++◌, ◌∷◌, [], List, Some, None, All, Contains, IfOk, IfErr, IfSome, IsErrOf, IsTrue, OnErr, length};
 ghost use Rattle.std.specs.Option.{option_copied};
 ghost use Rattle.reflow_mark.specs.Reflow.{sectors_of};
 ghost use Rattle.uberblock_ring.specs.Uberblock.{Uber};
 ghost use Rattle.block_record.specs.declared.entry.IndexEntry.{IndexEntry};
 ghost use Rattle.block_record.specs.Page.{IsIndex, IsRightEntry};
-ghost use Rattle.block_table.specs.Table.{ChangesOnly, IsTable, entry_of, without_one};
+ghost use Rattle.block_table.specs.Table.{ChangesOnly, IsFull, IsTable, entry_of, without_one};
 ghost use Rattle.space_alloc.specs.Space.{after_group, Gains, IsDropping};
 ghost use Rattle.row_layout.specs.Layout.{allocated_of};
 ghost use Rattle.core_state.specs.Index.{AreApart, IsFitting, block_end};
@@ -116,7 +116,7 @@ impl Blocks {
         ensures table { IsTable self.now.table }
         ensures step { AreInStep self.now }
 
-        // The index fits each uberblock of the pool whose group is none before the blocks' births.
+        // The index fits each uberblock of the pool whose group is not before a block's birth.
         ensures fitting { (uber : Uber) → uber.parity ≡ self.now.parity
             → uber.births ≡ self.now.births → sectors_of uber.reflow ≡ self.now.space.capacity
             → All (λ entry. entry.birth ≤ uber.group) self.now.table.entries
@@ -141,7 +141,8 @@ impl Blocks {
         ensures begins { IfOk result (BeginsPut self.old self.new locks.now) }
         ensures under_way { IfOk result (IsUnderWay self.new) }
 
-        // Whether there is room is known before any memory is asked for.
+        // Whether there is room is known before any memory or sector is asked for.
+        ensures cause_full { IsErrOf result PutRefused.Full ↔ IsFull self.old.table id }
         ensures cause { IfErr result (IsPutCause self.old locks.now id
             (sectors_taken self.old.parity self.old.births len_bytes group)) }
         ensures err { OnErr result (IsAsBefore self.old self.new) }
@@ -149,10 +150,10 @@ impl Blocks {
             → AreUnderWay self.new (ranges ++ range ∷ [])) }
         ensures under_err { OnErr result ((ranges : List PutRange) → AreUnderWay self.old ranges
             → AreUnderWay self.new ranges) }
-
-        // No put gets a sector of a block that is kept.
         ensures kept { (past : ℕ) (kept : List IndexEntry) → NoneFree self.old past kept
             → NoneFree self.new past kept }
+
+        // No put gets a sector of a block that is kept.
         ensures spares { IfOk result (λ range. (past : ℕ) (kept : List IndexEntry)
             → NoneFree self.old past kept
             → SparesAll self.old.parity self.old.births kept (put_run range)) }

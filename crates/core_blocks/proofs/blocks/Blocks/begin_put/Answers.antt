@@ -1,14 +1,16 @@
 use Rattle.std.proofs.Common.{◌≡◌, ℕ, List, ◌∷◌, [], ◌++◌, sym, ◌∙◌, ap, subst, refl}
+use Rattle.std.specs.Prelude.{◌↔◌, IsErrOf}
 use Rattle.std.specs.List.Sorted.{IsPermutation}
 use Rattle.std.proofs.lemmas.Result.{err_from_is_err_and}
 use Rattle.space_alloc.specs.Space.{Space, IsFreeRun}
-use Rattle.block_table.specs.Table.{Table, without_one}
+use Rattle.block_table.specs.Table.{IsFull, Table, without_one}
+use Rattle.core_blocks.specs.declared.refused.PutRefused.TheVariants.{Full}
 use Rattle.core_blocks.specs.Blocks.{AreUnderWay, Blocks, layout_run}
 use Rattle.core_blocks.specs.Puts.{IsAsBefore, IsPutCause, sectors_taken}
 use Rattle.core_blocks.specs.Kept.{IsInUsePast, NoneFree, SparesAll}
 use Rattle.core_blocks.proofs.Steps.{with_parts, begun_step, refused_step, begun_under_way}
 use Rattle.core_blocks.proofs.Keeping.{kept_where, in_use_taking, free_spares}
-use Rattle.core_blocks.proofs.Beginning.{made_and_ended, space_cause, has_room}
+use Rattle.core_blocks.proofs.Beginning.{err_iff, has_room, made_and_ended, space_cause, space_full, table_full}
 use Rattle.core_blocks.proofs.UnderWay.{begun_under, refused_under}
 use Rattle.core_blocks.proofs.blocks.Blocks.begin_put.Goals as goal
 
@@ -72,10 +74,35 @@ returns-in-Err-clause-cause c =
     (rw c.into.ensures (space_cause (with_parts c.self.inside.parity c.self.inside.births
     c.self.inside.table c.self.inside.space) c.args.locks.now c.args.id
     (sectors_taken c.self.inside.parity c.self.inside.births c.args.len_bytes c.args.group)
-    c.in-Err.refused
-    (has_room (with_parts c.self.inside.parity c.self.inside.births c.self.inside.table
-    c.self.inside.space) c.args.id c.reserve_id.result c.in_ok-reserve_id.was
-    c.reserve_id.ensures.cause_full) c.in-Err.ensures.cause))
+    c.in-Err.refused c.in-Err.ensures.cause))
+
+pub returns-in_err-reserve_id-clause-cause_full : goal.returns-in_err-reserve_id-clause-cause_full
+returns-in_err-reserve_id-clause-cause_full c =
+    let p = err_from_is_err_and c.from_residual.result c.from_residual.ensures.1 in
+    let iff = table_full (with_parts c.self.inside.parity c.self.inside.births
+    c.self.inside.table c.self.inside.space) c.args.id c.in_err-reserve_id.field-0.0
+    c.reserve_id.result c.in_err-reserve_id.was c.reserve_id.ensures.cause_full in
+    subst (λ (b : Blocks). IsErrOf c.from_residual.result Full ↔ IsFull b.table c.args.id)
+    c.self.view_is
+    (err_iff c.from_residual.result p.0 Full (IsFull c.self.inside.table c.args.id) p.1
+    (λ same. iff.0 (sym p.2 ∙ same), λ all. p.2 ∙ iff.1 all))
+
+pub returns-in-Ok-clause-cause_full : goal.returns-in-Ok-clause-cause_full
+returns-in-Ok-clause-cause_full c = (
+  λ same. cc,
+  λ all. absurd (has_room c.self.inside.table c.args.self.now.table c.args.id
+      c.reserve_id.result (ap (λ (b : Blocks). b.table) c.self.view_is) c.in_ok-reserve_id.was
+      c.reserve_id.ensures.cause_full all),
+)
+
+pub returns-in-Err-clause-cause_full : goal.returns-in-Err-clause-cause_full
+returns-in-Err-clause-cause_full c =
+    err_iff _ c.into.result Full (IsFull c.args.self.now.table c.args.id) refl (
+      λ same. absurd (space_full c.in-Err.refused (sym c.into.ensures ∙ same)),
+      λ all. absurd (has_room c.self.inside.table c.args.self.now.table c.args.id
+          c.reserve_id.result (ap (λ (b : Blocks). b.table) c.self.view_is) c.in_ok-reserve_id.was
+          c.reserve_id.ensures.cause_full all),
+    )
 
 pub returns-in-Err-clause-err : goal.returns-in-Err-clause-err
 returns-in-Err-clause-err c =
