@@ -1,0 +1,11 @@
+pub mod Lists
+pub mod Runs
+pub mod Listed
+pub mod Steps
+pub mod Keeping
+pub mod Fitting
+pub mod Beginning
+pub mod Loaded
+pub mod Claimed
+pub mod Opened
+pub mod UnderWay

@@ -1,0 +1,6 @@
+pub mod Refused
+pub mod Runs
+pub mod Blocks
+pub mod Puts
+pub mod Kept
+pub mod Loading
