@@ -39,7 +39,7 @@ made_and_ended id (other ∷ reserved) =
     ended false is rest =
         IsPermutation-cons other reserved (without_one id (reserved ++ id ∷ [])) rest
 
--- What the table refuses is refused as full where it is full,
+-- What the table refuses is refused as full where the table is full,
 pub table_full : (blocks : Blocks) (id : ℕ) (why : ReserveRefused)
     (result : Result (Unit {0}) ReserveRefused) → result ≡ Err why
     → IsErrOf result reserve.Full ↔ IsFull blocks.table id
@@ -49,13 +49,6 @@ table_full blocks id reserve.NoMemory result is full = (
   λ same. cc,
   λ all. let also : result ≡ Err reserve.Full = full.1 all in cc,
 )
-
-pub table_cause : (blocks : Blocks) (holds : List Hold) (id len : ℕ) (why : ReserveRefused)
-    (result : Result (Unit {0}) ReserveRefused) → result ≡ Err why
-    → IsErrOf result reserve.Full ↔ IsFull blocks.table id
-    → IsPutCause blocks holds id len (from_table why)
-table_cause blocks holds id len reserve.Full result is full = full.0 is
-table_cause blocks holds id len reserve.NoMemory result is full = tt
 
 -- and what the space refuses never is.
 pub space_full : (why : TakeRefused) → from_space why ≡ Full → ⊥

@@ -44,7 +44,8 @@ module _ (parity : ℕ) (births : List Birth) (capacity : ℕ) (entries : List I
     spread = record {
       inside = λ run listed. absurd (none_listed run
           (subst (λ (l : List Run). Contains l run) none listed));
-      taken = subst (AllPairs AreClear) (sym none) (λ i j d before within. absurd (omega (arith, within)));
+      taken = subst (AllPairs AreClear) (sym none)
+          (λ i j d before within. absurd (omega (arith, within)));
       held = subst (λ (l : List HeldRun). AllPairs (λ one other.
           AreClear (held_sectors one) (held_sectors other)) l) (sym nothing)
           (λ i j d before within. absurd (omega (arith, within)));
@@ -100,7 +101,8 @@ module _ (parity : ℕ) (births : List Birth) (capacity : ℕ) (entries : List I
           taken = λ other listed. ⊎_elim
               (λ was. gains_old space.taken later.taken run (run_of parity births other)
               taking.1.taken (claimed.taken other was))
-              (λ same. subst (λ (e : IndexEntry). Contains later.taken (run_of parity births e)) same
+              (λ same. subst
+              (λ (e : IndexEntry). Contains later.taken (run_of parity births e)) same
               (gains_item space.taken later.taken run taking.1.taken))
               (Contains-push_cases (take index entries) entry other listed);
           only = λ other listed. ⊎_elim

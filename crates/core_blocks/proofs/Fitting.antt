@@ -33,7 +33,8 @@ module _ (blocks : Blocks) (step : AreInStep blocks) (index : IsIndex blocks.tab
   are_apart i j d before within =
       let one : IndexEntry = get_or blocks.table.entries i d in
       let other : IndexEntry = get_or blocks.table.entries j d in
-      let here : IsListed blocks.table.entries one = listed_at i d (omega (arith, before, within)) in
+      let here : IsListed blocks.table.entries one =
+      listed_at i d (omega (arith, before, within)) in
       let there : IsListed blocks.table.entries other = listed_at j d within in
       let lower : one.id < other.id = index.ascending i j d before within in
       in_order (run_of blocks.parity blocks.births one) (run_of blocks.parity blocks.births other)

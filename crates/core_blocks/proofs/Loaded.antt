@@ -42,9 +42,18 @@ has_room entries index id table is few within loaded full =
     sym (held_is (take index entries) other)
     ∙ ap (λ (o : Option IndexEntry). is_some o) (sym (loaded.same other))
     ∙ held_is table.entries other ∙ there) in
-    let counted : distinct_count nat_eq (ids_of (take index entries)) ≡ length (take index entries) =
+    let counted : distinct_count nat_eq (ids_of (take index entries))
+    ≡ length (take index entries) =
     count_of_ids (take index entries) (first_index entries index is) in
-    omega (arith, known, most, counted, length-take-le index entries (omega (arith, within)), within, few)
+    omega (
+      arith,
+      known,
+      most,
+      counted,
+      length-take-le index entries (omega (arith, within)),
+      within,
+      few,
+    )
 
 or_none : (found : Option IndexEntry) → option_or found None ≡ found
 or_none None = refl
@@ -55,7 +64,8 @@ last_past : (entries : List IndexEntry) (entry : IndexEntry) (id : ℕ) → entr
     → entry_of (entries ++ entry ∷ []) id ≡ entry_of entries id
 last_past entries entry id apart =
     find-append (λ (e : IndexEntry). e.id == id) entries (entry ∷ [])
-    ∙ ap (λ (o : Option IndexEntry). option_or (entry_of entries id) o) (entry_past entry [] id apart)
+    ∙ ap (λ (o : Option IndexEntry). option_or (entry_of entries id) o)
+    (entry_past entry [] id apart)
     ∙ or_none (entry_of entries id)
 
 ended_alone : (id : ℕ) → without_one id (id ∷ []) ≡ []
@@ -73,7 +83,8 @@ pub loaded_more : (entries : List IndexEntry) (index : ℕ) (entry d : IndexEntr
     → ChangesOnly reserving.entries newer.entries entry.id (Some entry)
     → newer.reserved ≡ without_one entry.id reserving.reserved
     → IsLoadedTo entries (index + 1) newer
-loaded_more entries index entry d table reserving newer is within here loaded same made change ended =
+loaded_more entries index entry d table reserving newer is within here loaded same made change
+    ended =
     let grown : take (index + 1) entries ≡ take index entries ++ entry ∷ [] =
     take_more entries index d within
     ∙ ap (λ (e : IndexEntry). take index entries ++ e ∷ []) (sym here) in

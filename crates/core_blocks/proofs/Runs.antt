@@ -63,7 +63,8 @@ pub spread_taking : (old new : Space) (holds : List Hold) (run : Run) → 0 < ru
 spread_taking old new holds run some free taking spread = record {
   inside = λ other listed. inside_of old.capacity new.capacity other taking.capacity (⊎_elim
       (λ same. subst (IsInside old.capacity) same (free_inside old holds run free some))
-      (λ was. spread.inside other was) (gains_cases old.taken new.taken run other taking.taken listed));
+      (λ was. spread.inside other was)
+      (gains_cases old.taken new.taken run other taking.taken listed));
   taken = pairs_gain AreClear clear_turned old.taken new.taken run taking.taken
       (free_of_taken old holds run free) spread.taken;
   held = subst (λ (held : List HeldRun). AllPairs (λ one other.

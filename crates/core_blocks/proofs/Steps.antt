@@ -105,7 +105,8 @@ module _ (parity : ℕ) (births : List Birth) where
       → AreInStep (with_parts table space) → AreInStep (with_parts table (after_group space group))
   answered_step table space group step =
       fewer table table space (after_group space group) step refl
-      (spread_after space group step.spread) (λ entry listed. (listed, (step.each entry listed).taken))
+      (spread_after space group step.spread)
+      (λ entry listed. (listed, (step.each entry listed).taken))
 
   -- What stood at an id, if anything, has its sectors.
   pub gone_stands : (table : Table) (space : Space) (id : ℕ) (gone : Option IndexEntry)
@@ -121,8 +122,10 @@ module _ (parity : ℕ) (births : List Birth) where
       → (later.capacity ≡ space.capacity) × AreSpread later
   held_spread space later group None same spread =
       (ap (λ (s : Space). s.capacity) same, subst AreSpread (sym same) spread)
-  held_spread space later group (Some entry) holding spread =
-      (holding.capacity, spread_holding space later (run_of parity births entry) group holding spread)
+  held_spread space later group (Some entry) holding spread = (
+    holding.capacity,
+    spread_holding space later (run_of parity births entry) group holding spread,
+  )
 
   -- and one that is clear of them is still taken.
   pub held_taken : (space later : Space) (group : ℕ) (gone : Option IndexEntry) (run : Run)
@@ -228,7 +231,8 @@ module _ (parity : ℕ) (births : List Birth) where
         (sym same) (clear_of_new other also (λ equal. differ (is ∙ sym equal))))
         (λ was. ⊎_elim
         (λ same. subst
-        (λ (e : IndexEntry). AreClear (run_of parity births one) (run_of parity births e)) (sym same)
+        (λ (e : IndexEntry). AreClear (run_of parity births one) (run_of parity births e))
+        (sym same)
         (clear_turned (run_of parity births entry) (run_of parity births one)
         (clear_of_new one listed was.1)))
         (λ had. step.apart one other was.0 had.0 differ)

@@ -248,7 +248,8 @@ module _ (parity : ℕ) (births : List Birth) where
       → (let run : Run = put_run range in IsDropping space later run.start run.len)
       → Gains left ranges range → AreUnderWay (with_parts parity births table space) ranges
       → AreUnderWay (with_parts parity births newer later) left
-  given_up_under table newer space later range left ranges step its same ended dropping gains under =
+  given_up_under table newer space later range left ranges step its same ended dropping gains
+      under =
       let some : 0 < (put_run range).len = (step.spread.inside (put_run range) its.taken).some in
       let booked = booked_left table newer left ranges range gains its.reserved ended
       under.reserved in
@@ -325,7 +326,8 @@ module _ (parity : ℕ) (births : List Birth) where
         every = λ run listed. ⊎_elim
             (λ block. ⊎_elim
             (λ equal. absurd (not_of_gone table space later group gone block.0 run step block.1 held
-            (found ∙ ap (λ (n : ℕ). entry_of table.entries n) (sym equal) ∙ block.1) listed block.2))
+            (found ∙ ap (λ (n : ℕ). entry_of table.entries n) (sym equal) ∙ block.1)
+            listed block.2))
             (λ differ. inl (block.0, change.others block.0.id differ ∙ block.1, block.2))
             (cases_eq block.0.id id))
             (λ put. inr put) (under.every run (was_taken space later group gone run held listed));
@@ -371,7 +373,8 @@ module _ (parity : ℕ) (births : List Birth) where
         every = λ run listed. ⊎_elim
             (λ block. ⊎_elim
             (λ equal. absurd (not_of_gone table space later group gone block.0 run step block.1 held
-            (found ∙ ap (λ (n : ℕ). entry_of table.entries n) (sym equal) ∙ block.1) listed block.2))
+            (found ∙ ap (λ (n : ℕ). entry_of table.entries n) (sym equal) ∙ block.1)
+            listed block.2))
             (λ differ. inl (block.0, change.others block.0.id differ ∙ block.1, block.2))
             (cases_eq block.0.id entry.id))
             (λ put. ⊎_elim
