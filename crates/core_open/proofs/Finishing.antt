@@ -28,12 +28,14 @@ use Rattle.core_state.proofs.Since.{since_now, since_more}
 use Rattle.core_commit.specs.declared.committing.TooManyOut.{TooManyOut}
 use Rattle.core_commit.specs.Copies.{IsInUse}
 use Rattle.core_commit.specs.Ran.{point_of}
-use Rattle.core_commit.proofs.Going.{rose_wider}
+use Rattle.core_commit.specs.Spared.{Spares}
+use Rattle.core_commit.proofs.Going.{rose_wider, in_use_before}
 use Rattle.core_open.specs.declared.finding.Found.{Found}
 use Rattle.core_open.specs.declared.opening.Opened.{Opened}
 use Rattle.core_open.specs.declared.why.OpenWhy.{OpenWhy}
 use Rattle.core_open.specs.declared.why.OpenWhy.TheVariants as reason
-use Rattle.core_open.specs.Causes.{IsShownChoice, AreTooMany, IsOpenCause}
+use Rattle.core_open.specs.Candidates.{IsIndexFor}
+use Rattle.core_open.specs.Causes.{IsShownChoice, AreTooMany, AreOutOf, IsOpenCause}
 use Rattle.core_open.specs.Failing.{HaveFailed, HaveFailedSince}
 use Rattle.core_open.specs.Finding.{IsFoundIn, FitsOpening}
 use Rattle.core_open.specs.Holds.{HoldsImage, shape_of}
@@ -66,7 +68,7 @@ unchanged_cut why old new lawful same = record {
   silent = 0;
   failed = λ device has. absurd (true_false (sym has ∙ none_in device));
   earlier = 0;
-  told = λ out is device has. absurd (true_false (sym has ∙ none_in device));
+  told = λ device has. absurd (true_false (sym has ∙ none_in device));
   keeps = unchanged_keeps 0 0 old new lawful same;
 }
 
@@ -272,20 +274,39 @@ module _ (found : Found) (old mid new : Disk) (lawful : Lawful old) (same_found 
           );
     }
 
--- One answer of too many devices is one set of them.
-same_told : (one other : ℕ) → reason.TooManyFailed one ≡ reason.TooManyFailed other → one ≡ other
-same_told one other same = cc
+-- What is known of a pool that was opened.
+pub record IsOpen (old new : Disk) (opened : Opened) : Type 0 where
+  pub right : IsRightUber opened.uber
+  pub index : IsIndexFor opened.uber opened.entries.items
+  pub few : count_of opened.out ≤ opened.uber.parity
+  pub silent : HaveFailed old new opened.silent
+  pub out : AreOutOf old new opened.uber.out opened.out
+  pub spares : Spares (point_of opened.out old) (point_of opened.out new)
+  pub kept : IsOpenedWith opened.uber opened.entries.items opened.silent opened.out old new
+  pub since : OpeningKeeps opened.silent opened.uber.out old new
 
 module _ (found : Found) (old mid new : Disk) (lawful : Lawful old) (same_found : Unchanged old mid)
     (found_in : (image : Image) → HoldsImage old image → IsFoundIn (shape_of old) image found)
     (right : IsRightUber found.uber) (silent_failed : HaveFailed old mid found.silent)
     (fits : FitsOpening mid found) where
-  -- A pool that was opened.
-  pub opened_promises : (opened : Opened) → OpensFound found mid new (Ok opened)
-      → IsOpenedWith opened.uber opened.entries.items opened.silent opened.out old new
-      × OpeningKeeps opened.silent opened.uber.out old new
-      × IsRightUber opened.uber × (count_of opened.out ≤ opened.uber.parity)
-  opened_promises opened (entries_is, silent_is, writes) =
+  -- An index that fits the chosen uberblock fits the one that renews it.
+  index_renewed : (uber : Uber) (out : ℕ) → uber ≡ renewed_by found.uber out
+      → IsIndexFor found.uber found.entries.items
+      → IsIndexFor uber found.entries.items
+  index_renewed uber out is index =
+      subst (λ (u : Uber). IsIndexFor u found.entries.items) (sym is) (record {
+        index = index.index;
+        counted = index.counted;
+        fitting = record {
+          births = λ k default low. let birth = index.fitting.births k default low in omega (arith, birth);
+          below = index.fitting.below;
+          apart = index.fitting.apart;
+        };
+      })
+
+  opened_is : (opened : Opened) → IsIndexFor found.uber found.entries.items → OpensFound found mid new (Ok opened)
+      → IsOpen old new opened
+  opened_is opened index (entries_is, silent_is, writes) =
       let ran = writes.ends.1 in
       let later = later_trans writes.same.goes_on.later
       (later_trans ran.copied.spares.later ran.spread.spares.later) in
@@ -293,16 +314,42 @@ module _ (found : Found) (old mid new : Disk) (lawful : Lawful old) (same_found 
       (Ok opened.uber) writes opened.uber writes.ends.0 ran in
       let keeps = keeps_renewed found old mid new lawful same_found found_in right silent_failed fits later opened.out
       (Ok opened.uber) writes opened.uber (Ok writes.ends.0) ran in
+      let went = went_renewed found old mid new lawful same_found found_in right silent_failed fits later opened.out
+      (Ok opened.uber) writes opened.uber (point_of opened.out new) (Ok writes.ends.0) ran in
       let few = writes.ends.2 in
-      let parity : opened.uber.parity ≡ found.uber.parity = ap (λ (u : Uber). u.parity) ran.renewed_is in (
-        subst (λ (n : ℕ). IsOpenedWith opened.uber opened.entries.items n opened.out old new) (sym silent_is)
+      let items = ap (λ v. v.items) entries_is in
+      let out_is : opened.uber.out ≡ ran.mid.out = ap (λ (u : Uber). u.out) ran.renewed_is in
+      let parity : opened.uber.parity ≡ found.uber.parity = ap (λ (u : Uber). u.parity) ran.renewed_is in
+      record {
+        right = right_with found.uber opened.uber ran.mid.out right ran.renewed_is writes.limit ran.few;
+        index = subst (λ (es : List IndexEntry). IsIndexFor opened.uber es) (sym items)
+            (index_renewed opened.uber ran.mid.out ran.renewed_is index);
+        few = omega (arith, few, parity);
+        silent = subst (λ (n : ℕ). HaveFailed old new n) (sym silent_is)
+            (silent_now found old mid new lawful same_found found_in right silent_failed fits later);
+        out = record {
+          lists = λ device listed. ran.spread.gone.stay device
+              (subst (λ (n : ℕ). has_device n device ≡ true) out_is listed);
+          each = λ image holds. (
+            choice found old mid new lawful same_found found_in right silent_failed fits later image holds,
+            (λ device has. out_caused found old mid new lawful same_found found_in right silent_failed fits later
+                opened.out (Ok opened.uber) writes went image holds device has),
+          );
+        };
+        spares = record {
+          later = later_trans same_found.goes_on.later later;
+          reads = λ device x used region.
+              ran.spread.spares.reads device x used region
+              ∙ ran.copied.spares.reads device x
+              (in_use_before ran.mid (point_of opened.out new) device ran.spread.gone.stay used) region
+              ∙ writes.same.reads device x ∙ same_found.reads device x;
+        };
+        kept = subst (λ (n : ℕ). IsOpenedWith opened.uber opened.entries.items n opened.out old new) (sym silent_is)
             (subst (λ (es : List IndexEntry). IsOpenedWith opened.uber es found.silent opened.out old new)
-            (sym (ap (λ v. v.items) entries_is)) kept),
-        subst (λ (n : ℕ). OpeningKeeps n opened.uber.out old new) (sym silent_is)
-            (subst (λ (n : ℕ). OpeningKeeps found.silent n old new) (sym (ap (λ (u : Uber). u.out) ran.renewed_is)) keeps),
-        right_with found.uber opened.uber ran.mid.out right ran.renewed_is writes.limit ran.few,
-        omega (arith, few, parity),
-      )
+            (sym items) kept);
+        since = subst (λ (n : ℕ). OpeningKeeps n opened.uber.out old new) (sym silent_is)
+            (subst (λ (n : ℕ). OpeningKeeps found.silent n old new) (sym out_is) keeps);
+      }
 
   -- Too many went out among the writes.
   refused_writes : (out : ℕ) → WritesFound found mid new out (Err (reason.TooManyFailed out))
@@ -324,7 +371,7 @@ module _ (found : Found) (old mid new : Disk) (lawful : Lawful old) (same_found 
               silent = found.silent;
               failed = silent_now found old mid new lawful same_found found_in right silent_failed fits later;
               earlier = 0;
-              told = λ told is device has. absurd (true_false (sym has ∙ none_in device));
+              told = λ device has. absurd (true_false (sym has ∙ none_in device));
               keeps = keeps_copied found old mid new lawful same_found found_in right silent_failed fits later out
                   (Err (reason.TooManyFailed out)) writes (Err stops.why) stops.copied;
             },
@@ -340,8 +387,7 @@ module _ (found : Found) (old mid new : Disk) (lawful : Lawful old) (same_found 
               silent = found.silent;
               failed = silent_now found old mid new lawful same_found found_in right silent_failed fits later;
               earlier = stops.ran.mid.out;
-              told = λ told is device has. subst (λ (n : ℕ). has_device n device ≡ true) (same_told out told is)
-                  (stops.ran.spread.gone.stay device has);
+              told = λ device has. (out, refl, stops.ran.spread.gone.stay device has);
               keeps = keeps_renewed found old mid new lawful same_found found_in right silent_failed fits later out
                   (Err (reason.TooManyFailed out)) writes stops.renewed (Err stops.why) stops.ran;
             },
@@ -366,16 +412,20 @@ module _ (found : Found) (old mid new : Disk) (lawful : Lawful old) (same_found 
   refused_promises (reason.TooManyFailed out) (inr writes) = refused_writes out writes
 
   -- Either way.
-  pub promises : (result : Result Opened OpenWhy) → OpensFound found mid new result
-      → IfOk result (λ opened. IsRightUber opened.uber)
-      × IfOk result (λ opened. count_of opened.out ≤ opened.uber.parity)
-      × IfOk result (λ opened. IsOpenedWith opened.uber opened.entries.items opened.silent opened.out old new)
-      × IfOk result (λ opened. OpeningKeeps opened.silent opened.uber.out old new)
-      × IfErr result (IsOpenCause old new) × IfErr result (λ why. CutKeeps why old new)
-  promises (Ok opened) opens =
-      let kept = opened_promises opened opens in (kept.2, kept.3, kept.0, kept.1, tt, tt)
-  promises (Err why) opens =
-      let refused = refused_promises why opens in (tt, tt, tt, tt, refused.0, refused.1)
+  pub promises : (result : Result Opened OpenWhy) → IsIndexFor found.uber found.entries.items
+      → OpensFound found mid new result
+      → IfOk result (IsOpen old new) × IfErr result (IsOpenCause old new)
+      × IfErr result (λ why. CutKeeps why old new)
+  promises (Ok opened) index opens = (opened_is opened index opens, tt, tt)
+  promises (Err why) index opens = let refused = refused_promises why opens in (tt, refused.0, refused.1)
+
+-- One of the things that are known.
+pub known : {P : Opened → Type 0} {old new : Disk} (result : Result Opened OpenWhy)
+    → ((opened : Opened) → IsOpen old new opened → P opened)
+    → IfOk result (IsOpen old new)
+    → IfOk result P
+known (Ok opened) tells told = tells opened told
+known (Err why) tells told = tt
 
 -- The bank goes on to fit what was found.
 pub fits_then : (found : Found) (old mid : Disk) → Unchanged old mid → FitsOpening old found
@@ -387,6 +437,21 @@ fits_then found old mid same fits = record {
   below = fits.below;
   silent = fits.silent;
 }
+
+-- What is promised of an opening whose pool was found.
+pub opens_promises : {found : Found} {old mid : Disk} (new : Disk) (result : Result Opened OpenWhy) → Lawful old
+    → Unchanged old mid
+    → ((image : Image) → HoldsImage old image → IsFoundIn (shape_of old) image found)
+    → IsRightUber found.uber
+    → HaveFailed old mid found.silent
+    → FitsOpening old found
+    → IsIndexFor found.uber found.entries.items
+    → OpensFound found mid new result
+    → IfOk result (IsOpen old new) × IfErr result (IsOpenCause old new)
+    × IfErr result (λ why. CutKeeps why old new)
+opens_promises {found} {old} {mid} new result lawful same found_in right silent fits index opens =
+    promises found old mid new lawful same found_in right silent (fits_then found old mid same fits) result index
+    opens
 
 -- However it was refused, an opening that only read keeps what was kept.
 pub cut_all : (result : Result Opened OpenWhy) (old new : Disk) → Lawful old → Unchanged old new

@@ -3,7 +3,7 @@ use Rattle.std.specs.Prelude.{◌≡◌, ◌⊎◌, ℕ, ◌+◌, ◌^◌, ◌<�
 use Rattle.bank_trait.specs.Causes.{Rose}
 use Rattle.bank_trait.specs.Disk.{Image, Disk}
 use Rattle.block_record.specs.declared.entry.IndexEntry.{IndexEntry}
-use Rattle.uberblock_ring.specs.Devices.{has_device, count_of}
+use Rattle.uberblock_ring.specs.Devices.{has_device, count_of, IsWithin}
 use Rattle.uberblock_ring.specs.Uberblock.{Uber}
 use Rattle.core_state.specs.Choosing.{IsChosen, IsOutAtOpening}
 use Rattle.core_open.specs.declared.why.OpenWhy.{OpenWhy}
@@ -21,13 +21,24 @@ pub record IsShownChoice (old new : Disk) (image : Image) : Type 0 where
   pub entries : List IndexEntry
   pub chosen : IsChosen (shape_of old) silent image device uber entries
 
+-- Each of these devices was out at opening, or failed in this call.
+abbrev pub AreOutFor : {old new : Disk} → {image : Image} → IsShownChoice old new image → ℕ → Type 0
+AreOutFor {old = old} {new = new} {image = image} choice devices =
+    (device : ℕ) → has_device devices device ≡ true
+    → IsOutAtOpening (shape_of old) choice.silent image choice.uber device
+    ⊎ Rose (old.faults device) (new.faults device)
+
 -- More devices than the parity are listed, each out at opening or failed in this call.
 pub record AreTooMany (old new : Disk) (image : Image) (listed : ℕ) : Type 0 where
   pub choice : IsShownChoice old new image
   pub many : choice.uber.parity < count_of listed
-  pub each : (device : ℕ) → has_device listed device ≡ true
-      → IsOutAtOpening (shape_of old) choice.silent image choice.uber device
-      ⊎ Rose (old.faults device) (new.faults device)
+  pub each : AreOutFor choice listed
+
+-- The devices that are out of a pool that was opened: each has its reason, and the group lists no other.
+pub record AreOutOf (old new : Disk) (listed out : ℕ) : Type 0 where
+  pub lists : IsWithin listed out
+  pub each : (image : Image) → HoldsImage old image
+      → (choice : IsShownChoice old new image) × AreOutFor choice out
 
 -- Nothing was found; or the chosen group is too near the greatest; or too many devices are out. What
 -- speaks of contents is said of each image that the bank holds.

@@ -52,13 +52,14 @@ pub record OpeningKeeps (silent earlier : ℕ) (old new : Disk) : Type 0 where
       → (joined : List Kept) × AddsOne (first ∷ later) joined
       × KeepsSince setting ((first ∷ later) ++ joined) old.clock new
 
--- An opening that was cut short: the devices that were silent failed in it, and those that had to be out
--- by then are among the ones that are told.
+-- An opening that was cut short: the devices that were silent failed in it, and those that the new group
+-- lists as out are among the ones that are told; where none are told it lists none.
 pub record CutKeeps (why : OpenWhy) (old new : Disk) : Type 0 where
   pub silent : ℕ
   pub failed : HaveFailed old new silent
   pub earlier : ℕ
-  pub told : (out : ℕ) → why ≡ reason.TooManyFailed out → IsWithin earlier out
+  pub told : (device : ℕ) → has_device earlier device ≡ true
+      → (out : ℕ) × (why ≡ reason.TooManyFailed out) × (has_device out device ≡ true)
   pub keeps : OpeningKeeps silent earlier old new
 
 -- A pool is opened with this uberblock and index: where all devices that were silent or are out may fail,

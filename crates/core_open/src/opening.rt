@@ -4,8 +4,10 @@ ghost use Rattle.block_record.specs.Page.{IsIndex};
 ghost use Rattle.uberblock_ring.specs.Devices.{count_of};
 ghost use Rattle.uberblock_ring.specs.Valid.{IsRightUber};
 ghost use Rattle.core_commit.specs.Ran.{FitsBank, point_of};
+ghost use Rattle.core_commit.specs.Spared.{Spares};
 ghost use Rattle.core_open.specs.Candidates.{IsIndexFor};
-ghost use Rattle.core_open.specs.Causes.{IsOpenCause};
+ghost use Rattle.core_open.specs.Causes.{AreOutOf, IsOpenCause};
+ghost use Rattle.core_open.specs.Failing.{HaveFailed};
 ghost use Rattle.core_open.specs.Finding.{FitsOpening};
 ghost use Rattle.core_open.specs.Opens.{CutKeeps, EndsRenewal, IsOpenedWith, OpeningKeeps};
 ghost use Rattle.core_open.specs.OpensFound.{OpensFound};
@@ -101,6 +103,13 @@ fn open_found<B: Bank>(alloc: Global, bank: &mut B, found: Found) -> Result<Open
 /// before it looks whether too many devices are out.
 pub fn open<B: Bank>(alloc: Global, bank: &mut B) -> Result<Opened, OpenWhy>
     ensures right { IfOk result (λ opened. IsRightUber opened.uber) }
+    ensures index { IfOk result (λ opened. IsIndexFor opened.uber opened.entries.items) }
+    ensures silent { IfOk result (λ opened.
+        HaveFailed (B.disk bank.old) (B.disk bank.new) opened.silent) }
+    ensures out { IfOk result (λ opened. AreOutOf (B.disk bank.old) (B.disk bank.new)
+        opened.uber.out opened.out) }
+    ensures spares { IfOk result (λ opened. Spares (point_of opened.out (B.disk bank.old))
+        (point_of opened.out (B.disk bank.new))) }
     ensures few { IfOk result (λ opened. count_of opened.out ≤ opened.uber.parity) }
     ensures kept { IfOk result (λ opened. IsOpenedWith opened.uber opened.entries.items
         opened.silent opened.out (B.disk bank.old) (B.disk bank.new)) }

@@ -1,4 +1,4 @@
-use Rattle.core_open.proofs.Finishing.{promises, fits_then, cut_all}
+use Rattle.core_open.proofs.Finishing.{opens_promises, known, fits_then, cut_all}
 use Rattle.core_open.proofs.opening.open.Goals as goal
 
 pub open_found-requires-clause-fits : goal.open_found-requires-clause-fits
@@ -10,41 +10,51 @@ returns-in_err-found-clause-cut g c = cut_all c.from_residual.result (g.B.Bank.d
     (g.B.Bank.disk c.find.new.bank) (g.met.B.Bank.lawful c.args.bank.now) c.find.ensures.unchanged
 
 pub returns-clause-right : goal.returns-clause-right
-returns-clause-right g c = (promises c.in_ok-found.found (g.B.Bank.disk c.args.bank.now) (g.B.Bank.disk c.find.new.bank)
-    (g.B.Bank.disk c.open_found.new.bank) (g.met.B.Bank.lawful c.args.bank.now) c.find.ensures.unchanged
-    c.in_ok-found.ensures.found c.in_ok-found.ensures.right c.in_ok-found.ensures.silent
-    (fits_then c.in_ok-found.found (g.B.Bank.disk c.args.bank.now) (g.B.Bank.disk c.find.new.bank)
-    c.find.ensures.unchanged c.in_ok-found.ensures.fits)
-    c.open_found.result c.open_found.ensures.opens).0
+returns-clause-right g c = known c.open_found.result (λ opened told. told.right) (opens_promises _ c.open_found.result (g.met.B.Bank.lawful c.args.bank.now)
+    c.find.ensures.unchanged c.in_ok-found.ensures.found c.in_ok-found.ensures.right c.in_ok-found.ensures.silent
+    c.in_ok-found.ensures.fits c.in_ok-found.ensures.index c.open_found.ensures.opens).0
+
+pub returns-clause-index : goal.returns-clause-index
+returns-clause-index g c = known c.open_found.result (λ opened told. told.index) (opens_promises _ c.open_found.result (g.met.B.Bank.lawful c.args.bank.now)
+    c.find.ensures.unchanged c.in_ok-found.ensures.found c.in_ok-found.ensures.right c.in_ok-found.ensures.silent
+    c.in_ok-found.ensures.fits c.in_ok-found.ensures.index c.open_found.ensures.opens).0
+
+pub returns-clause-silent : goal.returns-clause-silent
+returns-clause-silent g c = known c.open_found.result (λ opened told. told.silent) (opens_promises _ c.open_found.result (g.met.B.Bank.lawful c.args.bank.now)
+    c.find.ensures.unchanged c.in_ok-found.ensures.found c.in_ok-found.ensures.right c.in_ok-found.ensures.silent
+    c.in_ok-found.ensures.fits c.in_ok-found.ensures.index c.open_found.ensures.opens).0
+
+pub returns-clause-out : goal.returns-clause-out
+returns-clause-out g c = known c.open_found.result (λ opened told. told.out) (opens_promises _ c.open_found.result (g.met.B.Bank.lawful c.args.bank.now)
+    c.find.ensures.unchanged c.in_ok-found.ensures.found c.in_ok-found.ensures.right c.in_ok-found.ensures.silent
+    c.in_ok-found.ensures.fits c.in_ok-found.ensures.index c.open_found.ensures.opens).0
+
+pub returns-clause-spares : goal.returns-clause-spares
+returns-clause-spares g c = known c.open_found.result (λ opened told. told.spares) (opens_promises _ c.open_found.result (g.met.B.Bank.lawful c.args.bank.now)
+    c.find.ensures.unchanged c.in_ok-found.ensures.found c.in_ok-found.ensures.right c.in_ok-found.ensures.silent
+    c.in_ok-found.ensures.fits c.in_ok-found.ensures.index c.open_found.ensures.opens).0
+
+pub returns-clause-few : goal.returns-clause-few
+returns-clause-few g c = known c.open_found.result (λ opened told. told.few) (opens_promises _ c.open_found.result (g.met.B.Bank.lawful c.args.bank.now)
+    c.find.ensures.unchanged c.in_ok-found.ensures.found c.in_ok-found.ensures.right c.in_ok-found.ensures.silent
+    c.in_ok-found.ensures.fits c.in_ok-found.ensures.index c.open_found.ensures.opens).0
 
 pub returns-clause-kept : goal.returns-clause-kept
-returns-clause-kept g c = (promises c.in_ok-found.found (g.B.Bank.disk c.args.bank.now) (g.B.Bank.disk c.find.new.bank)
-    (g.B.Bank.disk c.open_found.new.bank) (g.met.B.Bank.lawful c.args.bank.now) c.find.ensures.unchanged
-    c.in_ok-found.ensures.found c.in_ok-found.ensures.right c.in_ok-found.ensures.silent
-    (fits_then c.in_ok-found.found (g.B.Bank.disk c.args.bank.now) (g.B.Bank.disk c.find.new.bank)
-    c.find.ensures.unchanged c.in_ok-found.ensures.fits)
-    c.open_found.result c.open_found.ensures.opens).2
+returns-clause-kept g c = known c.open_found.result (λ opened told. told.kept) (opens_promises _ c.open_found.result (g.met.B.Bank.lawful c.args.bank.now)
+    c.find.ensures.unchanged c.in_ok-found.ensures.found c.in_ok-found.ensures.right c.in_ok-found.ensures.silent
+    c.in_ok-found.ensures.fits c.in_ok-found.ensures.index c.open_found.ensures.opens).0
 
 pub returns-clause-since : goal.returns-clause-since
-returns-clause-since g c = (promises c.in_ok-found.found (g.B.Bank.disk c.args.bank.now) (g.B.Bank.disk c.find.new.bank)
-    (g.B.Bank.disk c.open_found.new.bank) (g.met.B.Bank.lawful c.args.bank.now) c.find.ensures.unchanged
-    c.in_ok-found.ensures.found c.in_ok-found.ensures.right c.in_ok-found.ensures.silent
-    (fits_then c.in_ok-found.found (g.B.Bank.disk c.args.bank.now) (g.B.Bank.disk c.find.new.bank)
-    c.find.ensures.unchanged c.in_ok-found.ensures.fits)
-    c.open_found.result c.open_found.ensures.opens).3
+returns-clause-since g c = known c.open_found.result (λ opened told. told.since) (opens_promises _ c.open_found.result (g.met.B.Bank.lawful c.args.bank.now)
+    c.find.ensures.unchanged c.in_ok-found.ensures.found c.in_ok-found.ensures.right c.in_ok-found.ensures.silent
+    c.in_ok-found.ensures.fits c.in_ok-found.ensures.index c.open_found.ensures.opens).0
 
 pub returns-clause-cause : goal.returns-clause-cause
-returns-clause-cause g c = (promises c.in_ok-found.found (g.B.Bank.disk c.args.bank.now) (g.B.Bank.disk c.find.new.bank)
-    (g.B.Bank.disk c.open_found.new.bank) (g.met.B.Bank.lawful c.args.bank.now) c.find.ensures.unchanged
-    c.in_ok-found.ensures.found c.in_ok-found.ensures.right c.in_ok-found.ensures.silent
-    (fits_then c.in_ok-found.found (g.B.Bank.disk c.args.bank.now) (g.B.Bank.disk c.find.new.bank)
-    c.find.ensures.unchanged c.in_ok-found.ensures.fits)
-    c.open_found.result c.open_found.ensures.opens).4
+returns-clause-cause g c = (opens_promises _ c.open_found.result (g.met.B.Bank.lawful c.args.bank.now)
+    c.find.ensures.unchanged c.in_ok-found.ensures.found c.in_ok-found.ensures.right c.in_ok-found.ensures.silent
+    c.in_ok-found.ensures.fits c.in_ok-found.ensures.index c.open_found.ensures.opens).1
 
 pub returns-clause-cut : goal.returns-clause-cut
-returns-clause-cut g c = (promises c.in_ok-found.found (g.B.Bank.disk c.args.bank.now) (g.B.Bank.disk c.find.new.bank)
-    (g.B.Bank.disk c.open_found.new.bank) (g.met.B.Bank.lawful c.args.bank.now) c.find.ensures.unchanged
-    c.in_ok-found.ensures.found c.in_ok-found.ensures.right c.in_ok-found.ensures.silent
-    (fits_then c.in_ok-found.found (g.B.Bank.disk c.args.bank.now) (g.B.Bank.disk c.find.new.bank)
-    c.find.ensures.unchanged c.in_ok-found.ensures.fits)
-    c.open_found.result c.open_found.ensures.opens).5
+returns-clause-cut g c = (opens_promises _ c.open_found.result (g.met.B.Bank.lawful c.args.bank.now)
+    c.find.ensures.unchanged c.in_ok-found.ensures.found c.in_ok-found.ensures.right c.in_ok-found.ensures.silent
+    c.in_ok-found.ensures.fits c.in_ok-found.ensures.index c.open_found.ensures.opens).2
