@@ -1,6 +1,7 @@
 pub mod Map
 pub mod Legal
 pub mod Journal
+pub mod JournalRoom
 pub mod Index
 pub mod Shown
 pub mod Choosing

@@ -1,28 +1,33 @@
 // The journal of a run.
-ghost use Rattle.std.specs.Prelude.{◌≡◌, ◌==◌, ◌++◌, [], ◌∷◌, length, OnOk, OnErr};
+ghost use Rattle.std.specs.Prelude.{◌≡◌, ◌==◌, ◌++◌, ◌+◌, ◌<◌, ◌≤◌, [], ◌∷◌, length, OnOk};
 
 use crate::item::Item;
 use std::alloc::{AllocError, Global};
 use std::marker::Model;
 
-/// What a run answered, in order: its groups and its calls.
+/// What a run answered, in order: its groups and its calls. Contracts see, beside the items, for how
+/// many more of them there is room.
 #[derive(Drop)]
 pub struct Journal {
     items: Vec<Item>,
 }
 
 impl Model for Journal {
-    ghost use Rattle.std.specs.Prelude.{List};
-    ghost use Rattle.core_state.specs.declared.item.Item.{Item as ItemOf};
+    ghost use Rattle.std.specs.Prelude.{◌-◌, vec_len};
+    ghost use Rattle.std.specs.Vec.{vec_capacity};
+    ghost use Rattle.core_state.specs.JournalRoom.{Journal as JournalOf};
 
-    ghost Value = { List ItemOf };
+    ghost Value = { JournalOf };
 
-    ghost view = { λ j. j.items.items };
+    ghost view = { λ j. record {
+      items = j.items.items;
+      room = vec_capacity j.items - vec_len j.items;
+    } };
 }
 
 impl Journal {
     pub fn new(alloc: Global) -> Journal
-        ensures { result ≡ [] }
+        ensures { result.items ≡ [] }
     {
         Journal {
             items: Vec::new(alloc),
@@ -30,28 +35,39 @@ impl Journal {
     }
 
     pub fn as_slice(&self) -> &[Item]
-        ensures value { result.now ≡ self.now }
+        ensures value { result.now ≡ self.now.items }
     {
         self.items.as_slice()
     }
 
     pub fn len(&self) -> usize
-        ensures { result ≡ length self.now }
+        ensures { result ≡ length self.now.items }
     {
         self.items.len()
     }
 
     pub fn is_empty(&self) -> bool
-        ensures { result ≡ (length self.now == 0) }
+        ensures { result ≡ (length self.now.items == 0) }
     {
         self.items.is_empty()
     }
 
-    pub fn push(&mut self, item: Item) -> Result<(), AllocError>
-        ensures ok { OnOk result (self.new ≡ self.old ++ item ∷ []) }
-        ensures err { OnErr result (self.new ≡ self.old) }
+    /// Makes room for so many more items.
+    pub fn reserve(&mut self, items: usize) -> Result<(), AllocError>
+        ensures same { self.new.items ≡ self.old.items }
+        ensures room { OnOk result (items ≤ self.new.room) }
     {
-        self.items.push(item)?;
-        Ok(())
+        self.items.reserve(items)
+    }
+
+    /// Lists one more item, in room that was made. Takes no memory.
+    pub fn list(&mut self, item: Item)
+        requires room { 0 < self.old.room }
+        ensures items { self.new.items ≡ self.old.items ++ item ∷ [] }
+        ensures room { self.old.room ≤ self.new.room + 1 }
+    {
+        if self.items.push(item).is_err() {
+            unreachable!()
+        }
     }
 }
