@@ -16,6 +16,7 @@ pub mod Laying
 pub mod Signing
 pub mod Moving
 pub mod Since
+pub mod Touched
 pub mod PoolChosen
 pub mod Chosen
 pub mod Finding

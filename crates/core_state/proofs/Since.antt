@@ -12,7 +12,7 @@ use Rattle.core_state.specs.Moment.{IsRowOf, KeepsSome, KeepsSince}
 use Rattle.core_state.proofs.Keeping.{knows_keep}
 
 -- An image that might stand at a moment might stand at another one that leaves the same.
-might_at : (shape : Shape) (disk other : Disk) (moment time : ℕ) (image : Image)
+pub might_at : (shape : Shape) (disk other : Disk) (moment time : ℕ) (image : Image)
     → ((d x : ℕ) → (disk.leaves moment d x ≡ other.leaves time d x)
     × (disk.could moment d x ≡ other.could time d x))
     → MightStand shape disk moment image
@@ -27,7 +27,7 @@ might_at shape disk other moment time image same might = record {
 }
 
 -- What is certain now says what each image of this moment keeps.
-some_now : (setting : Setting) (groups : List Kept) (first : Kept) (later : List Kept) (disk : Disk)
+pub some_now : (setting : Setting) (groups : List Kept) (first : Kept) (later : List Kept) (disk : Disk)
     (image : Image) → IsRowOf groups first later → Knows setting first later disk
     → MightStand setting.shape disk disk.clock image
     → KeepsSome setting groups image
