@@ -29,7 +29,7 @@ width_between low high width birth before (entry ∷ births) grow above below la
     let still_below : here ≤ entry.width = grind (arith, nat_tests, below, grow.1) in
     width_between low high here birth entry births grow.2 still_above still_below last
 
-births_between : (births : List Birth) (parity width group birth : ℕ)
+pub births_between : (births : List Birth) (parity width group birth : ℕ)
     → IsBirthsOf births parity width group
     → (parity + 1 ≤ width_of_birth births birth) × (width_of_birth births birth ≤ width)
 births_between [] parity width group birth are = absurd are.growing

@@ -35,7 +35,7 @@ scratch_needed from to rows mark sector Valid needs = needs
 scratch_needed from to rows mark sector Moved needs = absurd needs
 
 -- Required places after a stop are in the scratch area or in the data rows.
-required_sector : (reflow : Reflow) (row_end sector device device_sector : ℕ)
+pub required_sector : (reflow : Reflow) (row_end sector device device_sector : ℕ)
     → IsRequiredPlace reflow (front_after_stop reflow) row_end sector device device_sector
     → IsDataSector device_sector
 required_sector reflow row_end sector device device_sector required = ⊎_elim

@@ -1,0 +1,5 @@
+pub mod Layouts
+pub mod Holding
+pub mod Sparing
+pub mod Committing
+pub mod Going

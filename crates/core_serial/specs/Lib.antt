@@ -1,0 +1,4 @@
+pub mod Pool
+pub mod Standing
+pub mod Answers
+pub mod Syncing

@@ -1,0 +1,54 @@
+// An open pool.
+ghost use Rattle.std.specs.Prelude.{◌≡◌, ◌+◌, ◌<◌, ◌↔◌, IsTrue};
+ghost use Rattle.core_serial.specs.Answers.{HasTooManyOut};
+ghost use Rattle.core_serial.specs.Pool.{open_group};
+
+use core_blocks::Blocks;
+use std::marker::Model;
+use uberblock_ring::{DeviceSet, Uber};
+
+/// A pool at rest between two calls: the last answered group's uberblock, the blocks with the sectors
+/// that they take, and the devices that are out. They are not called again.
+#[derive(Drop)]
+pub struct Pool {
+    uber: Uber,
+    blocks: Blocks,
+    out: DeviceSet,
+}
+
+impl Model for Pool {
+    ghost use Rattle.core_serial.specs.Pool.{Pool as PoolOf, IsPool};
+
+    ghost Value = { PoolOf };
+
+    ghost view = { λ pool. record { uber = pool.uber; blocks = pool.blocks; out = pool.out } };
+
+    ghost invariant = { λ pool. IsPool (record {
+      uber = pool.uber;
+      blocks = pool.blocks;
+      out = pool.out;
+    }) };
+}
+
+impl Pool {
+    /// The devices that are out.
+    pub fn out(&self) -> DeviceSet
+        ensures { result ≡ self.now.out }
+    {
+        self.out
+    }
+
+    /// The group that the next sync ends.
+    pub fn open_group(&self) -> u64
+        ensures { result ≡ open_group self.now }
+    {
+        self.uber.group() + 1
+    }
+
+    /// Whether more devices are out than there are parities. No call is carried out then.
+    pub fn has_too_many_out(&self) -> bool
+        ensures { IsTrue result ↔ HasTooManyOut self.now }
+    {
+        self.out.len() > self.uber.parity()
+    }
+}
