@@ -16,12 +16,13 @@ use Rattle.gf_solve.specs.Row.{is_masked, count_lost}
 use Rattle.gf_solve.proofs.Counting.{count_split}
 use Rattle.reconstruct.specs.Lost.{HasTooFew, IsFirstTooFew}
 use Rattle.reconstruct.specs.Rows.{column_at}
-use Rattle.uberblock_ring.specs.Devices.{has_device, count_below}
+use Rattle.uberblock_ring.specs.Devices.{has_device, count_below, count_of}
 use Rattle.uberblock_ring.proofs.DeviceSets.{none_above}
 use Rattle.core_client.specs.declared.columns_read.ColumnsRead.{ColumnsRead}
 use Rattle.core_client.specs.Pool.{IsInPool}
 use Rattle.core_client.specs.Reading.{spot_in, spot_of, IsGot}
-use Rattle.core_client.specs.Got.{got_of, is_lost, HasContentAlone, HasEnough, HasLostFew, IsReadOf}
+use Rattle.core_client.specs.Got.{got_of, is_lost, HasContentAlone, HasLostFew, IsReadOf}
+use Rattle.core_client.proofs.Counts.{below_all}
 use Rattle.core_client.proofs.Gotten.{parity_in_row}
 use Rattle.core_client.proofs.Places.{HasWidths, widths_of}
 
@@ -59,6 +60,12 @@ count_mono lost other first (suc some) also =
     here false c both = omega arith
 
 -- ---- rows
+
+-- Of each row at most as many columns as it has parity stand on devices that are out.
+pub record HasEnough (layout : Layout) (reflow : Reflow) (out : ℕ) : Type 0 where
+  pub each : (row : ℕ) → row < rows_of layout
+      → count_lost (λ column. has_device out (spot_of layout reflow row column).device) 0
+      (columns_in layout row) ≤ layout.parity
 
 -- What is lost of a row stands on devices that are out, or is parity that wasn't needed.
 never_too_few : (layout : Layout) (reflow : Reflow) (known : Known) (before after : ℕ) (read : ColumnsRead)
@@ -210,8 +217,8 @@ goes_round layout reflow New widths = record {
   device = λ sector. refl;
 }
 
--- Where no more devices of the pool are out than there is parity, enough of each row is left.
-pub few_enough : (layout : Layout) (reflow : Reflow) (out : ℕ) → IsInPool layout reflow → count_below out reflow.to ≤ layout.parity
+-- Where no more devices are out than there are parities, enough of each row is left.
+few_enough : (layout : Layout) (reflow : Reflow) (out : ℕ) → IsInPool layout reflow → count_of out ≤ layout.parity
     → HasEnough layout reflow out
 few_enough layout reflow out pool few = record {
   each = λ row row_in.
@@ -224,15 +231,16 @@ few_enough layout reflow out pool few = record {
       columns_apart layout round.width row other column round.room (omega (arith, below, narrow)) (omega (arith, low, below, narrow))
       (λ (is : column ≡ other). omega (arith, low, is))
       (sym (round.device (sector_of layout row column)) ∙ same ∙ round.device (sector_of layout row other))) in
-      omega (arith, counted, apart, tally_devices out reflow.to, few);
+      omega (arith, counted, apart, tally_devices out reflow.to, below_all out reflow.to (omega (arith, pool.few)), few);
 }
 
--- Where enough of each row is left, no row has lost too much.
-pub few_lost : (layout : Layout) (reflow : Reflow) (known : Known) (before after : ℕ) (read : ColumnsRead) → IsLayout layout
-    → IsReadOf layout reflow known before after read → HasEnough layout reflow after → HasLostFew layout read
-few_lost layout reflow known before after read is_layout is enough = record {
+-- So no row has lost too much.
+pub few_lost : (layout : Layout) (reflow : Reflow) (known : Known) (before after : ℕ) (read : ColumnsRead) → IsInPool layout reflow
+    → IsReadOf layout reflow known before after read → count_of after ≤ layout.parity → HasLostFew layout read
+few_lost layout reflow known before after read pool is few = record {
   each = λ row row_in too_few.
-      never_too_few layout reflow known before after read (λ row. parity_in_row layout row is_layout) is enough row row_in too_few;
+      never_too_few layout reflow known before after read (λ row. parity_in_row layout row pool.within.is) is
+      (few_enough layout reflow after pool few) row row_in too_few;
 }
 
 -- Where the masks have parity columns alone, no row has lost too much.

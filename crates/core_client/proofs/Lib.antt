@@ -1,4 +1,5 @@
 pub mod Outs
+pub mod Counts
 pub mod Places
 pub mod Written
 pub mod Spots

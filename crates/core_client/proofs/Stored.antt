@@ -44,9 +44,10 @@ place_on_pool reflow done row_end sector device device_sector on required = ⊎_
     }
 
 -- So each write of a block can be made.
-pub plan_inside : (layout : Layout) (reflow : Reflow) (done : ℕ) (rows : Rows) (writes : List Write) (disk : Disk) → IsInPool layout reflow
-    → HasPool reflow disk → IsShaped layout rows → AreRequired layout reflow done writes → All (IsInside rows disk) writes
-plan_inside layout reflow done rows writes disk pool bank shape plan number past low =
+pub plan_inside : (layout : Layout) (reflow : Reflow) (done : ℕ) (rows : Rows) (writes : List Write) (out : ℕ) (disk : Disk)
+    → IsInPool layout reflow → HasPool reflow out disk → IsShaped layout rows → AreRequired layout reflow done writes
+    → All (IsInside rows out disk) writes
+plan_inside layout reflow done rows writes out disk pool bank shape plan number past low =
     let write : Write = slice_index_or writes number past in
     let is = plan.only write (number, low, get_or_default writes number write past low) in
     let widths = widths_of layout reflow pool in
@@ -56,7 +57,7 @@ plan_inside layout reflow done rows writes disk pool bank shape plan number past
     record {
       row = omega (arith, is.0.row_in, shape.rows_are);
       column = omega (arith, is.0.column_in, shape.cols_are, row_few layout write.row pool.within.is);
-      device = omega (arith, on.device, bank.devices);
+      device = bank.devices write.device on.device;
       few = omega (arith, on.device, pool.few);
       device_sector = omega (arith, on.inside, bank.sectors);
     }

@@ -3,7 +3,7 @@ use Rattle.std.proofs.Common.{◌≡◌, ◌≢◌, inl, inr, ⊎_elim, ℕ, ◌
 use Rattle.std.specs.Prelude.{IsSome, Contains, slice_index_or}
 use Rattle.std.proofs.lemmas.Bool.{cases_eq, cases_lt, true≢false}
 use Rattle.std.proofs.lemmas.List.{get_or_default}
-use Rattle.bank_trait.specs.Disk.{Disk, Later, Other, Wrote}
+use Rattle.bank_trait.specs.Disk.{Later, Other, Wrote}
 use Rattle.bank_trait.specs.Regions.{TouchesOnly}
 use Rattle.bank_trait.proofs.Touches.{touches_none, touches_then, wrote_touches}
 use Rattle.reflow_mark.specs.declared.reflow.Reflow.{Reflow}
@@ -12,7 +12,7 @@ use Rattle.row_layout.proofs.Parts.{row_few}
 use Rattle.shadow_write.specs.declared.write.Write.{Write}
 use Rattle.shadow_write.specs.Required.{IsRequiredPlace}
 use Rattle.reconstruct.specs.Rows.{Rows}
-use Rattle.uberblock_ring.specs.Devices.{has_device}
+use Rattle.uberblock_ring.specs.Devices.{has_device, IsWithin}
 use Rattle.core_state.specs.Committing.{Point}
 use Rattle.core_client.specs.Outs.{OnlyFailedGoOut}
 use Rattle.core_client.specs.Pool.{IsRightBlock}
@@ -21,11 +21,14 @@ use Rattle.core_client.proofs.Outs.{went_well, outs_none, outs_called, outs_then
 use Rattle.core_client.proofs.Places.{one_column}
 
 -- A write that can be made can be made later.
-pub inside_later : (rows : Rows) (write : Write) {old new : Disk} → Later old new → IsInside rows old write → IsInside rows new write
-inside_later rows write later inside = record {
+pub inside_later : (rows : Rows) (write : Write) (before after : Point) → Later before.disk after.disk → IsWithin before.out after.out
+    → IsInside rows before.out before.disk write → IsInside rows after.out after.disk write
+inside_later rows write before after later still inside = record {
   row = inside.row;
   column = inside.column;
-  device = omega (arith, inside.device, later.devices);
+  device = λ used.
+      let there : write.device < before.disk.devices = inside.device (was_used before.out after.out write.device still used) in
+      omega (arith, there, later.devices);
   few = inside.few;
   device_sector = omega (arith, inside.device_sector, later.sectors);
 }
@@ -48,7 +51,7 @@ pub record AgreeByPlace (rows : Rows) (writes : List Write) : Type 0 where
 pub record WroteFirst (rows : Rows) (writes : List Write) (count : ℕ) (before after : Point) : Type 0 where
   pub only : TouchesOnly (IsPlaceOf writes before.out) before.disk after.disk
   pub outs : OnlyFailedGoOut before after
-  pub held : AgreeByPlace rows writes → TellsAt writes before.disk → (number : ℕ) (write : Write) → number < count
+  pub held : AgreeByPlace rows writes → TellsAt writes before.out before.disk → (number : ℕ) (write : Write) → number < count
       → IsNumber writes number write → has_device after.out write.device ≡ false
       → after.disk.reads write.device write.device_sector ≡ Some (bytes_of rows write)
 
@@ -81,7 +84,7 @@ made_more : (rows : Rows) (writes : List Write) (count : ℕ) (write : Write) (b
 made_more rows writes count write before mid after is so_far made = record {
   only = touches_then here_in here_in here_in (λ d x p. p) (λ d x p. p) so_far.only
       (wrote_touches here_in
-      (write, listed, was_used before.out mid.out write.device so_far.outs.still made.called.in_use, refl, refl) made.wrote);
+      (write, listed, in_use, refl, refl) made.wrote);
   outs = outs_then before mid after so_far.only.later.faults made.wrote.goes_on.later.faults so_far.outs outs;
   held = λ agree tells number other low is_other used. ⊎_elim
       (λ (device : other.device ≡ write.device). ⊎_elim
@@ -100,18 +103,21 @@ made_more rows writes count write before mid after is so_far made = record {
     listed : Contains writes write
     listed = (count, is.0, is.1)
 
+    in_use : has_device before.out write.device ≡ false
+    in_use = was_used before.out mid.out write.device so_far.outs.still made.called.in_use
+
     outs : OnlyFailedGoOut mid after
     outs = outs_called write.device made.result mid after made.called made.wrote.failed
 
-    here : TellsAt writes before.disk → has_device after.out write.device ≡ false
+    here : TellsAt writes before.out before.disk → has_device after.out write.device ≡ false
         → after.disk.reads write.device write.device_sector ≡ Some (bytes_of rows write)
     here tells used =
         let told : IsSome (mid.disk.reads write.device write.device_sector) =
-        so_far.only.later.told write.device write.device_sector (tells write listed) in
+        so_far.only.later.told write.device write.device_sector (tells write listed in_use) in
         (went_well write.device made.result mid after made.called used
         (Wrote mid.disk after.disk write.device write.device_sector (bytes_of rows write)) made.wrote).told told
 
-    at_place : AgreeByPlace rows writes → TellsAt writes before.disk → (other : Write) → (number : ℕ) × IsNumber writes number other
+    at_place : AgreeByPlace rows writes → TellsAt writes before.out before.disk → (other : Write) → (number : ℕ) × IsNumber writes number other
         → other.device ≡ write.device → other.device_sector ≡ write.device_sector → has_device after.out other.device ≡ false
         → after.disk.reads other.device other.device_sector ≡ Some (bytes_of rows other)
     at_place agree tells other numbered device device_sector used =
@@ -119,7 +125,7 @@ made_more rows writes count write before mid after is so_far made = record {
         ∙ here tells (ap (λ (d : ℕ). has_device after.out d) (sym device) ∙ used)
         ∙ ap Some (agree.same write other listed (numbered.0, numbered.1.0, numbered.1.1) device device_sector)
 
-    elsewhere : AgreeByPlace rows writes → TellsAt writes before.disk → (number : ℕ) (other : Write) → number < count + 1
+    elsewhere : AgreeByPlace rows writes → TellsAt writes before.out before.disk → (number : ℕ) (other : Write) → number < count + 1
         → IsNumber writes number other → Other write.device write.device_sector other.device other.device_sector
         → has_device after.out other.device ≡ false
         → after.disk.reads other.device other.device_sector ≡ Some (bytes_of rows other)
@@ -164,7 +170,7 @@ plan_agrees layout reflow done bytes rows writes plan = record {
 -- All writes of a block leave it right.
 pub wrote_right : (rows : Rows) (writes : List Write) (count : ℕ) (before after : Point) → count ≡ length writes
     → WroteFirst rows writes count before after → (layout : Layout) (reflow : Reflow) (done : ℕ) (bytes : List ℕ)
-    → IsPlanOf layout reflow done bytes rows writes → TellsAt writes before.disk
+    → IsPlanOf layout reflow done bytes rows writes → TellsAt writes before.out before.disk
     → IsRightBlock layout bytes reflow done after.disk.reads after.out
 wrote_right rows writes count before after whole wrote layout reflow done bytes plan tells = record {
   each = λ cell is. record {

@@ -1,13 +1,12 @@
 -- What a reading has of a block's columns.
 use Rattle.std.specs.Prelude.{◌≡◌, ◌≢◌, ◌⊎◌, ℕ, ◌<◌, ◌≤◌, List, length, slice_index, Bool, true, false, Option, Some, None, if◌then◌else◌}
 use Rattle.bank_trait.specs.Disk.{Known}
-use Rattle.gf_solve.specs.Row.{is_masked, count_lost}
+use Rattle.gf_solve.specs.Row.{is_masked}
 use Rattle.reflow_mark.specs.declared.reflow.Reflow.{Reflow}
 use Rattle.row_layout.specs.Layout.{Layout, rows_of, columns_of, columns_in}
 use Rattle.reconstruct.specs.Columns.{zero_sector}
 use Rattle.reconstruct.specs.Rows.{IsShaped, column_at}
 use Rattle.reconstruct.specs.Lost.{HasTooFew}
-use Rattle.uberblock_ring.specs.Devices.{has_device}
 use Rattle.core_client.specs.declared.columns_read.ColumnsRead.{ColumnsRead}
 use Rattle.core_client.specs.Reading.{spot_of, IsGot}
 
@@ -89,9 +88,3 @@ pub record IsReadOf (layout : Layout) (reflow : Reflow) (known : Known) (before 
 -- No row has lost more columns than it has parity.
 pub record HasLostFew (layout : Layout) (read : ColumnsRead) : Type 0 where
   pub each : (row : ℕ) → row < rows_of layout → HasTooFew layout read.lost.items row → ⊥
-
--- Of each row at most as many columns as it has parity stand on devices that are out.
-pub record HasEnough (layout : Layout) (reflow : Reflow) (out : ℕ) : Type 0 where
-  pub each : (row : ℕ) → row < rows_of layout
-      → count_lost (λ column. has_device out (spot_of layout reflow row column).device) 0
-      (columns_in layout row) ≤ layout.parity

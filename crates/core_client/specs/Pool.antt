@@ -1,5 +1,5 @@
 -- A block in its pool, the bank that the pool stands on, and when the block is right there.
-use Rattle.std.specs.Prelude.{◌≡◌, ℕ, ◌+◌, ◌≤◌, max, List, []}
+use Rattle.std.specs.Prelude.{◌≡◌, ℕ, ◌+◌, ◌<◌, ◌≤◌, false, max, List, []}
 use Rattle.bank_trait.specs.Disk.{Known, Disk}
 use Rattle.width_map.specs.Place.{first_data_sector, limit_of}
 use Rattle.reflow_mark.specs.declared.reflow.State.TheVariants.{Moved}
@@ -8,6 +8,7 @@ use Rattle.reflow_mark.specs.Reflow.{sectors_of, IsRightReflow}
 use Rattle.row_layout.specs.Layout.{Layout, total_of}
 use Rattle.row_layout.specs.Standing.{IsWithinLimits}
 use Rattle.shadow_write.specs.Required.{IsFrontIn}
+use Rattle.uberblock_ring.specs.Devices.{has_device}
 use Rattle.core_state.specs.Whole.{Cell, IsCell, RightAt}
 
 -- The block lies in a pool of this reflow, and is no wider than it.
@@ -19,9 +20,10 @@ pub record IsInPool (layout : Layout) (reflow : Reflow) : Type 0 where
   pub rows : reflow.rows ≤ 65536
   pub end : layout.start + total_of layout ≤ sectors_of reflow
 
--- The bank has the devices and the data rows of the pool.
-pub record HasPool (reflow : Reflow) (disk : Disk) : Type 0 where
-  pub devices : reflow.to ≤ disk.devices
+-- The bank has the devices of the pool, but for some that are out, and its data rows.
+pub record HasPool (reflow : Reflow) (out : ℕ) (disk : Disk) : Type 0 where
+  pub devices : (device : ℕ) → device < reflow.to → has_device out device ≡ false
+      → device < disk.devices
   pub sectors : first_data_sector + reflow.rows ≤ disk.sectors
 
 -- The front is where it may be: no job has copied over what may still be read.

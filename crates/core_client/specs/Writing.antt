@@ -11,11 +11,11 @@ use Rattle.uberblock_ring.specs.Devices.{has_device}
 use Rattle.core_state.specs.Committing.{Point, Called}
 use Rattle.core_client.specs.Pool.{IsInPool, IsFrontOf}
 
--- The write's column is one of the rows', and its place is on the bank.
-pub record IsInside (rows : Rows) (disk : Disk) (write : Write) : Type 0 where
+-- The write's column is one of the rows', and its place is on the bank, if its device isn't out.
+pub record IsInside (rows : Rows) (out : ℕ) (disk : Disk) (write : Write) : Type 0 where
   pub row : write.row < rows.rows
   pub column : write.column < rows.cols
-  pub device : write.device < disk.devices
+  pub device : has_device out write.device ≡ false → write.device < disk.devices
   pub few : write.device < 64
   pub device_sector : write.device_sector < disk.sectors
 
@@ -42,9 +42,10 @@ IsPlaceOf writes out device device_sector =
     (write : Write) × Contains writes write × (has_device out write.device ≡ false)
     × (device ≡ write.device) × (device_sector ≡ write.device_sector)
 
--- The bank tells what stands where the writes go.
-abbrev pub TellsAt : List Write → Disk → Type 0
-TellsAt writes disk = (write : Write) → Contains writes write
+-- The bank tells what stands where the writes go, on devices that aren't out.
+abbrev pub TellsAt : List Write → ℕ → Disk → Type 0
+TellsAt writes out disk = (write : Write) → Contains writes write
+    → has_device out write.device ≡ false
     → IsSome (disk.reads write.device write.device_sector)
 
 -- The writes are those of a block of these bytes, whose columns the rows hold.

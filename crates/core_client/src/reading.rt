@@ -1,13 +1,14 @@
 // A block's columns, as far as they can be read.
-ghost use Rattle.std.specs.Prelude.{◌≡◌, ◌<◌, ◌≤◌, ℕ, List, IfOk, false};
+ghost use Rattle.std.specs.Prelude.{◌≡◌, ℕ, ◌+◌, ◌<◌, ◌≤◌, List, IfOk, false};
 ghost use Rattle.bank_trait.specs.Disk.{Unchanged};
 ghost use Rattle.row_layout.specs.Layout.{IsColumn, columns_in, columns_of, rows_of};
 ghost use Rattle.shadow_write.specs.Required.{IsFrontIn};
 ghost use Rattle.reconstruct.specs.Lost.{IsLeftOver};
+ghost use Rattle.uberblock_ring.specs.Devices.{count_of, has_device};
 ghost use Rattle.core_client.specs.Outs.{point_of, OnlyFailedGoOut};
 ghost use Rattle.core_client.specs.Pool.{IsInPool, HasPool, IsRightBlock};
 ghost use Rattle.core_client.specs.Reading.{spot_of, IsGot, IsPassedOrRead};
-ghost use Rattle.core_client.specs.Got.{is_lost, AreGot, HasEnough, HasLostFew, IsReadOf, IsRowRead, IsShapedAs};
+ghost use Rattle.core_client.specs.Got.{is_lost, AreGot, HasLostFew, IsReadOf, IsRowRead, IsShapedAs};
 
 use crate::{ColumnsRead, Spot, spot_of};
 use bank_trait::Bank;
@@ -27,7 +28,7 @@ pub fn read_column<B: Bank>(
     out: &mut DeviceSet,
 ) -> Option<[u8; 512]>
     requires pool { IsInPool layout.now reflow.now }
-    requires bank { HasPool reflow.now (B.disk bank.old) }
+    requires bank { HasPool reflow.now out.old (B.disk bank.old) }
     requires there { IsColumn layout.now row column }
     ensures step { IsPassedOrRead (spot_of layout.now reflow.now row column) result
         (point_of out.old (B.disk bank.old)) (point_of out.new (B.disk bank.new)) }
@@ -41,7 +42,8 @@ pub fn read_column<B: Bank>(
 }
 
 fn read_spot<B: Bank>(bank: &mut B, spot: Spot, out: &mut DeviceSet) -> Option<[u8; 512]>
-    requires device { spot.device < (B.disk bank.old).devices }
+    requires device { has_device out.old spot.device ≡ false
+        → spot.device < (B.disk bank.old).devices }
     requires few { spot.device < 64 }
     requires device_sector { spot.device_sector < (B.disk bank.old).sectors }
     ensures { IsPassedOrRead spot result (point_of out.old (B.disk bank.old))
@@ -61,7 +63,8 @@ fn read_spot<B: Bank>(bank: &mut B, spot: Spot, out: &mut DeviceSet) -> Option<[
     Some(bytes)
 }
 
-/// Reads some columns of a row, which were not read before.
+/// Reads some columns of a row, which were not read before. Once more devices are out than there are
+/// parities, none is called.
 fn read_columns<B: Bank>(
     bank: &mut B,
     layout: &Layout,
@@ -72,26 +75,33 @@ fn read_columns<B: Bank>(
     out: &mut DeviceSet,
 )
     requires pool { IsInPool layout.now reflow.now }
-    requires bank { HasPool reflow.now (B.disk bank.old) }
+    requires bank { HasPool reflow.now out.old (B.disk bank.old) }
     requires row { row < rows_of layout.now }
     requires order { columns.start ≤ columns.end }
     requires end { columns.end ≤ columns_in layout.now row }
     requires shape { IsShapedAs layout.now read.old }
     requires unread { (column : ℕ) → columns.start ≤ column → column < columns.end
         → is_lost read.old row column ≡ false }
-    ensures got { AreGot layout.now reflow.now (B.disk bank.old).reads out.old out.new row
+    ensures got { count_of out.new ≤ layout.now.parity
+        → AreGot layout.now reflow.now (B.disk bank.old).reads out.old out.new row
         columns.start columns.end read.old read.new }
     ensures unchanged { Unchanged (B.disk bank.old) (B.disk bank.new) }
     ensures out { OnlyFailedGoOut (point_of out.old (B.disk bank.old))
         (point_of out.new (B.disk bank.new)) }
+    ensures last { count_of out.old ≤ layout.now.parity
+        → count_of out.new ≤ layout.now.parity + 1 }
 {
     for column in columns.start..columns.end {
+        if out.len() > layout.parity() {
+            return;
+        }
         let got = read_column(bank, layout, reflow, row, column, out);
         read.put(row, column, got);
     }
 }
 
-/// Reads a row's content, and where some of that is lost, its parity.
+/// Reads a row's content, and where some of that is lost, its parity. Once more devices are out than
+/// there are parities, none is called.
 fn read_row<B: Bank>(
     bank: &mut B,
     layout: &Layout,
@@ -101,20 +111,26 @@ fn read_row<B: Bank>(
     out: &mut DeviceSet,
 )
     requires pool { IsInPool layout.now reflow.now }
-    requires bank { HasPool reflow.now (B.disk bank.old) }
+    requires bank { HasPool reflow.now out.old (B.disk bank.old) }
     requires row { row < rows_of layout.now }
     requires shape { IsShapedAs layout.now read.old }
     requires unread { (column : ℕ) → column < columns_of layout.now
         → is_lost read.old row column ≡ false }
-    ensures row { IsRowRead layout.now reflow.now (B.disk bank.old).reads out.old out.new row
+    ensures row { count_of out.new ≤ layout.now.parity
+        → IsRowRead layout.now reflow.now (B.disk bank.old).reads out.old out.new row
         read.old read.new }
     ensures unchanged { Unchanged (B.disk bank.old) (B.disk bank.new) }
     ensures out { OnlyFailedGoOut (point_of out.old (B.disk bank.old))
         (point_of out.new (B.disk bank.new)) }
+    ensures last { count_of out.old ≤ layout.now.parity
+        → count_of out.new ≤ layout.now.parity + 1 }
 {
     let parity = layout.parity();
     let end = layout.columns_in(row);
     read_columns(bank, layout, reflow, row, parity..end, read, out);
+    if out.len() > parity {
+        return;
+    }
     if read.has_lost(row) {
         read_columns(bank, layout, reflow, row, 0..parity, read, out);
     } else {
@@ -122,7 +138,8 @@ fn read_row<B: Bank>(
     }
 }
 
-/// Reads a block's columns. The parity of a row is read only where some of its content is lost.
+/// Reads a block's columns. The parity of a row is read only where some of its content is lost. Once
+/// more devices are out than there are parities, none is called, and what was read means nothing.
 pub fn read_block<B: Bank>(
     alloc: Global,
     bank: &mut B,
@@ -131,23 +148,32 @@ pub fn read_block<B: Bank>(
     out: &mut DeviceSet,
 ) -> Result<ColumnsRead, AllocError>
     requires pool { IsInPool layout.now reflow.now }
-    requires bank { HasPool reflow.now (B.disk bank.old) }
-    ensures read { IfOk result
+    requires bank { HasPool reflow.now out.old (B.disk bank.old) }
+    ensures read { count_of out.new ≤ layout.now.parity → IfOk result
         (IsReadOf layout.now reflow.now (B.disk bank.old).reads out.old out.new) }
 
     // What is there of a block that is right are its own columns.
-    ensures left_over { IfOk result (λ read. (done : ℕ) (bytes : List ℕ)
+    ensures left_over { count_of out.new ≤ layout.now.parity
+        → IfOk result (λ read. (done : ℕ) (bytes : List ℕ)
         → IsFrontIn reflow.now.state reflow.now done
         → IsRightBlock layout.now bytes reflow.now done (B.disk bank.old).reads out.old
         → IsLeftOver layout.now bytes read.rows read.lost.items) }
-    ensures few { IfOk result (λ read. HasEnough layout.now reflow.now out.new
-        → HasLostFew layout.now read) }
+    ensures few { count_of out.new ≤ layout.now.parity → IfOk result (HasLostFew layout.now) }
     ensures unchanged { Unchanged (B.disk bank.old) (B.disk bank.new) }
     ensures out { OnlyFailedGoOut (point_of out.old (B.disk bank.old))
         (point_of out.new (B.disk bank.new)) }
+
+    // where it stops
+    ensures none { layout.now.parity < count_of out.old → point_of out.new (B.disk bank.new)
+        ≡ point_of out.old (B.disk bank.old) }
+    ensures last { count_of out.old ≤ layout.now.parity
+        → count_of out.new ≤ layout.now.parity + 1 }
 {
     let mut read = ColumnsRead::blank(alloc, layout)?;
     for row in 0..layout.rows() {
+        if out.len() > layout.parity() {
+            return Ok(read);
+        }
         read_row(bank, layout, reflow, row, &mut read, out);
     }
     Ok(read)

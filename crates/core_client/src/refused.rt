@@ -9,6 +9,8 @@ use std::alloc::AllocError;
 pub enum FetchRefused {
     /// Too few columns of a row are there, or the bytes have another digest.
     Damaged,
+    /// More devices are out than there are parities.
+    TooManyOut,
     NoMemory,
 }
 

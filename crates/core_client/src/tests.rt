@@ -64,8 +64,69 @@ fn a_block_comes_back_while_one_device_fails(rt: HostRuntime) -> Result<(), Fail
         );
         match fetched {
             Ok(back) => assert!(rt; comes && back.as_slice() == bytes.as_slice(), "{name}"),
-            Err(why) => assert!(rt; !comes && why == FetchRefused::Damaged, "{name}"),
+            Err(why) => assert!(rt; !comes && why == FetchRefused::TooManyOut, "{name}"),
         }
+    }
+    Ok(())
+}
+
+#[test]
+fn a_bank_may_lack_a_device_that_is_out(rt: HostRuntime) -> Result<(), Fail> {
+    let layout = at_seven();
+    let reflow = Reflow::at_rest(3, 64);
+    let bytes = block();
+    let digest = Sha256::digest(&bytes[..]);
+    let mut bank = MemBank::new(rt.alloc(), 2, 256)?;
+    let mut out = DeviceSet::empty();
+    out.insert(2);
+    store_block(rt.alloc(), &mut bank, &layout, &reflow, 0, &bytes, &mut out)?;
+    assert!(rt; bank.devices() == 2 && bank.sectors() == 256 && out.has(2));
+    let fetched = fetch_block(
+        rt.alloc(),
+        &mut bank,
+        &layout,
+        &reflow,
+        LEN,
+        &digest,
+        &mut out,
+    );
+    assert!(rt; fetched.is_ok_and(|back| back.as_slice() == bytes.as_slice()));
+    assert!(rt; out.len() == 1);
+    Ok(())
+}
+
+// All devices fail, from their write on or from their read on. Two of them go out, and the third one
+// isn't called.
+#[test]
+fn calls_stop_once_too_many_are_out(rt: HostRuntime) -> Result<(), Fail> {
+    let layout = at_seven();
+    let reflow = Reflow::at_rest(3, 64);
+    let bytes = block();
+    let digest = Sha256::digest(&bytes[..]);
+    for (first_to_fail, out_by_writes) in [(0, 2), (1, 0)] {
+        let mut bank = MemBank::new(rt.alloc(), 3, 256)?;
+        for device in 0..3 {
+            bank.fail_from(device, first_to_fail)?;
+        }
+        let mut out = DeviceSet::empty();
+        assert!(rt; bank.devices() == 3 && bank.sectors() == 256);
+        store_block(rt.alloc(), &mut bank, &layout, &reflow, 0, &bytes, &mut out)?;
+        assert!(rt; out.len() == out_by_writes, "call {first_to_fail}");
+        assert!(rt; bank.devices() == 3 && bank.sectors() == 256);
+        let fetched = fetch_block(
+            rt.alloc(),
+            &mut bank,
+            &layout,
+            &reflow,
+            LEN,
+            &digest,
+            &mut out,
+        );
+        assert!(rt;
+            matches!(fetched, Err(FetchRefused::TooManyOut)),
+            "call {first_to_fail}"
+        );
+        assert!(rt; out.len() == 2, "call {first_to_fail}");
     }
     Ok(())
 }

@@ -1,7 +1,9 @@
-use Rattle.std.proofs.Common.{arith}
+use Rattle.std.proofs.Common.{◌≤◌, arith}
 use Rattle.row_layout.proofs.Parts.{row_few}
+use Rattle.uberblock_ring.specs.Devices.{count_of}
 use Rattle.core_client.specs.Outs.{point_of}
 use Rattle.core_client.proofs.Outs.{outs_none, outs_then}
+use Rattle.core_client.proofs.Counts.{stops_none, stops_then}
 use Rattle.core_client.proofs.Gotten.{rows_none, rows_more, rows_whole, parity_in_row, unchanged_none, unchanged_then}
 use Rattle.core_client.proofs.Enough.{few_lost}
 use Rattle.core_client.proofs.LeftOver.{left_over}
@@ -9,44 +11,50 @@ use Rattle.core_client.proofs.reading.read_block.Goals as goal
 
 pub loop-row-init : goal.loop-row-init
 loop-row-init g c = record {
-  rows = rows_none c.args.layout.now c.args.reflow.now (g.B.Bank.disk c.args.bank.now).reads c.args.out.now c.args.out.now _
+  rows = λ few. rows_none c.args.layout.now c.args.reflow.now (g.B.Bank.disk c.args.bank.now).reads c.args.out.now c.args.out.now _
       c.in_ok-read.ensures.shape c.in_ok-read.ensures.zero;
   unchanged = unchanged_none (g.B.Bank.disk c.args.bank.now);
   out = outs_none (point_of c.args.out.now (g.B.Bank.disk c.args.bank.now));
+  stops = stops_none c.args.layout.now.parity (point_of c.args.out.now (g.B.Bank.disk c.args.bank.now));
 }
 
 pub loop-row-preserved : goal.loop-row-preserved
 loop-row-preserved g c =
     let so_far = c.loop-row.invariant in
     let one = c.read_row.ensures in
+    let not_many : count_of c.loop-row.out ≤ c.args.layout.now.parity =
+    omega (arith, c.if-len-parity.false, c.len.ensures.value, c.parity.ensures.value) in
     record {
-      rows = rows_more c.args.layout.now c.args.reflow.now (g.B.Bank.disk c.args.bank.now).reads (g.B.Bank.disk c.loop-row.bank).reads
+      rows = λ few. rows_more c.args.layout.now c.args.reflow.now (g.B.Bank.disk c.args.bank.now).reads (g.B.Bank.disk c.loop-row.bank).reads
           c.args.out.now c.loop-row.out c.read_row.new.out c.loop-row.row c.loop-row.read c.read_row.new.read
           (omega (arith, c.loop-row-test.true, c.rows-row-end.ensures.value))
           (λ row. parity_in_row c.args.layout.now row c.requires.pool.within.is)
-          (λ row. row_few c.args.layout.now row c.requires.pool.within.is) so_far.rows one.row so_far.unchanged.reads so_far.out.still
+          (λ row. row_few c.args.layout.now row c.requires.pool.within.is) (so_far.rows not_many) (one.row few) so_far.unchanged.reads so_far.out.still
           one.out.still;
       unchanged = unchanged_then so_far.unchanged one.unchanged;
       out = outs_then (point_of c.args.out.now (g.B.Bank.disk c.args.bank.now)) (point_of c.loop-row.out (g.B.Bank.disk c.loop-row.bank))
           (point_of c.read_row.new.out (g.B.Bank.disk c.read_row.new.bank)) so_far.unchanged.goes_on.later.faults
           one.unchanged.goes_on.later.faults so_far.out one.out;
+      stops = stops_then c.args.layout.now.parity (point_of c.args.out.now (g.B.Bank.disk c.args.bank.now))
+          (point_of c.loop-row.out (g.B.Bank.disk c.loop-row.bank)) (point_of c.read_row.new.out (g.B.Bank.disk c.read_row.new.bank))
+          so_far.stops not_many (one.last not_many);
     }
 
 pub returns-clause-read : goal.returns-clause-read
-returns-clause-read g c =
+returns-clause-read g c = λ few.
     rows_whole c.args.layout.now c.args.reflow.now (g.B.Bank.disk c.args.bank.now).reads c.args.out.now c.loop-row.out c.loop-row.row
-    c.loop-row.read (omega arith) c.loop-row.invariant.rows
+    c.loop-row.read (omega arith) (c.loop-row.invariant.rows few)
 
 pub returns-clause-left_over : goal.returns-clause-left_over
-returns-clause-left_over g c = λ done bytes front right.
+returns-clause-left_over g c = λ few done bytes front right.
     left_over c.args.layout.now c.args.reflow.now (g.B.Bank.disk c.args.bank.now).reads c.args.out.now c.loop-row.out c.loop-row.read
     done bytes c.requires.pool
     (rows_whole c.args.layout.now c.args.reflow.now (g.B.Bank.disk c.args.bank.now).reads c.args.out.now c.loop-row.out c.loop-row.row
-    c.loop-row.read (omega arith) c.loop-row.invariant.rows) front right
+    c.loop-row.read (omega arith) (c.loop-row.invariant.rows few)) front right
 
 pub returns-clause-few : goal.returns-clause-few
-returns-clause-few g c =
+returns-clause-few g c = λ few.
     few_lost c.args.layout.now c.args.reflow.now (g.B.Bank.disk c.args.bank.now).reads c.args.out.now c.loop-row.out c.loop-row.read
-    c.requires.pool.within.is
+    c.requires.pool
     (rows_whole c.args.layout.now c.args.reflow.now (g.B.Bank.disk c.args.bank.now).reads c.args.out.now c.loop-row.out c.loop-row.row
-    c.loop-row.read (omega arith) c.loop-row.invariant.rows)
+    c.loop-row.read (omega arith) (c.loop-row.invariant.rows few)) few

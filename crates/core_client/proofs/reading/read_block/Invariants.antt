@@ -1,12 +1,18 @@
+use Rattle.std.proofs.Common.{◌≤◌}
 use Rattle.bank_trait.specs.Disk.{Unchanged}
+use Rattle.uberblock_ring.specs.Devices.{count_of}
 use Rattle.core_client.specs.Outs.{point_of, OnlyFailedGoOut}
+use Rattle.core_client.proofs.Counts.{StopsInTime}
 use Rattle.core_client.proofs.Gotten.{AreRowsRead}
 use Rattle.core_client.proofs.reading.read_block.Given as goal
 
 abbrev pub invariant-loop-row : goal.invariant-loop-row
 invariant-loop-row g l = record {
-  rows : AreRowsRead l.layout l.reflow (g.B.Bank.disk l.initial.bank).reads l.initial.out l.out l.row l.read;
+  rows : count_of l.out ≤ l.layout.parity
+      → AreRowsRead l.layout l.reflow (g.B.Bank.disk l.initial.bank).reads l.initial.out l.out l.row l.read;
   unchanged : Unchanged (g.B.Bank.disk l.initial.bank) (g.B.Bank.disk l.bank);
   out : OnlyFailedGoOut (point_of l.initial.out (g.B.Bank.disk l.initial.bank))
+      (point_of l.out (g.B.Bank.disk l.bank));
+  stops : StopsInTime l.layout.parity (point_of l.initial.out (g.B.Bank.disk l.initial.bank))
       (point_of l.out (g.B.Bank.disk l.bank));
 }

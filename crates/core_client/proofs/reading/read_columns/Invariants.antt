@@ -1,6 +1,7 @@
 use Rattle.bank_trait.specs.Disk.{Unchanged}
 use Rattle.core_client.specs.Outs.{point_of, OnlyFailedGoOut}
 use Rattle.core_client.specs.Got.{AreGot}
+use Rattle.core_client.proofs.Counts.{StopsInTime}
 use Rattle.core_client.proofs.reading.read_columns.Given as goal
 
 abbrev pub invariant-loop-column : goal.invariant-loop-column
@@ -9,5 +10,7 @@ invariant-loop-column g l = record {
       l.initial.read l.read;
   unchanged : Unchanged (g.B.Bank.disk l.initial.bank) (g.B.Bank.disk l.bank);
   out : OnlyFailedGoOut (point_of l.initial.out (g.B.Bank.disk l.initial.bank))
+      (point_of l.out (g.B.Bank.disk l.bank));
+  stops : StopsInTime l.layout.parity (point_of l.initial.out (g.B.Bank.disk l.initial.bank))
       (point_of l.out (g.B.Bank.disk l.bank));
 }

@@ -1,4 +1,4 @@
-use Rattle.std.proofs.Common.{◌∙◌, sym, subst, List}
+use Rattle.std.proofs.Common.{◌∙◌, sym, subst, List, arith}
 use Rattle.std.specs.Prelude.{All}
 use Rattle.bank_trait.proofs.Touches.{touches_none}
 use Rattle.shadow_write.specs.declared.write.Write.{Write}
@@ -17,17 +17,18 @@ returns-in_err-plan-clause-only g c =
 
 pub write_block-requires : goal.write_block-requires
 write_block-requires g c = record {
-  inside = subst (All (IsInside c.in_ok-rows.rows (g.B.Bank.disk c.args.bank.now))) (sym c.deref.ensures.value)
-      (plan_inside c.args.layout.now c.args.reflow.now c.args.done c.in_ok-rows.rows c.in_ok-plan.plan.items (g.B.Bank.disk c.args.bank.now)
-      c.requires.pool c.requires.bank c.in_ok-rows.ensures.shape c.in_ok-plan.ensures.required);
+  inside = subst (All (IsInside c.in_ok-rows.rows c.args.out.now (g.B.Bank.disk c.args.bank.now))) (sym c.deref.ensures.value)
+      (plan_inside c.args.layout.now c.args.reflow.now c.args.done c.in_ok-rows.rows c.in_ok-plan.plan.items c.args.out.now
+      (g.B.Bank.disk c.args.bank.now) c.requires.pool c.requires.bank c.in_ok-rows.ensures.shape c.in_ok-plan.ensures.required);
 }
 
 pub returns-clause-right : goal.returns-clause-right
-returns-clause-right g c = λ tells.
+returns-clause-right g c = λ tells few.
     c.write_block.ensures.right c.args.layout.now c.args.reflow.now c.args.done c.args.bytes.now (record {
       pool = c.requires.pool;
       front = c.requires.front;
       encoded = c.in_ok-rows.ensures;
       required = subst (AreRequired c.args.layout.now c.args.reflow.now c.args.done) (sym c.deref.ensures.value) c.in_ok-plan.ensures.required;
-    }) (subst (λ (writes : List Write). TellsAt writes (g.B.Bank.disk c.args.bank.now))
+    }) (subst (λ (writes : List Write). TellsAt writes c.args.out.now (g.B.Bank.disk c.args.bank.now))
     (sym (c.deref.ensures.value ∙ c.in_ok-plan.ensures.ok)) tells)
+    (omega (arith, few, c.parity.ensures.value))
