@@ -7,3 +7,4 @@ pub mod Gotten
 pub mod LeftOver
 pub mod Enough
 pub mod Stored
+pub mod Cells

@@ -44,7 +44,7 @@ scratch_apart to sector place device device_sector some below at also =
     omega (arith, row, at.sector_is, also.sector_is)
 
 -- What stands in the scratch area is among the sectors that go through it.
-scratch_below : (state : State) (reflow : Reflow) (done sector : ℕ) → IsFrontIn state reflow done
+pub scratch_below : (state : State) (reflow : Reflow) (done sector : ℕ) → IsFrontIn state reflow done
     → NeedsScratch state reflow done sector → sector < scratch_end reflow
 scratch_below None reflow done sector front needs = ⊎_elim
     (λ (none : done ≡ 0). absurd (omega (arith, none, needs.1)))

@@ -22,7 +22,7 @@ use Rattle.core_client.proofs.Places.{widths_of, in_pool}
 use Rattle.core_client.proofs.Spots.{IsOnPool, on_pool}
 
 -- A required place is one of the three spots of its sector.
-place_on_pool : (reflow : Reflow) (done row_end sector device device_sector : ℕ)
+pub place_on_pool : (reflow : Reflow) (done row_end sector device device_sector : ℕ)
     → ((stand : Stand) → IsOnPool reflow (spot_in stand reflow sector))
     → IsRequiredPlace reflow done row_end sector device device_sector
     → IsOnPool reflow (record { device = device; device_sector = device_sector })
