@@ -1,5 +1,6 @@
 pub mod Outs
 pub mod Counts
+pub mod Below
 pub mod Places
 pub mod Written
 pub mod Spots

@@ -1,6 +1,6 @@
 -- The writes of a block in its pool are to sectors that the bank has.
 use Rattle.std.proofs.Common.{◌≡◌, ⊎_elim, ℕ, List, arith}
-use Rattle.std.specs.Prelude.{All, slice_index_or}
+use Rattle.std.specs.Prelude.{◌<◌, All, Contains, slice_index_or}
 use Rattle.std.proofs.lemmas.List.{get_or_default}
 use Rattle.bank_trait.specs.Disk.{Disk}
 use Rattle.width_map.specs.Place.{first_data_sector}
@@ -43,17 +43,33 @@ place_on_pool reflow done row_end sector device device_sector on required = ⊎_
       inside = omega (arith, (on stand).inside, sector_is);
     }
 
--- So each write of a block can be made.
+-- the place of a write of a block
+write_on_pool : (layout : Layout) (reflow : Reflow) (done : ℕ) (writes : List Write) (write : Write) → IsInPool layout reflow
+    → AreRequired layout reflow done writes → Contains writes write
+    → IsOnPool reflow (record { device = write.device; device_sector = write.device_sector })
+write_on_pool layout reflow done writes write pool plan listed =
+    let is = plan.only write listed in
+    let widths = widths_of layout reflow pool in
+    place_on_pool reflow done (end_of layout write.row) (sector_of layout write.row write.column) write.device write.device_sector
+    (λ stand. on_pool stand reflow (sector_of layout write.row write.column) widths.from_some widths.grows
+    (in_pool layout reflow write.row write.column pool is.0)) is.1
+
+-- So it goes to a device of the pool,
+pub plan_below : (layout : Layout) (reflow : Reflow) (done : ℕ) (writes : List Write) → IsInPool layout reflow
+    → AreRequired layout reflow done writes → All (λ write. write.device < reflow.to) writes
+plan_below layout reflow done writes pool plan number past low =
+    let write : Write = slice_index_or writes number past in
+    (write_on_pool layout reflow done writes write pool plan (number, low, get_or_default writes number write past low)).device
+
+-- and can be made.
 pub plan_inside : (layout : Layout) (reflow : Reflow) (done : ℕ) (rows : Rows) (writes : List Write) (out : ℕ) (disk : Disk)
     → IsInPool layout reflow → HasPool reflow out disk → IsShaped layout rows → AreRequired layout reflow done writes
     → All (IsInside rows out disk) writes
 plan_inside layout reflow done rows writes out disk pool bank shape plan number past low =
     let write : Write = slice_index_or writes number past in
-    let is = plan.only write (number, low, get_or_default writes number write past low) in
-    let widths = widths_of layout reflow pool in
-    let on = place_on_pool reflow done (end_of layout write.row) (sector_of layout write.row write.column) write.device write.device_sector
-    (λ stand. on_pool stand reflow (sector_of layout write.row write.column) widths.from_some widths.grows
-    (in_pool layout reflow write.row write.column pool is.0)) is.1 in
+    let listed : Contains writes write = (number, low, get_or_default writes number write past low) in
+    let is = plan.only write listed in
+    let on = write_on_pool layout reflow done writes write pool plan listed in
     record {
       row = omega (arith, is.0.row_in, shape.rows_are);
       column = omega (arith, is.0.column_in, shape.cols_are, row_few layout write.row pool.within.is);

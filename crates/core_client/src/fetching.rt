@@ -1,5 +1,5 @@
 // The bytes of a block.
-ghost use Rattle.std.specs.Prelude.{◌≡◌, ◌⊎◌, ℕ, ◌+◌, ◌<◌, ◌≤◌, List, ◌↔◌, length, Err, IfErr, IfOk, IsErrOf, IsTrue, MatchResult};
+ghost use Rattle.std.specs.Prelude.{◌≡◌, ◌⊎◌, ℕ, ◌+◌, ◌^◌, ◌<◌, ◌≤◌, List, ◌↔◌, length, Err, IfErr, IfOk, IsErrOf, IsTrue, MatchResult};
 ghost use Rattle.sha2.specs.Sha256.{sha256};
 ghost use Rattle.bank_trait.specs.Disk.{Unchanged};
 ghost use Rattle.reconstruct.specs.Lost.{AreBytes, IsFirstTooFew, IsLeftOver};
@@ -46,6 +46,7 @@ pub fn fetch_block<B: Bank>(
     ensures unchanged { Unchanged (B.disk bank.old) (B.disk bank.new) }
     ensures out { OnlyFailedGoOut (point_of out.old (B.disk bank.old))
         (point_of out.new (B.disk bank.new)) }
+    ensures below { out.old < 2 ^ reflow.now.to → out.new < 2 ^ reflow.now.to }
 
     // where it stops
     ensures none { layout.now.parity < count_of out.old → point_of out.new (B.disk bank.new)

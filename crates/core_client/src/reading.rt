@@ -1,5 +1,5 @@
 // A block's columns, as far as they can be read.
-ghost use Rattle.std.specs.Prelude.{◌≡◌, ℕ, ◌+◌, ◌<◌, ◌≤◌, List, IfOk, false};
+ghost use Rattle.std.specs.Prelude.{◌≡◌, ℕ, ◌+◌, ◌^◌, ◌<◌, ◌≤◌, List, IfOk, false};
 ghost use Rattle.bank_trait.specs.Disk.{Unchanged};
 ghost use Rattle.row_layout.specs.Layout.{IsColumn, columns_in, columns_of, rows_of};
 ghost use Rattle.shadow_write.specs.Required.{IsFrontIn};
@@ -37,6 +37,7 @@ pub fn read_column<B: Bank>(
     ensures unchanged { Unchanged (B.disk bank.old) (B.disk bank.new) }
     ensures out { OnlyFailedGoOut (point_of out.old (B.disk bank.old))
         (point_of out.new (B.disk bank.new)) }
+    ensures below { out.old < 2 ^ reflow.now.to → out.new < 2 ^ reflow.now.to }
 {
     read_spot(bank, spot_of(layout, reflow, row, column), out)
 }
@@ -88,6 +89,7 @@ fn read_columns<B: Bank>(
     ensures unchanged { Unchanged (B.disk bank.old) (B.disk bank.new) }
     ensures out { OnlyFailedGoOut (point_of out.old (B.disk bank.old))
         (point_of out.new (B.disk bank.new)) }
+    ensures below { out.old < 2 ^ reflow.now.to → out.new < 2 ^ reflow.now.to }
     ensures last { count_of out.old ≤ layout.now.parity
         → count_of out.new ≤ layout.now.parity + 1 }
 {
@@ -122,6 +124,7 @@ fn read_row<B: Bank>(
     ensures unchanged { Unchanged (B.disk bank.old) (B.disk bank.new) }
     ensures out { OnlyFailedGoOut (point_of out.old (B.disk bank.old))
         (point_of out.new (B.disk bank.new)) }
+    ensures below { out.old < 2 ^ reflow.now.to → out.new < 2 ^ reflow.now.to }
     ensures last { count_of out.old ≤ layout.now.parity
         → count_of out.new ≤ layout.now.parity + 1 }
 {
@@ -162,6 +165,7 @@ pub fn read_block<B: Bank>(
     ensures unchanged { Unchanged (B.disk bank.old) (B.disk bank.new) }
     ensures out { OnlyFailedGoOut (point_of out.old (B.disk bank.old))
         (point_of out.new (B.disk bank.new)) }
+    ensures below { out.old < 2 ^ reflow.now.to → out.new < 2 ^ reflow.now.to }
 
     // where it stops
     ensures none { layout.now.parity < count_of out.old → point_of out.new (B.disk bank.new)

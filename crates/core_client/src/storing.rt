@@ -1,5 +1,5 @@
 // A block that is written.
-ghost use Rattle.std.specs.Prelude.{◌≡◌, ℕ, ◌+◌, ◌<◌, ◌≤◌, length, OnErr, OnOk};
+ghost use Rattle.std.specs.Prelude.{◌≡◌, ℕ, ◌+◌, ◌^◌, ◌<◌, ◌≤◌, length, OnErr, OnOk};
 ghost use Rattle.bank_trait.specs.Regions.{TouchesOnly};
 ghost use Rattle.shadow_write.specs.Writes.{writes_of};
 ghost use Rattle.reconstruct.specs.Rows.{sectors_for};
@@ -44,6 +44,7 @@ pub fn store_block<B: Bank>(
         (B.disk bank.old) (B.disk bank.new) }
     ensures out { OnlyFailedGoOut (point_of out.old (B.disk bank.old))
         (point_of out.new (B.disk bank.new)) }
+    ensures below { out.old < 2 ^ reflow.now.to → out.new < 2 ^ reflow.now.to }
 
     // where it stops
     ensures none { layout.now.parity < count_of out.old → point_of out.new (B.disk bank.new)

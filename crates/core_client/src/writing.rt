@@ -1,5 +1,5 @@
 // The writes of a block.
-ghost use Rattle.std.specs.Prelude.{◌≡◌, ℕ, ◌+◌, ◌<◌, ◌≤◌, List, All};
+ghost use Rattle.std.specs.Prelude.{◌≡◌, ℕ, ◌+◌, ◌^◌, ◌<◌, ◌≤◌, List, All};
 ghost use Rattle.bank_trait.specs.Regions.{TouchesOnly};
 ghost use Rattle.reflow_mark.specs.declared.reflow.Reflow.{Reflow as ReflowOf};
 ghost use Rattle.row_layout.specs.Layout.{Layout as LayoutOf};
@@ -45,6 +45,8 @@ pub fn write_block<B: Bank>(
         (B.disk bank.old) (B.disk bank.new) }
     ensures out { OnlyFailedGoOut (point_of out.old (B.disk bank.old))
         (point_of out.new (B.disk bank.new)) }
+    ensures below { (width : ℕ) → All (λ write. write.device < width) writes.now
+        → out.old < 2 ^ width → out.new < 2 ^ width }
 
     // Where these are all writes of a block, it is right wherever it may be read.
     ensures right { (layout : LayoutOf) (reflow : ReflowOf) (done : ℕ) (bytes : List ℕ)

@@ -15,6 +15,7 @@ loop-row-init g c = record {
       c.in_ok-read.ensures.shape c.in_ok-read.ensures.zero;
   unchanged = unchanged_none (g.B.Bank.disk c.args.bank.now);
   out = outs_none (point_of c.args.out.now (g.B.Bank.disk c.args.bank.now));
+  below = λ out. out;
   stops = stops_none c.args.layout.now.parity (point_of c.args.out.now (g.B.Bank.disk c.args.bank.now));
 }
 
@@ -35,6 +36,7 @@ loop-row-preserved g c =
       out = outs_then (point_of c.args.out.now (g.B.Bank.disk c.args.bank.now)) (point_of c.loop-row.out (g.B.Bank.disk c.loop-row.bank))
           (point_of c.read_row.new.out (g.B.Bank.disk c.read_row.new.bank)) so_far.unchanged.goes_on.later.faults
           one.unchanged.goes_on.later.faults so_far.out one.out;
+      below = λ out. one.below (so_far.below out);
       stops = stops_then c.args.layout.now.parity (point_of c.args.out.now (g.B.Bank.disk c.args.bank.now))
           (point_of c.loop-row.out (g.B.Bank.disk c.loop-row.bank)) (point_of c.read_row.new.out (g.B.Bank.disk c.read_row.new.bank))
           so_far.stops not_many (one.last not_many);

@@ -2,6 +2,7 @@ use Rattle.std.proofs.Common.{subst}
 use Rattle.core_client.specs.declared.spot.Spot.{Spot}
 use Rattle.core_client.specs.Outs.{point_of}
 use Rattle.core_client.specs.Reading.{IsGot, IsPassedOrRead}
+use Rattle.core_client.proofs.Below.{below_by_read}
 use Rattle.core_client.proofs.Gotten.{got_by_step, unchanged_by_step, outs_by_step}
 use Rattle.core_client.proofs.reading.read_column.Goals as goal
 
@@ -26,3 +27,8 @@ pub returns-clause-out : goal.returns-clause-out
 returns-clause-out g c =
     outs_by_step c.spot_of.result c.read_spot.result (point_of c.args.out.now (g.B.Bank.disk c.args.bank.now))
     (point_of c.read_spot.new.out (g.B.Bank.disk c.read_spot.new.bank)) c.read_spot.ensures
+
+pub returns-clause-below : goal.returns-clause-below
+returns-clause-below g c =
+    below_by_read c.spot_of.result c.read_spot.result (point_of c.args.out.now (g.B.Bank.disk c.args.bank.now))
+    (point_of c.read_spot.new.out (g.B.Bank.disk c.read_spot.new.bank)) c.args.reflow.now.to c.read_spot.ensures c.spot_of.ensures.device

@@ -15,6 +15,7 @@ loop-column-init g c = record {
       c.args.columns.start c.args.read.now c.requires.shape;
   unchanged = unchanged_none (g.B.Bank.disk c.args.bank.now);
   out = outs_none (point_of c.args.out.now (g.B.Bank.disk c.args.bank.now));
+  below = λ out. out;
   stops = stops_none c.args.layout.now.parity (point_of c.args.out.now (g.B.Bank.disk c.args.bank.now));
 }
 
@@ -39,6 +40,7 @@ loop-column-preserved g c =
       out = outs_then (point_of c.args.out.now (g.B.Bank.disk c.args.bank.now)) (point_of c.loop-column.out (g.B.Bank.disk c.loop-column.bank))
           (point_of c.read_column-got.new.out (g.B.Bank.disk c.read_column-got.new.bank)) so_far.unchanged.goes_on.later.faults
           one.unchanged.goes_on.later.faults so_far.out one.out;
+      below = λ out. one.below (so_far.below out);
       stops = stops_then c.args.layout.now.parity (point_of c.args.out.now (g.B.Bank.disk c.args.bank.now))
           (point_of c.loop-column.out (g.B.Bank.disk c.loop-column.bank))
           (point_of c.read_column-got.new.out (g.B.Bank.disk c.read_column-got.new.bank)) so_far.stops few

@@ -1,3 +1,4 @@
+use Rattle.std.proofs.Common.{◌^◌, ◌<◌}
 use Rattle.bank_trait.specs.Disk.{Unchanged}
 use Rattle.core_client.specs.Outs.{point_of, OnlyFailedGoOut}
 use Rattle.core_client.specs.Got.{AreGot}
@@ -11,6 +12,7 @@ invariant-loop-column g l = record {
   unchanged : Unchanged (g.B.Bank.disk l.initial.bank) (g.B.Bank.disk l.bank);
   out : OnlyFailedGoOut (point_of l.initial.out (g.B.Bank.disk l.initial.bank))
       (point_of l.out (g.B.Bank.disk l.bank));
+  below : l.initial.out < 2 ^ l.reflow.to → l.out < 2 ^ l.reflow.to;
   stops : StopsInTime l.layout.parity (point_of l.initial.out (g.B.Bank.disk l.initial.bank))
       (point_of l.out (g.B.Bank.disk l.bank));
 }

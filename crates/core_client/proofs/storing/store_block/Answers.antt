@@ -1,10 +1,10 @@
-use Rattle.std.proofs.Common.{◌∙◌, sym, subst, List, arith}
+use Rattle.std.proofs.Common.{◌<◌, ◌∙◌, sym, subst, List, arith}
 use Rattle.std.specs.Prelude.{All}
 use Rattle.bank_trait.proofs.Touches.{touches_none}
 use Rattle.shadow_write.specs.declared.write.Write.{Write}
 use Rattle.shadow_write.specs.Writes.{AreRequired, writes_of}
 use Rattle.core_client.specs.Writing.{IsInside, IsPlaceOf, TellsAt}
-use Rattle.core_client.proofs.Stored.{plan_inside}
+use Rattle.core_client.proofs.Stored.{plan_below, plan_inside}
 use Rattle.core_client.proofs.storing.store_block.Goals as goal
 
 pub returns-in_err-rows-clause-only : goal.returns-in_err-rows-clause-only
@@ -21,6 +21,12 @@ write_block-requires g c = record {
       (plan_inside c.args.layout.now c.args.reflow.now c.args.done c.in_ok-rows.rows c.in_ok-plan.plan.items c.args.out.now
       (g.B.Bank.disk c.args.bank.now) c.requires.pool c.requires.bank c.in_ok-rows.ensures.shape c.in_ok-plan.ensures.required);
 }
+
+pub returns-clause-below : goal.returns-clause-below
+returns-clause-below g c =
+    c.write_block.ensures.below c.args.reflow.now.to (subst (All (λ (write : Write). write.device < c.args.reflow.now.to))
+    (sym c.deref.ensures.value)
+    (plan_below c.args.layout.now c.args.reflow.now c.args.done c.in_ok-plan.plan.items c.requires.pool c.in_ok-plan.ensures.required))
 
 pub returns-clause-right : goal.returns-clause-right
 returns-clause-right g c = λ tells few.

@@ -4,6 +4,7 @@ use Rattle.std.proofs.lemmas.List.{get_or_default}
 use Rattle.shadow_write.specs.declared.write.Write.{Write}
 use Rattle.core_client.specs.Outs.{point_of}
 use Rattle.core_client.proofs.Counts.{one_by_write, stops_none, stops_then}
+use Rattle.core_client.proofs.Below.{below_by_write}
 use Rattle.core_client.proofs.Written.{inside_later, wrote_none, wrote_more, wrote_right}
 use Rattle.core_client.proofs.writing.write_block.Goals as goal
 
@@ -23,7 +24,11 @@ write_column-requires g c = record {
 pub loop-write-init : goal.loop-write-init
 loop-write-init g c =
     let point = point_of c.args.out.now (g.B.Bank.disk c.args.bank.now) in
-    record { wrote = wrote_none c.args.rows.now c.args.writes.now point; stops = stops_none c.args.parity point }
+    record {
+      wrote = wrote_none c.args.rows.now c.args.writes.now point;
+      below = λ width inside out. out;
+      stops = stops_none c.args.parity point;
+    }
 
 pub loop-write-preserved : goal.loop-write-preserved
 unfolding no_write
@@ -36,6 +41,9 @@ loop-write-preserved g c =
       wrote = wrote_more c.args.rows.now c.args.writes.now c.loop-write.write-index write before mid after
           (c.loop-write-test.true, get_or_default c.args.writes.now c.loop-write.write-index write no_write c.loop-write-test.true)
           c.loop-write.invariant.wrote c.write_column.ensures;
+      below = λ width inside out.
+          below_by_write c.args.rows.now write mid after width c.write_column.ensures
+          (inside c.loop-write.write-index no_write c.loop-write-test.true) (c.loop-write.invariant.below width inside out);
       stops = stops_then c.args.parity before mid after c.loop-write.invariant.stops
           (omega (arith, c.if-len-parity.false, c.len.ensures.value))
           (omega (arith, one_by_write c.args.rows.now write mid after c.write_column.ensures, c.if-len-parity.false, c.len.ensures.value));
