@@ -168,6 +168,7 @@ pub fn commit<B: Bank>(
     requires fits { FitsBank uber.old entries.now out.old (B.disk bank.old) }
     ensures same { uber.new ≡ record uber.old { out = uber.new.out } }
     ensures right { IsRightUber uber.new }
+    ensures below { out.new < 2 ^ uber.old.reflow.to }
     ensures ok { OnOk result (count_of out.new ≤ uber.old.parity) }
     ensures err { OnErr result (uber.old.parity < count_of out.new) }
     ensures gone { HaveGoneOut (point_of out.old (B.disk bank.old)) uber.new.out
