@@ -1,20 +1,20 @@
 -- The chosen group may be copied to the devices that lack it.
-use Rattle.std.proofs.Common.{◌≡◌, ◌≢◌, ◌⊎◌, inl, inr, ⊎_elim, ℕ, ◌+◌, ◌*◌, ◌%◌, ◌<◌, ◌≤◌, List, [], ◌∷◌, length, Bool, true, false, Option, Some, None, refl, sym, ◌∙◌, ap, subst, arith}
+use Rattle.std.proofs.Common.{◌≡◌, ◌≢◌, ◌⊎◌, inl, inr, ⊎_elim, ℕ, ◌+◌, ◌*◌, ◌<◌, ◌≤◌, List, [], ◌∷◌, Bool, true, false, Option, Some, None, refl, sym, ◌∙◌, ap, subst, arith}
 use Rattle.std.specs.Prelude.{Contains, IsSome, take, drop, unwrap_or}
 use Rattle.std.proofs.lemmas.Bool.{cases_eq}
-use Rattle.bank_trait.specs.Disk.{Image, Disk, Lawful, Unchanged}
+use Rattle.bank_trait.specs.Disk.{Disk, Lawful, Unchanged}
 use Rattle.bank_trait.specs.Regions.{Tells}
 use Rattle.block_record.specs.declared.entry.IndexEntry.{IndexEntry}
 use Rattle.block_record.specs.Page.{page_sectors, index_page}
 use Rattle.uberblock_ring.specs.Devices.{has_device}
-use Rattle.uberblock_ring.specs.Uberblock.{Uber, encoded, slot_of, area_sector}
+use Rattle.uberblock_ring.specs.Uberblock.{Uber, slot_of, area_sector}
 use Rattle.uberblock_ring.specs.Valid.{AreAlike}
 use Rattle.core_state.specs.Shown.{Shape, Gives, IsCandidate}
 use Rattle.core_state.specs.Choosing.{IsChosen}
-use Rattle.core_state.specs.Keeps.{Kept, Setting, IsNextOf}
+use Rattle.core_state.specs.Keeps.{Kept, Setting}
 use Rattle.core_state.specs.Collision.{HasNoOtherPage}
 use Rattle.core_state.specs.Certain.{SlotOn, Knows}
-use Rattle.core_state.specs.Committing.{Point, page_part}
+use Rattle.core_state.specs.Committing.{Point}
 use Rattle.core_state.proofs.Calls.{true_false}
 use Rattle.core_state.proofs.Frames.{Nowhere, none_lost, unchanged_frames}
 use Rattle.core_state.proofs.Knowing.{present, knows_frame, certain_frame}

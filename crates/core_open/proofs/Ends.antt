@@ -1,5 +1,5 @@
 -- What an opening keeps, from the calls that it made.
-use Rattle.std.proofs.Common.{◌≡◌, ◌⊎◌, inl, inr, ⊎_elim, ℕ, zero, suc, ◌+◌, ◌^◌, ◌<◌, ◌≤◌, List, [], ◌∷◌, ◌++◌, length, Bool, true, false, Some, Result, Ok, Err, refl, sym, ◌∙◌, ap, subst, arith}
+use Rattle.std.proofs.Common.{◌≡◌, ⊎_elim, ℕ, zero, suc, ◌+◌, ◌^◌, ◌<◌, ◌≤◌, List, [], ◌∷◌, ◌++◌, Bool, true, false, Some, Result, Ok, refl, sym, ◌∙◌, ap, subst, arith, append_assoc}
 use Rattle.std.specs.Prelude.{Contains, ◌&&◌, unwrap_or}
 use Rattle.std.proofs.lemmas.Bool.{cases_lt}
 use Rattle.bank_trait.specs.Disk.{Image, Disk, Lawful, Unchanged}
@@ -7,27 +7,29 @@ use Rattle.bank_trait.specs.Regions.{Tells}
 use Rattle.block_record.specs.declared.entry.IndexEntry.{IndexEntry}
 use Rattle.uberblock_ring.specs.Devices.{has_device, count_below, IsWithin}
 use Rattle.uberblock_ring.specs.Uberblock.{Uber}
-use Rattle.uberblock_ring.specs.Valid.{IsRightUber, AreAlike}
+use Rattle.uberblock_ring.specs.Valid.{IsRightUber}
 use Rattle.core_state.specs.Shown.{Shape}
 use Rattle.core_state.specs.Choosing.{IsChosen}
-use Rattle.core_state.specs.Keeps.{Kept, Setting, IsKept, IsNextOf, Renews, SameGroup}
+use Rattle.core_state.specs.Keeps.{Kept, Setting, IsKept, Renews}
 use Rattle.core_state.specs.Collision.{HasNoOtherPage}
-use Rattle.core_state.specs.Certain.{IsSound, Knows}
+use Rattle.core_state.specs.Certain.{Knows}
 use Rattle.core_state.specs.Committing.{Point}
 use Rattle.core_state.specs.Moment.{IsRowOf, KeepsSince}
 use Rattle.core_state.proofs.Calls.{true_false}
 use Rattle.core_state.proofs.Finding.{keeps_know}
 use Rattle.core_state.proofs.Frames.{Nowhere, none_lost, unchanged_frames}
 use Rattle.core_state.proofs.Knowing.{present, knows_frame}
-use Rattle.core_state.proofs.Listed.{contains_head, contains_cases, contains_none}
+use Rattle.core_state.proofs.Listed.{contains_cases, contains_none}
 use Rattle.core_state.proofs.Since.{since_now, since_more}
-use Rattle.core_state.proofs.Chosen.{chosen_held, chosen_same, chosen_sound, chosen_next}
+use Rattle.core_state.proofs.Chosen.{chosen_held, chosen_group, chosen_same, chosen_sound, chosen_next}
 use Rattle.core_commit.specs.declared.committing.TooManyOut.{TooManyOut}
-use Rattle.core_commit.specs.Copies.{Copied, MayCopy, HasCopy, IsInUse}
+use Rattle.core_commit.specs.Copies.{Copied, MayCopy}
+use Rattle.core_open.specs.Causes.{IsShownChoice}
 use Rattle.core_open.specs.Holds.{HoldsImage, shape_of}
-use Rattle.core_open.specs.Opens.{MayOpen, IsWithinBelow, AddsOne, HasSpread, HasRenewed, renewed_by, every_device}
-use Rattle.core_open.proofs.ChosenCopies.{AreRead, told_bytes, copied, may_copy, chosen_to}
-use Rattle.core_open.proofs.Renewing.{IsCopied, Joins, find_number, joins_fresh, joins_listed, fresh, fresh_renews, may_renew, knows_next, next_same, next_listed, renewed_right, row_of_rest, row_of_next, parts}
+use Rattle.core_open.specs.Opens.{MayOpen, IsWithinBelow, AddsOne, HasOpened, HasSpread, renewed_by, every_device}
+use Rattle.core_open.proofs.ChosenCopies.{AreRead, told_bytes, may_copy}
+use Rattle.core_open.proofs.Joining.{since_longer, certain_alone}
+use Rattle.core_open.proofs.Renewing.{IsCopied, Joins, find_number, joins_fresh, joins_listed, fresh, fresh_renews, may_renew, knows_next, next_same, next_listed, row_of_rest, parts}
 
 -- A bank that tells what it holds holds what is read.
 pub present_held : (disk : Disk) → Tells disk → HoldsImage disk (present disk)
@@ -86,6 +88,10 @@ module _ (setting : Setting) (first : Kept) (later : List Kept) (old : Disk)
 
   abbrev kept : Kept
   kept = held.0.kept
+
+  -- It is of one width with the first.
+  pub parity_is : uber.parity ≡ first.uber.parity
+  parity_is = ap (λ (u : Uber). u.parity) held.0.alike ∙ (may.width kept held.0.listed).1
 
   abbrev group_copied_first : Copied
   group_copied_first = record { setting = setting; first = first; later = later; kept = kept; map = kept.map }
@@ -151,11 +157,21 @@ module _ (setting : Setting) (first : Kept) (later : List Kept) (old : Disk)
       pub front : List Kept
       pub joins : Joins setting first later kept uber entries mid is_copied next joined front
       pub adds : AddsOne (first ∷ later) joined
+      pub more : List Kept
+      pub at_most : joined ++ more ≡ next ∷ []
 
     next_is : NextIs
     next_is = ⊎_elim
         (λ there. let joins = joins_listed setting first later kept uber entries mid is_copied there.0 there.1 there.2 in
-        record { next = there.0; joined = []; front = joins.0; joins = joins.1; adds = adds_none })
+        record {
+          next = there.0;
+          joined = [];
+          front = joins.0;
+          joins = joins.1;
+          adds = adds_none;
+          more = there.0 ∷ [];
+          at_most = refl;
+        })
         (λ none. record {
           next = fresh setting first later kept uber entries mid is_copied;
           joined = fresh setting first later kept uber entries mid is_copied ∷ [];
@@ -172,6 +188,8 @@ module _ (setting : Setting) (first : Kept) (later : List Kept) (old : Disk)
                   (contains_cases (fresh setting first later kept uber entries mid is_copied) [] next has),
             );
           };
+          more = [];
+          at_most = refl;
         })
         (find_number (parts setting first later kept uber entries mid is_copied).1 (uber.group + 2))
 
@@ -190,34 +208,50 @@ module _ (setting : Setting) (first : Kept) (later : List Kept) (old : Disk)
 
     module _ (after : Point) (result : Result (Unit {0}) TooManyOut)
         (renews : HasSpread (renewed_by uber mid.out) entries 0 every_device mid after result) where
+      since_next : KeepsSince setting ((first ∷ later) ++ next_is.joined) old.clock after.disk
+      since_next = renews.keeps.since group_renewed ((first ∷ later) ++ next_is.joined) old.clock may_next
+          (row_of_rest setting first later kept uber entries mid is_copied next_is.next next_is.joined next_is.front
+          next_is.joins)
+          (since_mid mid (Ok value) spread next_is.joined)
+
       -- An opening that came so far, whether it ended or not.
       pub since_renewed : (joined : List Kept) × AddsOne (first ∷ later) joined
           × KeepsSince setting ((first ∷ later) ++ joined) old.clock after.disk
-      since_renewed = (
-        next_is.joined,
-        next_is.adds,
-        renews.keeps.since group_renewed ((first ∷ later) ++ next_is.joined) old.clock may_next
-            (row_of_rest setting first later kept uber entries mid is_copied next_is.next next_is.joined next_is.front
-            next_is.joins)
-            (since_mid mid (Ok value) spread next_is.joined),
-      )
+      since_renewed = (next_is.joined, next_is.adds, since_next)
 
     -- One that ended.
     pub opened_next : (after : Point) (value_after : Unit {0})
         → HasSpread (renewed_by uber mid.out) entries 0 every_device mid after (Ok value_after)
         → IsWithin after.out setting.failed
-        → (chosen : Kept) × (next : Kept) × Contains (first ∷ later) chosen × Renews chosen next
-        × AreAlike (renewed_by uber mid.out) next.uber × (entries ≡ next.entries) × Knows setting next [] after.disk
-    opened_next after value_after renews within_after =
+        → ((image : Image) → HoldsImage old image
+        → (shown : IsShownChoice old after.disk image) × (shown.uber.group ≡ uber.group))
+        → HasOpened setting first later (renewed_by uber mid.out) entries old after.disk
+    opened_next after value_after renews within_after shown =
         let same_next = next_same setting first later kept uber entries mid is_copied next_is.next next_is.joined
-        next_is.front next_is.joins in (
-          kept,
-          next_is.next,
-          held.0.listed,
-          next_is.joins.renews,
-          sym same_next.alike,
-          sym same_next.entries,
-          knows_next setting first later kept uber entries mid is_copied next_is.next next_is.joined next_is.front
-              next_is.joins after within_after (renews.keeps.stays group_renewed may_next).knows
-              (λ on in_use. renews.keeps.done group_renewed may_next on in_use),
-        )
+        next_is.front next_is.joins in
+        let stays = renews.keeps.stays group_renewed may_next in
+        record {
+          chosen = kept;
+          listed = held.0.listed;
+          next = next_is.next;
+          renews = next_is.joins.renews;
+          alike = sym same_next.alike;
+          entries_are = sym same_next.entries;
+          knows = knows_next setting first later kept uber entries mid is_copied next_is.next next_is.joined
+              next_is.front next_is.joins after within_after stays.knows
+              (λ on in_use. renews.keeps.done group_renewed may_next on in_use);
+          known = certain_alone setting after.disk (kept ∷ group_renewed.later) (renewed_by uber mid.out) next_is.next
+              next_is.joins.row.ascending
+              (next_listed setting first later kept uber entries mid is_copied next_is.next next_is.joined next_is.front
+              next_is.joins) (sym same_next.alike) stays.known;
+          since = subst (λ (g : List Kept). KeepsSince setting g old.clock after.disk)
+              (append_assoc (first ∷ later) next_is.joined next_is.more
+              ∙ ap (λ (g : List Kept). (first ∷ later) ++ g) next_is.at_most)
+              (since_longer setting ((first ∷ later) ++ next_is.joined) next_is.more old.clock after.disk
+              (since_next after (Ok value_after) renews));
+          choice = λ image holds. (
+            (shown image holds).0,
+            (shown image holds).1
+                ∙ chosen_group setting first later old knows lawful silent within no_other device uber entries chosen,
+          );
+        }

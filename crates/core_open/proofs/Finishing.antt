@@ -1,289 +1,63 @@
 -- What an opening promises, from what was found and what was done with it.
-use Rattle.std.proofs.Common.{◌≡◌, ◌≢◌, ◌⊎◌, inl, inr, ⊎_elim, ℕ, ◌+◌, ◌^◌, ◌<◌, ◌≤◌, List, [], ◌∷◌, ◌++◌, length, Bool, true, false, Some, Result, Ok, Err, refl, sym, ◌∙◌, ap, subst, arith}
-use Rattle.std.specs.Prelude.{Contains, IfOk, IfErr}
-use Rattle.std.proofs.lemmas.Bool.{cases_lt}
-use Rattle.bank_trait.specs.Causes.{Rose}
+use Rattle.std.proofs.Common.{◌≡◌, ◌⊎◌, inl, inr, ℕ, ◌+◌, ◌^◌, ◌<◌, ◌≤◌, List, Bool, true, false, Result, Ok, Err, refl, sym, ◌∙◌, ap, subst, arith}
+use Rattle.std.specs.Prelude.{IfOk, IfErr}
 use Rattle.bank_trait.specs.Disk.{Image, Disk, Lawful, Later, Unchanged}
-use Rattle.bank_trait.specs.Regions.{Tells}
 use Rattle.bank_trait.proofs.Moments.{later_trans}
 use Rattle.block_record.specs.declared.entry.IndexEntry.{IndexEntry}
 use Rattle.uberblock_ring.specs.Devices.{has_device, count_of, IsWithin}
 use Rattle.uberblock_ring.specs.Uberblock.{Uber}
-use Rattle.uberblock_ring.specs.Valid.{IsRightUber, AreAlike}
-use Rattle.uberblock_ring.proofs.DeviceSets.{none_above}
-use Rattle.core_state.specs.Map.{no_blocks}
-use Rattle.core_state.specs.Shown.{Shape, Gives, IsCandidate}
-use Rattle.core_state.specs.Choosing.{IsChosen, IsOutAtOpening}
-use Rattle.core_state.specs.Keeps.{Kept, Setting}
-use Rattle.core_state.specs.Certain.{Knows}
-use Rattle.core_state.specs.Committing.{Point}
-use Rattle.core_state.specs.Moment.{IsRowOf}
+use Rattle.uberblock_ring.specs.Valid.{IsRightUber}
 use Rattle.core_state.proofs.Calls.{true_false}
 use Rattle.core_state.proofs.Fresh.{none_in}
-use Rattle.core_state.proofs.Finding.{keeps_know}
-use Rattle.core_state.proofs.Frames.{Nowhere, none_lost, unchanged_frames}
-use Rattle.core_state.proofs.Knowing.{present, knows_frame}
-use Rattle.core_state.proofs.Listed.{contains_none}
-use Rattle.core_state.proofs.Since.{since_now, since_more}
-use Rattle.core_commit.specs.declared.committing.TooManyOut.{TooManyOut}
-use Rattle.core_commit.specs.Copies.{IsInUse}
 use Rattle.core_commit.specs.Ran.{point_of}
 use Rattle.core_commit.specs.Spared.{Spares}
-use Rattle.core_commit.proofs.Going.{rose_wider, in_use_before}
+use Rattle.core_commit.proofs.Going.{in_use_before}
 use Rattle.core_open.specs.declared.finding.Found.{Found}
 use Rattle.core_open.specs.declared.opening.Opened.{Opened}
 use Rattle.core_open.specs.declared.why.OpenWhy.{OpenWhy}
 use Rattle.core_open.specs.declared.why.OpenWhy.TheVariants as reason
 use Rattle.core_open.specs.Candidates.{IsIndexFor}
-use Rattle.core_open.specs.Causes.{IsShownChoice, AreTooMany, AreOutOf, IsOpenCause}
-use Rattle.core_open.specs.Failing.{HaveFailed, HaveFailedSince}
+use Rattle.core_open.specs.Causes.{AreTooMany, AreOutOf, IsOpenCause}
+use Rattle.core_open.specs.Failing.{HaveFailed}
 use Rattle.core_open.specs.Finding.{IsFoundIn, FitsOpening}
 use Rattle.core_open.specs.Holds.{HoldsImage, shape_of}
-use Rattle.core_open.specs.Opens.{MayOpen, IsWithinBelow, AddsOne, OpeningKeeps, CutKeeps, IsOpenedWith, HasRenewed, StopsCopying, StopsRenewing, HasSpread, renewed_by, every_device}
-use Rattle.core_open.specs.OpensFound.{WritesFound, RefusesFound, OpensFound}
-use Rattle.core_open.proofs.ChosenCopies.{AreRead}
-use Rattle.core_open.proofs.Ends.{present_held, since_copied, since_renewed, opened_next}
+use Rattle.core_open.specs.Opens.{OpeningKeeps, CutKeeps, LeavesBank, HasBank, IsOpenedWith, StopsCopying, StopsRenewing, renewed_by}
+use Rattle.core_open.specs.OpensFound.{WritesFound, OpensFound}
 use Rattle.core_open.proofs.Renewal.{right_with}
-use Rattle.core_open.proofs.Unchanged.{unchanged_then, holds_then}
+use Rattle.core_open.proofs.Unchanged.{unchanged_then}
+use Rattle.core_open.proofs.Written.{unchanged_cut, none_listed, silent_now, choice, limit_caused, many_caused, went_spread, went_renewed, out_caused, many_gone, keeps_copied, keeps_renewed, kept_renewed, few_renewed}
 
--- Reads alone keep what was kept.
-pub unchanged_keeps : (silent earlier : ℕ) (old new : Disk) → Lawful old → Unchanged old new
-    → OpeningKeeps silent earlier old new
-unchanged_keeps silent earlier old new lawful same = record {
-  since = λ setting first later may within all.
-      let knows : Knows setting first later old = keeps_know setting first later old lawful may.keeps in
-      let row : IsRowOf ((first ∷ later) ++ []) first later = record { before = []; after = []; row = refl } in (
-        [],
-        record { one = omega arith; renews = λ next has. absurd (contains_none next has) },
-        since_more setting ((first ∷ later) ++ []) old.clock first later old new row same.goes_on
-            (knows_frame Nowhere none_lost setting first later old new lawful (unchanged_frames same)
-            (λ d x nowhere. absurd nowhere) knows)
-            (since_now setting ((first ∷ later) ++ []) first later old row knows),
-      );
-}
+within_trans : (one two three : ℕ) → IsWithin one two → IsWithin two three → IsWithin one three
+within_trans one two three first next device has = next device (first device has)
 
--- An opening that only read was cut short.
-pub unchanged_cut : (why : OpenWhy) (old new : Disk) → Lawful old → Unchanged old new → CutKeeps why old new
-unchanged_cut why old new lawful same = record {
-  silent = 0;
-  failed = λ device has. absurd (true_false (sym has ∙ none_in device));
-  earlier = 0;
-  told = λ device has. absurd (true_false (sym has ∙ none_in device));
-  keeps = unchanged_keeps 0 0 old new lawful same;
-}
-
-module _ (found : Found) (old mid new : Disk) (lawful : Lawful old) (same_found : Unchanged old mid)
-    (found_in : (image : Image) → HoldsImage old image → IsFoundIn (shape_of old) image found)
-    (right : IsRightUber found.uber) (silent_failed : HaveFailed old mid found.silent)
-    (fits : FitsOpening mid found) (later_all : Later mid new) where
-  rose_on : (device : ℕ) → Rose (old.faults device) (mid.faults device)
-      → Rose (old.faults device) (new.faults device)
-  rose_on device rose = rose_wider (old.faults device) (old.faults device) (mid.faults device) (new.faults device)
-      (omega arith) rose (later_all.faults device)
-
-  silent_now : HaveFailed old new found.silent
-  silent_now device has = ((silent_failed device has).0, rose_on device (silent_failed device has).1)
-
-  abbrev choice : (image : Image) → HoldsImage old image → IsShownChoice old new image
-  choice image holds = record {
-    silent = found.silent;
-    failed = silent_now;
-    device = found.device;
-    uber = found.uber;
-    entries = found.entries.items;
-    chosen = (found_in image holds).chosen;
-  }
-
-  -- A device that was out when the writes began was found so, or failed.
-  out_found : (image : Image) → HoldsImage old image → (device : ℕ) → has_device found.out device ≡ true
-      → IsOutAtOpening (shape_of old) found.silent image found.uber device
-  out_found image holds device has = ((found_in image holds).out no_blocks device).0 has
-
-  -- No group can be numbered two more.
-  pub limit_caused : 2 ^ 62 < found.uber.group + 2 → (image : Image) → HoldsImage old image
-      → (shown : IsShownChoice old new image) × (2 ^ 62 < shown.uber.group + 2)
-  limit_caused high image holds = (choice image holds, high)
-
-  -- Too many were found to be out.
-  pub many_caused : found.uber.parity < count_of found.out → (image : Image) → HoldsImage old image
-      → AreTooMany old new image found.out
-  many_caused many image holds = record {
-    choice = choice image holds;
-    many = many;
-    each = λ device has. inl (out_found image holds device has);
-  }
-
-  module _ (out : ℕ) (result : Result Uber OpenWhy) (writes : WritesFound found mid new out result) where
-    abbrev before : Point
-    before = point_of writes.asked_out writes.asked
-
-    same_asked : Unchanged old writes.asked
-    same_asked = unchanged_then same_found writes.same
-
-    shapes : shape_of mid ≡ shape_of old
-    shapes = ap (λ (n : ℕ). record { devices = n; sectors = mid.sectors }) same_found.goes_on.later.devices
-        ∙ ap (λ (n : ℕ). record { devices = old.devices; sectors = n }) same_found.goes_on.later.sectors
-
-    found_used : (device : ℕ) → has_device writes.asked_out device ≡ false → has_device found.out device ≡ false
-    found_used device used = by (has_device found.out device) refl
-      where
-        by : (b : Bool) → has_device found.out device ≡ b → has_device found.out device ≡ false
-        by false none = none
-        by true gone = absurd (true_false (sym (writes.stay device gone) ∙ used))
-
-    -- Of a bank that tells what it holds this was read.
-    are_read : Tells old → AreRead (shape_of old) found.silent old found.uber found.entries.items writes.lack_page
-        found.lacks_uber before
-    are_read tells =
-        let holds = present_held old tells in
-        let facts = found_in (present old) holds in
-        record {
-          inside = λ on in_use. let low = fits.devices on in_use.0 (found_used on in_use.1) in
-              let same = same_found.goes_on.later.devices in omega (arith, low, same);
-          room = (let room = fits.room in let same = same_found.goes_on.later.sectors in omega (arith, room, same));
-          lacks = λ on in_use lacks gives. (writes.lacking.lack on lacks).none (present old)
-              (holds_then same_found holds)
-              (subst (λ (s : Shape). Gives s (present old) found.uber found.entries.items on) (sym shapes) gives);
-          gives = λ on part bytes in_use has low is. (writes.lacking.give on in_use.0 in_use.1 has).parts part bytes low
-              (same_found.reads on _ ∙ is);
-          none = λ on twin listed in_use lacks. (((facts.lacks_uber no_blocks) on).0 lacks).2 twin listed;
-          shows = λ on in_use has. facts.shows on in_use.0 (found_used on in_use.1) has;
-        }
-
-    -- The chosen uberblock lists none as out that isn't.
-    lists : Tells old → IsWithin found.uber.out writes.asked_out
-    lists tells device listed = writes.stay device
-        ((((found_in (present old) (present_held old tells)).out no_blocks) device).1 (
-          below,
-          inl (record {
-            other = found.device;
-            reads = (found_in (present old) (present_held old tells)).chosen.reads;
-            twin = found.uber;
-            entries = found.entries.items;
-            candidate = (found_in (present old) (present_held old tells)).chosen.candidate;
-            group = refl;
-            out = listed;
-          }),
-        ))
-      where
-        below : device < found.uber.reflow.to
-        below = ⊎_elim (λ less. less)
-            (λ above. absurd (true_false (sym listed ∙ none_above found.uber.out found.uber.reflow.to device right.out.0 above)))
-            (cases_lt device found.uber.reflow.to)
-
-    -- The writes go on in time, and who is out after them was before, or failed.
-    record Went (to : Disk) (out_to : ℕ) : Type 0 where
-      pub later : Later writes.asked to
-      pub each : (device : ℕ) → has_device out_to device ≡ true
-          → (has_device writes.asked_out device ≡ true)
-          ⊎ Rose (writes.asked.faults device) (to.faults device)
-
-    went_spread : (after : Point) (ended : Result (Unit {0}) TooManyOut)
-        → HasSpread found.uber found.entries.items writes.lack_page found.lacks_uber before after ended
-        → Went after.disk after.out
-    went_spread after ended spread = record { later = spread.spares.later; each = spread.gone.each }
-
-    went_renewed : (renewed : Uber) (after : Point) (ended : Result (Unit {0}) TooManyOut)
-        → HasRenewed found.uber found.entries.items writes.lack_page found.lacks_uber before renewed after ended
-        → Went after.disk after.out
-    went_renewed renewed after ended ran =
-        let first = went_spread ran.mid (Ok ran.value) ran.copied in
-        record {
-          later = later_trans first.later ran.spread.spares.later;
-          each = λ device has. ⊎_elim
-              (λ was. ⊎_elim (λ asked. inl asked)
-              (λ rose. inr (rose_wider (writes.asked.faults device) (writes.asked.faults device)
-              (ran.mid.disk.faults device) (after.disk.faults device) (omega arith) rose
-              (ran.spread.spares.later.faults device)))
-              (first.each device was))
-              (λ rose. inr (rose_wider (writes.asked.faults device) (ran.mid.disk.faults device)
-              (after.disk.faults device) (after.disk.faults device) (first.later.faults device) rose (omega arith)))
-              (ran.spread.gone.each device has);
-        }
-
-    -- Whoever is out was found so, or failed in this call.
-    out_caused : Went new out → (image : Image) → HoldsImage old image → (device : ℕ)
-        → has_device out device ≡ true
-        → IsOutAtOpening (shape_of old) found.silent image found.uber device
-        ⊎ Rose (old.faults device) (new.faults device)
-    out_caused went image holds device has = ⊎_elim
-        (λ asked. ⊎_elim (λ was. inl (out_found image holds device was))
-        (λ failed. inr (rose_wider (old.faults device) (mid.faults device) (writes.asked.faults device)
-        (new.faults device) (same_found.goes_on.later.faults device) failed.1 (went.later.faults device)))
-        (writes.gone device asked))
-        (λ rose. inr (rose_wider (old.faults device) (writes.asked.faults device) (new.faults device)
-        (new.faults device) (same_asked.goes_on.later.faults device) rose (omega arith)))
-        (went.each device has)
-
-    many_gone : Went new out → found.uber.parity < count_of out → (image : Image) → HoldsImage old image
-        → AreTooMany old new image out
-    many_gone went many image holds = record {
-      choice = choice image holds;
-      many = many;
-      each = λ device has. out_caused went image holds device has;
-    }
-
-    -- An opening that stopped among its copies,
-    keeps_copied : (ended : Result (Unit {0}) TooManyOut)
-        → HasSpread found.uber found.entries.items writes.lack_page found.lacks_uber before (point_of out new) ended
-        → OpeningKeeps found.silent 0 old new
-    keeps_copied ended spread = record {
-      since = λ setting first later may within all. since_copied setting first later old may lawful before same_asked
-          found.silent found.device found.uber found.entries.items
-          (found_in (present old) (present_held old may.tells)).chosen writes.lack_page found.lacks_uber
-          (are_read may.tells) right within (point_of out new) ended spread;
-    }
-
-    -- or after them,
-    keeps_renewed : (renewed : Uber) (ended : Result (Unit {0}) TooManyOut)
-        → (ran : HasRenewed found.uber found.entries.items writes.lack_page found.lacks_uber before renewed
-        (point_of out new) ended)
-        → OpeningKeeps found.silent ran.mid.out old new
-    keeps_renewed renewed ended ran = record {
-      since = λ setting first later may within all. since_renewed setting first later old may lawful before same_asked
-          found.silent found.device found.uber found.entries.items
-          (found_in (present old) (present_held old may.tells)).chosen writes.lack_page found.lacks_uber
-          (are_read may.tells) right within ran.mid ran.value ran.copied all (lists may.tells) ran.few writes.limit
-          (point_of out new) ended
-          (subst (λ (u : Uber). HasSpread u found.entries.items 0 every_device ran.mid (point_of out new) ended)
-          ran.renewed_is ran.spread);
-    }
-
-    -- and one that ended.
-    kept_renewed : (renewed : Uber) (value : Unit {0})
-        → HasRenewed found.uber found.entries.items writes.lack_page found.lacks_uber before renewed
-        (point_of out new) (Ok value)
-        → IsOpenedWith renewed found.entries.items found.silent out old new
-    kept_renewed renewed value ran = record {
-      kept = λ setting first later may within all.
-          let opened = opened_next setting first later old may lawful before same_asked
-          found.silent found.device found.uber found.entries.items
-          (found_in (present old) (present_held old may.tells)).chosen writes.lack_page found.lacks_uber
-          (are_read may.tells) right within ran.mid ran.value ran.copied
-          (λ device has. all device (ran.spread.gone.stay device has)) (lists may.tells) ran.few writes.limit
-          (point_of out new) value
-          (subst (λ (u : Uber). HasSpread u found.entries.items 0 every_device ran.mid (point_of out new) (Ok value))
-          ran.renewed_is ran.spread) all in (
-            opened.0,
-            opened.1,
-            opened.2,
-            opened.3,
-            ap (λ (u : Uber). record u { out = 0 }) ran.renewed_is ∙ opened.4,
-            opened.5,
-            opened.6,
-          );
-    }
+-- A device that isn't in a set wasn't in a smaller one.
+still : (before after device : ℕ) → IsWithin before after → has_device after device ≡ false
+    → has_device before device ≡ false
+still before after device within used = by (has_device before device) refl
+  where
+    by : (b : Bool) → has_device before device ≡ b → has_device before device ≡ false
+    by false none = none
+    by true gone = absurd (true_false (sym (within device gone) ∙ used))
 
 -- What is known of a pool that was opened.
 pub record IsOpen (old new : Disk) (opened : Opened) : Type 0 where
   pub right : IsRightUber opened.uber
   pub index : IsIndexFor opened.uber opened.entries.items
   pub few : count_of opened.out ≤ opened.uber.parity
+  pub below : opened.out < 2 ^ opened.uber.reflow.to
+  pub bank : HasBank opened.uber opened.out new
+  pub group : 3 ≤ opened.uber.group
   pub silent : HaveFailed old new opened.silent
   pub out : AreOutOf old new opened.uber.out opened.out
   pub spares : Spares (point_of opened.out old) (point_of opened.out new)
   pub kept : IsOpenedWith opened.uber opened.entries.items opened.silent opened.out old new
   pub since : OpeningKeeps opened.silent opened.uber.out old new
+
+-- What is known of a pool that wasn't.
+pub record IsRefused (old new : Disk) (why : OpenWhy) : Type 0 where
+  pub cause : IsOpenCause old new why
+  pub cut : CutKeeps why old new
+  pub untouched : LeavesBank why old new
 
 module _ (found : Found) (old mid new : Disk) (lawful : Lawful old) (same_found : Unchanged old mid)
     (found_in : (image : Image) → HoldsImage old image → IsFoundIn (shape_of old) image found)
@@ -304,6 +78,19 @@ module _ (found : Found) (old mid new : Disk) (lawful : Lawful old) (same_found 
         };
       })
 
+  -- The bank has what the pool needs of it, but for devices that went out.
+  bank_renewed : (uber : Uber) (out listed : ℕ) → uber ≡ renewed_by found.uber listed → IsWithin found.out out
+      → Later mid new
+      → HasBank uber out new
+  bank_renewed uber out listed is stay later = record {
+    room = (let rows : uber.reflow.rows ≡ found.uber.reflow.rows = ap (λ (u : Uber). u.reflow.rows) is in
+        let room = fits.room in let sectors = later.sectors in omega (arith, room, rows, sectors));
+    devices = λ device below used.
+        let wide : uber.reflow.to ≡ found.uber.reflow.to = ap (λ (u : Uber). u.reflow.to) is in
+        let low = fits.devices device (omega (arith, below, wide)) (still found.out out device stay used) in
+        let devices = later.devices in omega (arith, low, devices);
+  }
+
   opened_is : (opened : Opened) → IsIndexFor found.uber found.entries.items → OpensFound found mid new (Ok opened)
       → IsOpen old new opened
   opened_is opened index (entries_is, silent_is, writes) =
@@ -320,11 +107,18 @@ module _ (found : Found) (old mid new : Disk) (lawful : Lawful old) (same_found 
       let items = ap (λ v. v.items) entries_is in
       let out_is : opened.uber.out ≡ ran.mid.out = ap (λ (u : Uber). u.out) ran.renewed_is in
       let parity : opened.uber.parity ≡ found.uber.parity = ap (λ (u : Uber). u.parity) ran.renewed_is in
+      let wide : opened.uber.reflow.to ≡ found.uber.reflow.to = ap (λ (u : Uber). u.reflow.to) ran.renewed_is in
       record {
         right = right_with found.uber opened.uber ran.mid.out right ran.renewed_is writes.limit ran.few;
         index = subst (λ (es : List IndexEntry). IsIndexFor opened.uber es) (sym items)
             (index_renewed opened.uber ran.mid.out ran.renewed_is index);
         few = omega (arith, few, parity);
+        below = subst (λ (n : ℕ). opened.out < 2 ^ n) (sym wide) writes.below;
+        bank = bank_renewed opened.uber opened.out ran.mid.out ran.renewed_is
+            (within_trans found.out writes.asked_out opened.out writes.stay
+            (within_trans writes.asked_out ran.mid.out opened.out ran.copied.gone.stay ran.spread.gone.stay)) later;
+        group = (let number : opened.uber.group ≡ found.uber.group + 2 = ap (λ (u : Uber). u.group) ran.renewed_is in
+            let least = right.group.0 in omega (arith, number, least));
         silent = subst (λ (n : ℕ). HaveFailed old new n) (sym silent_is)
             (silent_now found old mid new lawful same_found found_in right silent_failed fits later);
         out = record {
@@ -353,71 +147,90 @@ module _ (found : Found) (old mid new : Disk) (lawful : Lawful old) (same_found 
 
   -- Too many went out among the writes.
   refused_writes : (out : ℕ) → WritesFound found mid new out (Err (reason.TooManyFailed out))
-      → IsOpenCause old new (reason.TooManyFailed out) × CutKeeps (reason.TooManyFailed out) old new
+      → IsRefused old new (reason.TooManyFailed out)
   refused_writes out writes = by writes.ends.2
     where
       by : StopsCopying found.uber found.entries.items writes.lack_page found.lacks_uber
           (point_of writes.asked_out writes.asked) (point_of out new)
           ⊎ StopsRenewing found.uber found.entries.items writes.lack_page found.lacks_uber
           (point_of writes.asked_out writes.asked) (point_of out new)
-          → IsOpenCause old new (reason.TooManyFailed out) × CutKeeps (reason.TooManyFailed out) old new
+          → IsRefused old new (reason.TooManyFailed out)
       by (inl stops) =
           let later = later_trans writes.same.goes_on.later stops.copied.spares.later in
           let went = went_spread found old mid new lawful same_found found_in right silent_failed fits later out
-          (Err (reason.TooManyFailed out)) writes (point_of out new) (Err stops.why) stops.copied in (
-            inr (many_gone found old mid new lawful same_found found_in right silent_failed fits later out
-                (Err (reason.TooManyFailed out)) writes went writes.ends.1),
-            record {
+          (Err (reason.TooManyFailed out)) writes (point_of out new) (Err stops.why) stops.copied in
+          record {
+            cause = inr (many_gone found old mid new lawful same_found found_in right silent_failed fits later out
+                (Err (reason.TooManyFailed out)) writes went writes.ends.1);
+            cut = record {
               silent = found.silent;
               failed = silent_now found old mid new lawful same_found found_in right silent_failed fits later;
               earlier = 0;
               told = λ device has. absurd (true_false (sym has ∙ none_in device));
+              few = λ setting first all may within. none_listed first.uber.parity;
+              each = λ image holds device has. absurd (true_false (sym has ∙ none_in device));
               keeps = keeps_copied found old mid new lawful same_found found_in right silent_failed fits later out
                   (Err (reason.TooManyFailed out)) writes (Err stops.why) stops.copied;
-            },
-          )
+            };
+            untouched = tt;
+          }
       by (inr stops) =
           let later = later_trans writes.same.goes_on.later
           (later_trans stops.ran.copied.spares.later stops.ran.spread.spares.later) in
           let went = went_renewed found old mid new lawful same_found found_in right silent_failed fits later out
-          (Err (reason.TooManyFailed out)) writes stops.renewed (point_of out new) (Err stops.why) stops.ran in (
-            inr (many_gone found old mid new lawful same_found found_in right silent_failed fits later out
-                (Err (reason.TooManyFailed out)) writes went writes.ends.1),
-            record {
+          (Err (reason.TooManyFailed out)) writes stops.renewed (point_of out new) (Err stops.why) stops.ran in
+          record {
+            cause = inr (many_gone found old mid new lawful same_found found_in right silent_failed fits later out
+                (Err (reason.TooManyFailed out)) writes went writes.ends.1);
+            cut = record {
               silent = found.silent;
               failed = silent_now found old mid new lawful same_found found_in right silent_failed fits later;
               earlier = stops.ran.mid.out;
               told = λ device has. (out, refl, stops.ran.spread.gone.stay device has);
+              few = few_renewed found old mid new lawful same_found found_in right silent_failed fits later out
+                  (Err (reason.TooManyFailed out)) writes stops.renewed (Err stops.why) stops.ran;
+              each = λ image holds device has. (
+                choice found old mid new lawful same_found found_in right silent_failed fits later image holds,
+                out_caused found old mid new lawful same_found found_in right silent_failed fits later out
+                    (Err (reason.TooManyFailed out)) writes went image holds device
+                    (stops.ran.spread.gone.stay device has),
+              );
               keeps = keeps_renewed found old mid new lawful same_found found_in right silent_failed fits later out
                   (Err (reason.TooManyFailed out)) writes stops.renewed (Err stops.why) stops.ran;
-            },
-          )
+            };
+            untouched = tt;
+          }
 
   -- A pool that was not opened.
   pub refused_promises : (why : OpenWhy) → OpensFound found mid new (Err why)
-      → IsOpenCause old new why × CutKeeps why old new
+      → IsRefused old new why
   refused_promises reason.NotPool refuses = absurd refuses
-  refused_promises (reason.Limit group) refuses = (
-    limit_caused found old mid new lawful same_found found_in right silent_failed fits refuses.0.goes_on.later refuses.1,
-    unchanged_cut (reason.Limit group) old new lawful (unchanged_then same_found refuses.0),
-  )
+  refused_promises (reason.Limit group) refuses =
+      let same = unchanged_then same_found refuses.0 in
+      record {
+        cause = limit_caused found old mid new lawful same_found found_in right silent_failed fits
+            refuses.0.goes_on.later refuses.1;
+        cut = unchanged_cut (reason.Limit group) old new lawful same;
+        untouched = same;
+      }
   refused_promises reason.NoMemory refuses =
-      (tt, unchanged_cut reason.NoMemory old new lawful (unchanged_then same_found refuses))
-  refused_promises (reason.TooManyFailed out) (inl read) = (
-    inr (subst (λ (n : ℕ). (image : Image) → HoldsImage old image → AreTooMany old new image n) (sym read.1)
+      let same = unchanged_then same_found refuses in
+      record { cause = tt; cut = unchanged_cut reason.NoMemory old new lawful same; untouched = same }
+  refused_promises (reason.TooManyFailed out) (inl read) = record {
+    cause = inr (subst (λ (n : ℕ). (image : Image) → HoldsImage old image → AreTooMany old new image n) (sym read.1)
         (many_caused found old mid new lawful same_found found_in right silent_failed fits read.0.goes_on.later
-        (subst (λ (n : ℕ). found.uber.parity < count_of n) read.1 read.2))),
-    unchanged_cut (reason.TooManyFailed out) old new lawful (unchanged_then same_found read.0),
-  )
+        (subst (λ (n : ℕ). found.uber.parity < count_of n) read.1 read.2)));
+    cut = unchanged_cut (reason.TooManyFailed out) old new lawful (unchanged_then same_found read.0);
+    untouched = tt;
+  }
   refused_promises (reason.TooManyFailed out) (inr writes) = refused_writes out writes
 
   -- Either way.
   pub promises : (result : Result Opened OpenWhy) → IsIndexFor found.uber found.entries.items
       → OpensFound found mid new result
-      → IfOk result (IsOpen old new) × IfErr result (IsOpenCause old new)
-      × IfErr result (λ why. CutKeeps why old new)
-  promises (Ok opened) index opens = (opened_is opened index opens, tt, tt)
-  promises (Err why) index opens = let refused = refused_promises why opens in (tt, refused.0, refused.1)
+      → IfOk result (IsOpen old new) × IfErr result (IsRefused old new)
+  promises (Ok opened) index opens = (opened_is opened index opens, tt)
+  promises (Err why) index opens = (tt, refused_promises why opens)
 
 -- One of the things that are known.
 pub known : {P : Opened → Type 0} {old new : Disk} (result : Result Opened OpenWhy)
@@ -426,6 +239,13 @@ pub known : {P : Opened → Type 0} {old new : Disk} (result : Result Opened Ope
     → IfOk result P
 known (Ok opened) tells told = tells opened told
 known (Err why) tells told = tt
+
+pub refused : {P : OpenWhy → Type 0} {old new : Disk} (result : Result Opened OpenWhy)
+    → ((why : OpenWhy) → IsRefused old new why → P why)
+    → IfErr result (IsRefused old new)
+    → IfErr result P
+refused (Ok opened) tells told = tt
+refused (Err why) tells told = tells why told
 
 -- The bank goes on to fit what was found.
 pub fits_then : (found : Found) (old mid : Disk) → Unchanged old mid → FitsOpening old found
@@ -447,14 +267,21 @@ pub opens_promises : {found : Found} {old mid : Disk} (new : Disk) (result : Res
     → FitsOpening old found
     → IsIndexFor found.uber found.entries.items
     → OpensFound found mid new result
-    → IfOk result (IsOpen old new) × IfErr result (IsOpenCause old new)
-    × IfErr result (λ why. CutKeeps why old new)
+    → IfOk result (IsOpen old new) × IfErr result (IsRefused old new)
 opens_promises {found} {old} {mid} new result lawful same found_in right silent fits index opens =
     promises found old mid new lawful same found_in right silent (fits_then found old mid same fits) result index
     opens
 
--- However it was refused, an opening that only read keeps what was kept.
+-- However it was refused, an opening that only read keeps what was kept, and leaves the bank.
 pub cut_all : (result : Result Opened OpenWhy) (old new : Disk) → Lawful old → Unchanged old new
     → IfErr result (λ why. CutKeeps why old new)
 cut_all (Ok opened) old new lawful same = tt
 cut_all (Err why) old new lawful same = unchanged_cut why old new lawful same
+
+pub untouched_all : (result : Result Opened OpenWhy) (old new : Disk) → Unchanged old new
+    → IfErr result (λ why. LeavesBank why old new)
+untouched_all (Ok opened) old new same = tt
+untouched_all (Err reason.NotPool) old new same = same
+untouched_all (Err (reason.TooManyFailed out)) old new same = tt
+untouched_all (Err (reason.Limit group)) old new same = same
+untouched_all (Err reason.NoMemory) old new same = same

@@ -20,6 +20,8 @@ pub mod SpanOrder
 pub mod Unchanged
 pub mod Voters
 pub mod Voting
+pub mod Joining
 pub mod Ends
 pub mod Renewal
+pub mod Written
 pub mod Finishing

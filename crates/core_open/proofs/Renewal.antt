@@ -1,5 +1,5 @@
 -- The writes of an opening, from its two runs of copies.
-use Rattle.std.proofs.Common.{◌≡◌, ◌⊎◌, inl, inr, ℕ, ◌+◌, ◌-◌, ◌^◌, ◌<◌, ◌≤◌, List, true, false, Result, Ok, Err, refl, sym, ◌∙◌, ap, subst, arith}
+use Rattle.std.proofs.Common.{◌≡◌, inl, inr, ℕ, ◌+◌, ◌-◌, ◌^◌, ◌<◌, ◌≤◌, List, true, false, Result, Ok, Err, refl, sym, ◌∙◌, ap, subst, arith}
 use Rattle.std.specs.Prelude.{is_err, OnOk, OnErr}
 use Rattle.block_record.specs.declared.entry.IndexEntry.{IndexEntry}
 use Rattle.uberblock_ring.specs.Devices.{count_below, count_of}
@@ -11,7 +11,7 @@ use Rattle.core_commit.specs.declared.committing.TooManyOut.{TooManyOut}
 use Rattle.core_commit.specs.Copies.{CopyKeeps}
 use Rattle.core_commit.specs.Spared.{HaveGoneOut, Spares}
 use Rattle.core_open.specs.declared.why.OpenWhy.TheVariants as reason
-use Rattle.core_open.specs.Opens.{HasSpread, HasRenewed, StopsCopying, StopsRenewing, EndsRenewal, renewed_by, every_device}
+use Rattle.core_open.specs.Opens.{HasSpread, HasRenewed, EndsRenewal, renewed_by, every_device}
 use Rattle.core_open.proofs.Renewing.{none_above_more}
 
 abbrev Copying : Type 0

@@ -1,22 +1,20 @@
 -- The group that an opening writes: two more than the chosen one, with its index page.
-use Rattle.std.proofs.Common.{◌≡◌, ◌≢◌, ◌⊎◌, inl, inr, ⊎_elim, ℕ, zero, suc, ◌+◌, ◌%◌, ◌^◌, ◌<◌, ◌≤◌, List, [], ◌∷◌, ◌++◌, length, Bool, true, false, Some, refl, sym, ◌∙◌, ap, subst, arith, append_assoc}
-use Rattle.std.specs.Prelude.{Contains, All, AllPairs, slice_index_or}
+use Rattle.std.proofs.Common.{◌≡◌, ◌≢◌, ◌⊎◌, inl, inr, ⊎_elim, ℕ, zero, suc, ◌+◌, ◌^◌, ◌<◌, ◌≤◌, List, [], ◌∷◌, ◌++◌, length, Bool, true, false, refl, sym, ◌∙◌, ap, subst, arith, append_assoc}
+use Rattle.std.specs.Prelude.{Contains, AllPairs, slice_index_or}
 use Rattle.std.proofs.lemmas.Bool.{cases_eq}
 use Rattle.std.proofs.lemmas.List.{append-nil, get_or_default}
 use Rattle.sha2.specs.Sha256.{sha256}
-use Rattle.bank_trait.specs.Disk.{Disk}
 use Rattle.width_map.specs.declared.birth.Birth.{Birth}
 use Rattle.width_map.specs.Births.{NoneAbove}
 use Rattle.block_record.specs.declared.entry.IndexEntry.{IndexEntry}
-use Rattle.block_record.specs.Page.{page_sectors, index_page, IsIndex}
+use Rattle.block_record.specs.Page.{index_page, IsIndex}
 use Rattle.uberblock_ring.specs.Devices.{has_device, count_below, IsWithin}
-use Rattle.uberblock_ring.specs.Uberblock.{Uber, slot_of, area_sector}
-use Rattle.uberblock_ring.specs.Valid.{IsRightUber, AreAlike}
-use Rattle.core_state.specs.Map.{SameMap}
+use Rattle.uberblock_ring.specs.Uberblock.{Uber}
+use Rattle.uberblock_ring.specs.Valid.{IsRightUber}
 use Rattle.core_state.specs.Index.{IsFitting, IsIndexOf}
 use Rattle.core_state.specs.Keeps.{Kept, Setting, IsNextOf, Renews, SameGroup}
-use Rattle.core_state.specs.Certain.{Asks, CellsOn, IsSound, IsCertain, IsRow, Knows, certain}
-use Rattle.core_state.specs.Committing.{Point, page_part}
+use Rattle.core_state.specs.Certain.{Asks, IsSound, IsCertain, IsRow, Knows}
+use Rattle.core_state.specs.Committing.{Point}
 use Rattle.core_state.specs.Moment.{IsRowOf}
 use Rattle.core_state.proofs.Calls.{true_false}
 use Rattle.core_state.proofs.Fresh.{none_in}
@@ -24,7 +22,7 @@ use Rattle.core_state.proofs.Keeping.{fitting_alike}
 use Rattle.core_state.proofs.Listed.{contains_head, contains_tail, contains_cases, contains_none}
 use Rattle.core_state.proofs.Moving.{asks_same, knows_move, knows_widen}
 use Rattle.core_state.proofs.Reader.{same_group}
-use Rattle.core_commit.specs.Copies.{Copied, group_copied, IsInUse, HasCopy, StaysKnown, MayCopy}
+use Rattle.core_commit.specs.Copies.{IsInUse, HasCopy, StaysKnown, MayCopy}
 use Rattle.core_commit.proofs.Rows.{IsBefore, last_alone, contains_front, contains_back}
 
 -- A list in two parts about one of its own.

@@ -1,5 +1,5 @@
 -- Runs of reads, which change nothing but counts of faults.
-use Rattle.std.proofs.Common.{◌≡◌, ℕ, List, refl, sym, ◌∙◌, subst, arith}
+use Rattle.std.proofs.Common.{◌≡◌, ℕ, List, refl, ◌∙◌, subst, arith}
 use Rattle.bank_trait.specs.Causes.{Rose}
 use Rattle.bank_trait.specs.Disk.{Image, Disk, Unchanged}
 use Rattle.bank_trait.proofs.Moments.{later_refl, later_trans}

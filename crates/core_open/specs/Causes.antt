@@ -21,12 +21,15 @@ pub record IsShownChoice (old new : Disk) (image : Image) : Type 0 where
   pub entries : List IndexEntry
   pub chosen : IsChosen (shape_of old) silent image device uber entries
 
--- Each of these devices was out at opening, or failed in this call.
-abbrev pub AreOutFor : {old new : Disk} → {image : Image} → IsShownChoice old new image → ℕ → Type 0
-AreOutFor {old = old} {new = new} {image = image} choice devices =
-    (device : ℕ) → has_device devices device ≡ true
-    → IsOutAtOpening (shape_of old) choice.silent image choice.uber device
+-- The device was out at opening, or failed in this call.
+abbrev pub IsOutFor : {old new : Disk} → {image : Image} → IsShownChoice old new image → ℕ → Type 0
+IsOutFor {old = old} {new = new} {image = image} choice device =
+    IsOutAtOpening (shape_of old) choice.silent image choice.uber device
     ⊎ Rose (old.faults device) (new.faults device)
+
+-- Each of these devices was.
+abbrev pub AreOutFor : {old new : Disk} → {image : Image} → IsShownChoice old new image → ℕ → Type 0
+AreOutFor choice devices = (device : ℕ) → has_device devices device ≡ true → IsOutFor choice device
 
 -- More devices than the parity are listed, each out at opening or failed in this call.
 pub record AreTooMany (old new : Disk) (image : Image) (listed : ℕ) : Type 0 where

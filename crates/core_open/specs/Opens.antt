@@ -1,6 +1,6 @@
 -- What an opening keeps of what images kept when it began, and the group with which it ends.
-use Rattle.std.specs.Prelude.{◌≡◌, ◌⊎◌, ℕ, ◌-◌, ◌^◌, ◌+◌, ◌<◌, ◌≤◌, true, List, [], ◌∷◌, ◌++◌, length, Contains, Result, Ok, Err}
-use Rattle.bank_trait.specs.Disk.{Image, Disk}
+use Rattle.std.specs.Prelude.{◌≡◌, ◌⊎◌, ℕ, ◌-◌, ◌^◌, ◌+◌, ◌<◌, ◌≤◌, true, ⊤, List, [], ◌∷◌, ◌++◌, length, Contains, Result, Ok, Err}
+use Rattle.bank_trait.specs.Disk.{Image, Disk, Unchanged}
 use Rattle.bank_trait.specs.Regions.{Tells}
 use Rattle.block_record.specs.declared.entry.IndexEntry.{IndexEntry}
 use Rattle.uberblock_ring.specs.Devices.{has_device, count_below, count_of, IsWithin}
@@ -8,7 +8,7 @@ use Rattle.uberblock_ring.specs.Uberblock.{Uber}
 use Rattle.uberblock_ring.specs.Valid.{AreAlike}
 use Rattle.core_state.specs.Keeps.{Kept, Setting, Renews}
 use Rattle.core_state.specs.Collision.{BankKeeps, HasNoOtherPage}
-use Rattle.core_state.specs.Certain.{Knows}
+use Rattle.core_state.specs.Certain.{IsCertain, Knows}
 use Rattle.core_state.specs.Committing.{Point}
 use Rattle.core_state.specs.Moment.{KeepsSince}
 use Rattle.core_commit.specs.declared.committing.TooManyOut.{TooManyOut}
@@ -16,8 +16,10 @@ use Rattle.core_commit.specs.Copies.{CopyKeeps}
 use Rattle.core_commit.specs.Spared.{HaveGoneOut, Spares}
 use Rattle.core_open.specs.declared.why.OpenWhy.{OpenWhy}
 use Rattle.core_open.specs.declared.why.OpenWhy.TheVariants as reason
+use Rattle.core_open.specs.Causes.{IsOutFor, IsShownChoice}
 use Rattle.core_open.specs.Failing.{HaveFailed}
 use Rattle.core_open.specs.Holds.{HoldsImage, shape_of}
+use Rattle.core_open.specs.Lacking.{HasAllBut}
 
 -- Each image that a crash may leave keeps these groups, all of one width; the bank tells what it holds,
 -- and no page in that is another's by chance.
@@ -53,24 +55,58 @@ pub record OpeningKeeps (silent earlier : ℕ) (old new : Disk) : Type 0 where
       × KeepsSince setting ((first ∷ later) ++ joined) old.clock new
 
 -- An opening that was cut short: the devices that were silent failed in it, and those that the new group
--- lists as out are among the ones that are told; where none are told it lists none.
+-- lists as out are among the ones that are told, no more than there are parities; where none are told it
+-- lists none. Each was out at opening, or failed in it.
 pub record CutKeeps (why : OpenWhy) (old new : Disk) : Type 0 where
   pub silent : ℕ
   pub failed : HaveFailed old new silent
   pub earlier : ℕ
   pub told : (device : ℕ) → has_device earlier device ≡ true
       → (out : ℕ) × (why ≡ reason.TooManyFailed out) × (has_device out device ≡ true)
+  pub few : (setting : Setting) (first : Kept) (later : List Kept) → MayOpen setting first later old
+      → IsWithinBelow first.uber.reflow.to silent setting.failed
+      → count_of earlier ≤ first.uber.parity
+  pub each : (image : Image) → HoldsImage old image → (device : ℕ)
+      → has_device earlier device ≡ true
+      → (shown : IsShownChoice old new image) × IsOutFor shown device
   pub keeps : OpeningKeeps silent earlier old new
 
--- A pool is opened with this uberblock and index: where all devices that were silent or are out may fail,
--- they are those of a group that renews one of the groups kept before, and that is the one kept now.
+-- A refusal changes nothing but counts of faults, unless too many devices are out.
+abbrev pub LeavesBank : OpenWhy → Disk → Disk → Type 0
+LeavesBank reason.NotPool old new = Unchanged old new
+LeavesBank (reason.TooManyFailed out) old new = ⊤
+LeavesBank (reason.Limit group) old new = Unchanged old new
+LeavesBank reason.NoMemory old new = Unchanged old new
+
+-- The bank has the pool's data rows, and each device of the pool that isn't out.
+pub record HasBank (uber : Uber) (out : ℕ) (disk : Disk) : Type 0 where
+  pub room : 192 + uber.reflow.rows ≤ disk.sectors
+  pub devices : HasAllBut disk uber.reflow.to out
+
+-- A pool was opened with this uberblock and index: they are those of a group that renews one of the groups
+-- kept before, which the devices that answered choose. It is the one kept now, what it asks for is certain,
+-- and each image since the opening began keeps some of the groups in a row, it being the last.
+pub record HasOpened (setting : Setting) (first : Kept) (later : List Kept) (uber : Uber)
+    (entries : List IndexEntry) (old new : Disk) : Type 0 where
+  pub chosen : Kept
+  pub listed : Contains (first ∷ later) chosen
+  pub next : Kept
+  pub renews : Renews chosen next
+  pub alike : AreAlike uber next.uber
+  pub entries_are : entries ≡ next.entries
+  pub knows : Knows setting next [] new
+  pub known : IsCertain setting new (next ∷ []) uber
+  pub since : KeepsSince setting ((first ∷ later) ++ next ∷ []) old.clock new
+  pub choice : (image : Image) → HoldsImage old image
+      → (shown : IsShownChoice old new image) × (shown.uber.group ≡ chosen.uber.group)
+
+-- A pool is opened with this uberblock and index, wherever all devices that were silent or are out may fail.
 pub record IsOpenedWith (uber : Uber) (entries : List IndexEntry) (silent out : ℕ) (old new : Disk) : Type 0
   where
     pub kept : (setting : Setting) (first : Kept) (later : List Kept)
         → MayOpen setting first later old
         → IsWithinBelow first.uber.reflow.to silent setting.failed → IsWithin out setting.failed
-        → (chosen : Kept) × (next : Kept) × Contains (first ∷ later) chosen × Renews chosen next
-        × AreAlike uber next.uber × (entries ≡ next.entries) × Knows setting next [] new
+        → HasOpened setting first later uber entries old new
 
 -- all devices that a mask can have
 abbrev pub every_device : ℕ

@@ -25,6 +25,7 @@ pub record WritesFound (found : Found) (old new : Disk) (out : ℕ) (result : Re
   pub lacking : AreLacking old found.uber found.entries.items found.uber.reflow.to asked_out lack_page
   pub ends : EndsRenewal found.uber found.entries.items lack_page found.lacks_uber
       (point_of asked_out asked) (point_of out new) result
+  pub below : out < 2 ^ found.uber.reflow.to
   pub limit : found.uber.group + 2 ≤ 2 ^ 62
 
 -- No group can be numbered two more; or too many devices are out before anything is written.

@@ -9,7 +9,7 @@ ghost use Rattle.core_open.specs.Candidates.{IsIndexFor};
 ghost use Rattle.core_open.specs.Causes.{AreOutOf, IsOpenCause};
 ghost use Rattle.core_open.specs.Failing.{HaveFailed};
 ghost use Rattle.core_open.specs.Finding.{FitsOpening};
-ghost use Rattle.core_open.specs.Opens.{CutKeeps, EndsRenewal, IsOpenedWith, OpeningKeeps};
+ghost use Rattle.core_open.specs.Opens.{CutKeeps, EndsRenewal, HasBank, IsOpenedWith, LeavesBank, OpeningKeeps};
 ghost use Rattle.core_open.specs.OpensFound.{OpensFound};
 
 use crate::OpenWhy;
@@ -111,12 +111,18 @@ pub fn open<B: Bank>(alloc: Global, bank: &mut B) -> Result<Opened, OpenWhy>
     ensures spares { IfOk result (λ opened. Spares (point_of opened.out (B.disk bank.old))
         (point_of opened.out (B.disk bank.new))) }
     ensures few { IfOk result (λ opened. count_of opened.out ≤ opened.uber.parity) }
+    ensures below { IfOk result (λ opened. opened.out < 2 ^ opened.uber.reflow.to) }
+    ensures bank { IfOk result (λ opened.
+        HasBank opened.uber opened.out (B.disk bank.new)) }
+    ensures group { IfOk result (λ opened. 3 ≤ opened.uber.group) }
     ensures kept { IfOk result (λ opened. IsOpenedWith opened.uber opened.entries.items
         opened.silent opened.out (B.disk bank.old) (B.disk bank.new)) }
     ensures since { IfOk result (λ opened. OpeningKeeps opened.silent opened.uber.out
         (B.disk bank.old) (B.disk bank.new)) }
     ensures cause { IfErr result (IsOpenCause (B.disk bank.old) (B.disk bank.new)) }
     ensures cut { IfErr result (λ why. CutKeeps why (B.disk bank.old) (B.disk bank.new)) }
+    ensures untouched { IfErr result (λ why.
+        LeavesBank why (B.disk bank.old) (B.disk bank.new)) }
 {
     let found = find(alloc, bank)?;
     open_found(alloc, bank, found)

@@ -1,4 +1,4 @@
-use Rattle.core_open.proofs.Finishing.{opens_promises, known, fits_then, cut_all}
+use Rattle.core_open.proofs.Finishing.{opens_promises, known, refused, fits_then, cut_all, untouched_all}
 use Rattle.core_open.proofs.opening.open.Goals as goal
 
 pub open_found-requires-clause-fits : goal.open_found-requires-clause-fits
@@ -8,6 +8,10 @@ open_found-requires-clause-fits g c = fits_then c.in_ok-found.found (g.B.Bank.di
 pub returns-in_err-found-clause-cut : goal.returns-in_err-found-clause-cut
 returns-in_err-found-clause-cut g c = cut_all c.from_residual.result (g.B.Bank.disk c.args.bank.now)
     (g.B.Bank.disk c.find.new.bank) (g.met.B.Bank.lawful c.args.bank.now) c.find.ensures.unchanged
+
+pub returns-in_err-found-clause-untouched : goal.returns-in_err-found-clause-untouched
+returns-in_err-found-clause-untouched g c = untouched_all c.from_residual.result (g.B.Bank.disk c.args.bank.now)
+    (g.B.Bank.disk c.find.new.bank) c.find.ensures.unchanged
 
 pub returns-clause-right : goal.returns-clause-right
 returns-clause-right g c = known c.open_found.result (λ opened told. told.right) (opens_promises _ c.open_found.result (g.met.B.Bank.lawful c.args.bank.now)
@@ -39,6 +43,21 @@ returns-clause-few g c = known c.open_found.result (λ opened told. told.few) (o
     c.find.ensures.unchanged c.in_ok-found.ensures.found c.in_ok-found.ensures.right c.in_ok-found.ensures.silent
     c.in_ok-found.ensures.fits c.in_ok-found.ensures.index c.open_found.ensures.opens).0
 
+pub returns-clause-below : goal.returns-clause-below
+returns-clause-below g c = known c.open_found.result (λ opened told. told.below) (opens_promises _ c.open_found.result (g.met.B.Bank.lawful c.args.bank.now)
+    c.find.ensures.unchanged c.in_ok-found.ensures.found c.in_ok-found.ensures.right c.in_ok-found.ensures.silent
+    c.in_ok-found.ensures.fits c.in_ok-found.ensures.index c.open_found.ensures.opens).0
+
+pub returns-clause-bank : goal.returns-clause-bank
+returns-clause-bank g c = known c.open_found.result (λ opened told. told.bank) (opens_promises _ c.open_found.result (g.met.B.Bank.lawful c.args.bank.now)
+    c.find.ensures.unchanged c.in_ok-found.ensures.found c.in_ok-found.ensures.right c.in_ok-found.ensures.silent
+    c.in_ok-found.ensures.fits c.in_ok-found.ensures.index c.open_found.ensures.opens).0
+
+pub returns-clause-group : goal.returns-clause-group
+returns-clause-group g c = known c.open_found.result (λ opened told. told.group) (opens_promises _ c.open_found.result (g.met.B.Bank.lawful c.args.bank.now)
+    c.find.ensures.unchanged c.in_ok-found.ensures.found c.in_ok-found.ensures.right c.in_ok-found.ensures.silent
+    c.in_ok-found.ensures.fits c.in_ok-found.ensures.index c.open_found.ensures.opens).0
+
 pub returns-clause-kept : goal.returns-clause-kept
 returns-clause-kept g c = known c.open_found.result (λ opened told. told.kept) (opens_promises _ c.open_found.result (g.met.B.Bank.lawful c.args.bank.now)
     c.find.ensures.unchanged c.in_ok-found.ensures.found c.in_ok-found.ensures.right c.in_ok-found.ensures.silent
@@ -50,11 +69,16 @@ returns-clause-since g c = known c.open_found.result (λ opened told. told.since
     c.in_ok-found.ensures.fits c.in_ok-found.ensures.index c.open_found.ensures.opens).0
 
 pub returns-clause-cause : goal.returns-clause-cause
-returns-clause-cause g c = (opens_promises _ c.open_found.result (g.met.B.Bank.lawful c.args.bank.now)
+returns-clause-cause g c = refused c.open_found.result (λ why told. told.cause) (opens_promises _ c.open_found.result (g.met.B.Bank.lawful c.args.bank.now)
     c.find.ensures.unchanged c.in_ok-found.ensures.found c.in_ok-found.ensures.right c.in_ok-found.ensures.silent
     c.in_ok-found.ensures.fits c.in_ok-found.ensures.index c.open_found.ensures.opens).1
 
 pub returns-clause-cut : goal.returns-clause-cut
-returns-clause-cut g c = (opens_promises _ c.open_found.result (g.met.B.Bank.lawful c.args.bank.now)
+returns-clause-cut g c = refused c.open_found.result (λ why told. told.cut) (opens_promises _ c.open_found.result (g.met.B.Bank.lawful c.args.bank.now)
     c.find.ensures.unchanged c.in_ok-found.ensures.found c.in_ok-found.ensures.right c.in_ok-found.ensures.silent
-    c.in_ok-found.ensures.fits c.in_ok-found.ensures.index c.open_found.ensures.opens).2
+    c.in_ok-found.ensures.fits c.in_ok-found.ensures.index c.open_found.ensures.opens).1
+
+pub returns-clause-untouched : goal.returns-clause-untouched
+returns-clause-untouched g c = refused c.open_found.result (λ why told. told.untouched) (opens_promises _ c.open_found.result (g.met.B.Bank.lawful c.args.bank.now)
+    c.find.ensures.unchanged c.in_ok-found.ensures.found c.in_ok-found.ensures.right c.in_ok-found.ensures.silent
+    c.in_ok-found.ensures.fits c.in_ok-found.ensures.index c.open_found.ensures.opens).1

@@ -1,9 +1,7 @@
-use Rattle.std.proofs.Common.{◌≡◌, ◌≢◌, List, Option, true, false, sym, ◌∙◌, subst}
-use Rattle.std.specs.Prelude.{Bool, IfSome, Vec}
+use Rattle.std.proofs.Common.{Option, sym, subst}
+use Rattle.std.specs.Prelude.{IfSome, Vec}
 use Rattle.std.specs.declared.alloc.Global.{Global}
-use Rattle.std.proofs.lemmas.Bool.{false≢true}
 use Rattle.block_record.specs.declared.entry.IndexEntry.{IndexEntry}
-use Rattle.core_open.specs.Lacking.{GivesOrLacks}
 use Rattle.core_open.specs.Pages.{IsGiven}
 use Rattle.core_open.proofs.Lacking.{given_same}
 use Rattle.core_open.proofs.page_lack.gives_page.Goals as goal
