@@ -24,4 +24,5 @@ pub mod Joining
 pub mod Ends
 pub mod Renewal
 pub mod Written
+pub mod Unhindered
 pub mod Finishing

@@ -1,11 +1,13 @@
 -- What an opening keeps of what images kept when it began, and the group with which it ends.
 use Rattle.std.specs.Prelude.{◌≡◌, ◌⊎◌, ℕ, ◌-◌, ◌^◌, ◌+◌, ◌<◌, ◌≤◌, true, ⊤, List, [], ◌∷◌, ◌++◌, length, Contains, Result, Ok, Err}
+use Rattle.bank_trait.specs.Causes.{Rose}
 use Rattle.bank_trait.specs.Disk.{Image, Disk, Unchanged}
 use Rattle.bank_trait.specs.Regions.{Tells}
 use Rattle.block_record.specs.declared.entry.IndexEntry.{IndexEntry}
 use Rattle.uberblock_ring.specs.Devices.{has_device, count_below, count_of, IsWithin}
 use Rattle.uberblock_ring.specs.Uberblock.{Uber}
 use Rattle.uberblock_ring.specs.Valid.{AreAlike}
+use Rattle.core_state.specs.Choosing.{IsChosen, IsOutAtOpening}
 use Rattle.core_state.specs.Keeps.{Kept, Setting, Renews}
 use Rattle.core_state.specs.Collision.{BankKeeps, HasNoOtherPage}
 use Rattle.core_state.specs.Certain.{IsCertain, Knows}
@@ -107,6 +109,23 @@ pub record IsOpenedWith (uber : Uber) (entries : List IndexEntry) (silent out : 
         → MayOpen setting first later old
         → IsWithinBelow first.uber.reflow.to silent setting.failed → IsWithin out setting.failed
         → HasOpened setting first later uber entries old new
+
+-- Nothing hinders an opening: images keep groups, of which none is too near the greatest number; no device
+-- fails in it, and none is out, whatever the devices choose.
+pub record IsUnhindered (setting : Setting) (first : Kept) (later : List Kept) (old new : Disk) : Type 0 where
+  pub may : MayOpen setting first later old
+  pub limit : (kept : Kept) → Contains (first ∷ later) kept → kept.uber.group + 2 ≤ 2 ^ 62
+  pub works : (device : ℕ) → Rose (old.faults device) (new.faults device) → ⊥
+  pub in_use : (image : Image) (shower : ℕ) (uber : Uber) (entries : List IndexEntry) (device : ℕ)
+      → HoldsImage old image → IsChosen (shape_of old) 0 image shower uber entries
+      → IsOutAtOpening (shape_of old) 0 image uber device
+      → ⊥
+
+-- Then nothing but memory may be wanting.
+abbrev pub IsForMemory : Disk → Disk → OpenWhy → Type 0
+IsForMemory old new why = (setting : Setting) (first : Kept) (later : List Kept)
+    → IsUnhindered setting first later old new
+    → why ≡ reason.NoMemory
 
 -- all devices that a mask can have
 abbrev pub every_device : ℕ

@@ -9,7 +9,7 @@ ghost use Rattle.core_open.specs.Candidates.{IsIndexFor};
 ghost use Rattle.core_open.specs.Causes.{AreOutOf, IsOpenCause};
 ghost use Rattle.core_open.specs.Failing.{HaveFailed};
 ghost use Rattle.core_open.specs.Finding.{FitsOpening};
-ghost use Rattle.core_open.specs.Opens.{CutKeeps, EndsRenewal, HasBank, IsOpenedWith, LeavesBank, OpeningKeeps};
+ghost use Rattle.core_open.specs.Opens.{CutKeeps, EndsRenewal, HasBank, IsForMemory, IsOpenedWith, LeavesBank, OpeningKeeps};
 ghost use Rattle.core_open.specs.OpensFound.{OpensFound};
 
 use crate::OpenWhy;
@@ -123,6 +123,7 @@ pub fn open<B: Bank>(alloc: Global, bank: &mut B) -> Result<Opened, OpenWhy>
     ensures cut { IfErr result (λ why. CutKeeps why (B.disk bank.old) (B.disk bank.new)) }
     ensures untouched { IfErr result (λ why.
         LeavesBank why (B.disk bank.old) (B.disk bank.new)) }
+    ensures opens { IfErr result (IsForMemory (B.disk bank.old) (B.disk bank.new)) }
 {
     let found = find(alloc, bank)?;
     open_found(alloc, bank, found)

@@ -12,6 +12,7 @@ use Rattle.core_state.specs.Choosing.{Names, Outvotes, IsChosenPool}
 use Rattle.core_state.specs.Keeps.{Kept, Setting, Keeps, NamesOther, count_left}
 use Rattle.core_state.proofs.Calls.{true_false}
 use Rattle.core_state.proofs.Fresh.{none_in}
+use Rattle.core_state.proofs.Listed.{contains_head, contains_tail}
 
 -- A device that shows an uberblock names the pool of one of them: its greatest can't be missing.
 greatest_there : (shape : Shape) (image : Image) (device fuel : ℕ) (uber : Uber)
@@ -90,6 +91,25 @@ module _ (failed : ℕ) where
       by true rest = rest
       by false rest = (apart (left_below failed width) (left_are width), rest)
 
+  left_has : (width device : ℕ) → device < width → has_device failed device ≡ false
+      → Contains (left_below failed width) device
+  left_has zero device below works = absurd (omega (arith, below))
+  left_has (suc width) device below works = ⊎_elim
+      (λ less. more (has_device failed width) (left_has width device less works))
+      (λ above. last (omega (arith, below, above)) (has_device failed width) refl)
+      (cases_lt device width)
+    where
+      more : (b : Bool) → Contains (left_below failed width) device
+          → Contains (if b then left_below failed width else width ∷ left_below failed width) device
+      more true has = has
+      more false has = contains_tail width (left_below failed width) device has
+
+      last : device ≡ width → (b : Bool) → has_device failed width ≡ b
+          → Contains (if b then left_below failed width else width ∷ left_below failed width) device
+      last same true gone = absurd (true_false (sym gone ∙ ap (λ (d : ℕ). has_device failed d) (sym same) ∙ works))
+      last same false is = subst (λ (d : ℕ). Contains (width ∷ left_below failed width) d) (sym same)
+          (contains_head width (left_below failed width))
+
 -- What can't be missing of each of a list can't be missing of all.
 each_there : (P Q : ℕ → Type 0) (numbers : List ℕ) → ((number : ℕ) → Q number → (P number → ⊥) → ⊥)
     → Each Q numbers → (Each P numbers → ⊥)
@@ -144,6 +164,9 @@ module _ (setting : Setting) (first : Kept) (later : List Kept) (image : Image)
     };
   }
 
+  abbrev own_voters : List ℕ
+  own_voters = left_below setting.failed first.uber.reflow.to
+
   -- The chosen pool is this one.
   pub pool_chosen : (pool : ℕ) → IsChosenPool setting.shape silent image pool → pool ≡ setting.pool
   pool_chosen pool chosen = ⊎_elim (λ same. same) (λ other. absurd (each_there
@@ -152,9 +175,6 @@ module _ (setting : Setting) (first : Kept) (later : List Kept) (image : Image)
       (left_below setting.failed first.uber.reflow.to) names_own (left_are setting.failed first.uber.reflow.to)
       (λ own. outvoted other own))) (cases_eq pool setting.pool)
     where
-      own_voters : List ℕ
-      own_voters = left_below setting.failed first.uber.reflow.to
-
       -- a voter of another pool is above all of this one's
       lowest : pool ≢ setting.pool → length own_voters ≡ length chosen.voters → (device : ℕ)
           → Contains chosen.voters device → All (λ own. device < own) own_voters
@@ -177,3 +197,38 @@ module _ (setting : Setting) (first : Kept) (later : List Kept) (image : Image)
           (chosen.wins setting.pool own_voters (λ same. other (sym same))
           (left_distinct setting.failed first.uber.reflow.to)
           (each_all (Names setting.shape silent image setting.pool) own_voters own))
+
+  -- With a device of the pool left, it can't be that none is chosen.
+  pub pool_there : (device : ℕ) → device < first.uber.reflow.to → has_device setting.failed device ≡ false
+      → (IsChosenPool setting.shape silent image setting.pool → ⊥)
+      → ⊥
+  pool_there device below works none = each_there
+      (Names setting.shape silent image setting.pool)
+      (λ on. (on < first.uber.reflow.to) × (has_device setting.failed on ≡ false))
+      own_voters names_own (left_are setting.failed first.uber.reflow.to)
+      (λ own. none (record {
+        voters = own_voters;
+        distinct = left_distinct setting.failed first.uber.reflow.to;
+        each = each_all (Names setting.shape silent image setting.pool) own_voters own;
+        wins = wins;
+      }))
+    where
+      wins : (other : ℕ) (others : List ℕ) → other ≢ setting.pool → IsDistinct nat_eq others
+          → All (Names setting.shape silent image other) others
+          → Outvotes own_voters others
+      wins other others apart distinct each =
+          let few = keeps.votes other others apart distinct
+          (λ k default low. other_outside other apart _ (each k default low)) in
+          let many = left_counted setting.failed first.uber.reflow.to in
+          ⊎_elim (λ less. inl less)
+          (λ above. inr (
+            omega (arith, above, few, many),
+            (
+              device,
+              left_has setting.failed first.uber.reflow.to device below works,
+              λ k default low.
+                  let outside = (other_outside other apart _ (each k default low)).outside in
+                  omega (arith, below, outside),
+            ),
+          ))
+          (cases_lt (length others) (length own_voters))

@@ -1,4 +1,8 @@
+use Rattle.std.proofs.Common.{rules}
+use Rattle.std.specs.Prelude.{IfErr}
+use Rattle.core_open.specs.Finding.{IsFindCause}
 use Rattle.core_open.proofs.Finishing.{opens_promises, known, refused, fits_then, cut_all, untouched_all}
+use Rattle.core_open.proofs.Unhindered.{caused, find_memory}
 use Rattle.core_open.proofs.opening.open.Goals as goal
 
 pub open_found-requires-clause-fits : goal.open_found-requires-clause-fits
@@ -80,5 +84,18 @@ returns-clause-cut g c = refused c.open_found.result (λ why told. told.cut) (op
 
 pub returns-clause-untouched : goal.returns-clause-untouched
 returns-clause-untouched g c = refused c.open_found.result (λ why told. told.untouched) (opens_promises _ c.open_found.result (g.met.B.Bank.lawful c.args.bank.now)
+    c.find.ensures.unchanged c.in_ok-found.ensures.found c.in_ok-found.ensures.right c.in_ok-found.ensures.silent
+    c.in_ok-found.ensures.fits c.in_ok-found.ensures.index c.open_found.ensures.opens).1
+
+pub returns-in_err-found-clause-opens : goal.returns-in_err-found-clause-opens
+returns-in_err-found-clause-opens g c =
+    let cause : IfErr c.from_residual.result
+    (IsFindCause (g.B.Bank.disk c.args.bank.now) (g.B.Bank.disk c.find.new.bank)) = search rules in
+    find_memory c.from_residual.result (g.B.Bank.disk c.args.bank.now) (g.B.Bank.disk c.find.new.bank)
+    (g.met.B.Bank.lawful c.args.bank.now) cause
+
+pub returns-clause-opens : goal.returns-clause-opens
+returns-clause-opens g c = refused c.open_found.result (λ why told. caused (g.B.Bank.disk c.args.bank.now) (g.B.Bank.disk c.open_found.new.bank) why
+    (g.met.B.Bank.lawful c.args.bank.now) told.cause) (opens_promises _ c.open_found.result (g.met.B.Bank.lawful c.args.bank.now)
     c.find.ensures.unchanged c.in_ok-found.ensures.found c.in_ok-found.ensures.right c.in_ok-found.ensures.silent
     c.in_ok-found.ensures.fits c.in_ok-found.ensures.index c.open_found.ensures.opens).1

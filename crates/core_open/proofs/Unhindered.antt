@@ -1,0 +1,126 @@
+-- An opening that nothing hinders is refused for want of memory alone.
+use Rattle.std.proofs.Common.{◌≡◌, ◌≢◌, inl, inr, ⊎_elim, ℕ, ◌+◌, ◌^◌, ◌<◌, List, true, Result, Ok, Err, refl, sym, ◌∙◌, ap, subst, arith}
+use Rattle.std.specs.Prelude.{IfErr}
+use Rattle.std.specs.Int.{bit_at}
+use Rattle.std.proofs.lemmas.Nat.Bits.{bit_at-lt, same_from_bits}
+use Rattle.bank_trait.specs.Disk.{Image, Disk, Lawful}
+use Rattle.uberblock_ring.specs.Devices.{has_device, count_of}
+use Rattle.uberblock_ring.proofs.DeviceSets.{bit_has}
+use Rattle.core_state.specs.Shown.{Shape}
+use Rattle.core_state.specs.Choosing.{IsChosen, IsNotPool, IsOutAtOpening}
+use Rattle.core_state.specs.Keeps.{Kept, Setting, Keeps}
+use Rattle.core_state.specs.Certain.{Knows}
+use Rattle.core_state.proofs.Calls.{true_false}
+use Rattle.core_state.proofs.Chosen.{chosen_held, chosen_group}
+use Rattle.core_state.proofs.Finding.{keeps_know}
+use Rattle.core_state.proofs.Fresh.{none_in}
+use Rattle.core_state.proofs.Keeping.{knows_keep}
+use Rattle.core_state.proofs.Knowing.{present, present_might}
+use Rattle.core_state.proofs.PoolChosen.{pool_there}
+use Rattle.core_open.specs.declared.opening.Opened.{Opened}
+use Rattle.core_open.specs.declared.why.OpenWhy.{OpenWhy}
+use Rattle.core_open.specs.declared.why.OpenWhy.TheVariants as reason
+use Rattle.core_open.specs.Causes.{IsShownChoice, AreOutFor, AreTooMany, IsOpenCause}
+use Rattle.core_open.specs.Failing.{HaveFailed}
+use Rattle.core_open.specs.Finding.{IsFindCause}
+use Rattle.core_open.specs.Holds.{HoldsImage, shape_of}
+use Rattle.core_open.specs.Opens.{IsUnhindered, IsForMemory}
+use Rattle.core_open.proofs.Ends.{present_held}
+use Rattle.core_open.proofs.Written.{none_listed}
+
+-- A set without devices is empty.
+none_empty : (devices : ℕ) → ((device : ℕ) → has_device devices device ≡ true → ⊥) → devices ≡ 0
+none_empty devices none = same_from_bits devices 0 (λ device.
+    let not_one : bit_at devices device ≢ 1 = λ one. none device (bit_has devices device one) in
+    let not_there : bit_at 0 device ≢ 1 = λ one. true_false (sym (bit_has 0 device one) ∙ none_in device) in
+    omega (arith, bit_at-lt devices device, bit_at-lt 0 device, not_one, not_there))
+
+module _ (setting : Setting) (first : Kept) (later : List Kept) (old new : Disk) (lawful : Lawful old)
+    (free : IsUnhindered setting first later old new) where
+  abbrev image : Image
+  image = present old
+
+  holds : HoldsImage old image
+  holds = present_held old free.may.tells
+
+  knows : Knows setting first later old
+  knows = keeps_know setting first later old lawful free.may.keeps
+
+  keeps : Keeps setting first later image
+  keeps = knows_keep setting first later old knows image (present_might setting.shape old lawful)
+
+  none_failed : (devices : ℕ) → HaveFailed old new devices → (device : ℕ) → has_device devices device ≡ true → ⊥
+  none_failed devices failed device has = free.works device (failed device has).1
+
+  -- There is a pool.
+  is_pool : IsNotPool setting.shape 0 image → ⊥
+  is_pool none = pool_there setting first later image keeps 0
+      (λ device below gone. absurd (true_false (sym gone ∙ none_in device)))
+      knows.row.device knows.row.below knows.row.works
+      (λ chosen. none.none setting.pool keeps.there.device keeps.there.shown.0 first.entries chosen
+      (none_in keeps.there.device) keeps.there.shown.2)
+
+  -- A group can be numbered two more than the chosen one.
+  is_within : (shown : IsShownChoice old new image) → 2 ^ 62 < shown.uber.group + 2 → ⊥
+  is_within shown high =
+      let chosen = subst (λ (s : Shape). IsChosen s shown.silent image shown.device shown.uber shown.entries)
+      (sym free.may.shape) shown.chosen in
+      let within : (device : ℕ) → device < first.uber.reflow.to → has_device shown.silent device ≡ true
+      → has_device setting.failed device ≡ true =
+      λ device below gone. absurd (none_failed shown.silent shown.failed device gone) in
+      let held = (chosen_held setting first later old knows lawful shown.silent within (free.may.pages image holds)
+      shown.device shown.uber shown.entries chosen).0 in
+      let group : shown.uber.group ≡ held.kept.uber.group =
+      chosen_group setting first later old knows lawful shown.silent within (free.may.pages image holds)
+      shown.device shown.uber shown.entries chosen in
+      let limit = free.limit held.kept held.listed in
+      omega (arith, high, group, limit)
+
+  silent_none : (shown : IsShownChoice old new image) → shown.silent ≡ 0
+  silent_none shown = none_empty shown.silent (none_failed shown.silent shown.failed)
+
+  -- No device is out.
+  none_out : (listed : ℕ) → AreTooMany old new image listed → (device : ℕ) → has_device listed device ≡ true → ⊥
+  none_out listed many device has = by many.choice many.each
+    where
+      by : (shown : IsShownChoice old new image) → AreOutFor shown listed → ⊥
+      by shown each = ⊎_elim
+          (λ out. free.in_use image shown.device shown.uber shown.entries device holds
+          (subst (λ (n : ℕ). IsChosen (shape_of old) n image shown.device shown.uber shown.entries) (silent_none shown)
+          shown.chosen)
+          (subst (λ (n : ℕ). IsOutAtOpening (shape_of old) n image shown.uber device) (silent_none shown) out))
+          (λ rose. free.works device rose)
+          (each device has)
+
+  is_few : (listed : ℕ) → AreTooMany old new image listed → ⊥
+  is_few listed many =
+      let more = many.many in
+      let none = none_listed 0 in
+      let counted : count_of listed ≡ count_of 0 = ap count_of (none_empty listed (none_out listed many)) in
+      omega (arith, more, none, counted)
+
+  for_memory : (why : OpenWhy) → IsOpenCause old new why → why ≡ reason.NoMemory
+  for_memory reason.NotPool cause = absurd (is_pool
+      (subst (λ (s : Shape). IsNotPool s 0 image) (sym free.may.shape) (cause image holds)))
+  for_memory (reason.TooManyFailed out) (inl found) =
+      absurd (found.0 (none_empty out (none_failed out found.1)))
+  for_memory (reason.TooManyFailed out) (inr many) = absurd (is_few out (many image holds))
+  for_memory (reason.Limit group) cause = absurd (is_within (cause image holds).0 (cause image holds).1)
+  for_memory reason.NoMemory cause = refl
+
+-- Whatever the cause of a refusal is, it is not that where nothing hinders.
+pub caused : (old new : Disk) (why : OpenWhy) → Lawful old → IsOpenCause old new why → IsForMemory old new why
+caused old new why lawful cause setting first later free = for_memory setting first later old new lawful free why cause
+
+-- The same where nothing was found.
+find_caused : (old new : Disk) (why : OpenWhy) → IsFindCause old new why → IsOpenCause old new why
+find_caused old new reason.NotPool cause = cause
+find_caused old new (reason.TooManyFailed out) cause = inl cause
+find_caused old new (reason.Limit group) cause = absurd cause
+find_caused old new reason.NoMemory cause = tt
+
+pub find_memory : (result : Result Opened OpenWhy) (old new : Disk) → Lawful old
+    → IfErr result (IsFindCause old new)
+    → IfErr result (IsForMemory old new)
+find_memory (Ok opened) old new lawful cause = tt
+find_memory (Err why) old new lawful cause = caused old new why lawful (find_caused old new why cause)
