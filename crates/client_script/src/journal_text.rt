@@ -12,9 +12,9 @@ use core_state::{Answer, Entry, Item, Journal, Kind};
 /// Writes the text of a journal. After a failure a front of it is written. Gains no memory.
 pub fn print_journal<K: Sink>(journal: &Journal, out: &mut K) -> Result<(), Failed>
     ensures ok { OnOk result
-        (IsAdded (K.held out.old) (K.held out.new) (journal_text journal.now)) }
+        (IsAdded (K.held out.old) (K.held out.new) (journal_text journal.now.items)) }
     ensures err { OnErr result
-        (IsPartAdded (K.held out.old) (K.held out.new) (journal_text journal.now)) }
+        (IsPartAdded (K.held out.old) (K.held out.new) (journal_text journal.now.items)) }
     ensures cause { HasCause (K.faults out.old) (K.faults out.new) result }
 {
     let mut writer = TextWriter::new();
@@ -25,7 +25,7 @@ pub fn print_journal<K: Sink>(journal: &Journal, out: &mut K) -> Result<(), Fail
 /// Hands the text of a journal to a writer.
 pub fn write_journal<K: Sink>(writer: &mut TextWriter, out: &mut K, journal: &Journal)
     ensures gains { Gains (K.held out.old) (K.held out.new) writer.old writer.new
-        (journal_text journal.now) }
+        (journal_text journal.now.items) }
     ensures cause { Blames (K.faults out.old) (K.faults out.new) writer.old writer.new }
 {
     for (number, item) in journal.as_slice().iter().enumerate() {

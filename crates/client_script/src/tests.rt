@@ -177,6 +177,12 @@ fn a_pattern_goes_on_past_256_bytes(rt: HostRuntime) -> Result<(), Fail> {
     Ok(())
 }
 
+fn add(journal: &mut Journal, item: Item) -> Result<(), AllocError> {
+    journal.reserve(1)?;
+    journal.list(item);
+    Ok(())
+}
+
 fn each_answer(alloc: Global) -> Result<Journal, AllocError> {
     let bytes = Bytes::new(Vec::from_slice(alloc, b"abc\xff")?);
     let two = Ids::new(Vec::from_slice(alloc, &[3, 18_446_744_073_709_551_615])?);
@@ -189,7 +195,7 @@ fn each_answer(alloc: Global) -> Result<Journal, AllocError> {
         to: 4,
     };
     let mut journal = Journal::new(alloc);
-    journal.push(Item::Group(first))?;
+    add(&mut journal, Item::Group(first))?;
     for (caller, kind, id, at, answer) in [
         (0, Kind::Put, Some(7), None, Answer::Stored),
         (7, Kind::Get, Some(7), Some(2), Answer::Read { bytes }),
@@ -267,14 +273,15 @@ fn each_answer(alloc: Global) -> Result<Journal, AllocError> {
         (0, Kind::Sync, None, None, Answer::Limit { reached: 9 }),
         (0, Kind::Get, Some(3), None, Answer::NoMemory),
     ] {
-        journal.push(Item::Call(Entry {
+        let entry = Entry {
             caller,
             call: 1,
             kind,
             id,
             at,
             answer,
-        }))?;
+        };
+        add(&mut journal, Item::Call(entry))?;
     }
     Ok(journal)
 }

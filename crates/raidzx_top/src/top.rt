@@ -76,7 +76,7 @@ pub fn raidzx<B: Bank, S: Source, K: Sink>(
         (stream_of (S.left script.new) (S.faults script.new))
         (stream_of (K.held out.old) (K.faults out.old))
         (stream_of (K.held out.new) (K.faults out.new))
-        result.status result.journal result.turns) }
+        result.status result.journal.items result.turns) }
     ensures source { S.left script.new ≡ S.left script.old }
 {
     let mut bank = bank;
