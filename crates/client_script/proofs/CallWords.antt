@@ -56,15 +56,9 @@ hex_of words rest led Free (Some n) Nothing is =
 hex_of words rest led Sync None Nothing is =
     let first : 112 ≡ 115 = ap (λ (l : List ℕ). get_or l 0 0) (sym led ∙ is.spelled) in
     absurd (omega (arith, first))
-hex_of words rest led Attach None Nothing is =
-    let first : 112 ≡ 97 = ap (λ (l : List ℕ). get_or l 0 0) (sym led ∙ is.spelled) in
-    absurd (omega (arith, first))
-hex_of words rest led Copy None Nothing is =
-    let first : 112 ≡ 99 = ap (λ (l : List ℕ). get_or l 0 0) (sym led ∙ is.spelled) in
-    absurd (omega (arith, first))
-hex_of words rest led Scrub None Nothing is =
-    let first : 112 ≡ 115 = ap (λ (l : List ℕ). get_or l 0 0) (sym led ∙ is.spelled) in
-    absurd (omega (arith, first))
+hex_of words rest led Attach None Nothing is = absurd is.served
+hex_of words rest led Copy None Nothing is = absurd is.served
+hex_of words rest led Scrub None Nothing is = absurd is.served
 hex_of words rest led kind id fill is = absurd (omega (arith, is.some))
 
 pub hex_read : (words rest : List ℕ) (line : ℕ) (found : Option ScriptCall) → words ≡ codes "puthex " ++ rest
@@ -76,6 +70,7 @@ hex_read words rest line (Some call) led read =
     let id = read.0 in
     let bytes = read.1 in
     let words_are : IsWords words Put (Some id) (Hex bytes) = record {
+      served = tt;
       some = omega arith;
       spelled = led
           ∙ ap (λ (l : List ℕ). codes "puthex " ++ l) (read.2.led.spelled ∙ ap (λ (l : List ℕ). decimal id ++ 32 ∷ l) read.2.hex.spelled)

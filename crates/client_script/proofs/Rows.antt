@@ -45,11 +45,11 @@ three_bytes (suc (suc (suc k))) d in_list = absurd (omega (arith, in_list))
 
 line_of_put : IsLineText (codes "a puthex 7 616263") (CallLine 0 kind.Put (Some 7) (Hex (0x61 ∷ 0x62 ∷ 0x63 ∷ [])))
 unfolding digits
-line_of_put = record { some = omega arith; spelled = refl; id_fits = omega arith; fill_fits = (omega arith, omega arith, three_bytes) }
+line_of_put = record { served = tt; some = omega arith; spelled = refl; id_fits = omega arith; fill_fits = (omega arith, omega arith, three_bytes) }
 
 line_of_pattern : IsLineText (codes "h put 18446744073709551615 65536 0") (CallLine 7 kind.Put (Some 18446744073709551615) (Pattern 65536 0))
 unfolding digits
-line_of_pattern = record { some = omega arith; spelled = refl; id_fits = omega arith; fill_fits = (omega arith, omega arith, omega arith) }
+line_of_pattern = record { served = tt; some = omega arith; spelled = refl; id_fits = omega arith; fill_fits = (omega arith, omega arith, omega arith) }
 
 -- A length of 0 is none that a line may have.
 no_empty_put : IsLineText (codes "a put 1 0 5") (CallLine 0 kind.Put (Some 1) (Pattern 0 5)) → ⊥

@@ -67,7 +67,7 @@ fn limit(reached: u64) -> Option<ParseRefused> {
 #[test]
 fn the_first_line_that_breaks_a_rule_decides(rt: HostRuntime) {
     let alloc = rt.alloc();
-    let rows: [(&[u8], Option<ParseRefused>); 32] = [
+    let rows: [(&[u8], Option<ParseRefused>); 35] = [
         (b"", fault(1)),
         (b"\n", fault(2)),
         (b"# only this", fault(2)),
@@ -102,10 +102,10 @@ fn the_first_line_that_breaks_a_rule_decides(rt: HostRuntime) {
         (b"clients 2\norder ab\norder c\n", fault(3)),
         (b"clients 2\norder \n", fault(2)),
         (b"clients 1\na sync\nb sync\na sync\nclients 9", fault(3)),
-        (
-            b"clients 1\n\n#\na attach\na copy\na scrub\na free 0\na sum 1\na get 2\n",
-            None,
-        ),
+        (b"clients 1\n\n#\na sync\na free 0\na sum 1\na get 2\n", None),
+        (b"clients 1\na attach\n", fault(2)),
+        (b"clients 1\na copy\n", fault(2)),
+        (b"clients 1\na scrub\n", fault(2)),
     ];
     for (bytes, wanted) in rows {
         assert_eq!(rt; refusal(alloc, bytes), wanted);
