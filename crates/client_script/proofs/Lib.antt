@@ -1,3 +1,4 @@
+pub mod Allowed
 pub mod CallWords
 pub mod Cuts
 pub mod Groups

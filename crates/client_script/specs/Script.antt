@@ -1,8 +1,9 @@
 -- A script as a whole, and the first line that breaks a rule.
-use Rattle.std.specs.Prelude.{◌≡◌, ◌⊎◌, ℕ, ◌+◌, ◌-◌, ◌<◌, ◌≤◌, List, [], ◌∷◌, ◌++◌, length, take, map, filter, Option, Some, option_map, unwrap_or, slice_get, ◌==◌, All, ⊤}
+use Rattle.std.specs.Prelude.{◌≡◌, ◌⊎◌, ℕ, ◌+◌, ◌-◌, ◌^◌, ◌<◌, ◌≤◌, List, [], ◌∷◌, ◌++◌, length, take, map, filter, Option, Some, None, option_map, unwrap_or, slice_get, ◌==◌, All, ⊤}
 use Rattle.std.proofs.Common.{inl, inr}
 use Rattle.std.specs.List.{AllZip}
 use Rattle.core_state.specs.declared.answer.Kind.{Kind}
+use Rattle.core_state.specs.declared.answer.Kind.TheVariants.{Put, Get, Sum, Free, Sync}
 use Rattle.core_state.specs.Journal.{Asked}
 use Rattle.client_script.specs.declared.call.Fill.{Fill}
 use Rattle.client_script.specs.declared.call.ScriptCall.{ScriptCall}
@@ -124,6 +125,30 @@ IsFaultAt bytes number =
     ⊎ ((above : ℕ) × (lines : List Line) × (text : List ℕ) × (number ≡ above + 1)
     × BreaksAt bytes above lines text
     × (PassesLimit lines text → ⊥))
+
+-- A call names a block.
+abbrev pub NamesBlock : Option ℕ → Type 0
+NamesBlock None = ⊥
+NamesBlock (Some id) = id < 2 ^ 64
+
+-- The bytes of a put are some, not too many, and each is one.
+pub record AreBlockBytes (bytes : List ℕ) : Type 0 where
+  pub some : 1 ≤ length bytes
+  pub few : length bytes ≤ 65536
+  pub fit : All (λ byte. byte < 256) bytes
+
+-- A call of this kind may have this id and these bytes.
+abbrev pub MayHave : Kind → Option ℕ → List ℕ → Type 0
+MayHave Put id bytes = NamesBlock id × AreBlockBytes bytes
+MayHave Get id bytes = NamesBlock id
+MayHave Sum id bytes = NamesBlock id
+MayHave Free id bytes = NamesBlock id
+MayHave Sync id bytes = id ≡ None
+MayHave kind id bytes = ⊥
+
+-- A call has what its kind may have.
+abbrev pub IsAllowed : ScriptCall → Type 0
+IsAllowed call = MayHave call.kind call.id (fill_bytes call.fill)
 
 -- the calls of one client, in order
 abbrev pub calls_of : Script → ℕ → List ScriptCall

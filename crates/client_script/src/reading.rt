@@ -3,7 +3,7 @@ ghost use Rattle.std.specs.Prelude.{◌≡◌, ◌⊎◌, ℕ, ◌<◌, ◌≤�
 ghost use Rattle.client_script.specs.declared.meaning.Meaning.TheVariants as meaning;
 ghost use Rattle.client_script.specs.declared.refused.ParseRefused.TheVariants.{ScriptFault, Limit, NoMemory};
 ghost use Rattle.client_script.specs.Lines.{Order, IsLineText, split_lines};
-ghost use Rattle.client_script.specs.Script.{Script as Asked, IsScript, IsFaultAt, IsOverLimit, reached_by};
+ghost use Rattle.client_script.specs.Script.{Script as Asked, IsAllowed, IsScript, IsFaultAt, IsOverLimit, reached_by};
 ghost use Rattle.client_script.specs.Meanings.{IsMeant, actors_of};
 ghost use Rattle.client_script.specs.Reading.{IsStep, IsRefusedFor, IsUnlessNoMemory};
 
@@ -31,6 +31,11 @@ const MOST_CALLS: usize = 10_000;
 pub fn parse(alloc: Global, bytes: &[u8]) -> Result<Script, ParseRefused>
     ensures ok { IfOk result (IsScript bytes.now) }
     ensures err { IfErr result (IsRefusedFor bytes.now) }
+
+    // What the calls hold, and whose they are.
+    ensures allowed { IfOk result (λ script. All (λ placed. IsAllowed placed.call) script.calls) }
+    ensures actors { IfOk result (λ script. (script.clients ≤ 8)
+        × All (λ placed. placed.actor < script.clients) script.calls) }
 
     // Each answer comes wherever it is due, but for want of memory.
     ensures every_script { (script : Asked) → IsScript bytes.now script
