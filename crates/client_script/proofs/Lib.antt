@@ -1,6 +1,7 @@
 pub mod Allowed
 pub mod CallWords
 pub mod Cuts
+pub mod FromSource
 pub mod Groups
 pub mod Hexes
 pub mod LineWords

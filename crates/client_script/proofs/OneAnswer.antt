@@ -69,24 +69,24 @@ one_script bytes one other a b =
       order = (a.order ∙ ap order_in same ∙ sym b.order) i;
     }
 
-script_or_fault : (bytes : List ℕ) (script : Script) (line : ℕ) → IsScript bytes script → IsFaultAt bytes line → ⊥
+pub script_or_fault : (bytes : List ℕ) (script : Script) (line : ℕ) → IsScript bytes script → IsFaultAt bytes line → ⊥
 script_or_fault bytes script line is (inl (lacks, at_end)) =
     let same = one_list (split_lines bytes) is.lines lacks.lines is.are.each lacks.are.each in
     omega (arith, is.clients.0, is.clients.1, ap clients_in same, lacks.none)
 script_or_fault bytes script line is (inr (above, lines, text, at_line, breaks, no_limit)) = none_breaks bytes is.lines lines above text is.are breaks
 
-script_or_limit : (bytes : List ℕ) (script : Script) → IsScript bytes script → IsOverLimit bytes → ⊥
+pub script_or_limit : (bytes : List ℕ) (script : Script) → IsScript bytes script → IsOverLimit bytes → ⊥
 script_or_limit bytes script is (inl many) = omega (arith, is.few, many)
 script_or_limit bytes script is (inr (number, lines, text, breaks, passes)) = none_breaks bytes is.lines lines number text is.are breaks
 
-one_fault : (bytes : List ℕ) (one other : ℕ) → IsFaultAt bytes one → IsFaultAt bytes other → one ≡ other
+pub one_fault : (bytes : List ℕ) (one other : ℕ) → IsFaultAt bytes one → IsFaultAt bytes other → one ≡ other
 one_fault bytes one other (inl (lacks, at_end)) (inl (lacks_too, at_end_too)) = at_end ∙ sym at_end_too
 one_fault bytes one other (inl (lacks, at_end)) (inr (above, lines, text, at_line, breaks, no_limit)) = absurd (none_breaks bytes lacks.lines lines above text lacks.are breaks)
 one_fault bytes one other (inr (above, lines, text, at_line, breaks, no_limit)) (inl (lacks, at_end)) = absurd (none_breaks bytes lacks.lines lines above text lacks.are breaks)
 one_fault bytes one other (inr (above, lines, text, at_line, breaks, no_limit)) (inr (up, upto, more, there, broken, nor_limit)) =
     at_line ∙ ap (λ n. n + 1) (one_break bytes above up lines upto text more breaks broken) ∙ sym there
 
-fault_or_limit : (bytes : List ℕ) (line : ℕ) → IsFaultAt bytes line → IsOverLimit bytes → ⊥
+pub fault_or_limit : (bytes : List ℕ) (line : ℕ) → IsFaultAt bytes line → IsOverLimit bytes → ⊥
 fault_or_limit bytes line (inl (lacks, at_end)) (inl many) = omega (arith, lacks.few, many)
 fault_or_limit bytes line (inl (lacks, at_end)) (inr (number, lines, text, breaks, passes)) = none_breaks bytes lacks.lines lines number text lacks.are breaks
 fault_or_limit bytes line (inr (above, lines, text, at_line, breaks, no_limit)) (inl many) = omega (arith, breaks.few, many)
@@ -95,7 +95,7 @@ fault_or_limit bytes line (inr (above, lines, text, at_line, breaks, no_limit)) 
     let spelled = same_text bytes above number lines upto text more breaks broken in
     no_limit (subst (λ (l : List Line). PassesLimit l text) (sym same) (subst (λ (t : List ℕ). PassesLimit upto t) (sym spelled) passes))
 
-one_limit : (bytes : List ℕ) (one other : IsOverLimit bytes) → reached_by bytes one ≡ reached_by bytes other
+pub one_limit : (bytes : List ℕ) (one other : IsOverLimit bytes) → reached_by bytes one ≡ reached_by bytes other
 one_limit bytes (inl many) (inl more) = refl
 one_limit bytes (inl many) (inr (number, lines, text, breaks, passes)) = absurd (omega (arith, breaks.few, many))
 one_limit bytes (inr (number, lines, text, breaks, passes)) (inl many) = absurd (omega (arith, breaks.few, many))

@@ -1,3 +1,4 @@
+pub mod FromSource
 pub mod Grouped
 pub mod Lines
 pub mod Meanings

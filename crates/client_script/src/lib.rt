@@ -16,6 +16,7 @@ mod output;
 mod reading;
 mod refused;
 mod script;
+mod source;
 #[cfg(test)]
 mod tests;
 mod text_writer;
@@ -25,6 +26,7 @@ pub use call::{Fill, ScriptCall};
 pub use journal_text::{print_journal, write_journal};
 pub use output::write_all;
 pub use reading::parse;
-pub use refused::ParseRefused;
+pub use refused::{ParseRefused, ReadRefused};
 pub use script::Script;
+pub use source::read_script;
 pub use text_writer::TextWriter;
