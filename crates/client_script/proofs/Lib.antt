@@ -4,6 +4,7 @@ pub mod Cuts
 pub mod FromSource
 pub mod Groups
 pub mod Hexes
+pub mod InOrder
 pub mod LineWords
 pub mod Numbers
 pub mod OneAnswer

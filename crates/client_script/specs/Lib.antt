@@ -1,5 +1,6 @@
 pub mod FromSource
 pub mod Grouped
+pub mod InOrder
 pub mod Lines
 pub mod Meanings
 pub mod Reading

@@ -9,6 +9,7 @@
 mod call;
 mod cut;
 mod hex;
+mod in_order;
 mod journal_text;
 mod meaning;
 mod number;
@@ -23,6 +24,7 @@ mod text_writer;
 mod words;
 
 pub use call::{Fill, ScriptCall};
+pub use in_order::{CallsInOrder, NumberedCall};
 pub use journal_text::{print_journal, write_journal};
 pub use output::write_all;
 pub use reading::parse;
