@@ -137,6 +137,7 @@ impl Blocks {
     ) -> Result<PutRange, PutRefused>
         requires some { 1 ≤ len_bytes }
         requires few { len_bytes ≤ 65536 }
+        ensures step { AreInStep self.old }
         ensures range { IfOk result (IsRangeFor self.new id len_bytes group) }
         ensures begins { IfOk result (BeginsPut self.old self.new locks.now) }
         ensures under_way { IfOk result (IsUnderWay self.new) }

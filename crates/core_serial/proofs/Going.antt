@@ -17,7 +17,7 @@ use Rattle.core_state.proofs.Frames.{Nowhere, none_lost, unchanged_frames}
 use Rattle.core_state.proofs.Knowing.{knows_frame}
 use Rattle.core_state.proofs.Since.{since_more}
 use Rattle.core_state.proofs.Touched.{touched_knows, touched_since}
-use Rattle.core_blocks.specs.Blocks.{Blocks}
+use Rattle.core_blocks.specs.Blocks.{Blocks, AreUnderWay}
 use Rattle.core_blocks.specs.Kept.{NoneFree}
 use Rattle.core_client.specs.Outs.{point_of, OnlyFailedGoOut}
 use Rattle.core_client.proofs.Outs.{outs_none, was_used}
@@ -88,6 +88,7 @@ goes_nowhere state = record {
   later = later_refl state.disk;
   bank = λ bank. bank;
   out = outs_none (point_of state.pool.out state.disk);
+  rest = λ rest. rest;
   stands = λ setting last begun stands. stands;
   since = λ setting last begun groups time stands row kept. kept;
 }
@@ -103,6 +104,7 @@ goes_read before after lawful uber blocks same outs = record {
   bank = λ bank. subst (λ (u : Uber). HasBank u after.pool.out after.disk) (sym uber)
       (bank_later before.pool.uber before.disk after.disk before.pool.out after.pool.out same.goes_on.later outs.still bank);
   out = outs;
+  rest = λ rest. subst (λ (b : Blocks). AreUnderWay b []) (sym blocks) rest;
   stands = λ setting last begun stands. stands_anew setting last begun before after uber same.goes_on.later outs.still
       (λ kept. subst (λ (b : Blocks). NoneFree b before.pool.uber.group last.entries) (sym blocks) kept)
       (knows setting last begun stands) stands;
@@ -122,15 +124,17 @@ pub goes_written : (P : ℕ → ℕ → Type 0) (before after : State) → Lawfu
     → count_of before.pool.out ≤ before.pool.uber.parity
     → ((past : ℕ) (kept : List IndexEntry) → past < open_group before.pool
     → NoneFree before.pool.blocks past kept → NoneFree after.pool.blocks past kept)
+    → (AreUnderWay before.pool.blocks [] → AreUnderWay after.pool.blocks [])
     → ((setting : Setting) (last : Kept) → Stands setting last [] before
     → (d x : ℕ) → P d x → IsSpare setting last [] d x)
     → GoesOn before after
-goes_written P before after lawful uber touched outs few kept spare = record {
+goes_written P before after lawful uber touched outs few kept rest spare = record {
   uber = uber;
   later = touched.later;
   bank = λ bank. subst (λ (u : Uber). HasBank u after.pool.out after.disk) (sym uber)
       (bank_later before.pool.uber before.disk after.disk before.pool.out after.pool.out touched.later outs.still bank);
   out = outs;
+  rest = rest;
   stands = λ setting last begun stands. stands_anew setting last begun before after uber touched.later outs.still
       (kept before.pool.uber.group last.entries (omega arith))
       (touched_knows P touched setting last begun lawful (spares setting last begun stands) stands.knows) stands;

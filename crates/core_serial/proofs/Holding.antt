@@ -32,12 +32,12 @@ use Rattle.core_serial.specs.Pool.{Pool, IsPool, State, IsTableOf, IsRead, Holds
 use Rattle.core_serial.proofs.Layouts.{entry_in_pool, blocks_apart}
 
 -- A block that stands in the table lies in the pool.
-pub listed_in_pool : (pool : Pool) (entry : IndexEntry) → IsPool pool
+pub listed_in_pool : (pool : Pool) (entry : IndexEntry) → IsPool pool → AreInStep pool.blocks
     → IsListed pool.blocks.table.entries entry
     → IsInPool (layout_of pool.uber.parity pool.uber.births entry) pool.uber.reflow
-listed_in_pool pool entry is listed =
-    let stands = is.step.each entry listed in
-    let inside = is.step.spread.inside (run_of pool.blocks.parity pool.blocks.births entry) stands.taken in
+listed_in_pool pool entry is step listed =
+    let stands = step.each entry listed in
+    let inside = step.spread.inside (run_of pool.blocks.parity pool.blocks.births entry) stands.taken in
     entry_in_pool pool.uber entry is.right stands.right
     (subst (λ (p : ℕ). block_end p pool.uber.births entry ≤ sectors_of pool.uber.reflow) is.parity
     (subst (λ (b : List Birth). block_end pool.blocks.parity b entry ≤ sectors_of pool.uber.reflow) is.births
@@ -63,20 +63,20 @@ block_stays layout content reflow done known now out still within same right = r
 pub same_holds : (map : Map) (before after : State)
     → ((entry : IndexEntry) (content : List ℕ) (known : Known) (out : ℕ)
     → IsRead before.pool.uber entry content known out → IsRead after.pool.uber entry content known out)
-    → after.pool.blocks.table ≡ before.pool.blocks.table → IsWithin before.pool.out after.pool.out
+    → after.pool.blocks.table.entries ≡ before.pool.blocks.table.entries → IsWithin before.pool.out after.pool.out
     → ((device device_sector : ℕ) (bytes : List ℕ) → IsDataSector device_sector
     → has_device after.pool.out device ≡ false → before.disk.reads device device_sector ≡ Some bytes
     → after.disk.reads device device_sector ≡ Some bytes)
     → HoldsMap map before → HoldsMap map after
 same_holds map before after alike table within reads holds = record {
-  table = subst (λ (t : Table). IsTableOf t.entries map) (sym table) holds.table;
+  table = subst (λ (l : List IndexEntry). IsTableOf l map) (sym table) holds.table;
   bytes = holds.bytes;
   right = λ entry content listed has. alike entry content after.disk.reads after.pool.out
       (block_stays (layout_of before.pool.uber.parity before.pool.uber.births entry) content before.pool.uber.reflow
       (front_after_stop before.pool.uber.reflow) before.disk.reads after.disk.reads before.pool.out after.pool.out within
       (λ cell device device_sector is place used read. reads device device_sector cell.bytes
       (required_sector before.pool.uber.reflow cell.row_end cell.sector device device_sector place) used read)
-      (holds.right entry content (subst (λ (t : Table). IsListed t.entries entry) table listed) has));
+      (holds.right entry content (subst (λ (l : List IndexEntry). IsListed l entry) table listed) has));
 }
 
 -- The map with one block put, or taken away, at this id and at another.
@@ -86,46 +86,63 @@ with_here map id value = grind (arith, nat_tests)
 with_other : (map : Map) (id other : ℕ) (value : Option (List ℕ)) → other ≢ id → with_block map (Some id) value other ≡ map other
 with_other map id other value apart = grind (arith, nat_tests, apart)
 
--- A put holds its block too.
-module _ (map : Map) (before after : State) (is : IsPool before.pool) (entry : IndexEntry) (content : List ℕ)
-    (uber : after.pool.uber ≡ before.pool.uber)
-    (change : ChangesOnly before.pool.blocks.table.entries after.pool.blocks.table.entries entry.id (Some entry))
-    (within : IsWithin before.pool.out after.pool.out) where
-  abbrev layout : Layout
-  layout = layout_of before.pool.uber.parity before.pool.uber.births entry
-
+-- Writing a block of this layout, which has no sector in common with others.
+module _ (before after : State) (is : IsPool before.pool) (step : AreInStep before.pool.blocks) (layout : Layout)
+    (uber : after.pool.uber ≡ before.pool.uber) (within : IsWithin before.pool.out after.pool.out)
+    (pool : IsInPool layout before.pool.uber.reflow)
+    (clear : (other : IndexEntry) → IsListed before.pool.blocks.table.entries other
+    → AreClear (layout_run layout) (layout_run (layout_of before.pool.uber.parity before.pool.uber.births other)))
+    (touched : TouchesOnly (IsPlaceOf (writes_of layout before.pool.uber.reflow (front_after_stop before.pool.uber.reflow)) before.pool.out) before.disk after.disk) where
   abbrev reflow : Reflow
   reflow = before.pool.uber.reflow
 
   abbrev other_layout : IndexEntry → Layout
   other_layout other = layout_of before.pool.uber.parity before.pool.uber.births other
 
-  -- The put writes to no place of another block.
+  -- Nothing is written to a place of another block.
   away : (other : IndexEntry) → IsListed before.pool.blocks.table.entries other → (cell : Cell) (device device_sector : ℕ)
-      (given : List ℕ) → IsInPool layout reflow
-      → ((one : IndexEntry) → IsListed before.pool.blocks.table.entries one
-      → AreClear (layout_run layout) (layout_run (other_layout one)))
-      → IsCell (other_layout other) given cell
+      (given : List ℕ) → IsCell (other_layout other) given cell
       → IsRequiredPlace reflow (front_after_stop reflow) cell.row_end cell.sector device device_sector
       → IsPlaceOf (writes_of layout reflow (front_after_stop reflow)) before.pool.out device device_sector
       → ⊥
-  away other listed cell device device_sector given pool clear cell_is place (write, has, used, device_is, sector_is) =
+  away other listed cell device device_sector given cell_is place (write, has, used, device_is, sector_is) =
       let required = (are_required layout reflow (front_after_stop reflow)).only write has in
       blocks_apart reflow layout (other_layout other) write.row write.column cell_is.row cell_is.column device device_sector
-      pool (listed_in_pool before.pool other is listed) (clear other listed) required.0 cell_is.there
+      pool (listed_in_pool before.pool other is step listed) (clear other listed) required.0 cell_is.there
       (subst (λ (d : ℕ). IsRequiredPlace reflow (front_after_stop reflow) (end_of layout write.row) (sector_of layout write.row write.column) d device_sector) (sym device_is)
       (subst (λ (x : ℕ). IsRequiredPlace reflow (front_after_stop reflow) (end_of layout write.row) (sector_of layout write.row write.column) write.device x) (sym sector_is) required.1))
       (subst (λ (e : ℕ). IsRequiredPlace reflow (front_after_stop reflow) e (sector_of (other_layout other) cell_is.row cell_is.column) device device_sector) cell_is.row_end
       (subst (λ (x : ℕ). IsRequiredPlace reflow (front_after_stop reflow) cell.row_end x device device_sector) cell_is.sector place))
 
-  pub put_holds : IsEntryOf entry content → AreBytes content → IsInPool layout reflow
-      → ((other : IndexEntry) → IsListed before.pool.blocks.table.entries other
-      → AreClear (layout_run layout) (layout_run (layout_of before.pool.uber.parity before.pool.uber.births other)))
-      → TouchesOnly (IsPlaceOf (writes_of layout reflow (front_after_stop reflow)) before.pool.out) before.disk after.disk
-      → IsRightBlock layout content reflow (front_after_stop reflow) after.disk.reads after.pool.out
+  -- So another block is read as it was.
+  others_read : (other : IndexEntry) (given : List ℕ) → IsListed before.pool.blocks.table.entries other
+      → IsRead before.pool.uber other given before.disk.reads before.pool.out
+      → IsRead after.pool.uber other given after.disk.reads after.pool.out
+  others_read other given listed read = subst (λ (u : Uber). IsRead u other given after.disk.reads after.pool.out) (sym uber)
+      (block_stays (other_layout other) given reflow (front_after_stop reflow)
+      before.disk.reads after.disk.reads before.pool.out after.pool.out within
+      (λ cell device device_sector cell_is place used was. touched.reads device device_sector
+      (λ written. away other listed cell device device_sector given cell_is place written) ∙ was)
+      read)
+
+  -- A put that is not ended leaves the map.
+  pub spared_holds : (map : Map) → after.pool.blocks.table.entries ≡ before.pool.blocks.table.entries
+      → HoldsMap map before → HoldsMap map after
+  spared_holds map entries holds = record {
+    table = subst (λ (l : List IndexEntry). IsTableOf l map) (sym entries) holds.table;
+    bytes = holds.bytes;
+    right = λ other given listed has. let old = subst (λ (l : List IndexEntry). IsListed l other) entries listed in
+        others_read other given old (holds.right other given old has);
+  }
+
+  -- One that is holds its block too.
+  pub put_holds : (map : Map) (entry : IndexEntry) (content : List ℕ)
+      → ChangesOnly before.pool.blocks.table.entries after.pool.blocks.table.entries entry.id (Some entry)
+      → IsEntryOf entry content → AreBytes content
+      → IsRead before.pool.uber entry content after.disk.reads after.pool.out
       → HoldsMap map before
       → HoldsMap (with_block map (Some entry.id) (Some content)) after
-  put_holds entry_is bytes pool clear touched right holds = record {
+  put_holds map entry content change entry_is bytes right holds = record {
     table = record {
       listed = λ other listed. ⊎_elim
           (λ same. (
@@ -152,12 +169,8 @@ module _ (map : Map) (before after : State) (is : IsPool before.pool) (entry : I
         (subst (λ (b : List ℕ). IsRead before.pool.uber entry b after.disk.reads after.pool.out)
         (given_is (sym (ap (λ (e : IndexEntry). with_block map (Some entry.id) (Some content) e.id) same
         ∙ with_here map entry.id (Some content)) ∙ has)) right)))
-        (λ old. subst (λ (u : Uber). IsRead u other given after.disk.reads after.pool.out) (sym uber)
-        (block_stays (other_layout other) given reflow (front_after_stop reflow)
-        before.disk.reads after.disk.reads before.pool.out after.pool.out within
-        (λ cell device device_sector cell_is place used read. touched.reads device device_sector
-        (λ written. away other old.0 cell device device_sector given pool clear cell_is place written) ∙ read)
-        (holds.right other given old.0 (sym (with_other map entry.id other.id (Some content) old.1) ∙ has))))
+        (λ old. others_read other given old.0
+        (holds.right other given old.0 (sym (with_other map entry.id other.id (Some content) old.1) ∙ has)))
         (put_cases before.pool.blocks.table.entries after.pool.blocks.table.entries entry other change listed);
   }
     where

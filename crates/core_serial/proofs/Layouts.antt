@@ -24,7 +24,7 @@ use Rattle.core_client.proofs.Places.{one_sector, widths_of, close_to_end}
 use Rattle.core_open.proofs.BlockSpans.{births_between}
 
 -- A block takes at least the sectors that it fills.
-total_few : (layout : Layout) → total_of layout ≤ allocated_of layout
+pub total_few : (layout : Layout) → total_of layout ≤ allocated_of layout
 total_few layout = omega (arith, div-add-mod (total_of layout + layout.parity) (layout.parity + 1))
 
 -- A pool is not that large.

@@ -3,3 +3,4 @@ pub mod Holding
 pub mod Sparing
 pub mod Committing
 pub mod Going
+pub mod Puts

@@ -9,6 +9,8 @@ use Rattle.core_state.specs.declared.answer.Kind.{Kind}
 use Rattle.core_state.specs.declared.answer.Kind.TheVariants as kind
 use Rattle.core_state.specs.Map.{Map, with_block}
 use Rattle.core_blocks.specs.Puts.{sectors_taken}
+use Rattle.core_blocks.specs.declared.refused.PutRefused.{PutRefused}
+use Rattle.core_blocks.specs.declared.refused.PutRefused.TheVariants as refused
 use Rattle.core_serial.specs.Pool.{Pool, open_group}
 
 -- More devices are out than there are parities.
@@ -47,6 +49,18 @@ IsPutAnswered old new id len (answer.NoSpace sectors) =
 IsPutAnswered old new id len (answer.TooManyFailed out) = ListsTooMany new out
 IsPutAnswered old new id len answer.NoMemory = ⊤
 IsPutAnswered old new id len other = ⊥
+
+-- No hold stands in a put's way.
+abbrev pub IsRefusal : PutRefused → Type 0
+IsRefusal (refused.Busy by) = ⊥
+IsRefusal other = ⊤
+
+-- the answer to a put that is refused
+abbrev pub AnswersRefusal : PutRefused → Answer → Type 0
+AnswersRefusal refused.Full given = given ≡ answer.Full
+AnswersRefusal (refused.NoSpace sectors) given = given ≡ answer.NoSpace sectors
+AnswersRefusal (refused.Busy by) given = ⊥
+AnswersRefusal refused.NoMemory given = given ≡ answer.NoMemory
 
 -- Why a read of an id is answered so.
 abbrev pub IsReadAnswered : Pool → Pool → ℕ → Kind → Answer → Type 0

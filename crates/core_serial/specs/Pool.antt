@@ -1,18 +1,19 @@
 -- An open pool, the bank under it, and when it holds a map.
-use Rattle.std.specs.Prelude.{◌≡◌, ℕ, ◌+◌, ◌^◌, ◌<◌, ◌≤◌, List, [], Some, false}
+use Rattle.std.specs.Prelude.{◌≡◌, ℕ, ◌+◌, ◌^◌, ◌<◌, ◌≤◌, List, Some}
 use Rattle.bank_trait.specs.Disk.{Disk, Known}
 use Rattle.reflow_mark.specs.Reflow.{sectors_of}
 use Rattle.shadow_write.specs.Required.{front_after_stop}
 use Rattle.block_record.specs.declared.entry.IndexEntry.{IndexEntry}
 use Rattle.reconstruct.specs.Lost.{AreBytes}
-use Rattle.uberblock_ring.specs.Devices.{has_device, IsWithin}
+use Rattle.uberblock_ring.specs.Devices.{IsWithin}
 use Rattle.uberblock_ring.specs.Uberblock.{Uber}
 use Rattle.uberblock_ring.specs.Valid.{IsRightUber}
 use Rattle.core_state.specs.Map.{Map}
 use Rattle.core_state.specs.Index.{layout_of, IsEntryOf}
 use Rattle.block_table.specs.Table.{entry_of}
-use Rattle.core_blocks.specs.Blocks.{Blocks, AreInStep, AreUnderWay, IsListed}
+use Rattle.core_blocks.specs.Blocks.{Blocks, IsListed}
 use Rattle.core_client.specs.Pool.{IsRightBlock}
+pub use Rattle.core_open.specs.Opens.{HasBank}
 
 -- the last answered group's uberblock, the blocks, and the devices that are out
 pub record Pool : Type 0 where
@@ -20,28 +21,23 @@ pub record Pool : Type 0 where
   pub blocks : Blocks
   pub out : ℕ
 
+abbrev pub pool_of : Uber → Blocks → ℕ → Pool
+pool_of uber blocks out = record { uber = uber; blocks = blocks; out = out }
+
 -- the open group: the one after the last answered
 abbrev pub open_group : Pool → ℕ
 open_group pool = pool.uber.group + 1
 
--- Uberblock and blocks belong together, no put is under way, and the devices are the pool's.
+-- Uberblock and blocks belong together, and the devices that are out are the pool's.
 pub record IsPool (pool : Pool) : Type 0 where
   pub right : IsRightUber pool.uber
   pub parity : pool.blocks.parity ≡ pool.uber.parity
   pub births : pool.blocks.births ≡ pool.uber.births
   pub capacity : pool.blocks.space.capacity ≡ sectors_of pool.uber.reflow
-  pub step : AreInStep pool.blocks
   pub born : (entry : IndexEntry) → IsListed pool.blocks.table.entries entry
       → entry.birth ≤ open_group pool
-  pub none : AreUnderWay pool.blocks []
   pub below : pool.out < 2 ^ pool.uber.reflow.to
   pub lists : IsWithin pool.uber.out pool.out
-
--- The bank has the pool's data rows, and each of its devices that isn't out.
-pub record HasBank (uber : Uber) (out : ℕ) (disk : Disk) : Type 0 where
-  pub room : 192 + uber.reflow.rows ≤ disk.sectors
-  pub devices : (device : ℕ) → device < uber.reflow.to → has_device out device ≡ false
-      → device < disk.devices
 
 -- an open pool and what its devices hold
 pub record State : Type 0 where

@@ -7,6 +7,7 @@ use Rattle.uberblock_ring.specs.Valid.{AreAlike}
 use Rattle.core_state.specs.Keeps.{Kept, Setting}
 use Rattle.core_state.specs.Certain.{Knows}
 use Rattle.core_state.specs.Moment.{IsRowOf, KeepsSince}
+use Rattle.core_blocks.specs.Blocks.{AreUnderWay}
 use Rattle.core_blocks.specs.Kept.{NoneFree}
 use Rattle.core_client.specs.Outs.{point_of, OnlyFailedGoOut}
 use Rattle.core_open.specs.Holds.{shape_of}
@@ -23,8 +24,8 @@ pub record Stands (setting : Setting) (last : Kept) (begun : List Kept) (state :
   pub shape : setting.shape ≡ shape_of state.disk
   pub tells : Tells state.disk
 
--- A call that ends no group: the bank goes on, devices go out where they failed, and what the devices
--- keep they keep, at each moment of it.
+-- A call that ends no group: the bank goes on, devices go out where they failed, no put is left under
+-- way, and what the devices keep they keep, at each moment of it.
 pub record GoesOn (before after : State) : Type 0 where
   pub uber : after.pool.uber ≡ before.pool.uber
   pub later : Later before.disk after.disk
@@ -32,6 +33,7 @@ pub record GoesOn (before after : State) : Type 0 where
       → HasBank after.pool.uber after.pool.out after.disk
   pub out : OnlyFailedGoOut (point_of before.pool.out before.disk)
       (point_of after.pool.out after.disk)
+  pub rest : AreUnderWay before.pool.blocks [] → AreUnderWay after.pool.blocks []
   pub stands : (setting : Setting) (last : Kept) (begun : List Kept)
       → Stands setting last begun before → Stands setting last begun after
   pub since : (setting : Setting) (last : Kept) (begun groups : List Kept) (time : ℕ)

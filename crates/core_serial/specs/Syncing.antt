@@ -8,6 +8,7 @@ use Rattle.core_state.specs.declared.answer.Answer.TheVariants as answer
 use Rattle.core_state.specs.Map.{Map}
 use Rattle.core_state.specs.Keeps.{Kept, Setting}
 use Rattle.core_state.specs.Moment.{KeepsSince}
+use Rattle.core_blocks.specs.Blocks.{AreUnderWay}
 use Rattle.core_client.specs.Outs.{point_of, OnlyFailedGoOut}
 use Rattle.core_serial.specs.Pool.{Pool, State, HasBank, HoldsMap, open_group}
 use Rattle.core_serial.specs.Standing.{Stands, GoesOn}
@@ -82,4 +83,5 @@ pub record LeavesPool (before after : State) : Type 0 where
       → HasBank after.pool.uber after.pool.out after.disk
   pub out : OnlyFailedGoOut (point_of before.pool.out before.disk)
       (point_of after.pool.out after.disk)
+  pub rest : AreUnderWay before.pool.blocks [] → AreUnderWay after.pool.blocks []
   pub holds : (map : Map) → HoldsMap map before → HoldsMap map after

@@ -7,5 +7,6 @@
 #![tactic(auto)]
 
 mod pool;
+mod putting;
 
 pub use pool::Pool;

@@ -1,9 +1,11 @@
 // An open pool.
 ghost use Rattle.std.specs.Prelude.{◌≡◌, ◌+◌, ◌<◌, ◌↔◌, IsTrue};
+ghost use Rattle.uberblock_ring.specs.Devices.{count_of};
 ghost use Rattle.core_serial.specs.Answers.{HasTooManyOut};
 ghost use Rattle.core_serial.specs.Pool.{open_group};
 
 use core_blocks::Blocks;
+use core_state::Answer;
 use std::marker::Model;
 use uberblock_ring::{DeviceSet, Uber};
 
@@ -11,9 +13,9 @@ use uberblock_ring::{DeviceSet, Uber};
 /// that they take, and the devices that are out. They are not called again.
 #[derive(Drop)]
 pub struct Pool {
-    uber: Uber,
-    blocks: Blocks,
-    out: DeviceSet,
+    pub(crate) uber: Uber,
+    pub(crate) blocks: Blocks,
+    pub(crate) out: DeviceSet,
 }
 
 impl Model for Pool {
@@ -28,6 +30,20 @@ impl Model for Pool {
       blocks = pool.blocks;
       out = pool.out;
     }) };
+}
+
+/// Whether more devices are out than there are parities.
+pub fn is_too_many(uber: &Uber, out: DeviceSet) -> bool
+    ensures { IsTrue result ↔ (uber.now.parity < count_of out) }
+{
+    out.len() > uber.parity()
+}
+
+/// The answer where these devices are out, and they are too many.
+pub fn too_many(out: DeviceSet) -> Answer
+    ensures { result ≡ Answer.TooManyFailed out }
+{
+    Answer::TooManyFailed { out: out.bits() }
 }
 
 impl Pool {
@@ -49,6 +65,6 @@ impl Pool {
     pub fn has_too_many_out(&self) -> bool
         ensures { IsTrue result ↔ HasTooManyOut self.now }
     {
-        self.out.len() > self.uber.parity()
+        is_too_many(&self.uber, self.out)
     }
 }

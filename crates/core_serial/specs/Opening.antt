@@ -1,0 +1,58 @@
+-- What a pool begins with, and what an opening keeps that was cut short.
+use Rattle.std.specs.Prelude.{◌≡◌, ◌≢◌, ℕ, ◌≤◌, List, [], ◌∷◌, true, Contains, Some, ⊤}
+use Rattle.bank_trait.specs.Disk.{Image, Disk, Unchanged}
+use Rattle.reconstruct.specs.Lost.{AreBytes}
+use Rattle.uberblock_ring.specs.Devices.{has_device, count_of, IsWithin}
+use Rattle.core_state.specs.Keeps.{Kept, Setting}
+use Rattle.core_open.specs.declared.why.OpenWhy.{OpenWhy}
+use Rattle.core_open.specs.declared.why.OpenWhy.TheVariants as reason
+use Rattle.core_open.specs.Causes.{IsOutFor, IsShownChoice}
+use Rattle.core_open.specs.Failing.{HaveFailed}
+use Rattle.core_open.specs.Holds.{HoldsImage}
+use Rattle.core_open.specs.Opens.{MayOpen, HasOpened, OpeningKeeps, IsWithinBelow}
+use Rattle.core_serial.specs.Pool.{Pool, HoldsMap, state_of}
+use Rattle.core_serial.specs.Standing.{Stands}
+
+-- A pool may be opened where images keep these groups, whose maps hold bytes, with no place that may be
+-- wrong.
+pub record MayBegin (setting : Setting) (first : Kept) (later : List Kept) (disk : Disk) : Type 0 where
+  pub may : MayOpen setting first later disk
+  pub odd : setting.odd ≡ []
+  pub bytes : (kept : Kept) (id : ℕ) (content : List ℕ) → Contains (first ∷ later) kept
+      → kept.map id ≡ Some content → AreBytes content
+
+-- The pool was opened with a group that renews one of these, and holds its map.
+pub record Begins (setting : Setting) (first : Kept) (later : List Kept) (pool : Pool)
+    (old new : Disk) : Type 0 where
+  pub opened : HasOpened setting first later pool.uber pool.blocks.table.entries old new
+  pub stands : Stands setting opened.next [] (state_of pool new)
+  pub holds : HoldsMap opened.next.map (state_of pool new)
+
+-- So it is where all devices that were silent or are out may fail.
+pub record IsBegunWith (pool : Pool) (silent : ℕ) (old new : Disk) : Type 0 where
+  pub each : (setting : Setting) (first : Kept) (later : List Kept)
+      → MayBegin setting first later old
+      → IsWithinBelow first.uber.reflow.to silent setting.failed
+      → IsWithin pool.out setting.failed → Begins setting first later pool old new
+
+-- An opening that was cut short: devices that were silent failed in it, and where they and those that its
+-- group lists as out may fail, each image keeps what was kept and maybe its group. But where memory was
+-- wanting these are no more than there are parities. Each was out at opening, or failed.
+pub record CutsOpening (why : OpenWhy) (old new : Disk) : Type 0 where
+  pub silent : ℕ
+  pub failed : HaveFailed old new silent
+  pub earlier : ℕ
+  pub few : why ≢ reason.NoMemory → (setting : Setting) (first : Kept) (later : List Kept)
+      → MayOpen setting first later old
+      → IsWithinBelow first.uber.reflow.to silent setting.failed
+      → count_of earlier ≤ first.uber.parity
+  pub each : (image : Image) → HoldsImage old image → (device : ℕ)
+      → has_device earlier device ≡ true
+      → (shown : IsShownChoice old new image) × IsOutFor shown device
+  pub keeps : OpeningKeeps silent earlier old new
+
+-- What is no pool, or has no more groups, is left as it was but for counts of faults.
+abbrev pub LeavesUnopened : OpenWhy → Disk → Disk → Type 0
+LeavesUnopened reason.NotPool old new = Unchanged old new
+LeavesUnopened (reason.Limit group) old new = Unchanged old new
+LeavesUnopened other old new = ⊤

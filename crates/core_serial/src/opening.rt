@@ -1,0 +1,61 @@
+// Opening a pool.
+ghost use Rattle.std.specs.Prelude.{◌≡◌, ◌≤◌, [], IfErr, IfOk};
+ghost use Rattle.uberblock_ring.specs.Devices.{count_of};
+ghost use Rattle.core_blocks.specs.Blocks.{AreUnderWay};
+ghost use Rattle.core_open.specs.Causes.{AreOutOf, IsOpenCause};
+ghost use Rattle.core_open.specs.Failing.{HaveFailed};
+ghost use Rattle.core_open.specs.Opens.{IsForMemory};
+ghost use Rattle.core_serial.specs.Opening.{CutsOpening, IsBegunWith, LeavesUnopened};
+ghost use Rattle.core_serial.specs.Pool.{HasBank};
+
+use crate::Pool;
+use bank_trait::Bank;
+use core_blocks::Blocks;
+use core_open::{OpenWhy, open};
+use std::alloc::Global;
+use uberblock_ring::DeviceSet;
+
+/// A pool that was opened, and the devices that failed while it was looked for.
+#[derive(Drop)]
+pub struct OpenedPool {
+    pub pool: Pool,
+    pub silent: DeviceSet,
+}
+
+/// Opens the pool that the devices show. A group that renews the one that is opened is written, two
+/// above it: it is the last one of the pool that is handed back.
+pub fn open_pool<B: Bank>(alloc: Global, bank: &mut B) -> Result<OpenedPool, OpenWhy>
+    ensures bank { IfOk result (λ opened.
+        HasBank opened.pool.uber opened.pool.out (B.disk bank.new)) }
+    ensures rest { IfOk result (λ opened. AreUnderWay opened.pool.blocks []) }
+    ensures few { IfOk result (λ opened. count_of opened.pool.out ≤ opened.pool.uber.parity) }
+    ensures silent { IfOk result (λ opened.
+        HaveFailed (B.disk bank.old) (B.disk bank.new) opened.silent) }
+    ensures out { IfOk result (λ opened. AreOutOf (B.disk bank.old) (B.disk bank.new)
+        opened.pool.uber.out opened.pool.out) }
+    ensures begins { IfOk result (λ opened. IsBegunWith opened.pool opened.silent
+        (B.disk bank.old) (B.disk bank.new)) }
+    ensures cause { IfErr result (IsOpenCause (B.disk bank.old) (B.disk bank.new)) }
+    ensures cut { IfErr result (λ why. CutsOpening why (B.disk bank.old) (B.disk bank.new)) }
+    ensures untouched { IfErr result (λ why.
+        LeavesUnopened why (B.disk bank.old) (B.disk bank.new)) }
+    ensures opens { IfErr result (IsForMemory (B.disk bank.old) (B.disk bank.new)) }
+{
+    let opened = open(alloc, bank)?;
+    let uber = opened.uber;
+    let blocks = Blocks::load(
+        alloc,
+        uber.parity(),
+        *uber.births(),
+        uber.reflow().sectors(),
+        &opened.entries,
+    )?;
+    Ok(OpenedPool {
+        pool: Pool {
+            uber,
+            blocks,
+            out: opened.out,
+        },
+        silent: opened.silent,
+    })
+}
