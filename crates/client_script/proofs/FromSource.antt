@@ -1,13 +1,11 @@
 -- How far a source has been read, and that a script from it has one answer at most.
-use Rattle.std.proofs.Common.{◌≡◌, ℕ, ◌+◌, ◌<◌, ◌≤◌, List, [], ◌++◌, length, take, drop, Option, Some, Ok, Err, refl, sym, ◌∙◌, ap, subst, arith, append_assoc, inl, inr}
+use Rattle.std.proofs.Common.{◌≡◌, ℕ, List, ◌++◌, Option, Some, Ok, Err, refl, ◌∙◌, ap, subst, inl, inr}
 use Rattle.std.specs.Prelude.{Result, IfOk, IfErr}
-use Rattle.std.proofs.lemmas.List.{append-nil, length-append, take-append-drop}
-use Rattle.bank_trait.specs.Stream.{Hands}
 use Rattle.client_script.specs.declared.refused.ParseRefused.{ParseRefused}
 use Rattle.client_script.specs.declared.refused.ParseRefused.TheVariants as parse
 use Rattle.client_script.specs.declared.refused.ReadRefused.{ReadRefused}
 use Rattle.client_script.specs.declared.refused.ReadRefused.TheVariants.{SourceFault, ScriptFault, Limit, NoMemory}
-use Rattle.client_script.specs.Script.{Script, IsScript, IsOverLimit, IsFaultAt, reached_by, most_bytes}
+use Rattle.client_script.specs.Script.{Script, IsScript, IsOverLimit, IsFaultAt, reached_by}
 use Rattle.client_script.specs.Reading.{IsRefusedFor}
 use Rattle.client_script.specs.FromSource.{read_refusal, IsToldWell, IsUnreadFor, IsNotReadFor, IsReadUnlessNoMemory}
 use Rattle.client_script.proofs.OneAnswer.{one_script, script_or_fault, script_or_limit, one_fault, fault_or_limit, one_limit}

@@ -8,7 +8,7 @@ use Rattle.std.proofs.lemmas.Option.{get_or_from_slice_get, slice_get_within}
 use Rattle.client_script.specs.declared.call.ScriptCall.{ScriptCall}
 use Rattle.client_script.specs.Lines.{fill_bytes}
 use Rattle.client_script.specs.Script.{Script, Placed, calls_of}
-use Rattle.client_script.specs.InOrder.{InOrder, IsNextCall, given_of}
+use Rattle.client_script.specs.InOrder.{IsNextCall, given_of}
 
 -- the call whose client was read
 pub record IsAt (calls : List Placed) (given actor : ℕ) : Type 0 where

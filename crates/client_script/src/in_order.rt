@@ -29,7 +29,7 @@ impl<'a> Model for CallsInOrder<'a> {
 }
 
 /// A call, whose it is, and its number among that client's calls, from 1.
-#[derive(Drop)]
+#[derive(Clone, Copy)]
 pub struct NumberedCall<'a> {
     pub actor: u8,
     pub number: u64,

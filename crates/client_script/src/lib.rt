@@ -3,7 +3,9 @@
 //! A script's grammar is the text that its calls are spelled as, so a line has one meaning at most,
 //! and a script one answer. Read `specs/Lines.antt` for a line, `specs/Script.antt` for a whole
 //! script and its refusals, `specs/Texts.antt` for what is printed and `specs/Written.antt` for how
-//! it reaches a sink. Stands on `core_state` for calls and answers, on `bank_trait` for sinks.
+//! it reaches a sink; `specs/FromSource.antt` is for scripts from a source, `specs/InOrder.antt` for
+//! calls one after the other. Stands on `core_state` for calls and answers, on `bank_trait` for
+//! sources and sinks.
 #![tactic(auto)]
 
 mod call;
@@ -20,6 +22,8 @@ mod script;
 mod source;
 #[cfg(test)]
 mod tests;
+#[cfg(test)]
+mod text_tests;
 mod text_writer;
 mod words;
 

@@ -15,7 +15,7 @@ use crate::script::Script;
 use std::alloc::Global;
 
 /// Most bytes of a script.
-const MOST_BYTES: usize = 16_777_216;
+pub const MOST_BYTES: usize = 16_777_216;
 
 /// Most clients of a script.
 const MOST_CLIENTS: u8 = 8;

@@ -4,14 +4,11 @@ ghost use Rattle.client_script.specs.declared.refused.ReadRefused.TheVariants.{S
 ghost use Rattle.client_script.specs.Script.{Script as Asked, IsAllowed, IsScript, IsFaultAt, IsOverLimit, reached_by};
 ghost use Rattle.client_script.specs.FromSource.{IsToldWell, IsUnreadFor, IsNotReadFor, IsReadUnlessNoMemory};
 
-use crate::reading::parse;
+use crate::reading::{MOST_BYTES, parse};
 use crate::refused::ReadRefused;
 use crate::script::Script;
 use bank_trait::Source;
 use std::alloc::Global;
-
-/// Most bytes of a script.
-const MOST_BYTES: usize = 16_777_216;
 
 /// Bytes that one read asks for.
 const BLOCK: usize = 8192;

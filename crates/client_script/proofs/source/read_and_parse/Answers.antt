@@ -1,4 +1,4 @@
-use Rattle.std.proofs.Common.{sym, ◌∙◌}
+use Rattle.std.proofs.Common.{◌∙◌}
 use Rattle.std.proofs.lemmas.Result.{err_from_is_err_and}
 use Rattle.client_script.proofs.FromSource.{not_parsed}
 use Rattle.client_script.proofs.source.read_and_parse.Goals as goal
