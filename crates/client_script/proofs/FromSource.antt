@@ -7,21 +7,14 @@ use Rattle.client_script.specs.declared.refused.ReadRefused.{ReadRefused}
 use Rattle.client_script.specs.declared.refused.ReadRefused.TheVariants.{SourceFault, ScriptFault, Limit, NoMemory}
 use Rattle.client_script.specs.Script.{Script, IsScript, IsOverLimit, IsFaultAt, reached_by}
 use Rattle.client_script.specs.Reading.{IsRefusedFor}
-use Rattle.client_script.specs.FromSource.{read_refusal, IsToldWell, IsUnreadFor, IsNotReadFor, IsReadUnlessNoMemory}
+use Rattle.client_script.specs.FromSource.{read_refusal, IsToldWell, IsNotReadFor, IsReadUnlessNoMemory}
 use Rattle.client_script.proofs.OneAnswer.{one_script, script_or_fault, script_or_limit, one_fault, fault_or_limit, one_limit}
 
 -- So many bytes were read, and the rest is left.
 pub record IsReadUpTo (bytes : List ℕ) (before now : Option (List ℕ)) : Type 0 where
   pub so_far : (told : List ℕ) → before ≡ Some told → (rest : List ℕ) × (now ≡ Some rest) × (bytes ++ rest ≡ told)
 
--- Bytes that were not read are no script, and why.
-pub not_read : (left : Option (List ℕ)) (before now : ℕ) (refused : ReadRefused) → IsUnreadFor left before now refused → IsNotReadFor left before now refused
-not_read left before now SourceFault why = why
-not_read left before now (ScriptFault line) why = absurd why
-not_read left before now (Limit reached) why = λ bytes is. (inl (why.1 bytes is), why.0)
-not_read left before now NoMemory why = tt
-
--- So are bytes that were refused.
+-- Bytes that were refused are no script, and why.
 pub not_parsed : (left : Option (List ℕ)) (before now : ℕ) (bytes : List ℕ) (refused : ParseRefused) → ((told : List ℕ) → left ≡ Some told → bytes ≡ told) → IsRefusedFor bytes refused
     → IsNotReadFor left before now (read_refusal refused)
 not_parsed left before now bytes (parse.ScriptFault line) all why = λ told is. subst (λ (l : List ℕ). IsFaultAt l line) (all told is) why

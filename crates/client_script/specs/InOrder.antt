@@ -9,12 +9,12 @@ pub record InOrder : Type 0 where
   pub script : Script
   pub given : ℕ
 
--- how many of the first calls, so many, are a client's
+-- how many of so many first calls are an actor's
 abbrev pub given_of : Script → ℕ → ℕ → ℕ
 given_of script given actor =
     length (filter (λ placed. placed.actor == actor) (take given script.calls))
 
--- The next call is this one, of this client, and has this number among its calls.
+-- The next call is this one, of this actor, and has this number among its calls, from 1.
 pub record IsNextCall (before after : InOrder) (actor number : ℕ) (call : ScriptCall) : Type 0 where
   pub there : slice_get before.script.calls before.given ≡ Some (record { actor = actor; call = call })
   pub counted : number ≡ given_of before.script before.given actor + 1
