@@ -4,3 +4,4 @@ pub mod Sparing
 pub mod Committing
 pub mod Going
 pub mod Puts
+pub mod Syncs

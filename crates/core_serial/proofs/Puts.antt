@@ -74,6 +74,15 @@ pub went_ill : {P : Type 0} {E : Type 0} (result : Result (Unit {0}) E) → true
 went_ill (Ok value) ill holds = absurd (cc)
 went_ill (Err why) ill holds = holds
 
+-- A call went well, or ill.
+pub well_is : {E : Type 0} (result : Result (Unit {0}) E) → false ≡ is_err result → (value : Unit {0}) × (result ≡ Ok value)
+well_is (Ok value) well = (value, refl)
+well_is (Err why) well = absurd (cc)
+
+pub ill_is : {E : Type 0} (result : Result (Unit {0}) E) → true ≡ is_err result → (why : E) × (result ≡ Err why)
+ill_is (Ok value) ill = absurd (cc)
+ill_is (Err why) ill = (why, refl)
+
 -- The entry of the range that a put has taken has the range's layout,
 pub entry_layout : (parity : ℕ) (births : List Birth) (blocks : Blocks) (range : PutRange) (entry : IndexEntry) (len group : ℕ)
     → blocks.parity ≡ parity → blocks.births ≡ births → IsRangeFor blocks range.id len group range

@@ -91,14 +91,7 @@ impl Pool {
         ensures absent { (HasTooManyOut self.old → ⊥)
             → entry_of self.old.blocks.table.entries id ≡ None → result ≡ Answer.Absent }
     {
-        match look_up(
-            alloc,
-            bank,
-            &self.uber,
-            &self.blocks,
-            &mut self.out,
-            id,
-        ) {
+        match look_up(alloc, bank, &self.uber, &self.blocks, &mut self.out, id) {
             Ok(found) => {
                 Answer::Read {
                     bytes: Bytes::new(found.bytes),
@@ -124,14 +117,7 @@ impl Pool {
         ensures absent { (HasTooManyOut self.old → ⊥)
             → entry_of self.old.blocks.table.entries id ≡ None → result ≡ Answer.Absent }
     {
-        match look_up(
-            alloc,
-            bank,
-            &self.uber,
-            &self.blocks,
-            &mut self.out,
-            id,
-        ) {
+        match look_up(alloc, bank, &self.uber, &self.blocks, &mut self.out, id) {
             Ok(found) => {
                 Answer::Digest {
                     len: found.entry.len,

@@ -8,5 +8,6 @@
 
 mod pool;
 mod putting;
+mod syncing;
 
 pub use pool::Pool;
