@@ -8,3 +8,4 @@ pub mod Script
 pub mod Texts
 pub mod Words
 pub mod Written
+pub mod Answered

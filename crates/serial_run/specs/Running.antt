@@ -1,0 +1,49 @@
+-- What stands while a script is carried out.
+use Rattle.std.specs.Prelude.{◌≡◌, ◌⊎◌, ℕ, ◌≤◌, List, [], ◌∷◌, ◌++◌, length, true}
+use Rattle.bank_trait.specs.Causes.{Rose}
+use Rattle.bank_trait.specs.Disk.{Later}
+use Rattle.uberblock_ring.specs.Devices.{has_device, count_of, IsWithin}
+use Rattle.core_state.specs.declared.item.Group.{Group as GroupItem}
+use Rattle.core_state.specs.declared.item.Item.{Item}
+use Rattle.core_state.specs.declared.item.Item.TheVariants.{Group}
+use Rattle.core_state.specs.Map.{map_of}
+use Rattle.core_state.specs.Legal.{IsGroupBefore, AnswersAreRight}
+use Rattle.core_state.specs.Journal.{GroupsAreRight}
+use Rattle.core_state.specs.Keeps.{Kept}
+use Rattle.core_state.specs.Moment.{IsGroupOf, Groups, KeepsSince}
+use Rattle.core_state.specs.CoreState.{World}
+use Rattle.core_serial.specs.Pool.{State, HasBank, HoldsMap}
+use Rattle.core_serial.specs.Standing.{Stands}
+
+-- After these items the journal is right, the pool holds its map, and each image since a time keeps groups
+-- of the run in a row.
+pub record Runs (world : World) (time : ℕ) (items : List Item) (state : State) : Type 0 where
+  pub groups : Groups world.handed world.opening world.known items
+  pub earlier : List Kept
+  pub last : Kept
+  pub answered_are : groups.answered ≡ earlier ++ last ∷ []
+  pub item : GroupItem
+  pub latest : IsGroupBefore items (length items) item
+  pub item_is : IsGroupOf world.handed world.opening items item last
+  pub in_order : GroupsAreRight items
+  pub right : AnswersAreRight world.handed world.opening items
+  pub stands : Stands world.setting last groups.begun state
+  pub holds : HoldsMap (map_of world.handed world.opening items) state
+  pub since : KeepsSince world.setting (world.known ++ groups.answered ++ groups.begun) time state.disk
+
+-- A run from one state has come to another. The devices whose failure has to be allowed were out when it
+-- began, or have failed, and are no more than there are parities.
+pub record HasCome (start : State) (first items : List Item) (state : State) : Type 0 where
+  pub later : Later start.disk state.disk
+  pub parity : state.pool.uber.parity ≡ start.pool.uber.parity
+  pub bank : HasBank state.pool.uber state.pool.out state.disk
+  pub still : IsWithin start.pool.out state.pool.out
+  pub failed : (device : ℕ) → has_device state.pool.out device ≡ true
+      → (has_device start.pool.out device ≡ true)
+      ⊎ Rose (start.disk.faults device) (state.disk.faults device)
+  pub borne : ℕ
+  pub few : count_of borne ≤ start.pool.uber.parity
+  pub before : IsWithin start.pool.out borne
+  pub out : IsWithin borne state.pool.out
+  pub runs : (world : World) (time : ℕ) → Runs world time first start
+      → IsWithin borne world.setting.failed → Runs world time items state
