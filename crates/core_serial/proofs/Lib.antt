@@ -5,3 +5,4 @@ pub mod Committing
 pub mod Going
 pub mod Puts
 pub mod Syncs
+pub mod Frees

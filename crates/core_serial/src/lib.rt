@@ -6,6 +6,7 @@
 //! `core_open`, `core_commit`, `core_client` and `core_blocks`.
 #![tactic(auto)]
 
+mod freeing;
 mod pool;
 mod putting;
 mod syncing;
