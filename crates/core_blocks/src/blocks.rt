@@ -92,6 +92,7 @@ impl Blocks {
         ensures value { option_copied result ≡ entry_of self.now.table.entries id }
         ensures stands { IfSome result (λ entry.
             IsStanding self.now.parity self.now.births self.now.space entry.now) }
+        ensures step { AreInStep self.now }
     {
         self.table.get(id)
     }
