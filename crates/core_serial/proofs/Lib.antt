@@ -5,4 +5,5 @@ pub mod Committing
 pub mod Going
 pub mod Puts
 pub mod Syncs
+pub mod LookUps
 pub mod Frees

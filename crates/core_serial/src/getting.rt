@@ -119,10 +119,9 @@ impl Pool {
     {
         match look_up(alloc, bank, &self.uber, &self.blocks, &mut self.out, id) {
             Ok(found) => {
-                Answer::Digest {
-                    len: found.entry.len,
-                    sha: found.entry.digest,
-                }
+                let len = found.entry.len;
+                let sha = found.entry.digest;
+                Answer::Digest { len, sha }
             }
             Err(answer) => answer,
         }

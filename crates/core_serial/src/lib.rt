@@ -7,6 +7,7 @@
 #![tactic(auto)]
 
 mod freeing;
+mod getting;
 mod pool;
 mod putting;
 mod syncing;

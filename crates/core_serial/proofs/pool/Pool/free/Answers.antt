@@ -1,7 +1,5 @@
-use Rattle.std.proofs.Common.{◌≡◌, ℕ, ◌+◌, ◌<◌, ◌≤◌, sym, ◌∙◌, ap, subst, arith}
-use Rattle.bank_trait.specs.Disk.{Disk}
+use Rattle.std.proofs.Common.{sym, ◌∙◌, subst, arith}
 use Rattle.core_state.specs.declared.answer.Answer.{Answer}
-use Rattle.core_state.specs.Map.{Map}
 use Rattle.core_serial.specs.Answers.{map_after_free}
 use Rattle.core_serial.specs.Pool.{Pool, HoldsMap, pool_of, state_of}
 use Rattle.core_serial.specs.Standing.{GoesOn}
