@@ -68,15 +68,18 @@ held_stored map state id entry is holds found =
     let listed = found_listed state.pool.blocks.table.entries id entry found in
     let told = holds.table.listed entry listed in
     let same : map id ≡ Some told.0 =
-    ap map (sym (found_id state.pool.blocks.table.entries id entry found)) ∙ told.1 in
-    (told.0, same, record {
-      done = _;
-      front = (front_is_right state.pool.uber.reflow is.right.reflow).front;
-      right = holds.right entry told.0 listed told.1;
-      len_is = sym told.2.len;
-      are_bytes = holds.bytes id told.0 same;
-      digest_is = sym told.2.digest;
-    })
+    ap map (sym (found_id state.pool.blocks.table.entries id entry found)) ∙ told.1 in (
+      told.0,
+      same,
+      record {
+        done = _;
+        front = (front_is_right state.pool.uber.reflow is.right.reflow).front;
+        right = holds.right entry told.0 listed told.1;
+        len_is = sym told.2.len;
+        are_bytes = holds.bytes id told.0 same;
+        digest_is = sym told.2.digest;
+      },
+    )
 
 -- What a fetch by this layout tells of stored bytes it tells of the block's.
 pub told_of_block : (P : List ℕ → Type 0) (state : State) (entry : IndexEntry) (layout : Layout) (reflow : Reflow) (still : ℕ)

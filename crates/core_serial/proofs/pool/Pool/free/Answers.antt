@@ -23,7 +23,7 @@ returns-clause-holds c = λ map disk holds.
     let now = λ (given : Answer). HoldsMap (map_after_free map c.args.id given)
     (state_of (pool_of c.self.inside.uber c.remove.new.self c.self.inside.out) disk) in
     elim c.match-remove.branch [
-        in-Some w ↦ subst now (sym w.result-is)
+      | in-Some w ↦ subst now (sym w.result-is)
           (freed_holds map pool c.remove.new.self disk c.args.id c.remove.ensures.change old)
       | in-None w ↦ subst now (sym w.result-is)
           (none_freed_holds map pool c.remove.new.self disk c.args.id c.remove.ensures.change
