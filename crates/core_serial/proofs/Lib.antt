@@ -7,3 +7,4 @@ pub mod Puts
 pub mod Syncs
 pub mod LookUps
 pub mod Frees
+pub mod Begins

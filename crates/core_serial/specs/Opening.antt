@@ -1,9 +1,14 @@
 -- What a pool begins with, and what an opening keeps that was cut short.
 use Rattle.std.specs.Prelude.{◌≡◌, ◌≢◌, ℕ, ◌≤◌, List, [], ◌∷◌, true, Contains, Some, ⊤}
 use Rattle.bank_trait.specs.Disk.{Image, Disk, Unchanged}
+use Rattle.reflow_mark.specs.Reflow.{sectors_of}
+use Rattle.block_record.specs.declared.entry.IndexEntry.{IndexEntry}
 use Rattle.reconstruct.specs.Lost.{AreBytes}
 use Rattle.uberblock_ring.specs.Devices.{has_device, count_of, IsWithin}
+use Rattle.uberblock_ring.specs.Uberblock.{Uber}
 use Rattle.core_state.specs.Keeps.{Kept, Setting}
+use Rattle.core_blocks.specs.Blocks.{Blocks}
+use Rattle.core_blocks.specs.Loading.{IsTakenBy}
 use Rattle.core_open.specs.declared.why.OpenWhy.{OpenWhy}
 use Rattle.core_open.specs.declared.why.OpenWhy.TheVariants as reason
 use Rattle.core_open.specs.Causes.{IsOutFor, IsShownChoice}
@@ -12,6 +17,13 @@ use Rattle.core_open.specs.Holds.{HoldsImage}
 use Rattle.core_open.specs.Opens.{MayOpen, HasOpened, OpeningKeeps, IsWithinBelow}
 use Rattle.core_serial.specs.Pool.{Pool, HoldsMap, state_of}
 use Rattle.core_serial.specs.Standing.{Stands}
+
+-- The blocks are those of an index, laid out and taken as its uberblock says.
+pub record AreLoaded (uber : Uber) (entries : List IndexEntry) (blocks : Blocks) : Type 0 where
+  pub parity : blocks.parity ≡ uber.parity
+  pub births : blocks.births ≡ uber.births
+  pub entries_are : blocks.table.entries ≡ entries
+  pub space : IsTakenBy uber.parity uber.births (sectors_of uber.reflow) entries blocks.space
 
 -- A pool may be opened where images keep these groups, whose maps hold bytes, with no place that may be
 -- wrong.

@@ -8,8 +8,10 @@
 
 mod freeing;
 mod getting;
+mod opening;
 mod pool;
 mod putting;
 mod syncing;
 
+pub use opening::{OpenedPool, open_pool};
 pub use pool::Pool;

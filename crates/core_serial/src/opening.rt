@@ -1,25 +1,44 @@
 // Opening a pool.
 ghost use Rattle.std.specs.Prelude.{◌≡◌, ◌≤◌, [], IfErr, IfOk};
 ghost use Rattle.uberblock_ring.specs.Devices.{count_of};
+ghost use Rattle.uberblock_ring.specs.Valid.{IsRightUber};
 ghost use Rattle.core_blocks.specs.Blocks.{AreUnderWay};
+ghost use Rattle.core_open.specs.Candidates.{IsIndexFor};
 ghost use Rattle.core_open.specs.Causes.{AreOutOf, IsOpenCause};
 ghost use Rattle.core_open.specs.Failing.{HaveFailed};
 ghost use Rattle.core_open.specs.Opens.{IsForMemory};
-ghost use Rattle.core_serial.specs.Opening.{CutsOpening, IsBegunWith, LeavesUnopened};
+ghost use Rattle.core_serial.specs.Opening.{AreLoaded, CutsOpening, IsBegunWith, LeavesUnopened};
 ghost use Rattle.core_serial.specs.Pool.{HasBank};
 
 use crate::Pool;
 use bank_trait::Bank;
+use block_record::IndexEntry;
 use core_blocks::Blocks;
 use core_open::{OpenWhy, open};
-use std::alloc::Global;
-use uberblock_ring::DeviceSet;
+use std::alloc::{AllocError, Global};
+use uberblock_ring::{DeviceSet, Uber};
 
 /// A pool that was opened, and the devices that failed while it was looked for.
 #[derive(Drop)]
 pub struct OpenedPool {
     pub pool: Pool,
     pub silent: DeviceSet,
+}
+
+/// The blocks of an index that fits its uberblock. No put is under way.
+fn load(alloc: Global, uber: &Uber, entries: &[IndexEntry]) -> Result<Blocks, AllocError>
+    requires right { IsRightUber uber.now }
+    requires index { IsIndexFor uber.now entries.now }
+    ensures loaded { IfOk result (AreLoaded uber.now entries.now) }
+    ensures rest { IfOk result (λ blocks. AreUnderWay blocks []) }
+{
+    Blocks::load(
+        alloc,
+        uber.parity(),
+        *uber.births(),
+        uber.reflow().sectors(),
+        entries,
+    )
 }
 
 /// Opens the pool that the devices show. A group that renews the one that is opened is written, two
@@ -42,17 +61,10 @@ pub fn open_pool<B: Bank>(alloc: Global, bank: &mut B) -> Result<OpenedPool, Ope
     ensures opens { IfErr result (IsForMemory (B.disk bank.old) (B.disk bank.new)) }
 {
     let opened = open(alloc, bank)?;
-    let uber = opened.uber;
-    let blocks = Blocks::load(
-        alloc,
-        uber.parity(),
-        *uber.births(),
-        uber.reflow().sectors(),
-        &opened.entries,
-    )?;
+    let blocks = load(alloc, &opened.uber, &opened.entries)?;
     Ok(OpenedPool {
         pool: Pool {
-            uber,
+            uber: opened.uber,
             blocks,
             out: opened.out,
         },
