@@ -1,18 +1,15 @@
 -- A call that ends no group goes on from what stood.
-use Rattle.std.proofs.Common.{◌≡◌, ◌⊎◌, inl, inr, ⊎_elim, ℕ, zero, suc, ◌+◌, ◌<◌, ◌≤◌, List, [], Bool, true, false, refl, sym, ◌∙◌, ap, subst, arith, if◌then◌else◌}
-use Rattle.std.specs.Prelude.{Contains}
+use Rattle.std.proofs.Common.{◌≡◌, ℕ, zero, suc, ◌+◌, ◌<◌, ◌≤◌, List, [], Bool, true, false, refl, sym, ◌∙◌, ap, subst, arith, if◌then◌else◌}
 use Rattle.bank_trait.specs.Disk.{Disk, Lawful, Later, Unchanged}
-use Rattle.bank_trait.specs.Regions.{Tells, TouchesOnly}
+use Rattle.bank_trait.specs.Regions.{TouchesOnly}
 use Rattle.bank_trait.proofs.Moments.{later_refl}
 use Rattle.bank_trait.proofs.Touches.{tells_later}
 use Rattle.block_record.specs.declared.entry.IndexEntry.{IndexEntry}
 use Rattle.uberblock_ring.specs.Devices.{has_device, count_below, count_of, IsWithin}
 use Rattle.uberblock_ring.specs.Uberblock.{Uber}
-use Rattle.uberblock_ring.specs.Valid.{AreAlike}
 use Rattle.core_state.specs.Keeps.{Kept, Setting}
 use Rattle.core_state.specs.Certain.{Knows}
 use Rattle.core_state.specs.Free.{IsSpare}
-use Rattle.core_state.specs.Moment.{IsRowOf, KeepsSince}
 use Rattle.core_state.proofs.Frames.{Nowhere, none_lost, unchanged_frames}
 use Rattle.core_state.proofs.Knowing.{knows_frame}
 use Rattle.core_state.proofs.Since.{since_more}
@@ -22,7 +19,7 @@ use Rattle.core_blocks.specs.Kept.{NoneFree}
 use Rattle.core_client.specs.Outs.{point_of, OnlyFailedGoOut}
 use Rattle.core_client.proofs.Outs.{outs_none, was_used}
 use Rattle.core_open.specs.Holds.{shape_of}
-use Rattle.core_serial.specs.Pool.{Pool, State, HasBank, open_group}
+use Rattle.core_serial.specs.Pool.{State, HasBank, open_group}
 use Rattle.core_serial.specs.Standing.{Stands, GoesOn}
 
 -- A set within another has no more devices.

@@ -1,7 +1,6 @@
 -- What becomes of the map that a pool holds.
-use Rattle.std.proofs.Common.{◌≡◌, ◌≢◌, ◌⊎◌, inl, inr, ⊎_elim, ℕ, ◌+◌, ◌<◌, ◌≤◌, List, true, false, Option, Some, None, refl, sym, ◌∙◌, ap, subst, arith}
-use Rattle.std.specs.Prelude.{Contains, ◌==◌, if◌then◌else◌}
-use Rattle.std.proofs.lemmas.Bool.{cases_eq, true≢false}
+use Rattle.std.proofs.Common.{◌≡◌, ◌≢◌, ⊎_elim, ℕ, ◌≤◌, List, false, Option, Some, None, sym, ◌∙◌, ap, subst, arith}
+use Rattle.std.proofs.lemmas.Bool.{cases_eq}
 use Rattle.std.proofs.lemmas.Bool.Decides.{nat_tests}
 use Rattle.bank_trait.specs.Disk.{Disk, Known}
 use Rattle.bank_trait.specs.Regions.{TouchesOnly}
@@ -9,22 +8,21 @@ use Rattle.width_map.specs.declared.birth.Birth.{Birth}
 use Rattle.reflow_mark.specs.declared.reflow.Reflow.{Reflow}
 use Rattle.reflow_mark.specs.Reflow.{sectors_of}
 use Rattle.row_layout.specs.Layout.{Layout, sector_of, end_of}
-use Rattle.shadow_write.specs.declared.write.Write.{Write}
 use Rattle.shadow_write.specs.Required.{IsRequiredPlace, front_after_stop}
 use Rattle.shadow_write.specs.Writes.{writes_of}
 use Rattle.shadow_write.proofs.Whole.{are_required}
 use Rattle.block_record.specs.declared.entry.IndexEntry.{IndexEntry}
-use Rattle.block_table.specs.Table.{Table, ChangesOnly, entry_of}
+use Rattle.block_table.specs.Table.{ChangesOnly, entry_of}
 use Rattle.reconstruct.specs.Lost.{AreBytes}
 use Rattle.uberblock_ring.specs.Devices.{has_device, IsWithin}
 use Rattle.uberblock_ring.specs.Uberblock.{Uber}
 use Rattle.core_state.specs.Map.{Map, with_block}
 use Rattle.core_state.specs.Index.{layout_of, block_end, IsEntryOf}
-use Rattle.core_state.specs.Whole.{Cell, IsCell, RightAt}
+use Rattle.core_state.specs.Whole.{Cell, IsCell}
 use Rattle.core_state.proofs.Places.{IsDataSector, required_sector}
-use Rattle.core_blocks.specs.Blocks.{Blocks, AreInStep, IsListed, run_of, layout_run}
+use Rattle.core_blocks.specs.Blocks.{AreInStep, IsListed, run_of, layout_run}
 use Rattle.core_blocks.specs.Runs.{AreClear}
-use Rattle.core_blocks.proofs.Listed.{put_cases, left_cases, found_listed}
+use Rattle.core_blocks.proofs.Listed.{put_cases, left_cases}
 use Rattle.core_client.specs.Pool.{IsInPool, IsRightBlock}
 use Rattle.core_client.specs.Writing.{IsPlaceOf}
 use Rattle.core_client.proofs.Outs.{was_used}

@@ -1,16 +1,14 @@
 -- The blocks of an index that fits lie in their pool, and no place is required by two of them.
-use Rattle.std.proofs.Common.{◌≡◌, ◌⊎◌, inl, ⊎_elim, ℕ, ◌+◌, ◌*◌, ◌/◌, ◌^◌, ◌<◌, ◌≤◌, refl, sym, ◌∙◌, ap, subst, arith}
-use Rattle.std.specs.Prelude.{max}
-use Rattle.std.proofs.Math.Nat.{div-add-mod, mul-le-mul_left, mul-le-mul_right}
+use Rattle.std.proofs.Common.{◌≡◌, inl, ⊎_elim, ℕ, ◌+◌, ◌*◌, ◌<◌, ◌≤◌, refl, sym, subst, arith}
+use Rattle.std.proofs.Math.Nat.{div-add-mod, mul-le-mul_left}
 use Rattle.width_map.specs.Births.{width_of_birth}
-use Rattle.width_map.specs.Place.{limit_of}
 use Rattle.reflow_mark.specs.declared.reflow.State.{State}
 use Rattle.reflow_mark.specs.declared.reflow.State.TheVariants.{None, Valid, Moved}
 use Rattle.reflow_mark.specs.declared.reflow.Reflow.{Reflow}
 use Rattle.reflow_mark.specs.Reflow.{sectors_of, IsRightReflow}
 use Rattle.row_layout.specs.Layout.{Layout, IsColumn, total_of, allocated_of, sector_of, end_of}
 use Rattle.row_layout.proofs.Laws.{inside}
-use Rattle.shadow_write.specs.Required.{IsRequiredPlace, IsFrontIn, front_after_stop}
+use Rattle.shadow_write.specs.Required.{IsRequiredPlace, front_after_stop}
 use Rattle.block_record.specs.declared.entry.IndexEntry.{IndexEntry}
 use Rattle.block_record.specs.Page.{IsRightEntry}
 use Rattle.uberblock_ring.specs.Uberblock.{Uber}

@@ -1,15 +1,14 @@
 -- What a put makes of the pool, from its two halves.
-use Rattle.std.proofs.Common.{◌≡◌, ◌⊎◌, inl, inr, ⊎_elim, ℕ, ◌+◌, ◌<◌, ◌≤◌, List, [], ◌∷◌, ◌++◌, true, false, Some, ◌-◌, ◌^◌, refl, sym, ◌∙◌, ap, subst, arith}
-use Rattle.std.specs.Prelude.{Contains, IsSome, Result, Ok, Err, OnOk, OnErr, is_err}
+use Rattle.std.proofs.Common.{◌≡◌, ⊎_elim, ℕ, ◌+◌, ◌<◌, ◌≤◌, List, [], ◌∷◌, ◌++◌, true, false, Some, ◌-◌, ◌^◌, refl, sym, ◌∙◌, ap, subst, arith}
+use Rattle.std.specs.Prelude.{Result, Ok, Err, OnOk, OnErr, is_err}
 use Rattle.bank_trait.specs.Disk.{Disk, Lawful}
 use Rattle.bank_trait.proofs.Moments.{later_refl}
 use Rattle.bank_trait.specs.Regions.{Tells, TouchesOnly}
 use Rattle.width_map.specs.Births.{width_of_birth}
 use Rattle.width_map.specs.declared.birth.Birth.{Birth}
 use Rattle.range_locks.specs.declared.hold.Hold.{Hold}
-use Rattle.space_alloc.specs.Space.{Space, Gains, IsFirstFit, IsFull as HasNoRun}
+use Rattle.space_alloc.specs.Space.{Space, IsFirstFit, IsFull as HasNoRun}
 use Rattle.row_layout.specs.Layout.{Layout, allocated_of}
-use Rattle.shadow_write.specs.declared.write.Write.{Write}
 use Rattle.shadow_write.specs.Required.{front_after_stop}
 use Rattle.shadow_write.specs.Writes.{writes_of}
 use Rattle.reflow_mark.specs.declared.reflow.Reflow.{Reflow}
@@ -17,7 +16,7 @@ use Rattle.reflow_mark.specs.Reflow.{sectors_of}
 use Rattle.block_record.specs.declared.entry.IndexEntry.{IndexEntry}
 use Rattle.block_table.specs.Table.{ChangesOnly}
 use Rattle.reconstruct.specs.Lost.{AreBytes}
-use Rattle.uberblock_ring.specs.Devices.{has_device, count_of, IsWithin}
+use Rattle.uberblock_ring.specs.Devices.{count_of}
 use Rattle.uberblock_ring.specs.Uberblock.{Uber}
 use Rattle.core_state.specs.declared.answer.Answer.{Answer}
 use Rattle.core_state.specs.declared.answer.Answer.TheVariants as answer
@@ -37,9 +36,9 @@ use Rattle.core_client.specs.Outs.{point_of}
 use Rattle.core_client.proofs.Outs.{outs_none}
 use Rattle.core_client.proofs.Cells.{places_inside, writes_required}
 use Rattle.core_serial.specs.Pool.{Pool, IsPool, State, HasBank, HoldsMap, IsTableOf, IsRead, open_group}
-use Rattle.core_serial.specs.Standing.{Stands, GoesOn}
+use Rattle.core_serial.specs.Standing.{GoesOn}
 use Rattle.core_serial.specs.Answers.{AnswersRefusal, IsPutAnswered, map_after_put}
-use Rattle.core_serial.specs.Putting.{IsStoredIn, EndsWriting, WritesPut}
+use Rattle.core_serial.specs.Putting.{EndsWriting, WritesPut}
 use Rattle.core_serial.proofs.Layouts.{front_is_right, layout_in_pool, total_few}
 use Rattle.core_serial.proofs.Holding.{put_holds, spared_holds}
 use Rattle.core_serial.proofs.Going.{goes_written}

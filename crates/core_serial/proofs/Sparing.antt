@@ -1,9 +1,7 @@
 -- A put writes to spare sectors alone: none of the last answered group's blocks needs one.
-use Rattle.std.proofs.Common.{◌≡◌, ◌≢◌, ◌⊎◌, inl, inr, ⊎_elim, ℕ, ◌+◌, ◌<◌, ◌≤◌, List, [], ◌∷◌, false, refl, sym, ◌∙◌, ap, subst, arith}
+use Rattle.std.proofs.Common.{◌≡◌, ◌≢◌, ⊎_elim, ℕ, ◌+◌, ◌<◌, ◌≤◌, List, [], refl, sym, ap, subst, arith}
 use Rattle.std.specs.Prelude.{Contains}
 use Rattle.std.proofs.lemmas.List.Elements.{All-contains}
-use Rattle.width_map.specs.declared.birth.Birth.{Birth}
-use Rattle.reflow_mark.specs.declared.reflow.Reflow.{Reflow}
 use Rattle.reflow_mark.specs.Reflow.{sectors_of}
 use Rattle.row_layout.specs.Layout.{Layout, sector_of, end_of}
 use Rattle.shadow_write.specs.Required.{IsRequiredPlace, front_after_stop}
@@ -11,9 +9,7 @@ use Rattle.shadow_write.specs.Writes.{writes_of}
 use Rattle.shadow_write.proofs.Whole.{are_required}
 use Rattle.block_record.specs.declared.entry.IndexEntry.{IndexEntry}
 use Rattle.block_record.specs.Page.{page_sectors, IsRightEntry}
-use Rattle.uberblock_ring.specs.Devices.{has_device}
 use Rattle.uberblock_ring.specs.Uberblock.{Uber, area_sector}
-use Rattle.uberblock_ring.specs.Valid.{AreAlike}
 use Rattle.core_state.specs.Index.{layout_of, block_end}
 use Rattle.core_state.specs.Keeps.{Kept, Setting, SameGroup}
 use Rattle.core_state.specs.Certain.{Asks}
@@ -24,10 +20,9 @@ use Rattle.core_state.proofs.Moving.{asks_same}
 use Rattle.core_state.proofs.Places.{IsDataSector, required_sector, data_is_no_page, page_place}
 use Rattle.core_blocks.specs.Blocks.{layout_run}
 use Rattle.core_blocks.specs.Kept.{SparesAll}
-use Rattle.core_blocks.specs.Runs.{AreClear}
 use Rattle.core_client.specs.Pool.{IsInPool}
 use Rattle.core_client.specs.Writing.{IsPlaceOf}
-use Rattle.core_serial.specs.Pool.{Pool, IsPool, State}
+use Rattle.core_serial.specs.Pool.{IsPool, State}
 use Rattle.core_serial.specs.Standing.{Stands}
 use Rattle.core_serial.proofs.Layouts.{entry_in_pool, blocks_apart}
 

@@ -1,10 +1,9 @@
 -- What a sync leaves, from what its commit did.
-use Rattle.std.proofs.Common.{get_or, ◌≡◌, ◌⊎◌, inl, inr, ⊎_elim, ℕ, ◌+◌, ◌^◌, ◌<◌, ◌≤◌, List, [], true, false, refl, sym, ◌∙◌, ap, subst, arith}
+use Rattle.std.proofs.Common.{get_or, ◌≡◌, ⊎_elim, ℕ, ◌+◌, ◌^◌, ◌<◌, ◌≤◌, List, [], sym, ◌∙◌, ap, subst, arith}
 use Rattle.std.proofs.lemmas.Bool.{true≢false}
 use Rattle.std.specs.Prelude.{length, All}
 use Rattle.std.proofs.lemmas.List.Elements.{Contains-get_or}
 use Rattle.sha2.specs.Sha256.{sha256}
-use Rattle.bank_trait.specs.Causes.{Rose}
 use Rattle.bank_trait.specs.Disk.{Disk, Known}
 use Rattle.reflow_mark.specs.declared.reflow.Reflow.{Reflow}
 use Rattle.reflow_mark.specs.Reflow.{sectors_of}
@@ -12,19 +11,18 @@ use Rattle.block_record.specs.declared.entry.IndexEntry.{IndexEntry}
 use Rattle.block_record.specs.Page.{index_page, IsIndex}
 use Rattle.block_table.specs.Table.{Table, IsTable}
 use Rattle.block_table.proofs.Tables.{few_entries}
-use Rattle.uberblock_ring.specs.Devices.{has_device, count_below, count_of, IsWithin}
+use Rattle.uberblock_ring.specs.Devices.{count_below, count_of}
 use Rattle.uberblock_ring.specs.Uberblock.{Uber}
 use Rattle.uberblock_ring.specs.Valid.{IsRightUber}
 use Rattle.uberblock_ring.proofs.Digest.{sha256_is_digest}
 use Rattle.core_state.specs.Index.{IsFitting}
-use Rattle.core_state.proofs.Places.{IsDataSector}
 use Rattle.core_blocks.specs.Blocks.{AreUnderWay}
 use Rattle.core_blocks.proofs.Listed.{among_listed}
 use Rattle.core_client.specs.Outs.{OnlyFailedGoOut, point_of}
 use Rattle.core_commit.specs.Ran.{FitsBank}
 use Rattle.core_commit.specs.Spared.{HaveGoneOut, Spares}
 use Rattle.core_open.proofs.Renewal.{count_within}
-use Rattle.core_serial.specs.Pool.{Pool, IsPool, State, HasBank, HoldsMap, IsRead}
+use Rattle.core_serial.specs.Pool.{Pool, IsPool, State, HasBank, IsRead}
 use Rattle.core_serial.specs.Syncing.{LeavesPool, next_uber}
 use Rattle.core_serial.proofs.Going.{bank_later}
 use Rattle.core_serial.proofs.Committing.{right_next}

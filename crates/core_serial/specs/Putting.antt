@@ -1,5 +1,5 @@
 -- What the second half of a put does: its block is written to the range that the put has taken.
-use Rattle.std.specs.Prelude.{◌≡◌, ℕ, ◌<◌, ◌≤◌, List, Some, ⊤}
+use Rattle.std.specs.Prelude.{◌≡◌, ℕ, ◌<◌, ◌≤◌, List, Some}
 use Rattle.bank_trait.specs.Regions.{Tells, TouchesOnly}
 use Rattle.space_alloc.specs.Space.{Gains}
 use Rattle.shadow_write.specs.Required.{front_after_stop}
@@ -16,7 +16,7 @@ use Rattle.core_blocks.specs.Kept.{NoneFree, SparesAll}
 use Rattle.core_client.specs.Outs.{point_of, OnlyFailedGoOut}
 use Rattle.core_client.specs.Writing.{IsPlaceOf}
 use Rattle.core_serial.specs.Answers.{ListsTooMany}
-use Rattle.core_serial.specs.Pool.{Pool, State, IsRead, open_group}
+use Rattle.core_serial.specs.Pool.{State, IsRead, open_group}
 
 -- The block stands in the table now, and is read wherever it has to be right.
 pub record IsStoredIn (before after : State) (range : PutRange) (bytes : List ℕ) : Type 0 where

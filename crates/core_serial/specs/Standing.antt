@@ -1,6 +1,6 @@
 -- What the devices keep while a pool is open, and what a call keeps of that.
 use Rattle.std.specs.Prelude.{◌≡◌, ℕ, ◌≤◌, List, []}
-use Rattle.bank_trait.specs.Disk.{Disk, Later}
+use Rattle.bank_trait.specs.Disk.{Later}
 use Rattle.bank_trait.specs.Regions.{Tells}
 use Rattle.uberblock_ring.specs.Devices.{count_of}
 use Rattle.uberblock_ring.specs.Valid.{AreAlike}

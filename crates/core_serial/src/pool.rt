@@ -47,6 +47,13 @@ pub fn too_many(out: DeviceSet) -> Answer
 }
 
 impl Pool {
+    /// The uberblock of the last answered group.
+    pub fn uber(&self) -> &Uber
+        ensures { result.now ≡ self.now.uber }
+    {
+        &self.uber
+    }
+
     /// The devices that are out.
     pub fn out(&self) -> DeviceSet
         ensures { result ≡ self.now.out }

@@ -1,4 +1,4 @@
-use Rattle.std.proofs.Common.{◌≡◌, ◌+◌, ◌⊎◌, ⊎_elim, ◌<◌, ◌≤◌, ap, sym, subst, refl, ◌∙◌, List, ℕ, arith}
+use Rattle.std.proofs.Common.{⊎_elim, ◌≤◌, ap, sym, subst, refl, ◌∙◌, List, ℕ, arith}
 use Rattle.std.proofs.lemmas.Bool.{cases_lt, true≢false}
 use Rattle.block_record.specs.Bytes.{IsDigest}
 use Rattle.block_record.specs.declared.entry.IndexEntry.{IndexEntry}
@@ -6,10 +6,7 @@ use Rattle.space_alloc.specs.Space.{Gains}
 use Rattle.uberblock_ring.specs.Devices.{count_of}
 use Rattle.uberblock_ring.proofs.Digest.{sha256_is_digest}
 use Rattle.core_state.specs.declared.answer.Answer.{Answer}
-use Rattle.core_blocks.specs.Blocks.{put_run}
-use Rattle.core_blocks.specs.Kept.{SparesAll}
 use Rattle.core_blocks.specs.declared.range.PutRange.{PutRange}
-use Rattle.core_client.specs.Outs.{point_of}
 use Rattle.core_state.specs.Committing.{Point}
 use Rattle.core_serial.specs.Pool.{pool_of, state_of}
 use Rattle.core_serial.specs.Putting.{EndsWriting}

@@ -1,12 +1,11 @@
-use Rattle.std.proofs.Common.{◌≡◌, ◌+◌, ◌⊎◌, ⊎_elim, ◌<◌, ◌≤◌, [], ap, sym, subst, refl, ◌∙◌, List, ℕ, arith, length}
+use Rattle.std.proofs.Common.{◌+◌, ⊎_elim, ◌≤◌, [], sym, subst, List, ℕ, arith, length}
 use Rattle.std.proofs.lemmas.Bool.{cases_lt, true≢false}
-use Rattle.reconstruct.specs.Lost.{AreBytes}
 use Rattle.uberblock_ring.specs.Devices.{count_of}
 use Rattle.core_state.specs.Map.{Map}
 use Rattle.range_locks.specs.declared.hold.Hold.{Hold}
 use Rattle.core_blocks.specs.Puts.{IsPutCause, sectors_taken}
 use Rattle.core_serial.specs.Answers.{map_after_put, IsPutAnswered}
-use Rattle.core_serial.specs.Pool.{Pool, HoldsMap, State, pool_of, state_of, open_group}
+use Rattle.core_serial.specs.Pool.{Pool, HoldsMap, pool_of, state_of}
 use Rattle.core_serial.specs.Standing.{GoesOn}
 use Rattle.core_serial.proofs.Puts.{range_in_pool, put_goes_on, put_holds_map, put_is_pool, refused_is_pool, refused_goes_on, refused_holds, refusal_leaves, refusal_caused}
 use Rattle.core_serial.proofs.pool.Pool.put.Goals as goal

@@ -1,4 +1,4 @@
-use Rattle.std.proofs.Common.{◌≡◌, ◌+◌, ◌⊎◌, inl, inr, ⊎_elim, ◌^◌, ◌<◌, ◌≤◌, [], ap, sym, subst, refl, ◌∙◌, List, ℕ, arith, length, Result, Ok, Err}
+use Rattle.std.proofs.Common.{◌≡◌, inr, ⊎_elim, ◌≤◌, [], ap, sym, subst, refl, ◌∙◌, List, arith, length, Result, Ok, Err}
 use Rattle.std.proofs.lemmas.Bool.{cases_lt, true≢false}
 use Rattle.sha2.specs.Sha256.{sha256}
 use Rattle.block_record.specs.declared.entry.IndexEntry.{IndexEntry}
@@ -8,8 +8,6 @@ use Rattle.uberblock_ring.specs.Devices.{count_of}
 use Rattle.uberblock_ring.specs.Uberblock.{Uber}
 use Rattle.uberblock_ring.specs.Valid.{IsRightUber}
 use Rattle.core_state.specs.declared.answer.Answer.{Answer}
-use Rattle.core_state.specs.Map.{Map}
-use Rattle.core_state.specs.Keeps.{Kept, Setting}
 use Rattle.core_blocks.specs.Blocks.{Blocks}
 use Rattle.core_blocks.specs.Kept.{NoneFree}
 use Rattle.core_commit.specs.Commits.{CommitKeeps}
@@ -19,7 +17,7 @@ use Rattle.core_serial.specs.Pool.{Pool, HasBank, HoldsMap, IsRead, pool_of, sta
 use Rattle.core_serial.specs.Standing.{Stands}
 use Rattle.core_serial.specs.Syncing.{EndsSync, EndsGroup, IsCutShort, LeavesPool, next_uber}
 use Rattle.core_serial.proofs.Puts.{went_ill, well_is, ill_is}
-use Rattle.core_serial.proofs.Syncs.{IsReady, ready, next_fits, lists_few, commit_leaves}
+use Rattle.core_serial.proofs.Syncs.{ready, next_fits, lists_few, commit_leaves}
 use Rattle.core_serial.proofs.Committing.{ends_group, cuts_group}
 use Rattle.core_serial.proofs.pool.Pool.sync.Goals as goal
 
