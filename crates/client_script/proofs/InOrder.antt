@@ -33,7 +33,8 @@ kept_first : (kept : Bool) (first : Placed) (calls : List Placed) → kept ≡ t
 kept_first true first calls is = refl
 kept_first false first calls is = absurd (cc is)
 
-place_among : (calls : List Placed) (given : ℕ) (placed : Placed) → slice_get calls given ≡ Some placed
+-- A call stands among its client's calls behind those of them that come before it.
+pub place_among : (calls : List Placed) (given : ℕ) (placed : Placed) → slice_get calls given ≡ Some placed
     → slice_get (map (λ other. other.call) (filter (λ other. other.actor == placed.actor) calls)) (length (filter (λ other. other.actor == placed.actor) (take given calls))) ≡ Some placed.call
 place_among [] given placed is = absurd (cc is)
 place_among (first ∷ calls) zero placed is =

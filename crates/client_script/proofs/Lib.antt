@@ -1,4 +1,5 @@
 pub mod Allowed
+pub mod Answering
 pub mod CallWords
 pub mod Cuts
 pub mod FromSource
