@@ -1,5 +1,4 @@
 pub mod Allowed
-pub mod Answering
 pub mod CallWords
 pub mod Cuts
 pub mod FromSource

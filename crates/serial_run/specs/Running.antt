@@ -1,17 +1,19 @@
 -- What stands while a script is carried out.
-use Rattle.std.specs.Prelude.{◌≡◌, ◌⊎◌, ℕ, ◌≤◌, List, [], ◌∷◌, ◌++◌, length, true}
-use Rattle.bank_trait.specs.Causes.{Rose}
+use Rattle.std.specs.Prelude.{◌≡◌, ◌≢◌, ◌⊎◌, ℕ, ◌≤◌, List, [], ◌∷◌, ◌++◌, length}
 use Rattle.bank_trait.specs.Disk.{Later}
-use Rattle.uberblock_ring.specs.Devices.{has_device, count_of, IsWithin}
+use Rattle.uberblock_ring.specs.Devices.{count_of, IsWithin}
+use Rattle.core_state.specs.declared.answer.Answer.TheVariants as answer
+use Rattle.core_state.specs.declared.item.Entry.{Entry}
 use Rattle.core_state.specs.declared.item.Group.{Group as GroupItem}
 use Rattle.core_state.specs.declared.item.Item.{Item}
-use Rattle.core_state.specs.declared.item.Item.TheVariants.{Group}
-use Rattle.core_state.specs.Map.{map_of}
-use Rattle.core_state.specs.Legal.{IsGroupBefore, AnswersAreRight}
+use Rattle.core_state.specs.Map.{Handed, map_of}
+use Rattle.core_state.specs.Legal.{CallAt, IsGroupBefore, AnswersAreRight}
 use Rattle.core_state.specs.Journal.{GroupsAreRight}
 use Rattle.core_state.specs.Keeps.{Kept}
 use Rattle.core_state.specs.Moment.{IsGroupOf, Groups, KeepsSince}
 use Rattle.core_state.specs.CoreState.{World}
+use Rattle.core_client.specs.Outs.{point_of, OnlyFailedGoOut}
+use Rattle.core_serial.specs.Answers.{HasTooManyOut}
 use Rattle.core_serial.specs.Pool.{State, HasBank, HoldsMap}
 use Rattle.core_serial.specs.Standing.{Stands}
 
@@ -27,23 +29,26 @@ pub record Runs (world : World) (time : ℕ) (items : List Item) (state : State)
   pub item_is : IsGroupOf world.handed world.opening items item last
   pub in_order : GroupsAreRight items
   pub right : AnswersAreRight world.handed world.opening items
+  pub sound : (index : ℕ) (entry : Entry) → CallAt items index entry → entry.answer ≢ answer.Damaged
   pub stands : Stands world.setting last groups.begun state
   pub holds : HoldsMap (map_of world.handed world.opening items) state
   pub since : KeepsSince world.setting (world.known ++ groups.answered ++ groups.begun) time state.disk
 
--- A run from one state has come to another. The devices whose failure has to be allowed were out when it
--- began, or have failed, and are no more than there are parities.
-pub record HasCome (start : State) (first items : List Item) (state : State) : Type 0 where
-  pub later : Later start.disk state.disk
-  pub parity : state.pool.uber.parity ≡ start.pool.uber.parity
-  pub bank : HasBank state.pool.uber state.pool.out state.disk
-  pub still : IsWithin start.pool.out state.pool.out
-  pub failed : (device : ℕ) → has_device state.pool.out device ≡ true
-      → (has_device start.pool.out device ≡ true)
-      ⊎ Rose (start.disk.faults device) (state.disk.faults device)
-  pub borne : ℕ
-  pub few : count_of borne ≤ start.pool.uber.parity
-  pub before : IsWithin start.pool.out borne
-  pub out : IsWithin borne state.pool.out
-  pub runs : (world : World) (time : ℕ) → Runs world time first start
-      → IsWithin borne world.setting.failed → Runs world time items state
+-- A run from one state has come to another, where so many items were listed. The devices whose failure
+-- has to be allowed were out when it began, or have failed, and are no more than there are parities.
+pub record HasCome (handed : Handed) (start : State) (first items : List Item) (state : State) : Type 0
+  where
+    pub later : Later start.disk state.disk
+    pub parity : state.pool.uber.parity ≡ start.pool.uber.parity
+    pub bank : HasBank state.pool.uber state.pool.out state.disk
+    pub out : OnlyFailedGoOut (point_of start.pool.out start.disk)
+        (point_of state.pool.out state.disk)
+    pub too_many : (index out : ℕ) (entry : Entry) → CallAt items index entry
+        → entry.answer ≡ answer.TooManyFailed out
+        → ((place : ℕ) × CallAt first place entry) ⊎ HasTooManyOut state.pool
+    pub borne : ℕ
+    pub few : count_of borne ≤ start.pool.uber.parity
+    pub from_start : IsWithin start.pool.out borne
+    pub within : IsWithin borne state.pool.out
+    pub runs : (world : World) (time : ℕ) → world.handed ≡ handed → Runs world time first start
+        → IsWithin borne world.setting.failed → Runs world time items state

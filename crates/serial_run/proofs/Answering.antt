@@ -11,7 +11,7 @@ use Rattle.core_state.specs.declared.item.Item.{Item}
 use Rattle.core_state.specs.declared.item.Item.TheVariants.{Group, Call}
 use Rattle.core_state.specs.Legal.{CallAt}
 use Rattle.core_state.specs.Journal.{Asked, IsAsked, IsComplete}
-use Rattle.core_state.proofs.Grown.{grown_has, last_there, new_or_before}
+use Rattle.serial_run.proofs.Grown.{grown_has, last_there, new_or_before}
 use Rattle.client_script.specs.declared.call.ScriptCall.{ScriptCall}
 use Rattle.client_script.specs.Script.{Script, Placed, calls_of, asked_by}
 use Rattle.client_script.specs.Answered.{calls_among, AreAnswered}
