@@ -1,5 +1,6 @@
 // Opening a pool.
 ghost use Rattle.std.specs.Prelude.{◌≡◌, ◌≤◌, [], IfErr, IfOk};
+ghost use Rattle.bank_trait.specs.Disk.{Later};
 ghost use Rattle.uberblock_ring.specs.Devices.{count_of};
 ghost use Rattle.uberblock_ring.specs.Valid.{IsRightUber};
 ghost use Rattle.core_blocks.specs.Blocks.{AreUnderWay};
@@ -47,6 +48,7 @@ fn load(alloc: Global, uber: &Uber, entries: &[IndexEntry]) -> Result<Blocks, Al
 pub fn open_pool<B: Bank>(alloc: Global, bank: &mut B) -> Result<OpenedPool, OpenWhy>
     ensures bank { IfOk result (λ opened.
         HasBank opened.pool.uber opened.pool.out (B.disk bank.new)) }
+    ensures later { IfOk result (λ opened. Later (B.disk bank.old) (B.disk bank.new)) }
     ensures rest { IfOk result (λ opened. AreUnderWay opened.pool.blocks []) }
     ensures few { IfOk result (λ opened. count_of opened.pool.out ≤ opened.pool.uber.parity) }
     ensures silent { IfOk result (λ opened.

@@ -1,5 +1,5 @@
 -- A run goes on by a call.
-use Rattle.std.proofs.Common.{◌≡◌, ◌⊎◌, inl, inr, ⊎_elim, ℕ, ◌+◌, ◌≤◌, List, [], ◌∷◌, ◌++◌, length, Some, refl, sym, ◌∙◌, ap, subst, arith}
+use Rattle.std.proofs.Common.{◌≡◌, ◌⊎◌, inl, inr, ⊎_elim, ℕ, ◌+◌, ◌≤◌, List, [], ◌∷◌, ◌++◌, length, Some, refl, sym, ◌∙◌, ap, subst, arith, append_assoc}
 use Rattle.std.specs.Prelude.{slice_get}
 use Rattle.bank_trait.specs.Disk.{Later}
 use Rattle.bank_trait.proofs.Moments.{later_refl, later_trans}
@@ -23,6 +23,7 @@ use Rattle.core_serial.specs.Pool.{State, HasBank}
 use Rattle.core_serial.proofs.Going.{count_grows}
 use Rattle.serial_run.specs.Steps.{IsCallOf, AnswersCall, EndsOpenGroup, CutsSync, Answered, Ended, Cut, CarriesOut, open_item}
 use Rattle.serial_run.specs.Running.{HasCome}
+use Rattle.serial_run.proofs.Grown.{grown_has}
 use Rattle.serial_run.proofs.Answering.{answered_call, answered_group}
 use Rattle.serial_run.proofs.Stepping.{each_grown_call, each_grown_group, answered_runs, ended_runs, cut_runs}
 
@@ -35,6 +36,7 @@ has_begun handed start first bank few = record {
   parity = refl;
   bank = bank;
   out = outs_none (point_of start.pool.out start.disk);
+  listed = λ index item there. there;
   too_many = λ index out entry there is. inl (index, there);
   borne = start.pool.out;
   few = few;
@@ -62,6 +64,11 @@ module _ (handed : Handed) (start : State) (first old new : List Item) (before a
       (λ many. inr (still_too_many before after parity still many))
       (come.too_many index out entry there is)
 
+  still_listed : (more : List Item) (index : ℕ) (item : Item) → new ≡ old ++ more → slice_get first index ≡ Some item
+      → slice_get new index ≡ Some item
+  still_listed more index item grown there = subst (λ (items : List Item). slice_get items index ≡ Some item) (sym grown)
+      (grown_has old more index item (come.listed index item there))
+
   outs_on : OnlyFailedGoOut (point_of before.pool.out before.disk) (point_of after.pool.out after.disk)
       → Later before.disk after.disk
       → OnlyFailedGoOut (point_of start.pool.out start.disk) (point_of after.pool.out after.disk)
@@ -81,6 +88,7 @@ module _ (handed : Handed) (start : State) (first old new : List Item) (before a
       parity = parity ∙ come.parity;
       bank = answers.goes_on.bank come.bank;
       out = outs_on answers.goes_on.out answers.goes_on.later;
+      listed = λ index item there. still_listed (Call entry ∷ []) index item listed there;
       too_many = λ index out other there is. each_grown_call (IsTold first after) old entry
           (told_still parity answers.goes_on.out.still) (λ out is. inr (answers.too_many out is))
           index other (subst (λ (items : List Item). CallAt items index other) listed there) out is;
@@ -105,6 +113,8 @@ module _ (handed : Handed) (start : State) (first old new : List Item) (before a
       parity = synced.leaves.parity ∙ come.parity;
       bank = synced.leaves.bank come.bank;
       out = outs_on synced.leaves.out synced.leaves.later;
+      listed = λ index item there. still_listed (Group (open_item before.pool (length old)) ∷ Call entry ∷ []) index item
+          (listed ∙ append_assoc old (Group (open_item before.pool (length old)) ∷ []) (Call entry ∷ [])) there;
       too_many = λ index out other there is. each_grown_call (IsTold first after) _ entry
           (each_grown_group (IsTold first after) old (open_item before.pool (length old))
           (told_still synced.leaves.parity synced.leaves.out.still))
@@ -134,6 +144,7 @@ module _ (handed : Handed) (start : State) (first old new : List Item) (before a
       parity = cuts.leaves.parity ∙ come.parity;
       bank = cuts.leaves.bank come.bank;
       out = outs_on cuts.leaves.out cuts.leaves.later;
+      listed = λ index item there. still_listed (Call entry ∷ []) index item listed there;
       too_many = λ index out other there is. each_grown_call (IsTold first after) old entry
           (told_still cuts.leaves.parity cuts.leaves.out.still) (λ out is. inr cuts.too_many)
           index other (subst (λ (items : List Item). CallAt items index other) listed there) out is;

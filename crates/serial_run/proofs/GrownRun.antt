@@ -179,6 +179,30 @@ begun_after_last handed opening items known (first ∷ []) last kept is = is
 begun_after_last handed opening items known (first ∷ next ∷ front) last kept is =
     begun_after_last handed opening items known (next ∷ front) last kept is
 
+after_last_begun : (handed : Handed) (opening : Map) (items : List Item) (known : List Kept)
+    (front : List GroupItem) (last : GroupItem) (kept : Kept)
+    → IsUnanswered handed opening items known (front ++ last ∷ []) kept
+    → IsBegunAfter handed opening items last kept
+after_last_begun handed opening items known [] last kept is = is
+after_last_begun handed opening items known (first ∷ []) last kept is = is
+after_last_begun handed opening items known (first ∷ next ∷ front) last kept is =
+    after_last_begun handed opening items known (next ∷ front) last kept is
+
+-- The group that isn't answered was begun after the last one.
+pub groups_begun : (handed : Handed) (opening : Map) (known : List Kept) (items : List Item)
+    (groups : Groups handed opening known items) (last : GroupItem)
+    → IsGroupBefore items (length items) last → (kept : Kept) → Contains groups.begun kept
+    → IsBegunAfter handed opening items last kept
+groups_begun handed opening known items groups last latest kept has =
+    after_last_begun handed opening items known found.0 last kept
+    (subst (λ (list : List GroupItem). IsUnanswered handed opening items known list kept) found.1
+    (groups.unanswered kept has))
+  where
+    found : (front : List GroupItem) × (groups_in items ≡ front ++ last ∷ [])
+    found = last_in items latest.place last latest.there
+        (λ index group above there. latest.latest index group above
+        (slice_get_within items index (Group group) there) there)
+
 -- A new group was begun after the last one, or none was.
 pub groups_cut : (handed : Handed) (opening : Map) (known : List Kept) (items : List Item)
     (groups : Groups handed opening known items) → groups.begun ≡ [] → (last : GroupItem)

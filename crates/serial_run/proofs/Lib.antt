@@ -2,6 +2,7 @@ pub mod Grown
 pub mod Answering
 pub mod Calls
 pub mod Coming
+pub mod Whole
 pub mod GrownAnswers
 pub mod GrownGroups
 pub mod GrownRun

@@ -1,5 +1,5 @@
 -- What stands while a script is carried out.
-use Rattle.std.specs.Prelude.{◌≡◌, ◌≢◌, ◌⊎◌, ℕ, ◌≤◌, List, [], ◌∷◌, ◌++◌, length}
+use Rattle.std.specs.Prelude.{◌≡◌, ◌≢◌, ◌⊎◌, ℕ, ◌≤◌, List, [], ◌∷◌, ◌++◌, length, Some, slice_get}
 use Rattle.bank_trait.specs.Disk.{Later}
 use Rattle.uberblock_ring.specs.Devices.{count_of, IsWithin}
 use Rattle.core_state.specs.declared.answer.Answer.TheVariants as answer
@@ -43,6 +43,8 @@ pub record HasCome (handed : Handed) (start : State) (first items : List Item) (
     pub bank : HasBank state.pool.uber state.pool.out state.disk
     pub out : OnlyFailedGoOut (point_of start.pool.out start.disk)
         (point_of state.pool.out state.disk)
+    pub listed : (index : ℕ) (item : Item) → slice_get first index ≡ Some item
+        → slice_get items index ≡ Some item
     pub too_many : (index out : ℕ) (entry : Entry) → CallAt items index entry
         → entry.answer ≡ answer.TooManyFailed out
         → ((place : ℕ) × CallAt first place entry) ⊎ HasTooManyOut state.pool

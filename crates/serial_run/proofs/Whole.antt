@@ -1,0 +1,198 @@
+-- A run from the opening of a pool to its end.
+use Rattle.std.proofs.Common.{◌≡◌, inl, inr, ⊎_elim, ℕ, zero, suc, List, [], ◌∷◌, ◌++◌, Some, Bool, true, false, refl, sym, ◌∙◌, ap, subst, arith}
+use Rattle.std.proofs.lemmas.List.{append-nil}
+use Rattle.std.specs.Prelude.{slice_get}
+use Rattle.bank_trait.specs.Causes.{Rose}
+use Rattle.bank_trait.specs.Disk.{Image, Disk, Later}
+use Rattle.uberblock_ring.specs.Devices.{has_device, IsWithin}
+use Rattle.uberblock_ring.specs.Uberblock.{Uber}
+use Rattle.core_state.specs.declared.item.Entry.{Entry}
+use Rattle.core_state.specs.declared.item.Group.{Group as GroupItem}
+use Rattle.core_state.specs.declared.item.Item.{Item}
+use Rattle.core_state.specs.declared.item.Item.TheVariants.{Group, Call}
+use Rattle.core_state.specs.Map.{Map}
+use Rattle.core_state.specs.Legal.{CallAt}
+use Rattle.core_state.specs.Journal.{CallsAreRight}
+use Rattle.core_state.specs.Keeps.{Kept, Setting}
+use Rattle.core_state.specs.CoreState.{World}
+use Rattle.core_state.specs.Moment.{IsGroupOf, Groups, KeepsSince}
+use Rattle.core_state.proofs.Keeping.{knows_keep}
+use Rattle.client_script.specs.Script.{Script, asked_by, handed_by}
+use Rattle.core_open.specs.Causes.{IsShownChoice, IsOutFor, AreOutFor, AreOutOf}
+use Rattle.core_open.specs.Failing.{HaveFailed}
+use Rattle.core_open.specs.Holds.{HoldsImage}
+use Rattle.core_open.specs.Opens.{IsWithinBelow}
+use Rattle.core_serial.specs.Opening.{MayBegin, Begins, IsBegunWith}
+use Rattle.core_serial.specs.Pool.{Pool, State, HoldsMap, state_of}
+use Rattle.core_serial.specs.Standing.{Stands}
+use Rattle.serial_run.specs.Running.{Runs, HasCome}
+use Rattle.serial_run.specs.WholeRun.{RunKeeps, HasRun, first_item}
+use Rattle.serial_run.proofs.GrownAnswers.{answers_alone}
+use Rattle.serial_run.proofs.GrownGroups.{group_alone, latest_alone}
+use Rattle.serial_run.proofs.GrownRun.{groups_one, groups_begun}
+
+-- What failed earlier has failed later.
+abbrev shown_later : (old mid new : Disk) (image : Image) → Later mid new → IsShownChoice old mid image → IsShownChoice old new image
+shown_later old mid new image later shown = record {
+  silent = shown.silent;
+  failed = λ device has. let failed = shown.failed device has in
+      (failed.0, (let rose = failed.1 in let more = later.faults device in omega (arith, rose, more)));
+  device = shown.device;
+  uber = shown.uber;
+  entries = shown.entries;
+  chosen = shown.chosen;
+}
+
+-- the groups of a journal of one group alone
+abbrev alone : GroupItem → List Item
+alone item = Group item ∷ []
+
+no_call : (item : GroupItem) (index : ℕ) (entry : Entry) → CallAt (alone item) index entry → ⊥
+no_call item zero entry is = apart is
+  where
+    apart : Some (Group item) ≡ Some (Call entry) → ⊥
+    apart same = cc
+no_call item (suc index) entry is = apart is
+  where
+    apart : slice_get (alone item) (suc index) ≡ Some (Call entry) → ⊥
+    apart same = cc
+
+module _ (script : Script) (old mid : Disk) (pool : Pool) (silent : ℕ) (items : List Item) (final : State)
+    (opened_later : Later old mid)
+    (failed : HaveFailed old mid silent)
+    (outs : AreOutOf old mid pool.uber.out pool.out)
+    (begun : IsBegunWith pool silent old mid)
+    (come : HasCome (handed_by script) (state_of pool mid) (alone (first_item pool)) items final)
+    (calls : CallsAreRight (asked_by script) items) where
+  abbrev item : GroupItem
+  item = first_item pool
+
+  abbrev start : State
+  start = state_of pool mid
+
+  rose_on : (device : ℕ) → Rose (old.faults device) (mid.faults device) → Rose (old.faults device) (final.disk.faults device)
+  rose_on device rose = let more = come.later.faults device in omega (arith, rose, more)
+
+  -- Each device that is out has its reason.
+  out_for : (image : Image) → HoldsImage old image
+      → (shown : IsShownChoice old final.disk image) × AreOutFor shown final.pool.out
+  out_for image holds = (shown_later old mid final.disk image come.later first.0, each)
+    where
+      first : (shown : IsShownChoice old mid image) × AreOutFor shown pool.out
+      first = outs.each image holds
+
+      each : AreOutFor (shown_later old mid final.disk image come.later first.0) final.pool.out
+      each device has = by (has_device pool.out device) refl
+        where
+          by : (was : Bool) → has_device pool.out device ≡ was → IsOutFor (shown_later old mid final.disk image come.later first.0) device
+          by true was = ⊎_elim (λ at. inl at) (λ rose. inr (rose_on device rose)) (first.1 device was)
+          by false was = inr (let rose = come.out.failed device was has in
+              let more = opened_later.faults device in omega (arith, rose, more))
+
+  module _ (setting : Setting) (first : Kept) (later : List Kept) (may : MayBegin setting first later old)
+      (silent_in : IsWithinBelow first.uber.reflow.to silent setting.failed) (borne_in : IsWithin come.borne setting.failed) where
+    begins : Begins setting first later pool old mid
+    begins = begun.each setting first later may silent_in (λ device out. borne_in device (come.from_start device out))
+
+    abbrev chosen : Kept
+    chosen = begins.opened.chosen
+
+    abbrev next : Kept
+    next = begins.opened.next
+
+    abbrev world : World
+    world = record { setting = setting; known = first ∷ later; opening = chosen.map; handed = handed_by script }
+
+    same_map : next.map ≡ chosen.map
+    same_map = λ i id. begins.opened.renews.map id i
+
+    next_is : IsGroupOf (handed_by script) chosen.map (alone item) item next
+    next_is = record {
+      number = ap (λ (u : Uber). u.group) (sym begins.opened.alike);
+      widths = (
+        ap (λ (u : Uber). u.reflow.from) (sym begins.opened.alike),
+        ap (λ (u : Uber). u.reflow.to) (sym begins.opened.alike),
+      );
+      map = begins.opened.renews.map;
+    }
+
+    one : (groups : Groups (handed_by script) chosen.map (first ∷ later) (alone item))
+        × (groups.answered ≡ next ∷ []) × (groups.begun ≡ [])
+    one = groups_one (handed_by script) chosen.map (first ∷ later) item next next_is
+
+    runs_first : Runs world old.clock (alone item) start
+    runs_first = record {
+      groups = one.0;
+      earlier = [];
+      last = next;
+      answered_are = one.1;
+      item = item;
+      latest = latest_alone item;
+      item_is = next_is;
+      in_order = group_alone item refl;
+      right = answers_alone (handed_by script) chosen.map item;
+      sound = λ index entry there. absurd (no_call item index entry there);
+      stands = subst (λ (begun : List Kept). Stands setting next begun start) (sym one.2) begins.stands;
+      holds = subst (λ (map : Map). HoldsMap map start) same_map begins.holds;
+      since = subst (λ (l : List Kept). KeepsSince setting l old.clock mid)
+          (row (first ∷ later) next one.0.answered one.0.begun one.1 one.2) begins.opened.since;
+    }
+      where
+        row : (known : List Kept) (next : Kept) (answered begun : List Kept) → answered ≡ next ∷ [] → begun ≡ []
+            → known ++ next ∷ [] ≡ known ++ answered ++ begun
+        row known next answered begun answered_are none =
+            sym (append-nil (known ++ next ∷ [])) ∙ (λ i. known ++ sym answered_are i ++ sym none i)
+
+    runs : Runs world old.clock items final
+    runs = come.runs world old.clock refl runs_first borne_in
+
+    parity_is : pool.uber.parity ≡ first.uber.parity
+    parity_is = ap (λ (u : Uber). u.parity) begins.opened.alike
+        ∙ ap (λ (u : Uber). u.parity) begins.opened.renews.alike
+        ∙ (may.may.width chosen begins.opened.listed).1
+
+    pub run_keeps : RunKeeps script setting first later old final.disk items come.borne final.pool.out
+    unfolding begins
+    run_keeps = record {
+      chosen = chosen;
+      known = begins.opened.listed;
+      choice = λ image holds. let shown = begins.opened.choice image holds in
+          (shown_later old mid final.disk image come.later shown.0, shown.1);
+      begins = record {
+        first = item;
+        there = come.listed 0 (Group item) refl;
+        number = ap (λ (u : Uber). u.group) begins.opened.alike ∙ ap (λ (u : Uber). u.group) begins.opened.renews.alike;
+        widths = (
+          ap (λ (u : Uber). u.reflow.from) begins.opened.alike ∙ ap (λ (u : Uber). u.reflow.from) begins.opened.renews.alike,
+          ap (λ (u : Uber). u.reflow.to) begins.opened.alike ∙ ap (λ (u : Uber). u.reflow.to) begins.opened.renews.alike,
+        );
+      };
+      legal = record { groups = runs.in_order; calls_are = calls; answers = runs.right };
+      sound = runs.sound;
+      any_moment = record { groups = runs.groups; since = runs.since };
+      kept = record {
+        group = runs.item;
+        latest = runs.latest;
+        last = runs.last;
+        last_is = runs.item_is;
+        begun = runs.groups.begun;
+        one = runs.groups.one;
+        begun_is = groups_begun (handed_by script) chosen.map (first ∷ later) items runs.groups runs.item runs.latest;
+        keeps = knows_keep setting runs.last runs.groups.begun final.disk runs.stands.knows;
+      };
+      few = (let few = come.few in let same = parity_is in omega (arith, few, same));
+      too_many = λ index listed entry there is. ⊎_elim
+          (λ (at : (place : ℕ) × CallAt (alone item) place entry). absurd (no_call item at.0 entry at.1))
+          (λ many. let parity = come.parity in let same = parity_is in omega (arith, many, parity, same))
+          (come.too_many index listed entry there is);
+    }
+
+  pub has_run : HasRun script old final.disk items final.pool.out
+  has_run = record {
+    silent = silent;
+    failed = λ device has. let was = failed device has in (was.0, rose_on device was.1);
+    each = out_for;
+    borne = come.borne;
+    within = come.within;
+    keeps = run_keeps;
+  }

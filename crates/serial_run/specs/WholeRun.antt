@@ -1,0 +1,89 @@
+-- What a run keeps, from the opening of its pool to its end.
+use Rattle.std.specs.Prelude.{◌≡◌, ◌≢◌, ℕ, ◌+◌, ◌<◌, ◌≤◌, List, ◌∷◌, length, Contains}
+use Rattle.bank_trait.specs.Disk.{Image, Disk}
+use Rattle.uberblock_ring.specs.Devices.{count_of, IsWithin}
+use Rattle.core_state.specs.declared.answer.Answer.TheVariants as answer
+use Rattle.core_state.specs.declared.item.Entry.{Entry}
+use Rattle.core_state.specs.declared.item.Group.{Group as GroupItem}
+use Rattle.core_state.specs.declared.item.Item.{Item}
+use Rattle.core_state.specs.Map.{Map, Handed}
+use Rattle.core_state.specs.Legal.{GroupAt, CallAt, IsGroupBefore}
+use Rattle.core_state.specs.Journal.{IsLegalJournal}
+use Rattle.core_state.specs.Keeps.{Kept, Setting}
+use Rattle.core_state.specs.Collision.{BankKeeps}
+use Rattle.core_state.specs.Moment.{IsGroupOf, IsBegunAfter, KeepsThroughout}
+use Rattle.core_open.specs.Causes.{IsShownChoice, AreOutFor}
+use Rattle.core_open.specs.Failing.{HaveFailed}
+use Rattle.core_open.specs.Holds.{HoldsImage}
+use Rattle.core_open.specs.Opens.{IsWithinBelow}
+use Rattle.client_script.specs.Script.{Script, asked_by, handed_by}
+use Rattle.core_serial.specs.Pool.{Pool}
+use Rattle.core_serial.specs.Opening.{MayBegin}
+
+-- the item of the group that a pool was opened with
+abbrev pub first_item : Pool → GroupItem
+first_item pool = record {
+  group = pool.uber.group;
+  after = 0;
+  from = pool.uber.reflow.from;
+  to = pool.uber.reflow.to;
+}
+
+-- The journal begins with the group that renews this one: two after it, with its widths.
+pub record BeginsAfter (chosen : Kept) (items : List Item) : Type 0 where
+  pub first : GroupItem
+  pub there : GroupAt items 0 first
+  pub number : first.group ≡ chosen.uber.group + 2
+  pub widths : (first.from ≡ chosen.uber.reflow.from) × (first.to ≡ chosen.uber.reflow.to)
+
+-- The bank keeps the journal's last group, and maybe one that was begun after it.
+pub record KeepsLast (setting : Setting) (handed : Handed) (opening : Map) (items : List Item)
+    (disk : Disk) : Type 0 where
+  pub group : GroupItem
+  pub latest : IsGroupBefore items (length items) group
+  pub last : Kept
+  pub last_is : IsGroupOf handed opening items group last
+  pub begun : List Kept
+  pub one : length begun ≤ 1
+  pub begun_is : (kept : Kept) → Contains begun kept
+      → IsBegunAfter handed opening items group kept
+  pub keeps : BankKeeps setting last begun disk
+
+-- A run began with one of the groups that the bank kept, and its journal is legal from that group's map
+-- on. Whatever a stop leaves, at any moment of the run, keeps some of the groups in a row: those kept
+-- before, the journal's, and at most one that was begun after them. At its end that is the journal's last
+-- one. No read is told as damaged, and a call says that too many devices are out only where more are out
+-- than there are parities.
+pub record RunKeeps (script : Script) (setting : Setting) (first : Kept) (later : List Kept)
+    (old new : Disk) (items : List Item) (borne out : ℕ) : Type 0 where
+  pub chosen : Kept
+  pub known : Contains (first ∷ later) chosen
+  pub choice : (image : Image) → HoldsImage old image
+      → (shown : IsShownChoice old new image) × (shown.uber.group ≡ chosen.uber.group)
+  pub begins : BeginsAfter chosen items
+  pub legal : IsLegalJournal (asked_by script) (handed_by script) chosen.map items
+  pub sound : (index : ℕ) (entry : Entry) → CallAt items index entry
+      → entry.answer ≢ answer.Damaged
+  pub any_moment : KeepsThroughout setting (handed_by script) chosen.map (first ∷ later) items old
+      new
+  pub kept : KeepsLast setting (handed_by script) chosen.map items new
+  pub few : count_of borne ≤ first.uber.parity
+  pub too_many : (index listed : ℕ) (entry : Entry) → CallAt items index entry
+      → entry.answer ≡ answer.TooManyFailed listed
+      → first.uber.parity < count_of out
+
+-- A script was carried out on the pool that the devices showed. Each device that is out at the end was out
+-- at the opening, or failed in the run. All that a run keeps it keeps where the devices that were silent
+-- when the pool was looked for may fail, and those of the devices out that have to be borne.
+pub record HasRun (script : Script) (old new : Disk) (items : List Item) (out : ℕ) : Type 0 where
+  pub silent : ℕ
+  pub failed : HaveFailed old new silent
+  pub each : (image : Image) → HoldsImage old image
+      → (shown : IsShownChoice old new image) × AreOutFor shown out
+  pub borne : ℕ
+  pub within : IsWithin borne out
+  pub keeps : (setting : Setting) (first : Kept) (later : List Kept)
+      → MayBegin setting first later old
+      → IsWithinBelow first.uber.reflow.to silent setting.failed
+      → IsWithin borne setting.failed
+      → RunKeeps script setting first later old new items borne out
