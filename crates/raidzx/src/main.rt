@@ -13,7 +13,7 @@ use raidzx_top::{Images, Status, image_words, raidzx, write_status};
 use std::alloc::{AllocError, Global};
 use std::env;
 use std::process::ExitCode;
-use streams::{Input, Output};
+use streams::{Input, Output, hold_standard_streams};
 
 /// Opens the files that the words from the second on name, so many of them.
 fn open_files(rt: &HostRuntime, words: &[String], count: u32) -> Result<FileBank, AllocError>
@@ -54,6 +54,7 @@ fn end(rt: &HostRuntime, status: Status) -> ExitCode {
 }
 
 fn main(rt: HostRuntime) -> ExitCode {
+    let _held = hold_standard_streams(&rt);
     let Ok(arguments) = env::args(&rt) else {
         return end(&rt, Status::Usage);
     };

@@ -1,8 +1,32 @@
-// Standard output as a sink, and standard input as a source.
+// Standard output as a sink, standard input as a source, and what stands in for one that is closed.
 ghost use Rattle.std.specs.Prelude.{◌≡◌, ◌<◌, ℕ, List, Option, Some, None};
 
 use bank_trait::{Failed, Sink, Source};
+use std::fs::{File, Files, OpenOptions};
 use std::io::{Read, Write};
+
+/// Files on the numbers of standard streams that the program was started without.
+#[derive(Drop)]
+pub struct HeldStreams {
+    first: Option<File>,
+    second: Option<File>,
+    third: Option<File>,
+}
+
+/// Opens a folder three times. A program that is started with a standard stream closed gets that
+/// stream's number for the file that it opens first: an image would be read as the script, or written
+/// over by the lines of output. A folder can be neither read nor written, so that such a stream fails.
+pub fn hold_standard_streams<R: Files<File = File>>(rt: &R) -> HeldStreams {
+    HeldStreams {
+        first: open_folder(rt),
+        second: open_folder(rt),
+        third: open_folder(rt),
+    }
+}
+
+fn open_folder<R: Files<File = File>>(rt: &R) -> Option<File> {
+    OpenOptions::new().read(true).open(rt, "/").ok()
+}
 
 /// A sink over a writer.
 #[derive(Drop)]
