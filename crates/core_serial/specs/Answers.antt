@@ -21,7 +21,7 @@ HasTooManyOut pool = pool.uber.parity < count_of pool.out
 abbrev pub ListsTooMany : Pool → ℕ → Type 0
 ListsTooMany pool out = (out ≡ pool.out) × HasTooManyOut pool
 
--- the greatest number of a group
+-- no sync ends a group of this number
 abbrev pub most_groups : ℕ
 most_groups = 2 ^ 62
 

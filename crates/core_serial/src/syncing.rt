@@ -16,7 +16,7 @@ use sha2::{Digest, Sha256};
 use std::alloc::{AllocError, Global};
 use uberblock_ring::{DeviceSet, Uber};
 
-/// The greatest number of a group.
+/// No sync ends a group of this number.
 const MOST_GROUPS: u64 = 1 << 62;
 
 /// The uberblock of the group after this one, with this index in the other area.
@@ -47,7 +47,7 @@ fn next_uber(
 
 impl Pool {
     /// Makes the map as it is now the last group: it survives a stop from then on. Gives the group's
-    /// number. Answers `Limit` where there is no such number.
+    /// number. Answers `Limit` where that would be 2^62.
     pub fn sync<B: Bank>(&mut self, alloc: Global, bank: &mut B) -> Answer
         requires bank { HasBank self.old.uber self.old.out (B.disk bank.old) }
         ensures ends { EndsSync (state_of self.old (B.disk bank.old))
