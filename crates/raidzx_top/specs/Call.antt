@@ -1,5 +1,5 @@
 -- One call of the top call: what it was given, and what it left.
-use Rattle.std.specs.Prelude.{◌≡◌, ℕ, ◌<◌, List, [], Option, Some, None, ⊤}
+use Rattle.std.specs.Prelude.{◌≡◌, ℕ, List, [], Option, Some, None, ⊤}
 use Rattle.bank_trait.specs.Disk.{Disk}
 use Rattle.core_state.specs.declared.item.Item.{Item}
 pub use Rattle.core_open.specs.Holds.{HoldsImage, shape_of}

@@ -1,6 +1,6 @@
 -- What a run promises: its journal, its text, what each crash image keeps, and what the bank keeps
 -- at the end.
-use Rattle.std.specs.Prelude.{◌≡◌, ◌⊎◌, ℕ, ◌<◌, ◌≤◌, List, [], ◌∷◌, length, Some, true, Contains, ⊤}
+use Rattle.std.specs.Prelude.{◌≡◌, ◌⊎◌, ℕ, ◌<◌, ◌≤◌, List, [], ◌∷◌, Some, true, Contains, ⊤}
 use Rattle.bank_trait.specs.Causes.{Rose}
 use Rattle.bank_trait.specs.Disk.{Image}
 use Rattle.bank_trait.specs.Regions.{Tells, TouchesOnly}
@@ -10,17 +10,16 @@ use Rattle.uberblock_ring.specs.Uberblock.{Uber, first_uber}
 use Rattle.core_state.specs.declared.answer.Answer.{Answer}
 use Rattle.core_state.specs.declared.answer.Answer.TheVariants as answer
 use Rattle.core_state.specs.declared.item.Entry.{Entry}
-use Rattle.core_state.specs.declared.item.Group.{Group as GroupItem}
-use Rattle.core_state.specs.Map.{Map, Handed}
-use Rattle.core_state.specs.Legal.{CallAt, IsGroupBefore}
+use Rattle.core_state.specs.Legal.{CallAt}
 use Rattle.core_state.specs.Keeps.{Kept, Setting}
 use Rattle.block_record.specs.declared.entry.IndexEntry.{IndexEntry}
 use Rattle.core_state.specs.Shown.{Shows}
 use Rattle.core_state.specs.Choosing.{IsChosen, IsOutAtOpening}
 use Rattle.core_state.specs.Collision.{BankKeeps, MightStand, HasNoOtherPage}
 use Rattle.core_state.specs.Create.{IsCreated, first_kept, rows_for}
-use Rattle.core_state.specs.Moment.{IsGroupOf, IsBegunAfter, KeepsThroughout}
+use Rattle.core_state.specs.Moment.{KeepsThroughout}
 use Rattle.client_script.specs.Script.{Script, handed_by}
+use Rattle.serial_run.specs.WholeRun.{KeepsLast}
 use Rattle.raidzx_top.specs.declared.status.Status.TheVariants as status
 use Rattle.raidzx_top.specs.Words.{Command, Create}
 use Rattle.raidzx_top.specs.declared.words.NewPool.{NewPool}
@@ -91,19 +90,6 @@ pub record IsKnown (call : Call) (setting : Setting) (first : Kept) (later : Lis
         → HasNoOtherPage setting.shape (first ∷ later) image
     pub failures : FailuresAreAllowed call setting first.uber.parity
 
--- The bank given back keeps the journal's last group, and maybe one begun after it.
-pub record IsKeptAfter (call : Call) (setting : Setting) (handed : Handed) (opening : Map) : Type 0
-  where
-    pub group : GroupItem
-    pub latest : IsGroupBefore call.journal (length call.journal) group
-    pub last : Kept
-    pub last_is : IsGroupOf handed opening call.journal group last
-    pub begun : List Kept
-    pub one : length begun ≤ 1
-    pub begun_is : (kept : Kept) → Contains begun kept
-        → IsBegunAfter handed opening call.journal group kept
-    pub keeps : BankKeeps setting last begun call.new
-
 -- The group is the one that is chosen among the devices that answered.
 pub record IsChoiceOf (call : Call) (command : Command) (chosen : Kept) (image : Image) : Type 0
   where
@@ -125,7 +111,7 @@ pub record RunPromises (call : Call) (command : Command) (script : Script) (sett
   pub journal : JournalIsRight call command script chosen
   pub any_moment : KeepsThroughout setting (handed_by script) chosen.map (first ∷ later)
       call.journal call.old call.new
-  pub kept : IsKeptAfter call setting (handed_by script) chosen.map
+  pub kept : KeepsLast setting (handed_by script) chosen.map call.journal call.new
   pub text : TextIsRight call (body_of_run command (handed_by script) call.journal)
 
 -- Nothing was in the way: the words are a command, the script is right, the bank keeps its groups,
