@@ -68,7 +68,7 @@ impl Pool {
         self.uber.group() + 1
     }
 
-    /// Whether more devices are out than there are parities. No call is carried out then.
+    /// Whether more devices are out than there are parities. Each call says so then.
     pub fn has_too_many_out(&self) -> bool
         ensures { IsTrue result ↔ HasTooManyOut self.now }
     {
