@@ -2,7 +2,7 @@
 ghost use Rattle.std.specs.Prelude.{◌≡◌};
 ghost use Rattle.bank_trait.specs.Disk.{Disk};
 ghost use Rattle.core_state.specs.Map.{Map};
-ghost use Rattle.core_serial.specs.Answers.{IsFreeAnswered, TellsTooMany, map_after_free};
+ghost use Rattle.core_serial.specs.Answers.{HasTooManyOut, IsFreeAnswered, TellsTooMany, map_after_free};
 ghost use Rattle.core_serial.specs.Pool.{HoldsMap, state_of};
 ghost use Rattle.core_serial.specs.Standing.{GoesOn};
 
@@ -20,6 +20,7 @@ impl Pool {
             → HoldsMap (map_after_free map id result) (state_of self.new disk) }
         ensures answered { IsFreeAnswered self.old self.new id result }
         ensures too_many { TellsTooMany self.new result }
+        ensures quiet { HasTooManyOut self.old → self.new ≡ self.old }
     {
         if is_too_many(&self.uber, self.out) {
             return too_many(self.out);

@@ -42,6 +42,8 @@ fn look_up<B: Bank>(
     ensures looks { LooksUp (state_of (pool_of uber.now blocks.now out.old) (B.disk bank.old))
         (state_of (pool_of uber.now blocks.now out.new) (B.disk bank.new)) id result }
     ensures below { out.new < 2 ^ uber.now.reflow.to }
+    ensures quiet { HasTooManyOut (pool_of uber.now blocks.now out.old)
+        → (out.new ≡ out.old) × (B.disk bank.new ≡ B.disk bank.old) }
 {
     if is_too_many(uber, *out) {
         return Err(too_many(*out));
@@ -88,6 +90,8 @@ impl Pool {
             → IsReadRight (map id) Get result }
         ensures answered { IsReadAnswered self.old self.new id Get result }
         ensures too_many { TellsTooMany self.new result }
+        ensures quiet { HasTooManyOut self.old → state_of self.new (B.disk bank.new)
+            ≡ state_of self.old (B.disk bank.old) }
         ensures absent { (HasTooManyOut self.old → ⊥)
             → entry_of self.old.blocks.table.entries id ≡ None → result ≡ Answer.Absent }
     {
@@ -114,6 +118,8 @@ impl Pool {
             → IsReadRight (map id) Sum result }
         ensures answered { IsReadAnswered self.old self.new id Sum result }
         ensures too_many { TellsTooMany self.new result }
+        ensures quiet { HasTooManyOut self.old → state_of self.new (B.disk bank.new)
+            ≡ state_of self.old (B.disk bank.old) }
         ensures absent { (HasTooManyOut self.old → ⊥)
             → entry_of self.old.blocks.table.entries id ≡ None → result ≡ Answer.Absent }
     {

@@ -116,6 +116,8 @@ impl Pool {
             (state_of self.new (B.disk bank.new)) }
         ensures answered { IsPutAnswered self.old self.new id (length bytes.now) result }
         ensures too_many { TellsTooMany self.new result }
+        ensures quiet { HasTooManyOut self.old → state_of self.new (B.disk bank.new)
+            ≡ state_of self.old (B.disk bank.old) }
         ensures full { (HasTooManyOut self.old → ⊥) → IsFull self.old.blocks.table id
             → result ≡ Answer.Full }
     {

@@ -56,6 +56,8 @@ impl Pool {
             (state_of self.new (B.disk bank.new)) }
         ensures answered { IsSyncAnswered self.old self.new result }
         ensures too_many { TellsTooMany self.new result }
+        ensures quiet { HasTooManyOut self.old → state_of self.new (B.disk bank.new)
+            ≡ state_of self.old (B.disk bank.old) }
         ensures limit { (HasTooManyOut self.old → ⊥) → most_groups ≤ open_group self.old
             → result ≡ Answer.Limit most_groups }
     {
