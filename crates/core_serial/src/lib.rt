@@ -12,6 +12,10 @@ mod opening;
 mod pool;
 mod putting;
 mod syncing;
+#[cfg(test)]
+mod test_pool;
+#[cfg(test)]
+mod tests;
 
 pub use opening::{OpenedPool, open_pool};
 pub use pool::Pool;
