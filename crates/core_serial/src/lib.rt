@@ -6,6 +6,8 @@
 //! `core_open`, `core_commit`, `core_client` and `core_blocks`.
 #![tactic(auto)]
 
+#[cfg(test)]
+mod failing_tests;
 mod freeing;
 mod getting;
 mod opening;
