@@ -13,6 +13,8 @@ mod getting;
 mod opening;
 mod pool;
 mod putting;
+#[cfg(test)]
+mod stop_tests;
 mod syncing;
 #[cfg(test)]
 mod test_pool;
