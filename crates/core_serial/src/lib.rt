@@ -8,6 +8,8 @@
 
 #[cfg(test)]
 mod failing_tests;
+#[cfg(test)]
+mod filling_tests;
 mod freeing;
 mod getting;
 mod opening;
