@@ -6,6 +6,10 @@
 
 mod call;
 mod run;
+#[cfg(test)]
+mod test_runs;
+#[cfg(test)]
+mod tests;
 mod whole_run;
 
 pub use run::run_script;
