@@ -5,7 +5,11 @@
 #![tactic(auto)]
 
 mod call;
+#[cfg(test)]
+mod failing_tests;
 mod run;
+#[cfg(test)]
+mod stop_tests;
 #[cfg(test)]
 mod test_runs;
 #[cfg(test)]

@@ -13,8 +13,8 @@ use std::test::Fail;
 
 /// The calls on each device that make a pool: 32 zeros, a sync, the uberblock, a sync.
 pub const MAKING: u64 = 35;
-/// The calls on each device that open a pool without blocks: 32 reads, an uberblock, a sync.
-pub const OPENING: u64 = 34;
+/// The calls on each device that open a new pool: 32 reads, a sync of what stands, an uberblock, a sync.
+pub const OPENING: u64 = 35;
 
 /// How a run ended, and its journal as text.
 #[derive(Drop)]
