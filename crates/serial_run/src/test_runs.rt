@@ -1,6 +1,4 @@
 // Runs on banks in memory, and what they say.
-ghost use Rattle.std.specs.Prelude.{◌≡◌};
-
 use crate::{Ran, run_pool};
 use bank_mem::{MemBank, MemSink};
 use bank_trait::Bank;
