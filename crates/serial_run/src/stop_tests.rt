@@ -70,19 +70,19 @@ impl Clocks {
     /// What may be told after a stop at this call: of the last group that was answered, or of the one that
     /// was begun then.
     fn may_be_told(&self, call: u64) -> [&'static [u8]; 2] {
-        let mut answered = 0;
+        let mut answered: usize = 0;
         for clock in [self.opened, self.synced, self.ended] {
             if clock <= call {
-                answered += 1;
+                answered = answered.saturating_add(1);
             }
         }
-        let mut begun = 0;
+        let mut begun: usize = 0;
         for clock in [self.made, self.put, self.freed] {
             if clock < call {
-                begun += 1;
+                begun = begun.saturating_add(1);
             }
         }
-        [answered, begun].map(|group: usize| match GROUPS_TOLD.get(group) {
+        [answered, begun].map(|group| match GROUPS_TOLD.get(group) {
             Some(told) => *told,
             None => b"",
         })
