@@ -6,22 +6,12 @@
 //! `core_open`, `core_commit`, `core_client` and `core_blocks`.
 #![tactic(auto)]
 
-#[cfg(test)]
-mod failing_tests;
-#[cfg(test)]
-mod filling_tests;
 mod freeing;
 mod getting;
 mod opening;
 mod pool;
 mod putting;
-#[cfg(test)]
-mod stop_tests;
 mod syncing;
-#[cfg(test)]
-mod test_pool;
-#[cfg(test)]
-mod tests;
 
 pub use opening::{OpenedPool, open_pool};
 pub use pool::Pool;
