@@ -42,7 +42,7 @@ has_begun handed start first bank few = record {
   few = few;
   from_start = λ device out. out;
   within = λ device out. out;
-  runs = λ world time same runs within. runs;
+  runs = λ world origin same runs within. runs;
 }
 
 -- A call says so where it is so, or stood among the first ones.
@@ -96,9 +96,9 @@ module _ (handed : Handed) (start : State) (first old new : List Item) (before a
       few = come.few;
       from_start = come.from_start;
       within = λ device out. answers.goes_on.out.still device (come.within device out);
-      runs = λ world time same runs within.
-          let so_far = come.runs world time same runs within in
-          answered_runs world time call old new before after entry so_far answers listed (fill_in world same) actor number is;
+      runs = λ world origin same runs within.
+          let so_far = come.runs world origin same runs within in
+          answered_runs world origin call old new before after entry so_far answers listed (fill_in world same) actor number is;
     }
       where
         parity : after.pool.uber.parity ≡ before.pool.uber.parity
@@ -124,10 +124,10 @@ module _ (handed : Handed) (start : State) (first old new : List Item) (before a
       few = (let low = synced.few in let parity = come.parity in omega (arith, low, parity));
       from_start = λ device out. synced.leaves.out.still device (come.out.still device out);
       within = λ device out. out;
-      runs = λ world time same runs within.
-          let so_far = come.runs world time same runs
+      runs = λ world origin same runs within.
+          let so_far = come.runs world origin same runs
           (λ device out. within device (synced.leaves.out.still device (come.within device out))) in
-          ended_runs world time call old new before after entry so_far few_before synced listed actor number is within;
+          ended_runs world origin call old new before after entry so_far few_before synced listed actor number is within;
     }
       where
         apart : {group out : ℕ} → answer.Synced group ≡ answer.TooManyFailed out → ⊥
@@ -152,10 +152,10 @@ module _ (handed : Handed) (start : State) (first old new : List Item) (before a
       few = (let low = cuts.cut.few in let parity = come.parity in omega (arith, low, parity));
       from_start = λ device out. cuts.cut.earlier device (come.out.still device out);
       within = cuts.cut.stay;
-      runs = λ world time same runs within.
-          let so_far = come.runs world time same runs
+      runs = λ world origin same runs within.
+          let so_far = come.runs world origin same runs
           (λ device out. within device (cuts.cut.earlier device (come.within device out))) in
-          cut_runs world time call old new before after entry so_far few_before cuts listed actor number is within;
+          cut_runs world origin call old new before after entry so_far few_before cuts listed actor number is within;
     }
       where
         few_before : count_of before.pool.out ≤ before.pool.uber.parity

@@ -6,4 +6,5 @@ pub mod Whole
 pub mod GrownAnswers
 pub mod GrownGroups
 pub mod GrownRun
+pub mod Moments
 pub mod Stepping

@@ -1,7 +1,8 @@
 -- One call more, and what stood stands.
 use Rattle.std.proofs.Common.{◌≡◌, inl, inr, ℕ, ◌+◌, ◌<◌, ◌≤◌, List, [], ◌∷◌, ◌++◌, length, Option, Some, None, refl, sym, ◌∙◌, ap, subst, arith, append_assoc, length-append}
 use Rattle.std.proofs.lemmas.List.{append-nil}
-use Rattle.std.specs.Prelude.{◌≢◌, Contains, option_and_then}
+use Rattle.std.specs.Prelude.{◌≢◌, option_and_then}
+use Rattle.bank_trait.specs.Disk.{Disk}
 use Rattle.reflow_mark.specs.declared.reflow.Reflow.{Reflow}
 use Rattle.uberblock_ring.specs.Devices.{IsWithin, count_of}
 use Rattle.uberblock_ring.specs.Uberblock.{Uber}
@@ -23,13 +24,14 @@ use Rattle.client_script.specs.declared.call.ScriptCall.{ScriptCall}
 use Rattle.client_script.specs.Lines.{fill_bytes}
 use Rattle.core_serial.specs.Pool.{State, HoldsMap, open_group}
 use Rattle.core_serial.specs.Standing.{Stands}
-use Rattle.core_serial.specs.Syncing.{EndsGroup, CutsGroup}
+use Rattle.core_serial.specs.Syncing.{IsOpenGroup, EndsGroup, CutsGroup}
 use Rattle.serial_run.specs.Steps.{IsCallOf, IsReadNow, IsRightNow, AnswersCall, EndsOpenGroup, CutsSync, open_item}
 use Rattle.serial_run.specs.Running.{Runs}
 use Rattle.serial_run.proofs.Grown.{grown_has, first_has, last_there, new_or_before, map_grown_call, map_grown_group, map_at_end, map_before, previous_below}
 use Rattle.serial_run.proofs.GrownAnswers.{answers_grown_call, answers_grown_group}
 use Rattle.serial_run.proofs.GrownGroups.{groups_grown_call, groups_grown_group, latest_grown_call, latest_grown_group, group_of_grown, after_listed}
 use Rattle.serial_run.proofs.GrownRun.{groups_call, groups_end, groups_cut}
+use Rattle.serial_run.proofs.Moments.{answer_listed, group_listed, cut_listed}
 
 -- A journal that has a group has an item.
 some_items : (items : List Item) (group : GroupItem) → IsGroupBefore items (length items) group → 0 < length items
@@ -169,8 +171,8 @@ cut_sound same = cc
 abbrev IsSound : Entry → Type 0
 IsSound entry = entry.answer ≢ answer.Damaged
 
-module _ (world : World) (time : ℕ) (call : ScriptCall) (old new : List Item) (before after : State) (entry : Entry)
-    (runs : Runs world time old before) where
+module _ (world : World) (origin : Disk) (call : ScriptCall) (old new : List Item) (before after : State) (entry : Entry)
+    (runs : Runs world origin old before) where
   abbrev handed : Handed
   handed = world.handed
 
@@ -198,10 +200,10 @@ module _ (world : World) (time : ℕ) (call : ScriptCall) (old new : List Item) 
   pub answered_runs : AnswersCall call (length old) before after entry → new ≡ old ++ Call entry ∷ []
       → handed entry.caller entry.call ≡ fill_bytes call.fill
       → (actor number : ℕ) → IsCallOf call actor number entry
-      → Runs world time new after
+      → Runs world origin new after
   answered_runs answers listed fill actor number is =
       let grown = groups_call handed opening world.known old runs.groups runs.in_order entry in
-      subst (λ (items : List Item). Runs world time items after) (sym listed) (record {
+      subst (λ (items : List Item). Runs world origin items after) (sym listed) (record {
         groups = grown.0;
         earlier = runs.earlier;
         last = runs.last;
@@ -218,9 +220,10 @@ module _ (world : World) (time : ℕ) (call : ScriptCall) (old new : List Item) 
             (answers.goes_on.stands world.setting runs.last runs.groups.begun runs.stands);
         holds = subst (λ (map : Map). HoldsMap map after) (sym (map_grown_call handed opening old entry))
             (answers.holds handed (map_of handed opening old) runs.stands.tells fill runs.holds);
-        since = subst (λ (l : List Kept). KeepsSince world.setting l time after.disk)
+        since = subst (λ (l : List Kept). KeepsSince world.setting l origin.clock after.disk)
             (λ i. world.known ++ sym grown.1 i ++ sym grown.2 i)
-            (answers.goes_on.since world.setting runs.last runs.groups.begun groups_so_far time runs.stands row runs.since);
+            (answers.goes_on.since world.setting runs.last runs.groups.begun groups_so_far origin.clock runs.stands row runs.since);
+        no_older = answer_listed world origin old before runs after answers.goes_on.later entry answers.goes_on;
       })
 
   -- No group was begun while not too many devices are out.
@@ -231,8 +234,8 @@ module _ (world : World) (time : ℕ) (call : ScriptCall) (old new : List Item) 
     stands_alone : Stands world.setting runs.last [] before
     stands_alone = subst (λ (begun : List Kept). Stands world.setting runs.last begun before) none_begun runs.stands
 
-    since_last : KeepsSince world.setting ((world.known ++ runs.earlier) ++ runs.last ∷ []) time before.disk
-    since_last = subst (λ (l : List Kept). KeepsSince world.setting l time before.disk)
+    since_last : KeepsSince world.setting ((world.known ++ runs.earlier) ++ runs.last ∷ []) origin.clock before.disk
+    since_last = subst (λ (l : List Kept). KeepsSince world.setting l origin.clock before.disk)
         (ap (λ (l : List Kept). world.known ++ runs.groups.answered ++ l) none_begun
         ∙ ap (λ (l : List Kept). world.known ++ l ++ []) runs.answered_are
         ∙ at_last world.known runs.earlier runs.last) runs.since
@@ -258,6 +261,20 @@ module _ (world : World) (time : ℕ) (call : ScriptCall) (old new : List Item) 
       ap (λ (r : Reflow). r.from) reflow_is ∙ runs.item_is.widths.0,
       ap (λ (r : Reflow). r.to) reflow_is ∙ runs.item_is.widths.1,
     )
+
+    -- The pool's open group is begun after the last one.
+    open_begun : (kept : Kept) → IsOpenGroup (map_of handed opening old) before.pool kept
+        → IsBegunAfter handed opening old runs.item kept
+    open_begun kept is = record {
+      number = is.number ∙ number_is;
+      after = length old;
+      listed = (after_few, omega arith);
+      map = λ id i. (is.map_is ∙ sym (map_at_end handed opening old)) i id;
+      widths = inl (
+        ap (λ (r : Reflow). r.from) is.widths ∙ widths_are.0,
+        ap (λ (r : Reflow). r.to) is.widths ∙ widths_are.1,
+      );
+    }
 
     -- A sync that ended its group.
     module _ (synced : EndsOpenGroup before after entry)
@@ -307,8 +324,8 @@ module _ (world : World) (time : ℕ) (call : ScriptCall) (old new : List Item) 
           (subst (IsRightSync (with_group ++ Call entry ∷ []) previous (length with_group)) (sym synced.answer_is)
           (answers_group old next_item entry previous (some_items old runs.item runs.latest) refl previous_is))
 
-      pub ended_runs : Runs world time new after
-      ended_runs = subst (λ (items : List Item). Runs world time items after) (sym listed) (record {
+      pub ended_runs : Runs world origin new after
+      ended_runs = subst (λ (items : List Item). Runs world origin items after) (sym listed) (record {
         groups = grown.0;
         earlier = runs.groups.answered;
         last = ends.next;
@@ -325,10 +342,12 @@ module _ (world : World) (time : ℕ) (call : ScriptCall) (old new : List Item) 
         stands = subst (λ (begun : List Kept). Stands world.setting ends.next begun after) (sym (grown.2 ∙ ended.2)) ends.stands;
         holds = subst (λ (map : Map). HoldsMap map after) (sym map_is)
             (synced.leaves.holds (map_of handed opening old) runs.holds);
-        since = subst (λ (l : List Kept). KeepsSince world.setting l time after.disk)
+        since = subst (λ (l : List Kept). KeepsSince world.setting l origin.clock after.disk)
             (ended_row world.known runs.earlier runs.groups.answered grown.0.answered grown.0.begun runs.last ends.next
             runs.answered_are (grown.1 ∙ ended.1) (grown.2 ∙ ended.2))
-            (ends.since (world.known ++ runs.earlier) time since_last);
+            (ends.since (world.known ++ runs.earlier) origin.clock since_last);
+        no_older = group_listed world origin old before runs after synced.leaves.later (map_of handed opening old) stands_alone
+            entry next_item ends (open_begun ends.next ends.is) next_is;
       })
 
     -- One that was cut short.
@@ -337,21 +356,10 @@ module _ (world : World) (time : ℕ) (call : ScriptCall) (old new : List Item) 
       cut : CutsGroup world.setting runs.last (map_of handed opening old) before after
       cut = cuts.cut.keeps world.setting runs.last (map_of handed opening old) stands_alone runs.holds within
 
-      begun_is : (kept : Kept) → Contains cut.begun kept → IsBegunAfter handed opening old runs.item kept
-      begun_is kept has = let open_is = cut.is kept has in record {
-        number = open_is.number ∙ number_is;
-        after = length old;
-        listed = (after_few, omega arith);
-        map = λ id i. (open_is.map_is ∙ sym (map_at_end handed opening old)) i id;
-        widths = inl (
-          ap (λ (r : Reflow). r.from) open_is.widths ∙ widths_are.0,
-          ap (λ (r : Reflow). r.to) open_is.widths ∙ widths_are.1,
-        );
-      }
-
       stopped : (grown : Groups handed opening world.known old)
           × (grown.answered ≡ runs.groups.answered) × (grown.begun ≡ cut.begun)
-      stopped = groups_cut handed opening world.known old runs.groups none_begun runs.item runs.latest cut.begun cut.one begun_is
+      stopped = groups_cut handed opening world.known old runs.groups none_begun runs.item runs.latest cut.begun cut.one
+          (λ kept has. open_begun kept (cut.is kept has))
 
       cut_grown : (grown : Groups handed opening world.known (old ++ Call entry ∷ []))
           × (grown.answered ≡ stopped.0.answered) × (grown.begun ≡ stopped.0.begun)
@@ -367,8 +375,8 @@ module _ (world : World) (time : ℕ) (call : ScriptCall) (old new : List Item) 
           (sym cuts.asked)
           (subst (IsRightSync (old ++ Call entry ∷ []) previous (length old)) (sym cuts.answer_is) tt)
 
-      pub cut_runs : Runs world time new after
-      cut_runs = subst (λ (items : List Item). Runs world time items after) (sym listed) (record {
+      pub cut_runs : Runs world origin new after
+      cut_runs = subst (λ (items : List Item). Runs world origin items after) (sym listed) (record {
         groups = cut_grown.0;
         earlier = runs.earlier;
         last = runs.last;
@@ -382,8 +390,10 @@ module _ (world : World) (time : ℕ) (call : ScriptCall) (old new : List Item) 
         stands = subst (λ (begun : List Kept). Stands world.setting runs.last begun after) (sym (cut_grown.2 ∙ stopped.2)) cut.stands;
         holds = subst (λ (map : Map). HoldsMap map after) (sym cut_map_is)
             (cuts.leaves.holds (map_of handed opening old) runs.holds);
-        since = subst (λ (l : List Kept). KeepsSince world.setting l time after.disk)
+        since = subst (λ (l : List Kept). KeepsSince world.setting l origin.clock after.disk)
             (cut_row world.known runs.earlier cut_grown.0.answered cut.begun cut_grown.0.begun runs.last
             (cut_grown.1 ∙ stopped.1 ∙ runs.answered_are) (cut_grown.2 ∙ stopped.2))
-            (cut.since (world.known ++ runs.earlier) time since_last);
+            (cut.since (world.known ++ runs.earlier) origin.clock since_last);
+        no_older = cut_listed world origin old before runs after cuts.leaves.later (map_of handed opening old) stands_alone
+            entry cut (λ kept has. open_begun kept (cut.is kept has));
       })

@@ -16,7 +16,6 @@ use Rattle.core_state.specs.Journal.{CallsAreRight}
 use Rattle.core_state.specs.Keeps.{Kept, Setting}
 use Rattle.core_state.specs.CoreState.{World}
 use Rattle.core_state.specs.Moment.{IsGroupOf, Groups, KeepsSince}
-use Rattle.core_state.proofs.Keeping.{knows_keep}
 use Rattle.client_script.specs.Script.{Script, asked_by, handed_by}
 use Rattle.core_open.specs.Causes.{IsShownChoice, IsOutFor, AreOutFor, AreOutOf}
 use Rattle.core_open.specs.Failing.{HaveFailed}
@@ -29,7 +28,8 @@ use Rattle.serial_run.specs.Running.{Runs, HasCome}
 use Rattle.serial_run.specs.WholeRun.{RunKeeps, HasRun, first_item}
 use Rattle.serial_run.proofs.GrownAnswers.{answers_alone}
 use Rattle.serial_run.proofs.GrownGroups.{group_alone, latest_alone}
-use Rattle.serial_run.proofs.GrownRun.{groups_one, groups_begun}
+use Rattle.serial_run.proofs.GrownRun.{groups_one}
+use Rattle.serial_run.proofs.Moments.{item_first, kept_now}
 
 -- What failed earlier has failed later.
 abbrev shown_later : (old mid new : Disk) (image : Image) → Later mid new → IsShownChoice old mid image → IsShownChoice old new image
@@ -120,7 +120,7 @@ module _ (script : Script) (old mid : Disk) (pool : Pool) (silent : ℕ) (items 
         × (groups.answered ≡ next ∷ []) × (groups.begun ≡ [])
     one = groups_one (handed_by script) chosen.map (first ∷ later) item next next_is
 
-    runs_first : Runs world old.clock (alone item) start
+    runs_first : Runs world old (alone item) start
     runs_first = record {
       groups = one.0;
       earlier = [];
@@ -134,8 +134,9 @@ module _ (script : Script) (old mid : Disk) (pool : Pool) (silent : ℕ) (items 
       sound = λ index entry there. absurd (no_call item index entry there);
       stands = subst (λ (begun : List Kept). Stands setting next begun start) (sym one.2) begins.stands;
       holds = subst (λ (map : Map). HoldsMap map start) same_map begins.holds;
-      since = subst (λ (l : List Kept). KeepsSince setting l old.clock mid)
-          (row (first ∷ later) next one.0.answered one.0.begun one.1 one.2) begins.opened.since;
+      since = since_first;
+      no_older = item_first setting (handed_by script) chosen.map (first ∷ later) old (Group item) mid opened_later
+          (record { groups = one.0; since = since_first });
     }
       where
         row : (known : List Kept) (next : Kept) (answered begun : List Kept) → answered ≡ next ∷ [] → begun ≡ []
@@ -143,8 +144,12 @@ module _ (script : Script) (old mid : Disk) (pool : Pool) (silent : ℕ) (items 
         row known next answered begun answered_are none =
             sym (append-nil (known ++ next ∷ [])) ∙ (λ i. known ++ sym answered_are i ++ sym none i)
 
-    runs : Runs world old.clock items final
-    runs = come.runs world old.clock refl runs_first borne_in
+        since_first : KeepsSince setting ((first ∷ later) ++ one.0.answered ++ one.0.begun) old.clock mid
+        since_first = subst (λ (l : List Kept). KeepsSince setting l old.clock mid)
+            (row (first ∷ later) next one.0.answered one.0.begun one.1 one.2) begins.opened.since
+
+    runs : Runs world old items final
+    runs = come.runs world old refl runs_first borne_in
 
     parity_is : pool.uber.parity ≡ first.uber.parity
     parity_is = ap (λ (u : Uber). u.parity) begins.opened.alike
@@ -170,16 +175,8 @@ module _ (script : Script) (old mid : Disk) (pool : Pool) (silent : ℕ) (items 
       legal = record { groups = runs.in_order; calls_are = calls; answers = runs.right };
       sound = runs.sound;
       any_moment = record { groups = runs.groups; since = runs.since };
-      kept = record {
-        group = runs.item;
-        latest = runs.latest;
-        last = runs.last;
-        last_is = runs.item_is;
-        begun = runs.groups.begun;
-        one = runs.groups.one;
-        begun_is = groups_begun (handed_by script) chosen.map (first ∷ later) items runs.groups runs.item runs.latest;
-        keeps = knows_keep setting runs.last runs.groups.begun final.disk runs.stands.knows;
-      };
+      no_older = runs.no_older;
+      kept = kept_now world old items final runs;
       few = (let few = come.few in let same = parity_is in omega (arith, few, same));
       too_many = λ index listed entry there is. ⊎_elim
           (λ (at : (place : ℕ) × CallAt (alone item) place entry). absurd (no_call item at.0 entry at.1))

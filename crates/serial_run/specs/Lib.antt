@@ -1,3 +1,4 @@
 pub mod Steps
+pub mod Moments
 pub mod Running
 pub mod WholeRun

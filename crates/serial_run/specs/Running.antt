@@ -1,6 +1,6 @@
 -- What stands while a script is carried out.
 use Rattle.std.specs.Prelude.{◌≡◌, ◌≢◌, ◌⊎◌, ℕ, ◌≤◌, List, [], ◌∷◌, ◌++◌, length, Some, slice_get}
-use Rattle.bank_trait.specs.Disk.{Later}
+use Rattle.bank_trait.specs.Disk.{Disk, Later}
 use Rattle.uberblock_ring.specs.Devices.{count_of, IsWithin}
 use Rattle.core_state.specs.declared.answer.Answer.TheVariants as answer
 use Rattle.core_state.specs.declared.item.Entry.{Entry}
@@ -16,10 +16,11 @@ use Rattle.core_client.specs.Outs.{point_of, OnlyFailedGoOut}
 use Rattle.core_serial.specs.Answers.{HasTooManyOut}
 use Rattle.core_serial.specs.Pool.{State, HasBank, HoldsMap}
 use Rattle.core_serial.specs.Standing.{Stands}
+use Rattle.serial_run.specs.Moments.{KeepsItemByItem}
 
--- After these items the journal is right, the pool holds its map, and each image since a time keeps groups
--- of the run in a row.
-pub record Runs (world : World) (time : ℕ) (items : List Item) (state : State) : Type 0 where
+-- After these items the journal is right, the pool holds its map, and each image since the bank was this
+-- one keeps groups of the run in a row, none older than the last one listed by then.
+pub record Runs (world : World) (origin : Disk) (items : List Item) (state : State) : Type 0 where
   pub groups : Groups world.handed world.opening world.known items
   pub earlier : List Kept
   pub last : Kept
@@ -32,7 +33,10 @@ pub record Runs (world : World) (time : ℕ) (items : List Item) (state : State)
   pub sound : (index : ℕ) (entry : Entry) → CallAt items index entry → entry.answer ≢ answer.Damaged
   pub stands : Stands world.setting last groups.begun state
   pub holds : HoldsMap (map_of world.handed world.opening items) state
-  pub since : KeepsSince world.setting (world.known ++ groups.answered ++ groups.begun) time state.disk
+  pub since : KeepsSince world.setting (world.known ++ groups.answered ++ groups.begun) origin.clock
+      state.disk
+  pub no_older : KeepsItemByItem world.setting world.handed world.opening world.known items origin
+      state.disk
 
 -- A run from one state has come to another, where so many items were listed. The devices whose failure
 -- has to be allowed were out when it began, or have failed, and are no more than there are parities.
@@ -52,5 +56,6 @@ pub record HasCome (handed : Handed) (start : State) (first items : List Item) (
     pub few : count_of borne ≤ start.pool.uber.parity
     pub from_start : IsWithin start.pool.out borne
     pub within : IsWithin borne state.pool.out
-    pub runs : (world : World) (time : ℕ) → world.handed ≡ handed → Runs world time first start
-        → IsWithin borne world.setting.failed → Runs world time items state
+    pub runs : (world : World) (origin : Disk) → world.handed ≡ handed
+        → Runs world origin first start → IsWithin borne world.setting.failed
+        → Runs world origin items state

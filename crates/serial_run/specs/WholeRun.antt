@@ -1,17 +1,15 @@
 -- What a run keeps, from the opening of its pool to its end.
-use Rattle.std.specs.Prelude.{◌≡◌, ◌≢◌, ℕ, ◌+◌, ◌<◌, ◌≤◌, List, ◌∷◌, length, Contains}
+use Rattle.std.specs.Prelude.{◌≡◌, ◌≢◌, ℕ, ◌+◌, ◌<◌, ◌≤◌, List, ◌∷◌, Contains}
 use Rattle.bank_trait.specs.Disk.{Image, Disk}
 use Rattle.uberblock_ring.specs.Devices.{count_of, IsWithin}
 use Rattle.core_state.specs.declared.answer.Answer.TheVariants as answer
 use Rattle.core_state.specs.declared.item.Entry.{Entry}
 use Rattle.core_state.specs.declared.item.Group.{Group as GroupItem}
 use Rattle.core_state.specs.declared.item.Item.{Item}
-use Rattle.core_state.specs.Map.{Map, Handed}
-use Rattle.core_state.specs.Legal.{GroupAt, CallAt, IsGroupBefore}
+use Rattle.core_state.specs.Legal.{GroupAt, CallAt}
 use Rattle.core_state.specs.Journal.{IsLegalJournal}
 use Rattle.core_state.specs.Keeps.{Kept, Setting}
-use Rattle.core_state.specs.Collision.{BankKeeps}
-use Rattle.core_state.specs.Moment.{IsGroupOf, IsBegunAfter, KeepsThroughout}
+use Rattle.core_state.specs.Moment.{KeepsThroughout}
 use Rattle.core_open.specs.Causes.{IsShownChoice, AreOutFor}
 use Rattle.core_open.specs.Failing.{HaveFailed}
 use Rattle.core_open.specs.Holds.{HoldsImage}
@@ -19,6 +17,8 @@ use Rattle.core_open.specs.Opens.{IsWithinBelow}
 use Rattle.client_script.specs.Script.{Script, asked_by, handed_by}
 use Rattle.core_serial.specs.Pool.{Pool}
 use Rattle.core_serial.specs.Opening.{MayBegin}
+use Rattle.serial_run.specs.Moments.{KeepsItemByItem}
+pub use Rattle.serial_run.specs.Moments.{KeepsLast}
 
 -- the item of the group that a pool was opened with
 abbrev pub first_item : Pool → GroupItem
@@ -36,24 +36,11 @@ pub record BeginsAfter (chosen : Kept) (items : List Item) : Type 0 where
   pub number : first.group ≡ chosen.uber.group + 2
   pub widths : (first.from ≡ chosen.uber.reflow.from) × (first.to ≡ chosen.uber.reflow.to)
 
--- The bank keeps the journal's last group, and maybe one that was begun after it.
-pub record KeepsLast (setting : Setting) (handed : Handed) (opening : Map) (items : List Item)
-    (disk : Disk) : Type 0 where
-  pub group : GroupItem
-  pub latest : IsGroupBefore items (length items) group
-  pub last : Kept
-  pub last_is : IsGroupOf handed opening items group last
-  pub begun : List Kept
-  pub one : length begun ≤ 1
-  pub begun_is : (kept : Kept) → Contains begun kept
-      → IsBegunAfter handed opening items group kept
-  pub keeps : BankKeeps setting last begun disk
-
 -- A run began with one of the groups that the bank kept, and its journal is legal from that group's map
 -- on. Whatever a stop leaves, at any moment of the run, keeps some of the groups in a row: those kept
--- before, the journal's, and at most one that was begun after them. At its end that is the journal's last
--- one. No read is told as damaged, and a call says that too many devices are out only where more are out
--- than there are parities.
+-- before, the journal's, and at most one that was begun after them; and none older than the last one listed
+-- by then. At its end that is the journal's last one. No read is told as damaged, and a call says that too
+-- many devices are out only where more are out than there are parities.
 pub record RunKeeps (script : Script) (setting : Setting) (first : Kept) (later : List Kept)
     (old new : Disk) (items : List Item) (borne out : ℕ) : Type 0 where
   pub chosen : Kept
@@ -66,6 +53,7 @@ pub record RunKeeps (script : Script) (setting : Setting) (first : Kept) (later 
       → entry.answer ≢ answer.Damaged
   pub any_moment : KeepsThroughout setting (handed_by script) chosen.map (first ∷ later) items old
       new
+  pub no_older : KeepsItemByItem setting (handed_by script) chosen.map (first ∷ later) items old new
   pub kept : KeepsLast setting (handed_by script) chosen.map items new
   pub few : count_of borne ≤ first.uber.parity
   pub too_many : (index listed : ℕ) (entry : Entry) → CallAt items index entry

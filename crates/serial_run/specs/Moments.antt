@@ -1,0 +1,47 @@
+-- What a run keeps from one item of its journal to the next.
+use Rattle.std.specs.Prelude.{◌≡◌, ℕ, ◌+◌, ◌<◌, ◌≤◌, List, ◌∷◌, length, take, Contains}
+use Rattle.bank_trait.specs.Disk.{Disk, Later}
+use Rattle.core_state.specs.declared.item.Group.{Group as GroupItem}
+use Rattle.core_state.specs.declared.item.Item.{Item}
+use Rattle.core_state.specs.Map.{Map, Handed}
+use Rattle.core_state.specs.Legal.{IsGroupBefore}
+use Rattle.core_state.specs.Keeps.{Kept, Setting}
+use Rattle.core_state.specs.Collision.{BankKeeps}
+use Rattle.core_state.specs.Moment.{IsGroupOf, IsBegunAfter, KeepsSince, KeepsThroughout}
+
+-- The bank keeps the journal's last group, and maybe one that was begun after it.
+pub record KeepsLast (setting : Setting) (handed : Handed) (opening : Map) (items : List Item)
+    (disk : Disk) : Type 0 where
+  pub group : GroupItem
+  pub latest : IsGroupBefore items (length items) group
+  pub last : Kept
+  pub last_is : IsGroupOf handed opening items group last
+  pub begun : List Kept
+  pub one : length begun ≤ 1
+  pub begun_is : (kept : Kept) → Contains begun kept
+      → IsBegunAfter handed opening items group kept
+  pub keeps : BankKeeps setting last begun disk
+
+-- From the moment at which the journal came to these items until it came to the next one: first the bank
+-- kept their last group, and whatever a stop left keeps that group, one that was begun after it, or both.
+pub record KeepsUntil (setting : Setting) (handed : Handed) (opening : Map) (items : List Item)
+    (now next : Disk) : Type 0 where
+  pub later : Later now next
+  pub kept : KeepsLast setting handed opening items now
+  pub onward : List Kept
+  pub one : length onward ≤ 1
+  pub onward_is : (group : Kept) → Contains onward group
+      → IsBegunAfter handed opening items kept.group group
+  pub since : KeepsSince setting (kept.last ∷ onward) now.clock next
+
+-- The banks that a run came by, one for each number of items in its journal, from the end of the opening,
+-- which listed the first. Until then, whatever a stop left keeps some of the groups known and that first one;
+-- since then, no older group than the last one listed by then.
+pub record KeepsItemByItem (setting : Setting) (handed : Handed) (opening : Map) (known : List Kept)
+    (items : List Item) (old new : Disk) : Type 0 where
+  pub bank : ℕ → Disk
+  pub later : Later old (bank 1)
+  pub opened : KeepsThroughout setting handed opening known (take 1 items) old (bank 1)
+  pub each : (count : ℕ) → 1 ≤ count → count < length items
+      → KeepsUntil setting handed opening (take count items) (bank count) (bank (count + 1))
+  pub ends : bank (length items) ≡ new
