@@ -29,7 +29,7 @@ use Rattle.core_open.proofs.Ends.{present_held}
 use Rattle.core_open.proofs.Written.{none_listed}
 
 -- A set without devices is empty.
-none_empty : (devices : ℕ) → ((device : ℕ) → has_device devices device ≡ true → ⊥) → devices ≡ 0
+pub none_empty : (devices : ℕ) → ((device : ℕ) → has_device devices device ≡ true → ⊥) → devices ≡ 0
 none_empty devices none = same_from_bits devices 0 (λ device.
     let not_one : bit_at devices device ≢ 1 = λ one. none device (bit_has devices device one) in
     let not_there : bit_at 0 device ≢ 1 = λ one. true_false (sym (bit_has 0 device one) ∙ none_in device) in

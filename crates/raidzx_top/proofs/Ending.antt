@@ -1,374 +1,53 @@
--- What a call promises follows from how it ends.
-use Rattle.std.proofs.Common.{◌^◌, ◌≡◌, ◌≢◌, ◌⊎◌, inl, inr, ⊎_elim, ℕ, ◌<◌, ◌≤◌, List, [], ◌++◌, Some, refl, sym, ◌∙◌, ap, subst}
-use Rattle.std.specs.Prelude.{take, true, false}
-use Rattle.std.proofs.lemmas.Bool.{cases_lt, cases_eq}
-use Rattle.std.proofs.lemmas.List.{append-nil}
-use Rattle.bank_trait.specs.Causes.{Rose}
-use Rattle.bank_trait.specs.Disk.{Disk}
-use Rattle.bank_trait.specs.Regions.{TouchesOnly}
-use Rattle.bank_trait.proofs.Touches.{touches_none}
-use Rattle.core_open.specs.Regions.{IsOnBelow}
-use Rattle.uberblock_ring.specs.Devices.{has_device, with_device}
-use Rattle.uberblock_ring.proofs.DeviceSets.{has_with, others_with}
-use Rattle.core_state.proofs.Fresh.{IsSized, none_in}
-use Rattle.core_state.proofs.Created.{created_keeps}
-use Rattle.core_state.specs.Create.{IsCreated, first_kept, rows_for}
-use Rattle.core_state.specs.Collision.{BankKeeps, MightStand}
-use Rattle.core_state.specs.Keeps.{Setting}
-use Rattle.core_state.specs.Shown.{Shape, Shows}
-use Rattle.uberblock_ring.specs.Uberblock.{first_uber}
-use Rattle.client_script.specs.Written.{IsAdded, IsPartAdded}
+-- However a call ends, it keeps its promises.
+use Rattle.std.proofs.Common.{◌≡◌, refl, sym, ◌∙◌, subst}
+use Rattle.bank_trait.specs.Disk.{Lawful}
 use Rattle.raidzx_top.specs.declared.status.Status.{Status}
 use Rattle.raidzx_top.specs.declared.status.Status.TheVariants as status
-use Rattle.raidzx_top.specs.declared.words.NewPool.{NewPool}
-use Rattle.raidzx_top.specs.declared.words.ServedCommand.{ServedCommand}
 use Rattle.raidzx_top.specs.declared.words.ServedCommand.TheVariants as served
-use Rattle.raidzx_top.specs.Words.{Create}
-use Rattle.raidzx_top.specs.Spelled.{SpellsCreate, IsServed, IsServedAs, command_of}
-use Rattle.raidzx_top.specs.Call.{ReadsScript, Call}
-use Rattle.raidzx_top.specs.Causes.{NoneRose, IsCaused, IsCause, HaveRisen, IsTooSmall, ComesWhere, IsOrNoMemory}
-use Rattle.raidzx_top.specs.RunText.{IsLineFor, TextIsRight, create_text, status_line}
-use Rattle.raidzx_top.specs.Promises.{CreatePromises, IsNewSetting, CallPromises, IsCarriedOut}
-use Rattle.raidzx_top.specs.Making.{IsSmallFor, HasFailedOn, Makes, IsSaid, EndsCreate, Ends}
-use Rattle.raidzx_top.proofs.Spelling.{one_create, create_spells}
-
--- A set of one device has no other.
-only_one : (device other : ℕ) → has_device (with_device 0 device) other ≡ true → other ≡ device
-only_one device other has = ⊎_elim (λ same. same)
-    (λ apart. absurd (clash (sym has ∙ others_with 0 device other apart ∙ none_in other)))
-    (cases_eq other device)
-  where
-    clash : true ≡ false → ⊥
-    clash same = cc
-
-some_has : (device : ℕ) → with_device 0 device ≡ 0 → ⊥
-some_has device none = clash (sym (has_with 0 device) ∙ ap (λ (n : ℕ). has_device n device) none ∙ none_in device)
-  where
-    clash : true ≡ false → ⊥
-    clash same = cc
-
--- The device that stopped a `create` is listed, and has failed.
-risen : (call : Call) (out : ℕ) → HasFailedOn out call.old call.new → HaveRisen call out
-risen call out is = record {
-  some = λ none. some_has is.device (sym is.named ∙ none);
-  each = λ device has.
-      let it : device ≡ is.device = only_one is.device device
-      (subst (λ (n : ℕ). has_device n device ≡ true) is.named has) in
-      subst (λ (d : ℕ). Rose (call.old.faults d) (call.new.faults d)) (sym it) is.rose;
-}
-
--- What was said in a refusal is the line of its status.
-said_right : (call : Call) (line : Status) → IsLineFor call.status line
-    → call.status ≢ status.Done
-    → IsSaid call.sink.bytes call.sink_after.bytes call.sink.faults call.sink_after.faults
-    (status_line line)
-    → TextIsRight call []
-said_right call line for undone said = record {
-  written = λ held told. (
-    line,
-    for,
-    ⊎_elim
-        (λ whole. inl (whole.whole held told))
-        (λ part. inr (part.0, undone, part.1.front held told)) said,
-  );
-}
-
--- The texts of a created pool have no status line.
-created_right : (call : Call) (text : List ℕ) → call.status ≡ status.Done
-    → IsAdded call.sink.bytes call.sink_after.bytes text
-    → TextIsRight call text
-created_right call text done added = record {
-  written = λ held told. (
-    status.Done,
-    subst (λ (s : Status). IsLineFor s status.Done) (sym done) refl,
-    inl (added.whole held told ∙ ap (λ (t : List ℕ). Some (held ++ t)) (sym (append-nil text))),
-  );
-}
-
-part_right : (call : Call) (text : List ℕ) → call.status ≡ status.SinkFault
-    → Rose call.sink.faults call.sink_after.faults
-    → IsPartAdded call.sink.bytes call.sink_after.bytes text
-    → TextIsRight call text
-part_right call text fault rose part = record {
-  written = λ held told. (
-    status.Done,
-    subst (λ (s : Status). IsLineFor s status.Done) (sym fault) (inl refl),
-    inr (
-      rose,
-      (λ done. no_sink_fault (sym fault ∙ done)),
-      ap_part held (part.front held told),
-    ),
-  );
-}
-  where
-    no_sink_fault : status.SinkFault ≡ status.Done → ⊥
-    no_sink_fault same = cc
-
-    ap_part : (held : List ℕ)
-        → (len : ℕ) × (call.sink_after.bytes ≡ Some (held ++ take len text))
-        → (len : ℕ) × (call.sink_after.bytes ≡ Some (held ++ take len (text ++ [])))
-    ap_part held (len, is) =
-        (len, is ∙ ap (λ (t : List ℕ). Some (held ++ take len t)) (sym (append-nil text)))
-
--- How a call that made a pool, or tried to, is kept by its promises.
-module _ (call : Call) (made : NewPool) (served_as : IsServedAs call.words (served.Create made))
-    (still : (call.journal ≡ []) × (call.turns ≡ 0)) where
-  -- what the words ask for is this pool
-  same : (given : NewPool) → IsServedAs call.words (served.Create given) → made ≡ given
-  same given is = one_create call.words made given served_as is
-
-  -- devices from this pool's width on are those from the width asked for on
-  below_width : (given : NewPool) → IsServedAs call.words (served.Create given)
-      → TouchesOnly (IsOnBelow made.width) call.old call.new
-      → TouchesOnly (IsOnBelow given.width) call.old call.new
-  below_width given is only =
-      subst (λ (n : NewPool). TouchesOnly (IsOnBelow n.width) call.old call.new) (same given is) only
-
-  too_small : IsSmallFor made call.old
-      → IsTooSmall call (Create made.parity made.width made.id)
-  too_small small = ((made.parity, made.width), refl, small)
-
-  is_small : IsTooSmall call (Create made.parity made.width made.id) → IsSmallFor made call.old
-  is_small small = subst (λ (s : ℕ × ℕ). (call.old.devices < s.1) ⊎ (call.old.sectors < 256))
-      (sym (some_same small.1)) small.2
-    where
-      some_same : {one two : ℕ × ℕ} → Some one ≡ Some two → one ≡ two
-      some_same is = cc
-
-  -- no status but its own, so no cause but its own
-  caused : (given : Status) → call.status ≡ given → given ≢ status.Usage
-      → IsCause call (Create made.parity made.width made.id) given
-      → IsCaused call
-  caused given is other cause = record {
-    usage = λ usage. absurd (other (sym is ∙ usage));
-    others = each;
-  }
-    where
-      each : (command : ServedCommand) → IsServedAs call.words command
-          → IsCause call (command_of command) call.status
-      each (served.Create m) served_m =
-          subst (λ (n : NewPool). IsCause call (Create n.parity n.width n.id) call.status)
-          (same m served_m)
-          (subst (λ (s : Status). IsCause call (Create made.parity made.width made.id) s) (sym is)
-          cause)
-
-  comes : (IsSmallFor made call.old → IsOrNoMemory call status.TooSmall) → ComesWhere call
-  comes small = record {
-    usage = λ none. absurd (none (served.Create made, served_as));
-    limit = λ command bytes is read over. no_script command read.0;
-    fault = λ command bytes line is read at. no_script command read.0;
-    too_small = where_small;
-  }
-    where
-      no_script : {A : Type 0} → (command : ServedCommand) → ReadsScript (command_of command) → A
-      no_script (served.Create m) reads = absurd reads
-
-      where_small : (command : ServedCommand) → IsServedAs call.words command
-          → IsTooSmall call (command_of command)
-          → IsOrNoMemory call status.TooSmall
-      where_small (served.Create m) is less = small (is_small
-          (subst (λ (n : NewPool). IsTooSmall call (Create n.parity n.width n.id))
-          (sym (same m is)) less))
-
-  -- A pool that fits and was made is kept.
-  kept : (IsSmallFor made call.old → ⊥)
-      → IsCreated (first_uber made.id made.parity made.width (rows_for call.old.sectors)) call.new
-      → CreatePromises call made.parity made.width made.id
-  kept fits created = record {
-    made = created;
-    keeps = λ setting new others.
-        subst (λ (n : ℕ). BankKeeps setting (first_kept n made.parity made.width call.old.sectors) [] call.new)
-        new.pool
-        (subst (λ (s : Shape). BankKeeps setting (first_kept setting.pool made.parity made.width s.sectors) [] call.new)
-        new.shape
-        (created_keeps setting made.parity made.width call.new (sized setting new) new.few
-        (subst (λ (s : Shape). IsCreated (first_uber setting.pool made.parity made.width (rows_for s.sectors)) call.new) (sym new.shape)
-        (subst (λ (n : ℕ). IsCreated (first_uber n made.parity made.width (rows_for call.old.sectors)) call.new) (sym new.pool)
-        created))
-        (λ image device uber above might shows. others image device uber above
-        (subst (λ (s : Shape). MightStand s call.new call.new.clock image) new.shape might)
-        (subst (λ (s : Shape). Shows s image device uber) new.shape shows))));
-  }
-    where
-      spelled : SpellsCreate call.words made
-      spelled = create_spells call.words made served_as
-
-      devices : made.width ≤ call.old.devices
-      devices = ⊎_elim (λ less. absurd (fits (inl less))) (λ enough. enough)
-          (cases_lt call.old.devices made.width)
-
-      sectors : 256 ≤ call.old.sectors
-      sectors = ⊎_elim (λ less. absurd (fits (inr less))) (λ enough. enough)
-          (cases_lt call.old.sectors 256)
-
-      sized : (setting : Setting) → IsNewSetting call made.parity made.id setting
-          → IsSized setting.shape setting.pool made.parity made.width
-      sized setting new = record {
-        pool_fits = subst (λ (n : ℕ). n < 2 ^ 64) (sym new.pool) spelled.id;
-        parity_in = (spelled.size.0, spelled.size.1);
-        width_in = (spelled.size.2, spelled.size.3);
-        devices = subst (λ (s : Shape). made.width ≤ s.devices) (sym new.shape) devices;
-        sectors = subst (λ (s : Shape). 256 ≤ s.sectors) (sym new.shape) sectors;
-      }
-
-  -- A pool that was made: its line was written, or a front of it.
-  carried_out : (given : Status) → call.status ≡ given
-      → (given ≡ status.Done) ⊎ ((given ≡ status.SinkFault) × Rose call.sink.faults call.sink_after.faults)
-      → Makes made call.old call.new status.Done
-      → TextIsRight call (create_text made.parity made.width made.id (rows_for call.old.sectors))
-      → CallPromises call
-  carried_out given is done makes text = record {
-    cause = caused given is (λ usage. neither usage done) (cause done);
-    comes = comes (λ small. absurd (makes.0 small));
-    create = record {
-      quiet = λ m served_m. still;
-      keeps = λ m served_m carried tells.
-          subst (λ (n : NewPool). CreatePromises call n.parity n.width n.id) (same m served_m)
-          (kept makes.0 (makes.2 tells));
-      text = λ m served_m carried.
-          subst (λ (n : NewPool). TextIsRight call (create_text n.parity n.width n.id (rows_for call.old.sectors)))
-          (same m served_m) text;
-      refused = λ not. absurd (not (⊎_elim (λ d. inl (is ∙ d)) (λ f. inr (is ∙ f.0)) done));
-      others = λ m served_m. below_width m served_m makes.1;
-      untouched = λ refusal. absurd (⊎_elim
-          (λ usage. neither (sym is ∙ usage) done) (λ small. neither_small (sym is ∙ small) done) refusal);
-    };
-    complete = record {
-      done = λ m served_m fits quiet sink. ⊎_elim (λ d. is ∙ d) (λ f. absurd (sink f.1)) done;
-    };
-  }
-    where
-      neither : given ≡ status.Usage
-          → (given ≡ status.Done) ⊎ ((given ≡ status.SinkFault) × Rose call.sink.faults call.sink_after.faults)
-          → ⊥
-      neither usage (inl d) = clash (sym usage ∙ d)
-        where
-          clash : status.Usage ≡ status.Done → ⊥
-          clash equal = cc
-      neither usage (inr f) = clash (sym usage ∙ f.0)
-        where
-          clash : status.Usage ≡ status.SinkFault → ⊥
-          clash equal = cc
-
-      neither_small : given ≡ status.TooSmall
-          → (given ≡ status.Done) ⊎ ((given ≡ status.SinkFault) × Rose call.sink.faults call.sink_after.faults)
-          → ⊥
-      neither_small small (inl d) = clash (sym small ∙ d)
-        where
-          clash : status.TooSmall ≡ status.Done → ⊥
-          clash equal = cc
-      neither_small small (inr f) = clash (sym small ∙ f.0)
-        where
-          clash : status.TooSmall ≡ status.SinkFault → ⊥
-          clash equal = cc
-
-      cause : (given ≡ status.Done) ⊎ ((given ≡ status.SinkFault) × Rose call.sink.faults call.sink_after.faults)
-          → IsCause call (Create made.parity made.width made.id) given
-      cause (inl d) = subst (λ (s : Status). IsCause call (Create made.parity made.width made.id) s) (sym d) tt
-      cause (inr f) = subst (λ (s : Status). IsCause call (Create made.parity made.width made.id) s) (sym f.0) f.1
-
-  -- One that was not made.
-  refused : (given : Status) → call.status ≡ given → given ≢ status.Usage → given ≢ status.Done
-      → given ≢ status.SinkFault
-      → IsCause call (Create made.parity made.width made.id) given
-      → (IsSmallFor made call.old → given ≡ status.TooSmall)
-      → (given ≡ status.TooSmall → call.new ≡ call.old)
-      → (NoneRose call → given ≡ status.TooSmall)
-      → (given ≡ status.TooSmall → IsSmallFor made call.old)
-      → TouchesOnly (IsOnBelow made.width) call.old call.new
-      → IsLineFor given given
-      → IsSaid call.sink.bytes call.sink_after.bytes call.sink.faults call.sink_after.faults
-      (status_line given)
-      → CallPromises call
-  refused given is no_usage no_done no_fault cause small untouched quiet_small is_small_for only line said = record {
-    cause = caused given is no_usage cause;
-    comes = comes (λ less. inl (is ∙ small less));
-    create = record {
-      quiet = λ m served_m. still;
-      keeps = λ m served_m carried tells. absurd (not_carried carried);
-      text = λ m served_m carried. absurd (not_carried carried);
-      refused = λ not. said_right call given
-          (subst (λ (s : Status). IsLineFor s given) (sym is) line)
-          (λ done. no_done (sym is ∙ done)) said;
-      others = λ m served_m. below_width m served_m only;
-      untouched = λ refusal. ⊎_elim
-          (λ usage. absurd (no_usage (sym is ∙ usage))) (λ less. untouched (sym is ∙ less)) refusal;
-    };
-    complete = record {
-      done = λ m served_m fits quiet sink. absurd (fits
-          (subst (λ (n : NewPool). IsTooSmall call (Create n.parity n.width n.id)) (same m served_m)
-          (too_small (is_small_for (quiet_small quiet)))));
-    };
-  }
-    where
-      not_carried : IsCarriedOut call → ⊥
-      not_carried carried = ⊎_elim (λ d. no_done (sym is ∙ d)) (λ f. no_fault (sym is ∙ f)) carried
-
-  created : (given : Status) → call.status ≡ given
-      → EndsCreate made call.old call.new call.sink.bytes call.sink_after.bytes
-      call.sink.faults call.sink_after.faults given
-      → CallPromises call
-  created status.Done is ends =
-      carried_out status.Done is (inl refl) ends.0 (created_right call _ is ends.1)
-  created status.SinkFault is ends =
-      carried_out status.SinkFault is (inr (refl, ends.1)) ends.0
-      (part_right call _ is ends.1 ends.2)
-  created (status.TooManyFailed out) is ends =
-      refused (status.TooManyFailed out) is (λ equal. cc) (λ equal. cc) (λ equal. cc)
-      (inr (inl ((made.parity, made.width), refl, still.0, risen call out ends.0.2)))
-      (λ less. absurd (ends.0.0 less)) (λ equal. absurd (no_small equal))
-      (λ quiet. absurd (quiet ends.0.2.device ends.0.2.rose)) (λ equal. absurd (no_small equal)) ends.0.1 refl ends.1
-    where
-      no_small : status.TooManyFailed out ≡ status.TooSmall → ⊥
-      no_small equal = cc
-  created status.TooSmall is ends =
-      refused status.TooSmall is (λ equal. cc) (λ equal. cc) (λ equal. cc)
-      (too_small ends.0.0) (λ less. refl) (λ same. ends.0.1) (λ quiet. refl) (λ same. ends.0.0)
-      (subst (λ (disk : Disk). TouchesOnly (IsOnBelow made.width) call.old disk) (sym ends.0.1)
-      (touches_none (IsOnBelow made.width) call.old)) refl ends.1
-  created status.Usage is ends = absurd ends
-  created (status.ScriptFault line) is ends = absurd ends
-  created status.NotPool is ends = absurd ends
-  created status.SourceFault is ends = absurd ends
-  created status.NoMemory is ends = absurd ends
-  created status.Limit is ends = absurd ends
+use Rattle.raidzx_top.specs.Call.{Call}
+use Rattle.raidzx_top.specs.Ending.{EndsUsage, Ends, AsUsage, AsCreate, AsRun}
+use Rattle.raidzx_top.specs.Promises.{CallPromises}
+use Rattle.raidzx_top.specs.RunText.{IsLineFor}
+use Rattle.raidzx_top.proofs.Creating.{created}
+use Rattle.raidzx_top.proofs.Refusing.{said_right}
+use Rattle.raidzx_top.proofs.RunEnding.{run_promises}
 
 -- Words that are no command.
-refused_words : (call : Call) → (call.journal ≡ []) × (call.turns ≡ 0)
-    → call.status ≡ status.Usage → (IsServed call.words → ⊥)
-    → call.new ≡ call.old
-    → IsSaid call.sink.bytes call.sink_after.bytes call.sink.faults call.sink_after.faults
-    (status_line status.Usage)
-    → CallPromises call
-refused_words call still is none equal said = record {
-  cause = record { usage = λ usage. none; others = λ given served_as. absurd (none (given, served_as)) };
+refused_words : (call : Call) → EndsUsage call → CallPromises call
+refused_words call ends = record {
+  cause = record { usage = λ usage. ends.none; others = λ given served_as. absurd (ends.none (given, served_as)) };
   comes = record {
-    usage = λ no_command. is;
-    limit = λ given bytes served_as read over. absurd (none (given, served_as));
-    fault = λ given bytes line served_as read at. absurd (none (given, served_as));
-    too_small = λ given served_as small. absurd (none (given, served_as));
+    usage = λ no_command. ends.status_is;
+    limit = λ given bytes served_as read over. absurd (ends.none (given, served_as));
+    fault = λ given bytes line served_as read at. absurd (ends.none (given, served_as));
+    too_small = λ given served_as small. absurd (ends.none (given, served_as));
+    no_pool = λ command finds. absurd (ends.none (finds.given, finds.served));
   };
+  refused = λ none not. said_right call status.Usage
+      (subst (λ (s : Status). IsLineFor s status.Usage) (sym ends.status_is) refl)
+      (λ done. no_done (sym ends.status_is ∙ done)) ends.said;
   create = record {
-    quiet = λ m served_m. still;
-    keeps = λ m served_m carried tells. absurd (none (served.Create m, served_m));
-    text = λ m served_m carried. absurd (none (served.Create m, served_m));
-    refused = λ not. said_right call status.Usage
-        (subst (λ (s : Status). IsLineFor s status.Usage) (sym is) refl)
-        (λ done. no_done (sym is ∙ done)) said;
-    others = λ m served_m. absurd (none (served.Create m, served_m));
-    untouched = λ refusal. equal;
+    quiet = λ m served_m. ends.quiet;
+    keeps = λ m served_m carried tells. absurd (ends.none (served.Create m, served_m));
+    text = λ m served_m carried. absurd (ends.none (served.Create m, served_m));
+    others = λ m served_m. absurd (ends.none (served.Create m, served_m));
+    untouched = λ refusal. ends.same;
   };
-  complete = record { done = λ m served_m fits quiet sink. absurd (none (served.Create m, served_m)) };
+  run = record {
+    opened = λ run. absurd (ends.none (served.Run, run));
+    unopened = λ run. absurd (ends.none (served.Run, run));
+  };
+  complete = record { done = λ m served_m fits quiet sink. absurd (ends.none (served.Create m, served_m)) };
+  completes = λ smooth. absurd (ends.none (served.Run, smooth.served));
 }
   where
     no_done : status.Usage ≡ status.Done → ⊥
     no_done equal = cc
 
 -- However a call ends, its promises hold.
-pub ends_promise : (call : Call) → (call.journal ≡ []) × (call.turns ≡ 0)
-    → Ends call.words call.old call.new call.sink.bytes call.sink_after.bytes call.sink.faults
-    call.sink_after.faults call.status
-    → CallPromises call
-ends_promise call still (inl (is, none, equal, said)) = refused_words call still is none equal said
-ends_promise call still (inr (made, served_as, ends)) =
-    created call made served_as still call.status refl ends
+pub ends_promise : (call : Call) → Lawful call.old → Ends call → CallPromises call
+ends_promise call lawful ends = elim ends [
+  | AsUsage usage ↦ refused_words call usage
+  | AsCreate create ↦ created call create.made create.served_as create.quiet call.status refl create.ends
+  | AsRun run ↦ run_promises call lawful run.served_as run.ends
+]

@@ -1,4 +1,13 @@
 pub mod Rows
 pub mod WordTexts
 pub mod Spelling
+pub mod Refusing
+pub mod Creating
+pub mod Telling
+pub mod Carrying
+pub mod RunParts
+pub mod RunRefused
+pub mod RunAnswers
+pub mod RunCarried
+pub mod RunEnding
 pub mod Ending

@@ -5,7 +5,7 @@ use Rattle.std.specs.Prelude.{◌^◌, slice_get, codes, decimal, ◌++◌}
 use Rattle.raidzx_top.specs.Words.{with_value}
 use Rattle.raidzx_top.specs.declared.words.NewPool.{NewPool}
 use Rattle.raidzx_top.specs.declared.words.ServedCommand.TheVariants as served
-use Rattle.raidzx_top.specs.Spelled.{SpellsCreate, IsServedAs, IsServed}
+use Rattle.raidzx_top.specs.Spelled.{SpellsCreate, SpellsRun, IsServedAs, IsServed}
 
 -- A list of eight words, told by their places.
 eight : (words : List (List ℕ)) (b c d e f g h : List ℕ) → length words ≡ 8
@@ -99,7 +99,36 @@ one_create words s t is_s is_t =
     same_number n m n_fits m_fits same =
         decimal_injective n m n_fits m_fits (some_injective (decimal n) (decimal m) same)
 
-pub none_served : (words : List (List ℕ)) → ((s : NewPool) → SpellsCreate words s → ⊥)
+-- A list of two words.
+two : (words : List (List ℕ)) (name : List ℕ) → length words ≡ 2 → slice_get words 1 ≡ Some name
+    → (first : List ℕ) × (words ≡ first ∷ name ∷ [])
+two (w ∷ name' ∷ []) name long is = (w, cc)
+two [] name long is = absurd (omega (arith, long))
+two (w ∷ []) name long is = absurd (omega (arith, long))
+two (w ∷ name' ∷ x ∷ words) name long is = absurd (omega (arith, long))
+
+pub run_is_served : (words : List (List ℕ)) → SpellsRun words → IsServedAs words served.Run
+run_is_served words is =
+    let list = two words (codes "run") is.count is.name in
+    record { first = list.0; rest = _; words_are = list.1; spelled = refl; in_range = tt }
+
+pub run_spells : (words : List (List ℕ)) → IsServedAs words served.Run → SpellsRun words
+run_spells words is =
+    let all : words ≡ is.first ∷ codes "run" ∷ [] =
+    is.words_are ∙ ap (λ (l : List (List ℕ)). is.first ∷ l) is.spelled in
+    record { count = ap length all; name = ap (λ (l : List (List ℕ)). slice_get l 1) all }
+
+-- Words that ask for a run make no pool.
+pub create_no_run : (words : List (List ℕ)) (s : NewPool) → IsServedAs words (served.Create s)
+    → IsServedAs words served.Run → ⊥
+create_no_run words s create run =
+    let eight_words = (create_spells words s create).count in
+    let two_words = (run_spells words run).count in
+    omega (arith, eight_words, two_words)
+
+pub none_served : (words : List (List ℕ)) → (SpellsRun words → ⊥)
+    → ((s : NewPool) → SpellsCreate words s → ⊥)
     → IsServed words
     → ⊥
-none_served words no_create (served.Create s, is) = no_create s (create_spells words s is)
+none_served words no_run no_create (served.Create s, is) = no_create s (create_spells words s is)
+none_served words no_run no_create (served.Run, is) = no_run (run_spells words is)

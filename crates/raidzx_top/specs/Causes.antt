@@ -2,14 +2,14 @@
 use Rattle.std.specs.Prelude.{◌≡◌, ◌≢◌, ◌⊎◌, ℕ, ◌+◌, ◌^◌, ◌<◌, ◌≤◌, List, [], Some, true, ⊤}
 use Rattle.bank_trait.specs.Causes.{Rose}
 use Rattle.bank_trait.specs.Disk.{Image, Disk, Later}
-use Rattle.block_record.specs.declared.entry.IndexEntry.{IndexEntry}
-use Rattle.uberblock_ring.specs.Devices.{has_device, count_below}
-use Rattle.uberblock_ring.specs.Uberblock.{Uber, first_uber}
+use Rattle.uberblock_ring.specs.Devices.{has_device}
+use Rattle.uberblock_ring.specs.Uberblock.{first_uber}
 use Rattle.core_state.specs.declared.answer.Answer.TheVariants as answer
 use Rattle.core_state.specs.declared.item.Entry.{Entry}
 use Rattle.core_state.specs.Legal.{CallAt}
-use Rattle.core_state.specs.Choosing.{IsChosen, IsNotPool, IsOutAtOpening}
+use Rattle.core_state.specs.Choosing.{IsNotPool}
 use Rattle.core_state.specs.Create.{IsCreated, rows_for}
+use Rattle.core_open.specs.Causes.{IsShownChoice, AreTooMany}
 use Rattle.client_script.specs.Script.{IsOverLimit, IsFaultAt}
 use Rattle.raidzx_top.specs.declared.status.Status.{Status}
 use Rattle.raidzx_top.specs.declared.status.Status.TheVariants as status
@@ -54,23 +54,12 @@ pub record HaveRisen (call : Call) (listed : ℕ) : Type 0 where
   pub some : listed ≢ 0
   pub each : (device : ℕ) → has_device listed device ≡ true → HasRisen call device
 
--- More devices than the parity are listed, each out at opening or failed in this call.
-pub record AreTooMany (call : Call) (image : Image) (listed : ℕ) : Type 0 where
-  pub silent : ℕ
-  pub failed : (device : ℕ) → has_device silent device ≡ true → HasRisen call device
-  pub chosen_on : ℕ
-  pub uber : Uber
-  pub entries : List IndexEntry
-  pub chosen : IsChosen (shape_of call.old) silent image chosen_on uber entries
-  pub many : uber.parity < count_below listed 64
-  pub each : (device : ℕ) → has_device listed device ≡ true
-      → IsOutAtOpening (shape_of call.old) silent image uber device ⊎ HasRisen call device
-
 -- Too many devices are out; or a pool couldn't be made; or those that are left show no candidate.
 abbrev pub HaveFailed : Call → Command → ℕ → Type 0
 HaveFailed call command listed =
     (Opens command
-    × ((image : Image) → IsFoundImage call command image → AreTooMany call image listed))
+    × ((image : Image) → IsFoundImage call command image
+    → AreTooMany call.old call.new image listed))
     ⊎ (((size : ℕ × ℕ) × (size_of command ≡ Some size) × (call.journal ≡ [])
     × HaveRisen call listed)
     ⊎ (Opens command × HaveRisen call listed
@@ -81,9 +70,9 @@ HaveFailed call command listed =
 -- used up.
 abbrev pub MeetsLimit : Call → Command → Type 0
 MeetsLimit call command =
-    ((image : Image) × (silent : ℕ) × (device : ℕ) × (uber : Uber) × (entries : List IndexEntry)
-    × IsFoundImage call command image
-    × IsChosen (shape_of call.old) silent image device uber entries × (most_turns < uber.group + 2))
+    (Opens command × (call.journal ≡ [])
+    × ((image : Image) → IsFoundImage call command image
+    → (shown : IsShownChoice call.old call.new image) × (most_turns < shown.uber.group + 2)))
     ⊎ (((index : ℕ) × (entry : Entry) × (reached : ℕ) × CallAt call.journal index entry
     × (entry.answer ≡ answer.Limit reached))
     ⊎ (most_turns ≤ call.turns))
@@ -125,19 +114,6 @@ abbrev pub IsReadWhole : Call → Command → List ℕ → Type 0
 IsReadWhole call command bytes = ReadsScript command × (call.source.bytes ≡ Some bytes)
     × (Rose call.source.faults call.source_after.faults → ⊥)
 
--- Statuses that come exactly where their cause is there, in the order of checks.
-pub record ComesWhere (call : Call) : Type 0 where
-  pub usage : IsNoCommand call → call.status ≡ status.Usage
-  pub limit : (given : ServedCommand) (bytes : List ℕ) → IsServedAs call.words given
-      → IsReadWhole call (command_of given) bytes
-      → IsOverLimit bytes → IsOrNoMemory call status.Limit
-  pub fault : (given : ServedCommand) (bytes : List ℕ) (line : ℕ) → IsServedAs call.words given
-      → IsReadWhole call (command_of given) bytes
-      → IsFaultAt bytes line → IsOrNoMemory call (status.ScriptFault line)
-  pub too_small : (given : ServedCommand) → IsServedAs call.words given
-      → IsTooSmall call (command_of given)
-      → IsOrNoMemory call status.TooSmall
-
 -- A command that opens a pool, once its script is read: it finds no candidate and no device fails.
 pub record FindsNoPool (call : Call) (command : Command) : Type 0 where
   pub given : ServedCommand
@@ -154,3 +130,17 @@ pub record FindsNoPool (call : Call) (command : Command) : Type 0 where
 -- Then it says so.
 abbrev pub SaysNoPool : Call → Type 0
 SaysNoPool call = (command : Command) → FindsNoPool call command → IsOrNoMemory call status.NotPool
+
+-- Statuses that come exactly where their cause is there, in the order of checks.
+pub record ComesWhere (call : Call) : Type 0 where
+  pub usage : IsNoCommand call → call.status ≡ status.Usage
+  pub limit : (given : ServedCommand) (bytes : List ℕ) → IsServedAs call.words given
+      → IsReadWhole call (command_of given) bytes
+      → IsOverLimit bytes → IsOrNoMemory call status.Limit
+  pub fault : (given : ServedCommand) (bytes : List ℕ) (line : ℕ) → IsServedAs call.words given
+      → IsReadWhole call (command_of given) bytes
+      → IsFaultAt bytes line → IsOrNoMemory call (status.ScriptFault line)
+  pub too_small : (given : ServedCommand) → IsServedAs call.words given
+      → IsTooSmall call (command_of given)
+      → IsOrNoMemory call status.TooSmall
+  pub no_pool : SaysNoPool call

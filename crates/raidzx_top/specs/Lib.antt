@@ -9,3 +9,5 @@ pub mod RunJournal
 pub mod RunText
 pub mod Promises
 pub mod Making
+pub mod Running
+pub mod Ending

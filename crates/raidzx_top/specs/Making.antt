@@ -1,4 +1,4 @@
--- How making a pool ends, and with it a call.
+-- How making a pool ends.
 use Rattle.std.specs.Prelude.{◌≡◌, ◌⊎◌, ℕ, ◌<◌, List, Option}
 use Rattle.bank_trait.specs.Causes.{Rose}
 use Rattle.bank_trait.specs.Disk.{Disk}
@@ -7,22 +7,11 @@ use Rattle.core_open.specs.Regions.{IsOnBelow}
 use Rattle.uberblock_ring.specs.Devices.{with_device}
 use Rattle.uberblock_ring.specs.Uberblock.{first_uber}
 use Rattle.core_state.specs.Create.{IsCreated, rows_for}
-use Rattle.core_open.specs.declared.why.OpenWhy.{OpenWhy}
-use Rattle.core_open.specs.declared.why.OpenWhy.TheVariants as why
 use Rattle.raidzx_top.specs.declared.status.Status.{Status}
 use Rattle.raidzx_top.specs.declared.status.Status.TheVariants as status
 use Rattle.client_script.specs.Written.{IsAdded, IsPartAdded}
 use Rattle.raidzx_top.specs.declared.words.NewPool.{NewPool}
-use Rattle.raidzx_top.specs.declared.words.ServedCommand.TheVariants as served
 use Rattle.raidzx_top.specs.RunText.{create_text, status_line}
-use Rattle.raidzx_top.specs.Spelled.{IsServed, IsServedAs}
-
--- the status for why a pool couldn't be made or opened
-abbrev pub why_status : OpenWhy → Status
-why_status why.NotPool = status.NotPool
-why_status (why.TooManyFailed out) = status.TooManyFailed out
-why_status (why.Limit group) = status.Limit
-why_status why.NoMemory = status.NoMemory
 
 -- The bank has too few devices or sectors for the pool.
 abbrev pub IsSmallFor : NewPool → Disk → Type 0
@@ -66,12 +55,3 @@ EndsCreate made old new before now faults faults_now status.TooSmall =
     Makes made old new status.TooSmall
     × IsSaid before now faults faults_now (status_line status.TooSmall)
 EndsCreate made old new before now faults faults_now other = ⊥
-
--- How a call ends.
-abbrev pub Ends : List (List ℕ) → Disk → Disk → Option (List ℕ) → Option (List ℕ) → ℕ → ℕ → Status
-    → Type 0
-Ends words old new before now faults faults_now given =
-    ((given ≡ status.Usage) × (IsServed words → ⊥) × (new ≡ old)
-    × IsSaid before now faults faults_now (status_line status.Usage))
-    ⊎ ((made : NewPool) × IsServedAs words (served.Create made)
-    × EndsCreate made old new before now faults faults_now given)

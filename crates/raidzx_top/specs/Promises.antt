@@ -1,35 +1,38 @@
--- What a run promises: its journal, its text, what each crash image keeps, and what the bank keeps
--- at the end.
-use Rattle.std.specs.Prelude.{◌≡◌, ◌⊎◌, ℕ, ◌<◌, ◌≤◌, List, [], ◌∷◌, Some, true, Contains, ⊤}
+-- What a call promises: what a new pool is, what a run answers and keeps at each moment and in the end, and
+-- what is written.
+use Rattle.std.specs.Prelude.{◌≡◌, ◌≢◌, ◌⊎◌, ℕ, ◌<◌, ◌≤◌, List, [], Some, true, false, Contains, ⊤}
 use Rattle.bank_trait.specs.Causes.{Rose}
-use Rattle.bank_trait.specs.Disk.{Image}
+use Rattle.bank_trait.specs.Disk.{Image, Unchanged}
 use Rattle.bank_trait.specs.Regions.{Tells, TouchesOnly}
 use Rattle.core_open.specs.Regions.{IsOnBelow}
-use Rattle.uberblock_ring.specs.Devices.{has_device, count_below}
+use Rattle.uberblock_ring.specs.Devices.{count_below}
 use Rattle.uberblock_ring.specs.Uberblock.{Uber, first_uber}
 use Rattle.core_state.specs.declared.answer.Answer.{Answer}
 use Rattle.core_state.specs.declared.answer.Answer.TheVariants as answer
 use Rattle.core_state.specs.declared.item.Entry.{Entry}
 use Rattle.core_state.specs.Legal.{CallAt}
+use Rattle.core_state.specs.Journal.{IsComplete}
 use Rattle.core_state.specs.Keeps.{Kept, Setting}
-use Rattle.block_record.specs.declared.entry.IndexEntry.{IndexEntry}
 use Rattle.core_state.specs.Shown.{Shows}
-use Rattle.core_state.specs.Choosing.{IsChosen, IsOutAtOpening}
-use Rattle.core_state.specs.Collision.{BankKeeps, MightStand, HasNoOtherPage}
+use Rattle.core_state.specs.Collision.{BankKeeps, MightStand}
 use Rattle.core_state.specs.Create.{IsCreated, first_kept, rows_for}
-use Rattle.core_state.specs.Moment.{KeepsThroughout}
-use Rattle.client_script.specs.Script.{Script, handed_by}
-use Rattle.serial_run.specs.WholeRun.{KeepsLast}
+use Rattle.core_open.specs.declared.why.OpenWhy.{OpenWhy}
+use Rattle.core_open.specs.Causes.{AreTooMany}
+use Rattle.core_open.specs.Opens.{IsUnhindered}
+use Rattle.core_serial.specs.Opening.{CutsOpening, MayBegin}
+use Rattle.client_script.specs.Script.{Script, IsScript, asked_by}
+use Rattle.client_script.specs.Texts.{journal_text}
+use Rattle.serial_run.specs.WholeRun.{HasRun}
 use Rattle.raidzx_top.specs.declared.status.Status.TheVariants as status
-use Rattle.raidzx_top.specs.Words.{Command, Create}
+use Rattle.raidzx_top.specs.Words.{Create, Run}
 use Rattle.raidzx_top.specs.declared.words.NewPool.{NewPool}
-use Rattle.raidzx_top.specs.declared.words.ServedCommand.{ServedCommand}
 use Rattle.raidzx_top.specs.declared.words.ServedCommand.TheVariants as served
-use Rattle.raidzx_top.specs.Spelled.{IsServedAs, command_of}
-use Rattle.raidzx_top.specs.Call.{Call, HoldsImage, shape_of, IsScriptOf}
-use Rattle.raidzx_top.specs.Causes.{HasRisen, NoneRose, IsTooSmall, IsFoundImage, IsCaused, ComesWhere, most_turns}
-use Rattle.raidzx_top.specs.RunJournal.{JournalIsRight}
-use Rattle.raidzx_top.specs.RunText.{TextIsRight, create_text, body_of_run}
+use Rattle.raidzx_top.specs.Spelled.{IsServedAs}
+use Rattle.raidzx_top.specs.Call.{Call, HoldsImage, shape_of}
+use Rattle.raidzx_top.specs.Causes.{NoneRose, IsTooSmall, MeetsLimit, IsCaused, ComesWhere}
+use Rattle.raidzx_top.specs.Exit.{why_status}
+use Rattle.raidzx_top.specs.RunJournal.{NoneWantsMemory}
+use Rattle.raidzx_top.specs.RunText.{TextIsRight, create_text}
 
 -- a setting in which a new pool stands: its devices, and failures of no more of them than its parity
 pub record IsNewSetting (call : Call) (parity id : ℕ) (setting : Setting) : Type 0 where
@@ -51,9 +54,15 @@ pub record CreatePromises (call : Call) (parity width id : ℕ) : Type 0 where
   pub keeps : (setting : Setting) → IsNewSetting call parity id setting → NoneShowsFrom call width
       → BankKeeps setting (first_kept id parity width call.old.sectors) [] call.new
 
--- A `create` was carried out, whether its line was written whole or not.
+-- A command was carried out, whether its text was written whole or not.
 abbrev pub IsCarriedOut : Call → Type 0
 IsCarriedOut call = (call.status ≡ status.Done) ⊎ (call.status ≡ status.SinkFault)
+
+-- Nothing was read from the source, nothing answered, and no turn made.
+pub record IsQuiet (call : Call) : Type 0 where
+  pub unread : call.source_after ≡ call.source
+  pub journal : call.journal ≡ []
+  pub turns : call.turns ≡ 0
 
 -- what a call of `create` promises
 pub record CreateIsKept (call : Call) : Type 0 where
@@ -62,75 +71,63 @@ pub record CreateIsKept (call : Call) : Type 0 where
       → CreatePromises call made.parity made.width made.id
   pub text : (made : NewPool) → IsServedAs call.words (served.Create made) → IsCarriedOut call
       → TextIsRight call (create_text made.parity made.width made.id (rows_for call.old.sectors))
-  pub refused : (IsCarriedOut call → ⊥) → TextIsRight call []
   -- Devices from the width on are left alone.
   pub others : (made : NewPool) → IsServedAs call.words (served.Create made)
       → TouchesOnly (IsOnBelow made.width) call.old call.new
   pub quiet : (made : NewPool) → IsServedAs call.words (served.Create made)
-      → (call.journal ≡ []) × (call.turns ≡ 0)
+      → IsQuiet call
   pub untouched : (call.status ≡ status.Usage) ⊎ (call.status ≡ status.TooSmall)
       → call.new ≡ call.old
 
--- The devices that failed in this call are those that the setting allows, but for one that takes
--- them above the parity.
-pub record FailuresAreAllowed (call : Call) (setting : Setting) (parity : ℕ) : Type 0 where
-  pub last_straw : ℕ
-  pub each : (device : ℕ) → HasRisen call device → (has_device setting.failed device ≡ true)
-      ⊎ ((device ≡ last_straw)
-      × ((out : ℕ) × (call.status ≡ status.TooManyFailed out) × (parity < count_below out 64)))
+-- what a run that opened its pool promises
+pub record RunPromises (call : Call) : Type 0 where
+  -- The script that was read,
+  pub script : Script
+  pub script_is : (bytes : List ℕ) → call.source.bytes ≡ Some bytes → IsScript bytes script
+  -- and the devices that are out in the end.
+  pub out : ℕ
+  -- The journal is legal for the script, and what it tells is kept, at each moment and in the end.
+  pub run : HasRun script call.old call.new call.journal out
+  -- Each call is answered, unless memory was wanting, and then the status tells so.
+  pub complete : call.status ≢ status.NoMemory → IsComplete (asked_by script) call.journal
+  pub memory : call.status ≢ status.NoMemory → NoneWantsMemory call.journal
+  -- A call that tells of too many failed devices lists devices that are out or have failed.
+  pub too_many : (index listed : ℕ) (entry : Entry) → CallAt call.journal index entry
+      → entry.answer ≡ answer.TooManyFailed listed
+      → (image : Image) → HoldsImage call.old image
+      → AreTooMany call.old call.new image listed
+  pub text : TextIsRight call (journal_text call.journal)
 
--- what a run begins with: the bank keeps these groups, no page that is read is of another index by
--- chance, and failures are those allowed
-pub record IsKnown (call : Call) (setting : Setting) (first : Kept) (later : List Kept) : Type 0
-  where
-    pub shape : setting.shape ≡ shape_of call.old
-    pub odd : setting.odd ≡ []
-    pub keeps : BankKeeps setting first later call.old
-    pub pages : (image : Image) → HoldsImage call.old image
-        → HasNoOtherPage setting.shape (first ∷ later) image
-    pub failures : FailuresAreAllowed call setting first.uber.parity
+-- what a run that opened no pool leaves: what was there, but for counts of faults; or an opening that was
+-- cut short, for want of memory or as too many devices failed
+pub record LeavesNone (call : Call) : Type 0 where
+  pub untouched : (call.status ≡ status.NoMemory → ⊥)
+      → ((out : ℕ) → call.status ≡ status.TooManyFailed out → ⊥)
+      → Unchanged call.old call.new
+  pub cut : (call.new ≡ call.old)
+      ⊎ ((why : OpenWhy) × (call.status ≡ why_status why)
+      × CutsOpening why call.old call.new)
 
--- The group is the one that is chosen among the devices that answered.
-pub record IsChoiceOf (call : Call) (command : Command) (chosen : Kept) (image : Image) : Type 0
-  where
-    pub silent : ℕ
-    pub failed : (device : ℕ) → has_device silent device ≡ true → HasRisen call device
-    pub chosen_on : ℕ
-    pub uber : Uber
-    pub entries : List IndexEntry
-    pub choice : IsChosen (shape_of call.old) silent image chosen_on uber entries
-    pub group : uber.group ≡ chosen.uber.group
+-- what a call of `run` promises
+pub record RunIsKept (call : Call) : Type 0 where
+  pub opened : IsServedAs call.words served.Run → call.journal ≢ [] → RunPromises call
+  pub unopened : IsServedAs call.words served.Run → call.journal ≡ [] → LeavesNone call
 
--- what a run that opened the pool promises
-pub record RunPromises (call : Call) (command : Command) (script : Script) (setting : Setting)
-    (first : Kept) (later : List Kept) : Type 0 where
-  pub chosen : Kept
-  pub known : Contains (first ∷ later) chosen
-  pub choice : (image : Image) → IsFoundImage call command image
-      → IsChoiceOf call command chosen image
-  pub journal : JournalIsRight call command script chosen
-  pub any_moment : KeepsThroughout setting (handed_by script) chosen.map (first ∷ later)
-      call.journal call.old call.new
-  pub kept : KeepsLast setting (handed_by script) chosen.map call.journal call.new
-  pub text : TextIsRight call (body_of_run command (handed_by script) call.journal)
-
--- Nothing was in the way: the words are a command, the script is right, the bank keeps its groups,
--- no device is out.
-pub record IsSmooth (call : Call) (command : Command) (script : Script) (setting : Setting)
-    (first : Kept) (later : List Kept) : Type 0 where
-  pub given : ServedCommand
-  pub served : IsServedAs call.words given
-  pub command_is : command_of given ≡ command
-  pub script_is : (bytes : List ℕ) → call.source.bytes ≡ Some bytes
-      → IsScriptOf command bytes script
-  pub known : IsKnown call setting first later
-  pub healthy : (image : Image) (chosen_on device : ℕ) (uber : Uber) (entries : List IndexEntry)
-      → IsFoundImage call command image
-      → IsChosen (shape_of call.old) 0 image chosen_on uber entries
-      → IsOutAtOpening (shape_of call.old) 0 image uber device → ⊥
-  pub quiet : NoneRose call
-  pub streams : (Rose call.source.faults call.source_after.faults → ⊥)
-      × (Rose call.sink.faults call.sink_after.faults → ⊥)
+-- Nothing was in a run's way: the source told a script, the bank keeps groups of which none is too near
+-- the greatest number, no device is out, and nothing failed.
+pub record IsSmooth (call : Call) : Type 0 where
+  pub served : IsServedAs call.words served.Run
+  pub bytes : List ℕ
+  pub told : call.source.bytes ≡ Some bytes
+  pub script : Script
+  pub script_is : IsScript bytes script
+  pub setting : Setting
+  pub first : Kept
+  pub later : List Kept
+  pub may : MayBegin setting first later call.old
+  pub unhindered : IsUnhindered setting first later call.old call.new
+  pub source : Rose call.source.faults call.source_after.faults → ⊥
+  pub sink : Rose call.sink.faults call.sink_after.faults → ⊥
 
 -- An answer that smooth runs have: what was asked for, or a refusal with a cause of its own.
 abbrev pub IsSmoothAnswer : Answer → Type 0
@@ -150,14 +147,13 @@ CopiesOn call = (index : ℕ) (entry : Entry) (width group : ℕ) → CallAt cal
     × (copied.caller ≡ 8)
     × (copied.answer ≡ answer.Completed wide) × (width ≤ wide)
 
--- Where nothing was in the way the status is Done and each answer is smooth; or memory was wanting,
--- or turns were.
+-- Then the status is Done and each answer is smooth; or memory was wanting, or a group met the greatest
+-- number.
 pub record CompletesAll (call : Call) : Type 0 where
   pub status_is : (call.status ≡ status.Done) ⊎ ((call.status ≡ status.NoMemory)
-      ⊎ ((call.status ≡ status.Limit) × (most_turns ≤ call.turns)))
+      ⊎ ((call.status ≡ status.Limit) × MeetsLimit call (Run false false)))
   pub answers : (index : ℕ) (entry : Entry) → CallAt call.journal index entry
       → IsSmoothAnswer entry.answer
-  pub copied : CopiesOn call
 
 -- A `create` that has nothing in its way is carried out.
 pub record CreateCompletes (call : Call) : Type 0 where
@@ -166,13 +162,22 @@ pub record CreateCompletes (call : Call) : Type 0 where
       → NoneRose call → (Rose call.sink.faults call.sink_after.faults → ⊥)
       → call.status ≡ status.Done
 
+-- A run that has nothing in its way completes.
+abbrev pub RunCompletes : Call → Type 0
+RunCompletes call = IsSmooth call → CompletesAll call
+
 -- what every call promises
 pub record CallPromises (call : Call) : Type 0 where
   -- each status has its cause,
   pub cause : IsCaused call
   -- and refusals come wherever their cause is there
   pub comes : ComesWhere call
+  -- a call that does nothing says so
+  pub refused : call.journal ≡ [] → (IsCarriedOut call → ⊥) → TextIsRight call []
   -- a new pool is kept, and what was written is the text
   pub create : CreateIsKept call
+  -- what a run answers is right and kept, and what was written is the text
+  pub run : RunIsKept call
   -- what has nothing in its way is carried out
   pub complete : CreateCompletes call
+  pub completes : RunCompletes call

@@ -7,6 +7,7 @@
 mod images;
 mod making;
 mod report;
+mod running;
 mod status;
 mod top;
 mod words;

@@ -1,27 +1,14 @@
 // Carrying out `create`.
-ghost use Rattle.std.specs.Prelude.{◌≡◌};
 ghost use Rattle.raidzx_top.specs.Words.{IsSize};
-ghost use Rattle.raidzx_top.specs.Making.{Makes, why_status};
+ghost use Rattle.raidzx_top.specs.Making.{Makes};
 
 use crate::status::Status;
 use crate::words::NewPool;
 use bank_trait::Bank;
-use core_open::{OpenWhy, create};
+use core_open::create;
 
 /// The fewest sectors that a device of a pool has.
 const FEWEST_SECTORS: u64 = 256;
-
-/// The status for why a pool couldn't be made or opened.
-fn status_of(why: &OpenWhy) -> Status
-    ensures { result ≡ why_status why.now }
-{
-    match why {
-        OpenWhy::NotPool => Status::NotPool,
-        OpenWhy::TooManyFailed { out } => Status::TooManyFailed { out: *out },
-        OpenWhy::Limit { group: _ } => Status::Limit,
-        OpenWhy::NoMemory => Status::NoMemory,
-    }
-}
 
 /// Makes the pool where the bank is large enough for it.
 pub fn make_pool<B: Bank>(bank: &mut B, made: &NewPool) -> Status
@@ -33,6 +20,6 @@ pub fn make_pool<B: Bank>(bank: &mut B, made: &NewPool) -> Status
     }
     match create(bank, made.parity, made.width, made.id) {
         Ok(()) => Status::Done,
-        Err(why) => status_of(&why),
+        Err(why) => Status::from(why),
     }
 }

@@ -1,5 +1,11 @@
 // How the top call ends.
+ghost use Rattle.std.specs.Prelude.{◌≡◌};
+ghost use Rattle.raidzx_top.specs.declared.status.Status.TheVariants.{NoMemory};
+ghost use Rattle.raidzx_top.specs.Exit.{read_status, why_status};
 
+use client_script::ReadRefused;
+use core_open::OpenWhy;
+use std::alloc::AllocError;
 use uberblock_ring::DeviceSet;
 
 /// The numbers of the exit statuses are 0 to 9 in this order.
@@ -36,6 +42,42 @@ impl Status {
             Status::SinkFault => 7,
             Status::NoMemory => 8,
             Status::Limit => 9,
+        }
+    }
+}
+
+impl From<AllocError> for Status {
+    ghost from_gives = { λ _ status. status ≡ NoMemory };
+
+    fn from(_: AllocError) -> Status {
+        Status::NoMemory
+    }
+}
+
+/// The status for why there is no script.
+impl From<ReadRefused> for Status {
+    ghost from_gives = { λ why status. status ≡ read_status why };
+
+    fn from(why: ReadRefused) -> Status {
+        match why {
+            ReadRefused::SourceFault => Status::SourceFault,
+            ReadRefused::ScriptFault { line } => Status::ScriptFault { line },
+            ReadRefused::Limit { reached: _ } => Status::Limit,
+            ReadRefused::NoMemory => Status::NoMemory,
+        }
+    }
+}
+
+/// The status for why a pool couldn't be made or opened.
+impl From<OpenWhy> for Status {
+    ghost from_gives = { λ why status. status ≡ why_status why };
+
+    fn from(why: OpenWhy) -> Status {
+        match why {
+            OpenWhy::NotPool => Status::NotPool,
+            OpenWhy::TooManyFailed { out } => Status::TooManyFailed { out },
+            OpenWhy::Limit { group: _ } => Status::Limit,
+            OpenWhy::NoMemory => Status::NoMemory,
         }
     }
 }

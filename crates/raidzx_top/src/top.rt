@@ -1,13 +1,14 @@
 // The top call: it carries out the command that the words spell.
-ghost use Rattle.std.specs.Prelude.{◌≡◌, map, string_bytes};
+ghost use Rattle.std.specs.Prelude.{◌≡◌, [], map, string_bytes};
 ghost use Rattle.raidzx_top.specs.Call.{call_of, stream_of};
-ghost use Rattle.raidzx_top.specs.Making.{IsSaid, EndsCreate, Ends};
+ghost use Rattle.raidzx_top.specs.Making.{EndsCreate};
+ghost use Rattle.raidzx_top.specs.Ending.{Ends};
 ghost use Rattle.raidzx_top.specs.Promises.{CallPromises};
-ghost use Rattle.raidzx_top.specs.RunText.{status_line};
 ghost use Rattle.raidzx_top.specs.Words.{IsSize};
 
 use crate::making::make_pool;
-use crate::report::{write_created, write_status};
+use crate::report::{refuse, write_created};
+use crate::running::run;
 use crate::status::Status;
 use crate::words::{NewPool, ServedCommand, read_command};
 use bank_trait::{Bank, Sink, Source};
@@ -23,16 +24,6 @@ pub struct Outcome<B> {
     pub bank: B,
     pub journal: Journal,
     pub turns: u64,
-}
-
-/// Writes the line of a refusal.
-fn refuse<K: Sink>(out: &mut K, status: Status) -> Status
-    ensures same { result ≡ status }
-    ensures said { IsSaid (K.held out.old) (K.held out.new) (K.faults out.old) (K.faults out.new)
-        (status_line status) }
-{
-    let _ = write_status(out, &status);
-    status
 }
 
 fn create_pool<B: Bank, K: Sink>(bank: &mut B, made: &NewPool, out: &mut K) -> Status
@@ -51,13 +42,27 @@ fn create_pool<B: Bank, K: Sink>(bank: &mut B, made: &NewPool, out: &mut K) -> S
     }
 }
 
-fn carry_out<B: Bank, K: Sink>(words: &[String], bank: &mut B, out: &mut K) -> Status
-    ensures { Ends (map string_bytes words.now) (B.disk bank.old) (B.disk bank.new)
-        (K.held out.old) (K.held out.new) (K.faults out.old) (K.faults out.new) result }
+fn carry_out<B: Bank, S: Source, K: Sink>(
+    alloc: Global,
+    words: &[String],
+    bank: &mut B,
+    script: &mut S,
+    out: &mut K,
+    journal: &mut Journal,
+) -> Status
+    requires empty { journal.old.items ≡ [] }
+    ensures { Ends (call_of (map string_bytes words.now)
+        (B.disk bank.old) (B.disk bank.new)
+        (stream_of (S.left script.old) (S.faults script.old))
+        (stream_of (S.left script.new) (S.faults script.new))
+        (stream_of (K.held out.old) (K.faults out.old))
+        (stream_of (K.held out.new) (K.faults out.new))
+        result journal.new.items 0) }
 {
     match read_command(words) {
         None => refuse(out, Status::Usage),
         Some(ServedCommand::Create(made)) => create_pool(bank, &made, out),
+        Some(ServedCommand::Run) => run(alloc, bank, script, out, journal),
     }
 }
 
@@ -77,14 +82,14 @@ pub fn raidzx<B: Bank, S: Source, K: Sink>(
         (stream_of (K.held out.old) (K.faults out.old))
         (stream_of (K.held out.new) (K.faults out.new))
         result.status result.journal.items result.turns) }
-    ensures source { S.left script.new ≡ S.left script.old }
 {
     let mut bank = bank;
-    let status = carry_out(words, &mut bank, out);
+    let mut journal = Journal::new(alloc);
+    let status = carry_out(alloc, words, &mut bank, script, out, &mut journal);
     Outcome {
         status,
         bank,
-        journal: Journal::new(alloc),
+        journal,
         turns: 0,
     }
 }

@@ -1,7 +1,7 @@
 // The command words.
 ghost use Rattle.std.specs.Prelude.{◌≡◌, ◌+◌, ◌^◌, ◌<◌, ◌≤◌, ◌↔◌, ℕ, length, slice_get, Some, IsTrue, IfSome, IfNone, decimal, map, string_bytes};
 ghost use Rattle.raidzx_top.specs.Words.{IsSize};
-ghost use Rattle.raidzx_top.specs.Spelled.{SpellsCreate, IsServedAs, IsServed};
+ghost use Rattle.raidzx_top.specs.Spelled.{SpellsCreate, SpellsRun, IsServedAs, IsServed};
 ghost use Rattle.raidzx_top.specs.declared.words.NewPool.{NewPool as NewPoolOf};
 
 use itoa::Buffer;
@@ -18,6 +18,7 @@ pub struct NewPool {
 #[derive(Clone, Copy, Debug, PartialEq, Eq)]
 pub enum ServedCommand {
     Create(NewPool),
+    Run,
 }
 
 /// The number that a word spells: decimal, without sign or leading zeros.
@@ -101,11 +102,24 @@ fn create(words: &[String]) -> Option<NewPool>
     new_pool(parity, width, id)
 }
 
+/// Whether the words ask for a run.
+fn is_run(words: &[String]) -> bool
+    ensures { IsTrue result ↔ SpellsRun (map string_bytes words.now) }
+{
+    let [_, name] = words else {
+        return false;
+    };
+    is_word(name, "run")
+}
+
 /// The command that the words spell, if it is one that is carried out. The first word is not looked at.
 pub fn read_command(words: &[String]) -> Option<ServedCommand>
     ensures some { IfSome result (IsServedAs (map string_bytes words.now)) }
     ensures none { IfNone result (IsServed (map string_bytes words.now) → ⊥) }
 {
+    if is_run(words) {
+        return Some(ServedCommand::Run);
+    }
     match create(words) {
         Some(numbers) => Some(ServedCommand::Create(numbers)),
         None => None,

@@ -186,6 +186,8 @@ module _ (script : Script) (old mid : Disk) (pool : Pool) (silent : ℕ) (items 
 
   pub has_run : HasRun script old final.disk items final.pool.out
   has_run = record {
+    opened = item;
+    there = come.listed 0 (Group item) refl;
     silent = silent;
     failed = λ device has. let was = failed device has in (was.0, rose_on device was.1);
     each = out_for;

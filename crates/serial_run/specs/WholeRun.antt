@@ -60,10 +60,12 @@ pub record RunKeeps (script : Script) (setting : Setting) (first : Kept) (later 
       → entry.answer ≡ answer.TooManyFailed listed
       → first.uber.parity < count_of out
 
--- A script was carried out on the pool that the devices showed. Each device that is out at the end was out
+-- A script was carried out on the pool that the devices showed: the journal begins with its group. Each device that is out at the end was out
 -- at the opening, or failed in the run. All that a run keeps it keeps where the devices that were silent
 -- when the pool was looked for may fail, and those of the devices out that have to be borne.
 pub record HasRun (script : Script) (old new : Disk) (items : List Item) (out : ℕ) : Type 0 where
+  pub opened : GroupItem
+  pub there : GroupAt items 0 opened
   pub silent : ℕ
   pub failed : HaveFailed old new silent
   pub each : (image : Image) → HoldsImage old image

@@ -1,6 +1,5 @@
-use Rattle.std.proofs.Common.{refl}
 use Rattle.raidzx_top.proofs.Ending.{ends_promise}
 use Rattle.raidzx_top.proofs.top.raidzx.Goals as goal
 
-pub returns-clause-promises : goal.returns-clause-promises
-returns-clause-promises g c = ends_promise _ (c.new.ensures, refl) c.carry_out-status.ensures
+pub returns : goal.returns
+returns g c = record { promises = ends_promise _ (g.met.B.Bank.lawful c.args.bank) c.carry_out-status.ensures }

@@ -1,0 +1,343 @@
+-- What a call of `create` promises follows from how it ends.
+use Rattle.std.proofs.Common.{◌^◌, ◌≡◌, ◌≢◌, ◌⊎◌, inl, inr, ⊎_elim, ℕ, ◌<◌, ◌≤◌, List, [], ◌++◌, Some, refl, sym, ◌∙◌, ap, subst}
+use Rattle.std.specs.Prelude.{take, true, false}
+use Rattle.std.proofs.lemmas.Bool.{cases_lt, cases_eq}
+use Rattle.std.proofs.lemmas.List.{append-nil}
+use Rattle.bank_trait.specs.Causes.{Rose}
+use Rattle.bank_trait.specs.Disk.{Image, Disk}
+use Rattle.bank_trait.specs.Regions.{TouchesOnly}
+use Rattle.bank_trait.proofs.Touches.{touches_none}
+use Rattle.core_open.specs.Regions.{IsOnBelow}
+use Rattle.uberblock_ring.specs.Devices.{has_device, with_device}
+use Rattle.uberblock_ring.proofs.DeviceSets.{has_with, others_with}
+use Rattle.core_state.proofs.Fresh.{IsSized, none_in}
+use Rattle.core_state.proofs.Created.{created_keeps}
+use Rattle.core_state.specs.Create.{IsCreated, first_kept, rows_for}
+use Rattle.core_state.specs.Collision.{BankKeeps, MightStand}
+use Rattle.core_state.specs.Keeps.{Setting}
+use Rattle.core_state.specs.Shown.{Shape, Shows}
+use Rattle.uberblock_ring.specs.Uberblock.{first_uber}
+use Rattle.client_script.specs.Written.{IsAdded, IsPartAdded}
+use Rattle.raidzx_top.specs.declared.status.Status.{Status}
+use Rattle.raidzx_top.specs.declared.status.Status.TheVariants as status
+use Rattle.raidzx_top.specs.declared.words.NewPool.{NewPool}
+use Rattle.raidzx_top.specs.declared.words.ServedCommand.{ServedCommand}
+use Rattle.raidzx_top.specs.declared.words.ServedCommand.TheVariants as served
+use Rattle.raidzx_top.specs.Words.{Command, Create}
+use Rattle.raidzx_top.specs.Spelled.{SpellsCreate, IsServedAs, command_of}
+use Rattle.raidzx_top.specs.Call.{ReadsScript, Call}
+use Rattle.raidzx_top.specs.Causes.{NoneRose, IsCaused, IsCause, HaveRisen, IsTooSmall, IsFoundImage, ComesWhere, IsOrNoMemory}
+use Rattle.raidzx_top.specs.RunText.{IsLineFor, TextIsRight, create_text, status_line}
+use Rattle.raidzx_top.specs.Promises.{CreatePromises, IsNewSetting, IsQuiet, RunIsKept, RunCompletes, CallPromises, IsCarriedOut}
+use Rattle.raidzx_top.specs.Making.{IsSmallFor, HasFailedOn, Makes, IsSaid, EndsCreate}
+use Rattle.raidzx_top.proofs.Spelling.{one_create, create_no_run, create_spells}
+use Rattle.raidzx_top.proofs.Refusing.{said_right}
+
+-- A set of one device has no other.
+only_one : (device other : ℕ) → has_device (with_device 0 device) other ≡ true → other ≡ device
+only_one device other has = ⊎_elim (λ same. same)
+    (λ apart. absurd (clash (sym has ∙ others_with 0 device other apart ∙ none_in other)))
+    (cases_eq other device)
+  where
+    clash : true ≡ false → ⊥
+    clash same = cc
+
+some_has : (device : ℕ) → with_device 0 device ≡ 0 → ⊥
+some_has device none = clash (sym (has_with 0 device) ∙ ap (λ (n : ℕ). has_device n device) none ∙ none_in device)
+  where
+    clash : true ≡ false → ⊥
+    clash same = cc
+
+-- The device that stopped a `create` is listed, and has failed.
+risen : (call : Call) (out : ℕ) → HasFailedOn out call.old call.new → HaveRisen call out
+risen call out is = record {
+  some = λ none. some_has is.device (sym is.named ∙ none);
+  each = λ device has.
+      let it : device ≡ is.device = only_one is.device device
+      (subst (λ (n : ℕ). has_device n device ≡ true) is.named has) in
+      subst (λ (d : ℕ). Rose (call.old.faults d) (call.new.faults d)) (sym it) is.rose;
+}
+
+-- The texts of a created pool have no status line.
+created_right : (call : Call) (text : List ℕ) → call.status ≡ status.Done
+    → IsAdded call.sink.bytes call.sink_after.bytes text
+    → TextIsRight call text
+created_right call text done added = record {
+  written = λ held told. (
+    status.Done,
+    subst (λ (s : Status). IsLineFor s status.Done) (sym done) refl,
+    inl (added.whole held told ∙ ap (λ (t : List ℕ). Some (held ++ t)) (sym (append-nil text))),
+  );
+}
+
+part_right : (call : Call) (text : List ℕ) → call.status ≡ status.SinkFault
+    → Rose call.sink.faults call.sink_after.faults
+    → IsPartAdded call.sink.bytes call.sink_after.bytes text
+    → TextIsRight call text
+part_right call text fault rose part = record {
+  written = λ held told. (
+    status.Done,
+    subst (λ (s : Status). IsLineFor s status.Done) (sym fault) (inl refl),
+    inr (
+      rose,
+      (λ done. no_sink_fault (sym fault ∙ done)),
+      ap_part held (part.front held told),
+    ),
+  );
+}
+  where
+    no_sink_fault : status.SinkFault ≡ status.Done → ⊥
+    no_sink_fault same = cc
+
+    ap_part : (held : List ℕ)
+        → (len : ℕ) × (call.sink_after.bytes ≡ Some (held ++ take len text))
+        → (len : ℕ) × (call.sink_after.bytes ≡ Some (held ++ take len (text ++ [])))
+    ap_part held (len, is) =
+        (len, is ∙ ap (λ (t : List ℕ). Some (held ++ take len t)) (sym (append-nil text)))
+
+-- How a call that made a pool, or tried to, is kept by its promises.
+module _ (call : Call) (made : NewPool) (served_as : IsServedAs call.words (served.Create made))
+    (quiet_call : IsQuiet call) where
+  -- what the words ask for is this pool
+  same : (given : NewPool) → IsServedAs call.words (served.Create given) → made ≡ given
+  same given is = one_create call.words made given served_as is
+
+  -- devices from this pool's width on are those from the width asked for on
+  below_width : (given : NewPool) → IsServedAs call.words (served.Create given)
+      → TouchesOnly (IsOnBelow made.width) call.old call.new
+      → TouchesOnly (IsOnBelow given.width) call.old call.new
+  below_width given is only =
+      subst (λ (n : NewPool). TouchesOnly (IsOnBelow n.width) call.old call.new) (same given is) only
+
+  no_run : RunIsKept call
+  no_run = record {
+    opened = λ run. absurd (create_no_run call.words made served_as run);
+    unopened = λ run. absurd (create_no_run call.words made served_as run);
+  }
+
+  no_smooth : RunCompletes call
+  no_smooth smooth = absurd (create_no_run call.words made served_as smooth.served)
+
+  too_small : IsSmallFor made call.old
+      → IsTooSmall call (Create made.parity made.width made.id)
+  too_small small = ((made.parity, made.width), refl, small)
+
+  is_small : IsTooSmall call (Create made.parity made.width made.id) → IsSmallFor made call.old
+  is_small small = subst (λ (s : ℕ × ℕ). (call.old.devices < s.1) ⊎ (call.old.sectors < 256))
+      (sym (some_same small.1)) small.2
+    where
+      some_same : {one two : ℕ × ℕ} → Some one ≡ Some two → one ≡ two
+      some_same is = cc
+
+  -- no status but its own, so no cause but its own
+  caused : (given : Status) → call.status ≡ given → given ≢ status.Usage
+      → IsCause call (Create made.parity made.width made.id) given
+      → IsCaused call
+  caused given is other cause = record {
+    usage = λ usage. absurd (other (sym is ∙ usage));
+    others = each;
+  }
+    where
+      each : (command : ServedCommand) → IsServedAs call.words command
+          → IsCause call (command_of command) call.status
+      each served.Run served_run = absurd (create_no_run call.words made served_as served_run)
+      each (served.Create m) served_m =
+          subst (λ (n : NewPool). IsCause call (Create n.parity n.width n.id) call.status)
+          (same m served_m)
+          (subst (λ (s : Status). IsCause call (Create made.parity made.width made.id) s) (sym is)
+          cause)
+
+  comes : (IsSmallFor made call.old → IsOrNoMemory call status.TooSmall) → ComesWhere call
+  comes small = record {
+    usage = λ none. absurd (none (served.Create made, served_as));
+    limit = λ command bytes is read over. no_script command is read.0;
+    fault = λ command bytes line is read at. no_script command is read.0;
+    too_small = where_small;
+    no_pool = λ command finds. absurd (finds_none finds.image command finds.given finds.served finds.command_is finds.found);
+  }
+    where
+      no_script : {A : Type 0} → (command : ServedCommand) → IsServedAs call.words command
+          → ReadsScript (command_of command) → A
+      no_script (served.Create m) is reads = absurd reads
+      no_script served.Run is reads = absurd (create_no_run call.words made served_as is)
+
+      finds_none : (image : Image) (command : Command) (given : ServedCommand) → IsServedAs call.words given
+          → command_of given ≡ command → IsFoundImage call command image → ⊥
+      finds_none image command (served.Create m) is it found =
+          (subst (λ (c : Command). IsFoundImage call c image) (sym it) found).is
+      finds_none image command served.Run is it found = create_no_run call.words made served_as is
+
+      where_small : (command : ServedCommand) → IsServedAs call.words command
+          → IsTooSmall call (command_of command)
+          → IsOrNoMemory call status.TooSmall
+      where_small served.Run is less = absurd (create_no_run call.words made served_as is)
+      where_small (served.Create m) is less = small (is_small
+          (subst (λ (n : NewPool). IsTooSmall call (Create n.parity n.width n.id))
+          (sym (same m is)) less))
+
+  -- A pool that fits and was made is kept.
+  kept : (IsSmallFor made call.old → ⊥)
+      → IsCreated (first_uber made.id made.parity made.width (rows_for call.old.sectors)) call.new
+      → CreatePromises call made.parity made.width made.id
+  kept fits created = record {
+    made = created;
+    keeps = λ setting new others.
+        subst (λ (n : ℕ). BankKeeps setting (first_kept n made.parity made.width call.old.sectors) [] call.new)
+        new.pool
+        (subst (λ (s : Shape). BankKeeps setting (first_kept setting.pool made.parity made.width s.sectors) [] call.new)
+        new.shape
+        (created_keeps setting made.parity made.width call.new (sized setting new) new.few
+        (subst (λ (s : Shape). IsCreated (first_uber setting.pool made.parity made.width (rows_for s.sectors)) call.new) (sym new.shape)
+        (subst (λ (n : ℕ). IsCreated (first_uber n made.parity made.width (rows_for call.old.sectors)) call.new) (sym new.pool)
+        created))
+        (λ image device uber above might shows. others image device uber above
+        (subst (λ (s : Shape). MightStand s call.new call.new.clock image) new.shape might)
+        (subst (λ (s : Shape). Shows s image device uber) new.shape shows))));
+  }
+    where
+      spelled : SpellsCreate call.words made
+      spelled = create_spells call.words made served_as
+
+      devices : made.width ≤ call.old.devices
+      devices = ⊎_elim (λ less. absurd (fits (inl less))) (λ enough. enough)
+          (cases_lt call.old.devices made.width)
+
+      sectors : 256 ≤ call.old.sectors
+      sectors = ⊎_elim (λ less. absurd (fits (inr less))) (λ enough. enough)
+          (cases_lt call.old.sectors 256)
+
+      sized : (setting : Setting) → IsNewSetting call made.parity made.id setting
+          → IsSized setting.shape setting.pool made.parity made.width
+      sized setting new = record {
+        pool_fits = subst (λ (n : ℕ). n < 2 ^ 64) (sym new.pool) spelled.id;
+        parity_in = (spelled.size.0, spelled.size.1);
+        width_in = (spelled.size.2, spelled.size.3);
+        devices = subst (λ (s : Shape). made.width ≤ s.devices) (sym new.shape) devices;
+        sectors = subst (λ (s : Shape). 256 ≤ s.sectors) (sym new.shape) sectors;
+      }
+
+  -- A pool that was made: its line was written, or a front of it.
+  carried_out : (given : Status) → call.status ≡ given
+      → (given ≡ status.Done) ⊎ ((given ≡ status.SinkFault) × Rose call.sink.faults call.sink_after.faults)
+      → Makes made call.old call.new status.Done
+      → TextIsRight call (create_text made.parity made.width made.id (rows_for call.old.sectors))
+      → CallPromises call
+  carried_out given is done makes text = record {
+    cause = caused given is (λ usage. neither usage done) (cause done);
+    comes = comes (λ small. absurd (makes.0 small));
+    refused = λ none not. absurd (not (⊎_elim (λ d. inl (is ∙ d)) (λ f. inr (is ∙ f.0)) done));
+    run = no_run;
+    completes = no_smooth;
+    create = record {
+      quiet = λ m served_m. quiet_call;
+      keeps = λ m served_m carried tells.
+          subst (λ (n : NewPool). CreatePromises call n.parity n.width n.id) (same m served_m)
+          (kept makes.0 (makes.2 tells));
+      text = λ m served_m carried.
+          subst (λ (n : NewPool). TextIsRight call (create_text n.parity n.width n.id (rows_for call.old.sectors)))
+          (same m served_m) text;
+      others = λ m served_m. below_width m served_m makes.1;
+      untouched = λ refusal. absurd (⊎_elim
+          (λ usage. neither (sym is ∙ usage) done) (λ small. neither_small (sym is ∙ small) done) refusal);
+    };
+    complete = record {
+      done = λ m served_m fits quiet sink. ⊎_elim (λ d. is ∙ d) (λ f. absurd (sink f.1)) done;
+    };
+  }
+    where
+      neither : given ≡ status.Usage
+          → (given ≡ status.Done) ⊎ ((given ≡ status.SinkFault) × Rose call.sink.faults call.sink_after.faults)
+          → ⊥
+      neither usage (inl d) = clash (sym usage ∙ d)
+        where
+          clash : status.Usage ≡ status.Done → ⊥
+          clash equal = cc
+      neither usage (inr f) = clash (sym usage ∙ f.0)
+        where
+          clash : status.Usage ≡ status.SinkFault → ⊥
+          clash equal = cc
+
+      neither_small : given ≡ status.TooSmall
+          → (given ≡ status.Done) ⊎ ((given ≡ status.SinkFault) × Rose call.sink.faults call.sink_after.faults)
+          → ⊥
+      neither_small small (inl d) = clash (sym small ∙ d)
+        where
+          clash : status.TooSmall ≡ status.Done → ⊥
+          clash equal = cc
+      neither_small small (inr f) = clash (sym small ∙ f.0)
+        where
+          clash : status.TooSmall ≡ status.SinkFault → ⊥
+          clash equal = cc
+
+      cause : (given ≡ status.Done) ⊎ ((given ≡ status.SinkFault) × Rose call.sink.faults call.sink_after.faults)
+          → IsCause call (Create made.parity made.width made.id) given
+      cause (inl d) = subst (λ (s : Status). IsCause call (Create made.parity made.width made.id) s) (sym d) tt
+      cause (inr f) = subst (λ (s : Status). IsCause call (Create made.parity made.width made.id) s) (sym f.0) f.1
+
+  -- One that was not made.
+  refused : (given : Status) → call.status ≡ given → given ≢ status.Usage → given ≢ status.Done
+      → given ≢ status.SinkFault
+      → IsCause call (Create made.parity made.width made.id) given
+      → (IsSmallFor made call.old → given ≡ status.TooSmall)
+      → (given ≡ status.TooSmall → call.new ≡ call.old)
+      → (NoneRose call → given ≡ status.TooSmall)
+      → (given ≡ status.TooSmall → IsSmallFor made call.old)
+      → TouchesOnly (IsOnBelow made.width) call.old call.new
+      → IsLineFor given given
+      → IsSaid call.sink.bytes call.sink_after.bytes call.sink.faults call.sink_after.faults
+      (status_line given)
+      → CallPromises call
+  refused given is no_usage no_done no_fault cause small untouched quiet_small is_small_for only line said = record {
+    cause = caused given is no_usage cause;
+    comes = comes (λ less. inl (is ∙ small less));
+    refused = λ none not. said_right call given
+        (subst (λ (s : Status). IsLineFor s given) (sym is) line)
+        (λ done. no_done (sym is ∙ done)) said;
+    run = no_run;
+    completes = no_smooth;
+    create = record {
+      quiet = λ m served_m. quiet_call;
+      keeps = λ m served_m carried tells. absurd (not_carried carried);
+      text = λ m served_m carried. absurd (not_carried carried);
+      others = λ m served_m. below_width m served_m only;
+      untouched = λ refusal. ⊎_elim
+          (λ usage. absurd (no_usage (sym is ∙ usage))) (λ less. untouched (sym is ∙ less)) refusal;
+    };
+    complete = record {
+      done = λ m served_m fits quiet sink. absurd (fits
+          (subst (λ (n : NewPool). IsTooSmall call (Create n.parity n.width n.id)) (same m served_m)
+          (too_small (is_small_for (quiet_small quiet)))));
+    };
+  }
+    where
+      not_carried : IsCarriedOut call → ⊥
+      not_carried carried = ⊎_elim (λ d. no_done (sym is ∙ d)) (λ f. no_fault (sym is ∙ f)) carried
+
+  pub created : (given : Status) → call.status ≡ given
+      → EndsCreate made call.old call.new call.sink.bytes call.sink_after.bytes
+      call.sink.faults call.sink_after.faults given
+      → CallPromises call
+  created status.Done is ends =
+      carried_out status.Done is (inl refl) ends.0 (created_right call _ is ends.1)
+  created status.SinkFault is ends =
+      carried_out status.SinkFault is (inr (refl, ends.1)) ends.0
+      (part_right call _ is ends.1 ends.2)
+  created (status.TooManyFailed out) is ends =
+      refused (status.TooManyFailed out) is (λ equal. cc) (λ equal. cc) (λ equal. cc)
+      (inr (inl ((made.parity, made.width), refl, quiet_call.journal, risen call out ends.0.2)))
+      (λ less. absurd (ends.0.0 less)) (λ equal. absurd (no_small equal))
+      (λ quiet. absurd (quiet ends.0.2.device ends.0.2.rose)) (λ equal. absurd (no_small equal)) ends.0.1 refl ends.1
+    where
+      no_small : status.TooManyFailed out ≡ status.TooSmall → ⊥
+      no_small equal = cc
+  created status.TooSmall is ends =
+      refused status.TooSmall is (λ equal. cc) (λ equal. cc) (λ equal. cc)
+      (too_small ends.0.0) (λ less. refl) (λ same. ends.0.1) (λ quiet. refl) (λ same. ends.0.0)
+      (subst (λ (disk : Disk). TouchesOnly (IsOnBelow made.width) call.old disk) (sym ends.0.1)
+      (touches_none (IsOnBelow made.width) call.old)) refl ends.1
+  created status.Usage is ends = absurd ends
+  created (status.ScriptFault line) is ends = absurd ends
+  created status.NotPool is ends = absurd ends
+  created status.SourceFault is ends = absurd ends
+  created status.NoMemory is ends = absurd ends
+  created status.Limit is ends = absurd ends

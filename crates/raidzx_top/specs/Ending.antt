@@ -1,0 +1,40 @@
+-- How a call ends.
+use Rattle.std.specs.Prelude.{◌≡◌}
+use Rattle.raidzx_top.specs.declared.status.Status.TheVariants as status
+use Rattle.raidzx_top.specs.declared.words.NewPool.{NewPool}
+use Rattle.raidzx_top.specs.declared.words.ServedCommand.TheVariants as served
+use Rattle.raidzx_top.specs.Call.{Call}
+use Rattle.raidzx_top.specs.Making.{EndsCreate, IsSaid}
+use Rattle.raidzx_top.specs.Promises.{IsQuiet}
+use Rattle.raidzx_top.specs.Running.{EndsRun}
+use Rattle.raidzx_top.specs.RunText.{status_line}
+use Rattle.raidzx_top.specs.Spelled.{IsServed, IsServedAs}
+
+-- The words were no command.
+pub record EndsUsage (call : Call) : Type 0 where
+  pub quiet : IsQuiet call
+  pub none : IsServed call.words → ⊥
+  pub status_is : call.status ≡ status.Usage
+  pub same : call.new ≡ call.old
+  pub said : IsSaid call.sink.bytes call.sink_after.bytes call.sink.faults
+      call.sink_after.faults (status_line status.Usage)
+
+-- They asked for a new pool.
+pub record EndsAsCreate (call : Call) : Type 0 where
+  pub quiet : IsQuiet call
+  pub made : NewPool
+  pub served_as : IsServedAs call.words (served.Create made)
+  pub ends : EndsCreate made call.old call.new call.sink.bytes call.sink_after.bytes
+      call.sink.faults call.sink_after.faults call.status
+
+-- They asked for a run.
+pub record EndsAsRun (call : Call) : Type 0 where
+  pub served_as : IsServedAs call.words served.Run
+  pub ends : EndsRun call.source call.source_after call.sink call.sink_after call.old call.new
+      call.journal call.status
+
+-- how a call ends
+pub data Ends (call : Call) : Type 0 where
+  AsUsage : EndsUsage call → Ends call
+  AsCreate : EndsAsCreate call → Ends call
+  AsRun : EndsAsRun call → Ends call
