@@ -48,7 +48,7 @@ pub record IsOpen (old new : Disk) (opened : Opened) : Type 0 where
   pub bank : HasBank opened.uber opened.out new
   pub group : 3 ≤ opened.uber.group
   pub silent : HaveFailed old new opened.silent
-  pub out : AreOutOf old new opened.uber.out opened.out
+  pub out : AreOutOf old new opened.uber opened.out
   pub spares : Spares (point_of opened.out old) (point_of opened.out new)
   pub kept : IsOpenedWith opened.uber opened.entries.items opened.silent opened.out old new
   pub since : OpeningKeeps opened.silent opened.uber.out old new
@@ -126,6 +126,7 @@ module _ (found : Found) (old mid new : Disk) (lawful : Lawful old) (same_found 
               (subst (λ (n : ℕ). has_device n device ≡ true) out_is listed);
           each = λ image holds. (
             choice found old mid new lawful same_found found_in right silent_failed fits later image holds,
+            sym parity,
             (λ device has. out_caused found old mid new lawful same_found found_in right silent_failed fits later
                 opened.out (Ok opened.uber) writes went image holds device has),
           );

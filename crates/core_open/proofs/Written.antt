@@ -249,12 +249,23 @@ module _ (found : Found) (old mid new : Disk) (lawful : Lawful old) (same_found 
           ran.renewed_is ran.spread);
     }
 
+    -- The chosen group has the parity of the groups that were kept.
+    parity_kept : (setting : Setting) (first : Kept) (later : List Kept) → MayOpen setting first later old
+        → IsWithinBelow first.uber.reflow.to found.silent setting.failed
+        → found.uber.parity ≡ first.uber.parity
+    parity_kept setting first later may within = parity_is setting first later old may lawful before same_asked
+        found.silent found.device found.uber found.entries.items
+        (found_in (present old) (present_held old may.tells)).chosen writes.lack_page found.lacks_uber
+        (are_read may.tells) right within
+
     -- and one that ended.
     pub kept_renewed : (renewed : Uber) (value : Unit {0})
         → HasRenewed found.uber found.entries.items writes.lack_page found.lacks_uber before renewed
         (point_of out new) (Ok value)
         → IsOpenedWith renewed found.entries.items found.silent out old new
     kept_renewed renewed value ran = record {
+      parity = λ setting first later may within.
+          ap (λ (u : Uber). u.parity) ran.renewed_is ∙ parity_kept setting first later may within;
       kept = λ setting first later may within all.
           subst (λ (u : Uber). HasOpened setting first later u found.entries.items old new) (sym ran.renewed_is)
           (opened_next setting first later old may lawful before same_asked
@@ -278,8 +289,5 @@ module _ (found : Found) (old mid new : Disk) (lawful : Lawful old) (same_found 
         let wide = right.widths.1 in
         let all = count_within ran.mid.out found.uber.reflow.to ran.few.0 (omega (arith, wide)) in
         let few = ran.few.1 in
-        let parity = parity_is setting first later old may lawful before same_asked
-        found.silent found.device found.uber found.entries.items
-        (found_in (present old) (present_held old may.tells)).chosen writes.lack_page found.lacks_uber
-        (are_read may.tells) right within in
+        let parity = parity_kept setting first later may within in
         omega (arith, few, all, parity)

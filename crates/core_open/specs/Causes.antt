@@ -37,11 +37,13 @@ pub record AreTooMany (old new : Disk) (image : Image) (listed : ℕ) : Type 0 w
   pub many : choice.uber.parity < count_of listed
   pub each : AreOutFor choice listed
 
--- The devices that are out of a pool that was opened: each has its reason, and the group lists no other.
-pub record AreOutOf (old new : Disk) (listed out : ℕ) : Type 0 where
-  pub lists : IsWithin listed out
+-- The devices that are out of a pool that was opened with this uberblock: each has its reason, by a choice
+-- of a group of the same parity, and the uberblock lists no other.
+pub record AreOutOf (old new : Disk) (uber : Uber) (out : ℕ) : Type 0 where
+  pub lists : IsWithin uber.out out
   pub each : (image : Image) → HoldsImage old image
-      → (choice : IsShownChoice old new image) × AreOutFor choice out
+      → (choice : IsShownChoice old new image) × (choice.uber.parity ≡ uber.parity)
+      × AreOutFor choice out
 
 -- Nothing was found; or the chosen group is too near the greatest; or too many devices are out. What
 -- speaks of contents is said of each image that the bank holds.

@@ -102,9 +102,14 @@ pub record HasOpened (setting : Setting) (first : Kept) (later : List Kept) (ube
   pub choice : (image : Image) → HoldsImage old image
       → (shown : IsShownChoice old new image) × (shown.uber.group ≡ chosen.uber.group)
 
--- A pool is opened with this uberblock and index, wherever all devices that were silent or are out may fail.
+-- A pool is opened with this uberblock and index, wherever all devices that were silent or are out may
+-- fail. Where the silent ones may, it has the parity of the groups that were kept.
 pub record IsOpenedWith (uber : Uber) (entries : List IndexEntry) (silent out : ℕ) (old new : Disk) : Type 0
   where
+    pub parity : (setting : Setting) (first : Kept) (later : List Kept)
+        → MayOpen setting first later old
+        → IsWithinBelow first.uber.reflow.to silent setting.failed
+        → uber.parity ≡ first.uber.parity
     pub kept : (setting : Setting) (first : Kept) (later : List Kept)
         → MayOpen setting first later old
         → IsWithinBelow first.uber.reflow.to silent setting.failed → IsWithin out setting.failed

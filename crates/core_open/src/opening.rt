@@ -107,7 +107,7 @@ pub fn open<B: Bank>(alloc: Global, bank: &mut B) -> Result<Opened, OpenWhy>
     ensures silent { IfOk result (λ opened.
         HaveFailed (B.disk bank.old) (B.disk bank.new) opened.silent) }
     ensures out { IfOk result (λ opened. AreOutOf (B.disk bank.old) (B.disk bank.new)
-        opened.uber.out opened.out) }
+        opened.uber opened.out) }
     ensures spares { IfOk result (λ opened. Spares (point_of opened.out (B.disk bank.old))
         (point_of opened.out (B.disk bank.new))) }
     ensures few { IfOk result (λ opened. count_of opened.out ≤ opened.uber.parity) }

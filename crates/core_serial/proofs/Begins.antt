@@ -9,7 +9,7 @@ use Rattle.block_record.specs.declared.entry.IndexEntry.{IndexEntry}
 use Rattle.block_record.specs.Page.{IsIndex}
 use Rattle.block_table.specs.Table.{entry_of}
 use Rattle.space_alloc.specs.Space.{Run, IsIn}
-use Rattle.uberblock_ring.specs.Devices.{has_device, IsWithin}
+use Rattle.uberblock_ring.specs.Devices.{has_device, count_of, IsWithin}
 use Rattle.uberblock_ring.specs.Uberblock.{Uber}
 use Rattle.uberblock_ring.specs.Valid.{IsRightUber}
 use Rattle.core_state.specs.Map.{Map}
@@ -28,14 +28,14 @@ use Rattle.core_client.proofs.Outs.{was_used}
 use Rattle.core_open.specs.Candidates.{IsIndexFor}
 use Rattle.core_open.specs.Causes.{AreOutOf}
 use Rattle.core_open.specs.declared.why.OpenWhy.{OpenWhy}
-use Rattle.core_open.specs.declared.why.OpenWhy.TheVariants as reason
 use Rattle.core_open.specs.Failing.{HaveFailed}
-use Rattle.core_open.specs.Opens.{HasOpened, OpeningKeeps}
+use Rattle.core_open.specs.Opens.{HasOpened, IsOpenedWith, OpeningKeeps}
 use Rattle.core_open.proofs.BlockSpans.{block_width}
 use Rattle.core_serial.specs.Pool.{IsPool, HasBank, IsTableOf, HoldsMap, State, pool_of, state_of}
 use Rattle.core_serial.specs.Standing.{Stands}
 use Rattle.core_serial.specs.declared.opening.OpenedPool.{OpenedPool}
 use Rattle.core_serial.specs.Opening.{AreLoaded, MayBegin, Begins, CutsOpening}
+use Rattle.core_serial.proofs.Going.{count_grows}
 
 -- Blocks of every birth can be laid out in a pool whose uberblock is right.
 pub layouts_of : (uber : Uber) (parity : ℕ) (births : List Birth) → IsRightUber uber → parity ≡ uber.parity
@@ -192,17 +192,20 @@ module _ (setting : Setting) (first : Kept) (later : List Kept) (uber : Uber) (e
   }
 
 -- Where memory was wanting for the index alone, all is kept as the opening left it.
-pub memory_cuts : (result : Result OpenedPool OpenWhy) (silent listed out : ℕ) (old new : Disk)
-    → IfErr result (λ why. why ≡ reason.NoMemory) → HaveFailed old new silent → AreOutOf old new listed out
-    → OpeningKeeps silent listed old new
-    → IfErr result (λ why. CutsOpening why old new)
-memory_cuts (Ok opened) silent listed out old new cause failed outs keeps = tt
-memory_cuts (Err why) silent listed out old new cause failed outs keeps = record {
+pub memory_cuts : (result : Result OpenedPool OpenWhy) (uber : Uber) (entries : List IndexEntry) (silent out : ℕ) (old new : Disk)
+    → HaveFailed old new silent → AreOutOf old new uber out → count_of out ≤ uber.parity
+    → IsOpenedWith uber entries silent out old new → OpeningKeeps silent uber.out old new
+    → IfErr result (λ why. CutsOpening old new)
+memory_cuts (Ok opened) uber entries silent out old new failed outs few kept keeps = tt
+memory_cuts (Err why) uber entries silent out old new failed outs few kept keeps = record {
   silent = silent;
   failed = failed;
-  earlier = listed;
-  few = λ other. absurd (other cause);
+  earlier = uber.out;
+  few = λ setting first later may within.
+      let more = count_grows uber.out out outs.lists in
+      let parity = kept.parity setting first later may within in
+      omega (arith, few, more, parity);
   each = λ image holds device has. let shown = outs.each image holds in
-      (shown.0, shown.1 device (outs.lists device has));
+      (shown.0, shown.2 device (outs.lists device has));
   keeps = keeps;
 }

@@ -1,5 +1,5 @@
 -- What a pool begins with, and what an opening keeps that was cut short.
-use Rattle.std.specs.Prelude.{◌≡◌, ◌≢◌, ℕ, ◌≤◌, List, [], ◌∷◌, true, Contains, Some, ⊤}
+use Rattle.std.specs.Prelude.{◌≡◌, ℕ, ◌≤◌, List, [], ◌∷◌, true, Contains, Some, ⊤}
 use Rattle.bank_trait.specs.Disk.{Image, Disk, Unchanged}
 use Rattle.reflow_mark.specs.Reflow.{sectors_of}
 use Rattle.block_record.specs.declared.entry.IndexEntry.{IndexEntry}
@@ -48,14 +48,13 @@ pub record IsBegunWith (pool : Pool) (silent : ℕ) (old new : Disk) : Type 0 wh
       → IsWithin pool.out setting.failed → Begins setting first later pool old new
 
 -- An opening that was cut short: devices that were silent failed in it, and where they and those that its
--- group lists as out may fail, each image keeps what was kept and maybe its group. But where memory was
--- wanting these are no more than there are parities. Each was out at opening, or failed.
-pub record CutsOpening (why : OpenWhy) (old new : Disk) : Type 0 where
+-- group lists as out may fail, each image keeps what was kept and maybe its group. The listed ones are no
+-- more than there are parities. Each was out at opening, or failed.
+pub record CutsOpening (old new : Disk) : Type 0 where
   pub silent : ℕ
   pub failed : HaveFailed old new silent
   pub earlier : ℕ
-  pub few : why ≢ reason.NoMemory → (setting : Setting) (first : Kept) (later : List Kept)
-      → MayOpen setting first later old
+  pub few : (setting : Setting) (first : Kept) (later : List Kept) → MayOpen setting first later old
       → IsWithinBelow first.uber.reflow.to silent setting.failed
       → count_of earlier ≤ first.uber.parity
   pub each : (image : Image) → HoldsImage old image → (device : ℕ)

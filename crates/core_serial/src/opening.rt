@@ -54,11 +54,11 @@ pub fn open_pool<B: Bank>(alloc: Global, bank: &mut B) -> Result<OpenedPool, Ope
     ensures silent { IfOk result (λ opened.
         HaveFailed (B.disk bank.old) (B.disk bank.new) opened.silent) }
     ensures out { IfOk result (λ opened. AreOutOf (B.disk bank.old) (B.disk bank.new)
-        opened.pool.uber.out opened.pool.out) }
+        opened.pool.uber opened.pool.out) }
     ensures begins { IfOk result (λ opened. IsBegunWith opened.pool opened.silent
         (B.disk bank.old) (B.disk bank.new)) }
     ensures cause { IfErr result (IsOpenCause (B.disk bank.old) (B.disk bank.new)) }
-    ensures cut { IfErr result (λ why. CutsOpening why (B.disk bank.old) (B.disk bank.new)) }
+    ensures cut { IfErr result (λ why. CutsOpening (B.disk bank.old) (B.disk bank.new)) }
     ensures untouched { IfErr result (λ why.
         LeavesUnopened why (B.disk bank.old) (B.disk bank.new)) }
     ensures opens { IfErr result (IsForMemory (B.disk bank.old) (B.disk bank.new)) }

@@ -60,7 +60,7 @@ no_call item (suc index) entry is = apart is
 module _ (script : Script) (old mid : Disk) (pool : Pool) (silent : ℕ) (items : List Item) (final : State)
     (opened_later : Later old mid)
     (failed : HaveFailed old mid silent)
-    (outs : AreOutOf old mid pool.uber.out pool.out)
+    (outs : AreOutOf old mid pool.uber pool.out)
     (begun : IsBegunWith pool silent old mid)
     (come : HasCome (handed_by script) (state_of pool mid) (alone (first_item pool)) items final)
     (calls : CallsAreRight (asked_by script) items) where
@@ -78,14 +78,14 @@ module _ (script : Script) (old mid : Disk) (pool : Pool) (silent : ℕ) (items 
       → (shown : IsShownChoice old final.disk image) × AreOutFor shown final.pool.out
   out_for image holds = (shown_later old mid final.disk image come.later first.0, each)
     where
-      first : (shown : IsShownChoice old mid image) × AreOutFor shown pool.out
+      first : (shown : IsShownChoice old mid image) × (shown.uber.parity ≡ pool.uber.parity) × AreOutFor shown pool.out
       first = outs.each image holds
 
       each : AreOutFor (shown_later old mid final.disk image come.later first.0) final.pool.out
       each device has = by (has_device pool.out device) refl
         where
           by : (was : Bool) → has_device pool.out device ≡ was → IsOutFor (shown_later old mid final.disk image come.later first.0) device
-          by true was = ⊎_elim (λ at. inl at) (λ rose. inr (rose_on device rose)) (first.1 device was)
+          by true was = ⊎_elim (λ at. inl at) (λ rose. inr (rose_on device rose)) (first.2 device was)
           by false was = inr (let rose = come.out.failed device was has in
               let more = opened_later.faults device in omega (arith, rose, more))
 

@@ -56,7 +56,7 @@ pub fn run_pool<B: Bank>(
         → IsComplete (asked_by script.now) journal.new.items) }
     ensures nothing { IfErr result (λ why. journal.new.items ≡ []) }
     ensures cause { IfErr result (IsOpenCause (B.disk bank.old) (B.disk bank.new)) }
-    ensures cut { IfErr result (λ why. CutsOpening why (B.disk bank.old) (B.disk bank.new)) }
+    ensures cut { IfErr result (λ why. CutsOpening (B.disk bank.old) (B.disk bank.new)) }
     ensures untouched { IfErr result (λ why.
         LeavesUnopened why (B.disk bank.old) (B.disk bank.new)) }
     ensures opens { IfErr result (IsForMemory (B.disk bank.old) (B.disk bank.new)) }

@@ -1,15 +1,11 @@
-use Rattle.std.proofs.Common.{◌≡◌, rules}
-use Rattle.std.specs.Prelude.{IfErr}
-use Rattle.core_open.specs.declared.why.OpenWhy.TheVariants as reason
 use Rattle.core_serial.proofs.Begins.{loaded_of, begun_is_pool, begins, memory_cuts}
 use Rattle.core_serial.proofs.opening.open_pool.Goals as goal
 
 pub returns-in_err-blocks-clause-cut : goal.returns-in_err-blocks-clause-cut
-returns-in_err-blocks-clause-cut g c =
-    let cause : IfErr c.from_residual-in_err-blocks.result (λ why. why ≡ reason.NoMemory) = search rules in
-    memory_cuts c.from_residual-in_err-blocks.result c.in_ok-opened.opened.silent c.in_ok-opened.opened.uber.out
-    c.in_ok-opened.opened.out (g.B.Bank.disk c.args.bank.now) (g.B.Bank.disk c.open.new.bank) cause
-    c.in_ok-opened.ensures.silent c.in_ok-opened.ensures.out c.in_ok-opened.ensures.since
+returns-in_err-blocks-clause-cut g c = memory_cuts c.from_residual-in_err-blocks.result c.in_ok-opened.opened.uber
+    c.in_ok-opened.opened.entries.items c.in_ok-opened.opened.silent c.in_ok-opened.opened.out
+    (g.B.Bank.disk c.args.bank.now) (g.B.Bank.disk c.open.new.bank) c.in_ok-opened.ensures.silent
+    c.in_ok-opened.ensures.out c.in_ok-opened.ensures.few c.in_ok-opened.ensures.kept c.in_ok-opened.ensures.since
 
 pub invariant_of-result : goal.invariant_of-result
 invariant_of-result g c = begun_is_pool c.in_ok-opened.opened.uber c.in_ok-opened.opened.entries.items _
