@@ -64,7 +64,7 @@ put_does call id before after given kind_is id_is goes_on holds answered =
       sound = λ map held damaged. subst (IsPutAnswered before.pool after.pool id (length (fill_bytes call.fill))) damaged answered;
       holds = λ handed map tells same held. subst (λ (m : Map). HoldsMap m after)
           (put_map handed map call id actor number count (length (fill_bytes call.fill)) before.pool after.pool given answered same) (holds map tells held);
-      too_many = λ out is. (subst (IsPutAnswered before.pool after.pool id (length (fill_bytes call.fill))) is answered).1;
+      too_many = λ out is. subst (IsPutAnswered before.pool after.pool id (length (fill_bytes call.fill))) is answered;
       caused = answered;
     })
 
@@ -103,7 +103,7 @@ get_does call id before after given kind_is id_is goes_on holds right answered =
       holds = λ handed map tells same held. subst (λ (m : Map). HoldsMap m after)
           (get_map handed map (entry_made (with_kind call kind.Get (Some id)) actor number count given) id before.pool after.pool given answered)
           (holds map held);
-      too_many = λ out is. (subst (IsReadAnswered before.pool after.pool id kind.Get) is answered).1;
+      too_many = λ out is. subst (IsReadAnswered before.pool after.pool id kind.Get) is answered;
       caused = answered;
     })
 
@@ -121,7 +121,7 @@ sum_does call id before after given kind_is id_is goes_on holds right answered =
       holds = λ handed map tells same held. subst (λ (m : Map). HoldsMap m after)
           (sum_map handed map (entry_made (with_kind call kind.Sum (Some id)) actor number count given) id before.pool after.pool given answered)
           (holds map held);
-      too_many = λ out is. (subst (IsReadAnswered before.pool after.pool id kind.Sum) is answered).1;
+      too_many = λ out is. subst (IsReadAnswered before.pool after.pool id kind.Sum) is answered;
       caused = answered;
     })
 
@@ -170,7 +170,7 @@ free_does call id before after given kind_is id_is goes_on holds answered =
       sound = λ map held damaged. subst (IsFreeAnswered before.pool after.pool id) damaged answered;
       holds = λ handed map tells same held. subst (λ (m : Map). HoldsMap m after)
           (free_map handed map call id actor number count before.pool after.pool given answered) (holds map held);
-      too_many = λ out is. (subst (IsFreeAnswered before.pool after.pool id) is answered).1;
+      too_many = λ out is. subst (IsFreeAnswered before.pool after.pool id) is answered;
       caused = answered;
     })
 
@@ -200,7 +200,7 @@ sync_does call before after given kind_is id_is none goes_on holds answered =
       holds = λ handed map tells same held. subst (λ (m : Map). HoldsMap m after)
           (sync_map handed map (entry_made (with_kind call kind.Sync None) actor number count given) before.pool after.pool given answered)
           (holds map held);
-      too_many = λ out is. (subst (IsSyncAnswered before.pool after.pool) is answered).1;
+      too_many = λ out is. subst (IsSyncAnswered before.pool after.pool) is answered;
       caused = answered;
     })
 
@@ -219,7 +219,7 @@ sync_answered call old before after (answer.TooManyFailed out) kind_is id_is non
         answer_is = refl;
         cut = cut;
         leaves = leaves;
-        too_many = answered.1;
+        too_many = answered;
       }) refl
     ]
 sync_answered call old before after (answer.Limit reached) kind_is id_is none ends leaves answered = λ actor number.

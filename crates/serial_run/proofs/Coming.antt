@@ -1,9 +1,9 @@
 -- A run goes on by a call.
-use Rattle.std.proofs.Common.{◌≡◌, ◌⊎◌, inl, inr, ⊎_elim, ℕ, ◌+◌, ◌≤◌, List, [], ◌∷◌, ◌++◌, length, Some, refl, sym, ◌∙◌, ap, subst, arith, append_assoc}
+use Rattle.std.proofs.Common.{◌≡◌, ◌⊎◌, inl, inr, ⊎_elim, ℕ, ◌+◌, ◌<◌, ◌≤◌, List, [], ◌∷◌, ◌++◌, length, Some, true, refl, sym, ◌∙◌, ap, subst, arith, append_assoc}
 use Rattle.std.specs.Prelude.{slice_get}
 use Rattle.bank_trait.specs.Disk.{Later}
 use Rattle.bank_trait.proofs.Moments.{later_refl, later_trans}
-use Rattle.uberblock_ring.specs.Devices.{count_of, IsWithin}
+use Rattle.uberblock_ring.specs.Devices.{has_device, count_of, IsWithin}
 use Rattle.uberblock_ring.specs.Uberblock.{Uber}
 use Rattle.core_state.specs.declared.answer.Answer.TheVariants as answer
 use Rattle.core_state.specs.declared.item.Entry.{Entry}
@@ -18,8 +18,8 @@ use Rattle.client_script.specs.Script.{Script}
 use Rattle.client_script.specs.Answered.{AreAnswered, calls_among}
 use Rattle.core_client.specs.Outs.{point_of, OnlyFailedGoOut}
 use Rattle.core_client.proofs.Outs.{outs_none, outs_then}
-use Rattle.core_serial.specs.Answers.{HasTooManyOut}
-use Rattle.core_serial.specs.Pool.{State, HasBank}
+use Rattle.core_serial.specs.Answers.{ListsTooMany}
+use Rattle.core_serial.specs.Pool.{Pool, State, HasBank}
 use Rattle.core_serial.proofs.Going.{count_grows}
 use Rattle.serial_run.specs.Steps.{IsCallOf, AnswersCall, EndsOpenGroup, CutsSync, Answered, Ended, Cut, CarriesOut, open_item}
 use Rattle.serial_run.specs.Running.{HasCome}
@@ -37,7 +37,7 @@ has_begun handed start first bank few = record {
   bank = bank;
   out = outs_none (point_of start.pool.out start.disk);
   listed = λ index item there. there;
-  too_many = λ index out entry there is. inl (index, there);
+  too_many = λ index listed entry there is. inl (index, there);
   borne = start.pool.out;
   few = few;
   from_start = λ device out. out;
@@ -45,24 +45,29 @@ has_begun handed start first bank few = record {
   runs = λ world origin same runs within. runs;
 }
 
--- A call says so where it is so, or stood among the first ones.
-abbrev IsTold : List Item → State → Entry → Type 0
-IsTold first state entry = (out : ℕ) → entry.answer ≡ answer.TooManyFailed out
-    → ((index : ℕ) × CallAt first index entry) ⊎ HasTooManyOut state.pool
-
-still_too_many : (before after : State) → after.pool.uber.parity ≡ before.pool.uber.parity
-    → IsWithin before.pool.out after.pool.out → HasTooManyOut before.pool → HasTooManyOut after.pool
-still_too_many before after parity still many =
-    let more = count_grows before.pool.out after.pool.out still in omega (arith, many, more, parity)
+-- What a call lists is so.
+told_now : {parity : ℕ} (pool : Pool) (listed : ℕ) → pool.uber.parity ≡ parity → ListsTooMany pool listed
+    → (parity < count_of listed) × IsWithin listed pool.out
+told_now {parity = parity} pool listed same lists = (
+  subst (λ (n : ℕ). parity < count_of n) (sym lists.0) (let many = lists.1 in omega (arith, many, same)),
+  λ device has. subst (λ (n : ℕ). has_device n device ≡ true) lists.0 has,
+)
 
 module _ (handed : Handed) (start : State) (first old new : List Item) (before after : State)
     (come : HasCome handed start first old before) where
-  told_still : after.pool.uber.parity ≡ before.pool.uber.parity → IsWithin before.pool.out after.pool.out
-      → (index : ℕ) (entry : Entry) → CallAt old index entry → IsTold first after entry
-  told_still parity still index entry there = λ out is. ⊎_elim
+  -- A call that tells of too many devices lists more than there are parities, all of them out, or stood
+  -- among the first ones.
+  abbrev IsTold : Entry → Type 0
+  IsTold entry = (listed : ℕ) → entry.answer ≡ answer.TooManyFailed listed
+      → ((index : ℕ) × CallAt first index entry)
+      ⊎ ((start.pool.uber.parity < count_of listed) × IsWithin listed after.pool.out)
+
+  told_still : IsWithin before.pool.out after.pool.out → (index : ℕ) (entry : Entry) → CallAt old index entry
+      → IsTold entry
+  told_still still index entry there = λ listed is. ⊎_elim
       (λ (at : (index : ℕ) × CallAt first index entry). inl at)
-      (λ many. inr (still_too_many before after parity still many))
-      (come.too_many index out entry there is)
+      (λ many. inr (many.0, λ device has. still device (many.1 device has)))
+      (come.too_many index listed entry there is)
 
   still_listed : (more : List Item) (index : ℕ) (item : Item) → new ≡ old ++ more → slice_get first index ≡ Some item
       → slice_get new index ≡ Some item
@@ -89,9 +94,10 @@ module _ (handed : Handed) (start : State) (first old new : List Item) (before a
       bank = answers.goes_on.bank come.bank;
       out = outs_on answers.goes_on.out answers.goes_on.later;
       listed = λ index item there. still_listed (Call entry ∷ []) index item listed there;
-      too_many = λ index out other there is. each_grown_call (IsTold first after) old entry
-          (told_still parity answers.goes_on.out.still) (λ out is. inr (answers.too_many out is))
-          index other (subst (λ (items : List Item). CallAt items index other) listed there) out is;
+      too_many = λ index told other there is. each_grown_call IsTold old entry
+          (told_still answers.goes_on.out.still)
+          (λ out is. inr (told_now after.pool out (parity ∙ come.parity) (answers.too_many out is)))
+          index other (subst (λ (items : List Item). CallAt items index other) listed there) told is;
       borne = come.borne;
       few = come.few;
       from_start = come.from_start;
@@ -115,11 +121,11 @@ module _ (handed : Handed) (start : State) (first old new : List Item) (before a
       out = outs_on synced.leaves.out synced.leaves.later;
       listed = λ index item there. still_listed (Group (open_item before.pool (length old)) ∷ Call entry ∷ []) index item
           (listed ∙ append_assoc old (Group (open_item before.pool (length old)) ∷ []) (Call entry ∷ [])) there;
-      too_many = λ index out other there is. each_grown_call (IsTold first after) _ entry
-          (each_grown_group (IsTold first after) old (open_item before.pool (length old))
-          (told_still synced.leaves.parity synced.leaves.out.still))
+      too_many = λ index told other there is. each_grown_call IsTold _ entry
+          (each_grown_group IsTold old (open_item before.pool (length old))
+          (told_still synced.leaves.out.still))
           (λ out is. absurd (apart (sym synced.answer_is ∙ is)))
-          index other (subst (λ (items : List Item). CallAt items index other) listed there) out is;
+          index other (subst (λ (items : List Item). CallAt items index other) listed there) told is;
       borne = after.pool.out;
       few = (let low = synced.few in let parity = come.parity in omega (arith, low, parity));
       from_start = λ device out. synced.leaves.out.still device (come.out.still device out);
@@ -145,9 +151,11 @@ module _ (handed : Handed) (start : State) (first old new : List Item) (before a
       bank = cuts.leaves.bank come.bank;
       out = outs_on cuts.leaves.out cuts.leaves.later;
       listed = λ index item there. still_listed (Call entry ∷ []) index item listed there;
-      too_many = λ index out other there is. each_grown_call (IsTold first after) old entry
-          (told_still cuts.leaves.parity cuts.leaves.out.still) (λ out is. inr cuts.too_many)
-          index other (subst (λ (items : List Item). CallAt items index other) listed there) out is;
+      too_many = λ index told other there is. each_grown_call IsTold old entry
+          (told_still cuts.leaves.out.still)
+          (λ out is. inr (told_now after.pool out (cuts.leaves.parity ∙ come.parity)
+          (subst (ListsTooMany after.pool) (same_out (sym cuts.answer_is ∙ is)) cuts.too_many)))
+          index other (subst (λ (items : List Item). CallAt items index other) listed there) told is;
       borne = cuts.cut.listed;
       few = (let low = cuts.cut.few in let parity = come.parity in omega (arith, low, parity));
       from_start = λ device out. cuts.cut.earlier device (come.out.still device out);
@@ -158,6 +166,9 @@ module _ (handed : Handed) (start : State) (first old new : List Item) (before a
           cut_runs world origin call old new before after entry so_far few_before cuts listed actor number is within;
     }
       where
+        same_out : {one two : ℕ} → answer.TooManyFailed one ≡ answer.TooManyFailed two → one ≡ two
+        same_out same = cc
+
         few_before : count_of before.pool.out ≤ before.pool.uber.parity
         few_before = let more = count_grows before.pool.out cuts.cut.listed cuts.cut.earlier in
             let low = cuts.cut.few in omega (arith, more, low)

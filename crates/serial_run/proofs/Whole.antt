@@ -75,8 +75,9 @@ module _ (script : Script) (old mid : Disk) (pool : Pool) (silent : ℕ) (items 
 
   -- Each device that is out has its reason.
   out_for : (image : Image) → HoldsImage old image
-      → (shown : IsShownChoice old final.disk image) × AreOutFor shown final.pool.out
-  out_for image holds = (shown_later old mid final.disk image come.later first.0, each)
+      → (shown : IsShownChoice old final.disk image) × (shown.uber.parity ≡ pool.uber.parity)
+      × AreOutFor shown final.pool.out
+  out_for image holds = (shown_later old mid final.disk image come.later first.0, first.1, each)
     where
       first : (shown : IsShownChoice old mid image) × (shown.uber.parity ≡ pool.uber.parity) × AreOutFor shown pool.out
       first = outs.each image holds
@@ -156,7 +157,7 @@ module _ (script : Script) (old mid : Disk) (pool : Pool) (silent : ℕ) (items 
         ∙ ap (λ (u : Uber). u.parity) begins.opened.renews.alike
         ∙ (may.may.width chosen begins.opened.listed).1
 
-    pub run_keeps : RunKeeps script setting first later old final.disk items come.borne final.pool.out
+    pub run_keeps : RunKeeps script setting first later old final.disk items pool.uber.parity
     unfolding begins
     run_keeps = record {
       chosen = chosen;
@@ -177,11 +178,7 @@ module _ (script : Script) (old mid : Disk) (pool : Pool) (silent : ℕ) (items 
       any_moment = record { groups = runs.groups; since = runs.since };
       no_older = runs.no_older;
       kept = kept_now world old items final runs;
-      few = (let few = come.few in let same = parity_is in omega (arith, few, same));
-      too_many = λ index listed entry there is. ⊎_elim
-          (λ (at : (place : ℕ) × CallAt (alone item) place entry). absurd (no_call item at.0 entry at.1))
-          (λ many. let parity = come.parity in let same = parity_is in omega (arith, many, parity, same))
-          (come.too_many index listed entry there is);
+      parity_is = sym parity_is;
     }
 
   pub has_run : HasRun script old final.disk items final.pool.out
@@ -190,8 +187,14 @@ module _ (script : Script) (old mid : Disk) (pool : Pool) (silent : ℕ) (items 
     there = come.listed 0 (Group item) refl;
     silent = silent;
     failed = λ device has. let was = failed device has in (was.0, rose_on device was.1);
+    parity = pool.uber.parity;
     each = out_for;
+    too_many = λ index listed entry there is. ⊎_elim
+        (λ (at : (place : ℕ) × CallAt (alone item) place entry). absurd (no_call item at.0 entry at.1))
+        (λ many. many)
+        (come.too_many index listed entry there is);
     borne = come.borne;
     within = come.within;
+    few = come.few;
     keeps = run_keeps;
   }

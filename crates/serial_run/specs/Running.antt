@@ -1,5 +1,5 @@
 -- What stands while a script is carried out.
-use Rattle.std.specs.Prelude.{◌≡◌, ◌≢◌, ◌⊎◌, ℕ, ◌≤◌, List, [], ◌∷◌, ◌++◌, length, Some, slice_get}
+use Rattle.std.specs.Prelude.{◌≡◌, ◌≢◌, ◌⊎◌, ℕ, ◌<◌, ◌≤◌, List, [], ◌∷◌, ◌++◌, length, Some, slice_get}
 use Rattle.bank_trait.specs.Disk.{Disk, Later}
 use Rattle.uberblock_ring.specs.Devices.{count_of, IsWithin}
 use Rattle.core_state.specs.declared.answer.Answer.TheVariants as answer
@@ -13,7 +13,6 @@ use Rattle.core_state.specs.Keeps.{Kept}
 use Rattle.core_state.specs.Moment.{IsGroupOf, Groups, KeepsSince}
 use Rattle.core_state.specs.CoreState.{World}
 use Rattle.core_client.specs.Outs.{point_of, OnlyFailedGoOut}
-use Rattle.core_serial.specs.Answers.{HasTooManyOut}
 use Rattle.core_serial.specs.Pool.{State, HasBank, HoldsMap}
 use Rattle.core_serial.specs.Standing.{Stands}
 use Rattle.serial_run.specs.Moments.{KeepsItemByItem}
@@ -38,8 +37,9 @@ pub record Runs (world : World) (origin : Disk) (items : List Item) (state : Sta
   pub no_older : KeepsItemByItem world.setting world.handed world.opening world.known items origin
       state.disk
 
--- A run from one state has come to another, where so many items were listed. The devices whose failure
--- has to be allowed were out when it began, or have failed, and are no more than there are parities.
+-- A run from one state has come to another, where so many items were listed. An answer that tells of too
+-- many devices lists devices that are out, more than there are parities. The devices whose failure has to
+-- be allowed were out when it began, or have failed, and are no more than there are parities.
 pub record HasCome (handed : Handed) (start : State) (first items : List Item) (state : State) : Type 0
   where
     pub later : Later start.disk state.disk
@@ -49,9 +49,10 @@ pub record HasCome (handed : Handed) (start : State) (first items : List Item) (
         (point_of state.pool.out state.disk)
     pub listed : (index : ℕ) (item : Item) → slice_get first index ≡ Some item
         → slice_get items index ≡ Some item
-    pub too_many : (index out : ℕ) (entry : Entry) → CallAt items index entry
-        → entry.answer ≡ answer.TooManyFailed out
-        → ((place : ℕ) × CallAt first place entry) ⊎ HasTooManyOut state.pool
+    pub too_many : (index listed : ℕ) (entry : Entry) → CallAt items index entry
+        → entry.answer ≡ answer.TooManyFailed listed
+        → ((place : ℕ) × CallAt first place entry)
+        ⊎ ((start.pool.uber.parity < count_of listed) × IsWithin listed state.pool.out)
     pub borne : ℕ
     pub few : count_of borne ≤ start.pool.uber.parity
     pub from_start : IsWithin start.pool.out borne

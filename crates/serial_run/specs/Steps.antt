@@ -14,7 +14,7 @@ use Rattle.core_state.specs.Map.{Map, Handed, map_after_answer}
 use Rattle.core_state.specs.Legal.{IsReadOf, IsCutShort as IsCutAnswer, IsRightFree, IsAnswerOf}
 use Rattle.client_script.specs.declared.call.ScriptCall.{ScriptCall}
 use Rattle.client_script.specs.Lines.{fill_bytes}
-use Rattle.core_serial.specs.Answers.{HasTooManyOut, IsPutAnswered, IsReadAnswered, IsFreeAnswered, IsSyncAnswered}
+use Rattle.core_serial.specs.Answers.{ListsTooMany, IsPutAnswered, IsReadAnswered, IsFreeAnswered, IsSyncAnswered}
 use Rattle.core_serial.specs.Pool.{Pool, State, HoldsMap, open_group}
 use Rattle.core_serial.specs.Standing.{GoesOn}
 use Rattle.core_serial.specs.Syncing.{EndsSync, LeavesPool, IsCutShort}
@@ -77,9 +77,9 @@ entry_of call actor number count given = record {
   answer = given;
 }
 
--- A call says that too many devices are out only where they are.
+-- A call that says that too many devices are out lists those that are, and they are too many.
 abbrev pub SaysTooMany : State → Answer → Type 0
-SaysTooMany after given = (out : ℕ) → given ≡ answer.TooManyFailed out → HasTooManyOut after.pool
+SaysTooMany after given = (out : ℕ) → given ≡ answer.TooManyFailed out → ListsTooMany after.pool out
 
 -- Why a call is answered so.
 abbrev pub IsCaused : Kind → Option ℕ → ℕ → Pool → Pool → Answer → Type 0
@@ -122,7 +122,7 @@ pub record CutsSync (before after : State) (entry : Entry) : Type 0 where
   pub answer_is : entry.answer ≡ answer.TooManyFailed out
   pub cut : IsCutShort before after
   pub leaves : LeavesPool before after
-  pub too_many : HasTooManyOut after.pool
+  pub too_many : ListsTooMany after.pool out
 
 -- What a call did, and what it listed.
 pub data HasAnswered (call : ScriptCall) (entry : Entry) (old new : List Item) (before after : State)

@@ -39,10 +39,10 @@ pub record BeginsAfter (chosen : Kept) (items : List Item) : Type 0 where
 -- A run began with one of the groups that the bank kept, and its journal is legal from that group's map
 -- on. Whatever a stop leaves, at any moment of the run, keeps some of the groups in a row: those kept
 -- before, the journal's, and at most one that was begun after them; and none older than the last one listed
--- by then. At its end that is the journal's last one. No read is told as damaged, and a call says that too
--- many devices are out only where more are out than there are parities.
+-- by then. At its end that is the journal's last one. No read is told as damaged. The run's parity is that
+-- of the groups that the bank kept.
 pub record RunKeeps (script : Script) (setting : Setting) (first : Kept) (later : List Kept)
-    (old new : Disk) (items : List Item) (borne out : ℕ) : Type 0 where
+    (old new : Disk) (items : List Item) (parity : ℕ) : Type 0 where
   pub chosen : Kept
   pub known : Contains (first ∷ later) chosen
   pub choice : (image : Image) → HoldsImage old image
@@ -55,25 +55,29 @@ pub record RunKeeps (script : Script) (setting : Setting) (first : Kept) (later 
       new
   pub no_older : KeepsItemByItem setting (handed_by script) chosen.map (first ∷ later) items old new
   pub kept : KeepsLast setting (handed_by script) chosen.map items new
-  pub few : count_of borne ≤ first.uber.parity
-  pub too_many : (index listed : ℕ) (entry : Entry) → CallAt items index entry
-      → entry.answer ≡ answer.TooManyFailed listed
-      → first.uber.parity < count_of out
+  pub parity_is : first.uber.parity ≡ parity
 
--- A script was carried out on the pool that the devices showed: the journal begins with its group. Each device that is out at the end was out
--- at the opening, or failed in the run. All that a run keeps it keeps where the devices that were silent
--- when the pool was looked for may fail, and those of the devices out that have to be borne.
+-- A script was carried out on the pool that the devices showed; its journal begins with a group. Each device
+-- that is out at the end was out at the opening, or failed in the run. A call that tells of too many devices
+-- lists devices that are out, more than there are parities. All that a run keeps it keeps where the devices
+-- that were silent when the pool was looked for may fail, and those of the devices out that have to be borne,
+-- no more than there are parities.
 pub record HasRun (script : Script) (old new : Disk) (items : List Item) (out : ℕ) : Type 0 where
   pub opened : GroupItem
   pub there : GroupAt items 0 opened
   pub silent : ℕ
   pub failed : HaveFailed old new silent
+  pub parity : ℕ
   pub each : (image : Image) → HoldsImage old image
-      → (shown : IsShownChoice old new image) × AreOutFor shown out
+      → (shown : IsShownChoice old new image) × (shown.uber.parity ≡ parity) × AreOutFor shown out
+  pub too_many : (index listed : ℕ) (entry : Entry) → CallAt items index entry
+      → entry.answer ≡ answer.TooManyFailed listed
+      → (parity < count_of listed) × IsWithin listed out
   pub borne : ℕ
   pub within : IsWithin borne out
+  pub few : count_of borne ≤ parity
   pub keeps : (setting : Setting) (first : Kept) (later : List Kept)
       → MayBegin setting first later old
       → IsWithinBelow first.uber.reflow.to silent setting.failed
       → IsWithin borne setting.failed
-      → RunKeeps script setting first later old new items borne out
+      → RunKeeps script setting first later old new items parity
