@@ -1,5 +1,5 @@
 -- How reading a script and carrying it out ends.
-use Rattle.std.proofs.Common.{◌≡◌, ◌⊎◌, inl, inr, ⊎_elim, ℕ, ◌<◌, ◌≤◌, List, Some, Result, Ok, Err, refl, sym, ◌∙◌, subst}
+use Rattle.std.proofs.Common.{◌≡◌, ◌⊎◌, inl, inr, ⊎_elim, ℕ, ◌<◌, ◌≤◌, List, Some, Result, Ok, Err, refl}
 use Rattle.std.specs.Prelude.{All}
 use Rattle.client_script.specs.FromSource.{IsNotReadFor, IsReadUnlessNoMemory}
 use Rattle.client_script.specs.declared.refused.ReadRefused.{ReadRefused}

@@ -1,5 +1,5 @@
 -- What a refusal writes.
-use Rattle.std.proofs.Common.{◌≡◌, ◌≢◌, inl, inr, ⊎_elim, []}
+use Rattle.std.proofs.Common.{◌≢◌, inl, inr, ⊎_elim, []}
 use Rattle.raidzx_top.specs.declared.status.Status.{Status}
 use Rattle.raidzx_top.specs.declared.status.Status.TheVariants as status
 use Rattle.raidzx_top.specs.Call.{Call}

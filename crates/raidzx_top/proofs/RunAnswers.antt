@@ -1,13 +1,12 @@
 -- What the journal of a script answers is a call of a client, and never one of the copier or the scrubber.
-use Rattle.std.proofs.Common.{◌≡◌, ◌≢◌, ◌⊎◌, inl, inr, ⊎_elim, ℕ, zero, suc, ◌+◌, ◌-◌, ◌<◌, ◌≤◌, List, [], length, Option, Some, None, refl, sym, ◌∙◌, subst, arith}
-use Rattle.std.specs.Prelude.{slice_get, map, filter, All, ◌==◌, ⊤}
+use Rattle.std.proofs.Common.{◌≡◌, ◌≢◌, inl, inr, ⊎_elim, ℕ, zero, suc, ◌-◌, List, Option, Some, None, refl, subst, arith}
+use Rattle.std.specs.Prelude.{slice_get, filter, All, ◌==◌, ⊤}
 use Rattle.std.proofs.lemmas.Bool.{cases_eq}
 use Rattle.std.proofs.lemmas.List.Elements.{All-filter, All-map, All-get_or, All-weaker}
 use Rattle.std.proofs.lemmas.Option.{get_or_from_slice_get, slice_get_within}
 use Rattle.core_state.specs.declared.answer.Kind.{Kind}
 use Rattle.core_state.specs.declared.answer.Kind.TheVariants as kind
 use Rattle.core_state.specs.declared.item.Entry.{Entry}
-use Rattle.core_state.specs.declared.item.Group.{Group as GroupItem}
 use Rattle.core_state.specs.declared.item.Item.{Item}
 use Rattle.core_state.specs.declared.item.Item.TheVariants.{Group, Call}
 use Rattle.core_state.specs.Journal.{Asked, IsLegalJournal}
@@ -60,13 +59,16 @@ previous_after items caller index earlier item at = by item at
     -- where the item just before is another's
     go_on : ((entry : Entry) → CallAt items index entry → entry.caller ≢ caller)
         → (previous : ℕ) × IsPrevious items caller (suc index) previous
-    go_on other = (earlier.0, record {
-      there = ⊎_elim (λ none. inl none)
-          (λ found. inr (found.0, (let low = found.1 in omega (arith, low)), found.2, found.3)) earlier.1.there;
-      latest = λ k entry above below there. ⊎_elim
-          (λ same. other entry (subst (λ (n : ℕ). CallAt items n entry) same there))
-          (λ apart. earlier.1.latest k entry above (omega (arith, below, apart)) there) (cases_eq k index);
-    })
+    go_on other = (
+      earlier.0,
+      record {
+        there = ⊎_elim (λ none. inl none)
+            (λ found. inr (found.0, (let low = found.1 in omega (arith, low)), found.2, found.3)) earlier.1.there;
+        latest = λ k entry above below there. ⊎_elim
+            (λ same. other entry (subst (λ (n : ℕ). CallAt items n entry) same there))
+            (λ apart. earlier.1.latest k entry above (omega (arith, below, apart)) there) (cases_eq k index);
+      },
+    )
 
     by : (item : Option Item) → slice_get items index ≡ item → (previous : ℕ) × IsPrevious items caller (suc index) previous
     by None is = go_on (λ entry there. absurd (apart entry there))
@@ -78,10 +80,13 @@ previous_after items caller index earlier item at = by item at
         no_group : (entry : Entry) → CallAt items index entry → ⊥
         no_group entry there = cc
     by (Some (Call found)) is = ⊎_elim
-        (λ same. (index, record {
-          there = inr (found, omega arith, is, same);
-          latest = λ k entry above below there. absurd (omega (arith, above, below));
-        }))
+        (λ same. (
+          index,
+          record {
+            there = inr (found, omega arith, is, same);
+            latest = λ k entry above below there. absurd (omega (arith, above, below));
+          },
+        ))
         (λ other. go_on (λ entry there. subst (λ (e : Entry). e.caller ≢ caller) (one entry there) other)) (cases_eq found.caller caller)
       where
         one : (entry : Entry) → CallAt items index entry → found ≡ entry
@@ -103,6 +108,6 @@ pub answers_client : (script : Script) (handed : Handed) (opening : Map) (items 
 answers_client script handed opening items allowed legal index entry there =
     let asked = legal.calls_are.each index entry there in
     let previous = previous_there items entry.caller index in (
-    asked_clients script entry.caller (entry.call - 1) (record { kind = entry.kind; id = entry.id }) allowed asked.asked,
-    (legal.answers.each previous.0 index entry there previous.1).1,
-)
+      asked_clients script entry.caller (entry.call - 1) (record { kind = entry.kind; id = entry.id }) allowed asked.asked,
+      (legal.answers.each previous.0 index entry there previous.1).1,
+    )

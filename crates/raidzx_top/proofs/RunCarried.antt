@@ -1,9 +1,9 @@
 -- What a run promises that opened its pool.
-use Rattle.std.proofs.Common.{◌≡◌, ◌≢◌, ◌⊎◌, inl, inr, ⊎_elim, ℕ, zero, suc, ◌+◌, ◌<◌, ◌≤◌, List, [], ◌∷◌, ◌++◌, Option, Some, None, Bool, true, false, refl, sym, ◌∙◌, ap, subst, arith}
-use Rattle.std.specs.Prelude.{slice_get, take, IsTrue}
+use Rattle.std.proofs.Common.{◌≡◌, ◌≢◌, ◌⊎◌, inl, inr, ⊎_elim, ℕ, List, [], Some, Bool, true, refl, sym, ◌∙◌, subst, arith}
+use Rattle.std.specs.Prelude.{slice_get}
 use Rattle.bank_trait.specs.Causes.{Rose}
-use Rattle.bank_trait.specs.Disk.{Image, Disk, Lawful}
-use Rattle.uberblock_ring.specs.Devices.{has_device, count_of, IsWithin}
+use Rattle.bank_trait.specs.Disk.{Image, Lawful}
+use Rattle.uberblock_ring.specs.Devices.{has_device}
 use Rattle.core_state.specs.declared.answer.Answer.{Answer}
 use Rattle.core_state.specs.declared.answer.Answer.TheVariants as answer
 use Rattle.core_state.specs.declared.item.Entry.{Entry}
@@ -20,18 +20,17 @@ use Rattle.core_open.specs.declared.why.OpenWhy.TheVariants as reason
 use Rattle.core_open.proofs.Ends.{present_held}
 use Rattle.core_open.proofs.Unhindered.{caused}
 use Rattle.core_serial.proofs.Going.{count_grows}
-use Rattle.client_script.specs.Script.{Script, asked_by, handed_by}
+use Rattle.client_script.specs.Script.{handed_by}
 use Rattle.client_script.specs.Texts.{journal_text}
 use Rattle.serial_run.specs.WholeRun.{HasRun, RunKeeps}
 use Rattle.raidzx_top.specs.declared.running.Trouble.TheVariants as trouble
 use Rattle.raidzx_top.specs.declared.status.Status.{Status}
 use Rattle.raidzx_top.specs.declared.status.Status.TheVariants as status
 use Rattle.raidzx_top.specs.Call.{Call}
-use Rattle.raidzx_top.specs.Causes.{IsCause, IsReadWhole, IsOrNoMemory, FindsNoPool, MeetsLimit}
-use Rattle.raidzx_top.specs.Promises.{RunPromises, IsCarriedOut, IsSmooth, IsSmoothAnswer, CompletesAll}
-use Rattle.raidzx_top.specs.Running.{HasCarried, IsStatusOf, HadMemory, AnswersSo, after_fault, EndsTelling, WasCarriedOut}
-use Rattle.raidzx_top.specs.RunJournal.{NoneWantsMemory}
-use Rattle.raidzx_top.specs.RunText.{IsLineFor, IsWritten, TextIsRight, status_line}
+use Rattle.raidzx_top.specs.Causes.{IsCause, FindsNoPool, MeetsLimit}
+use Rattle.raidzx_top.specs.Promises.{RunPromises, IsSmooth, IsSmoothAnswer, CompletesAll}
+use Rattle.raidzx_top.specs.Running.{IsStatusOf, HadMemory, AnswersSo, after_fault, EndsTelling, WasCarriedOut}
+use Rattle.raidzx_top.specs.RunText.{IsLineFor, TextIsRight}
 use Rattle.raidzx_top.proofs.RunParts.{plain_run, IsRunEnd, held_at_entry, none_silent}
 use Rattle.raidzx_top.proofs.RunAnswers.{IsClients, answers_client}
 
@@ -106,9 +105,12 @@ module _ (call : Call) (lawful : Lawful call.old)
           → (index : ℕ) × (entry : Entry) × (reached : ℕ) × CallAt call.journal index entry
           × (entry.answer ≡ answer.Limit reached)
       limit tells = (tells.0, tells.1, tells.3.0, tells.2, tells.3.1)
-  caused_line (status.TooManyFailed listed) is = inl (tt, λ image found.
-      subst (λ (out : ℕ). AreTooMany call.old call.new image out) (sym is.0)
-      (many_out is.3 image (held_at_entry call image found)))
+  caused_line (status.TooManyFailed listed) is = inl (
+    tt,
+    λ image found.
+        subst (λ (out : ℕ). AreTooMany call.old call.new image out) (sym is.0)
+        (many_out is.3 image (held_at_entry call image found)),
+  )
   caused_line status.Done is = tt
   caused_line other is = absurd is
 
@@ -150,11 +152,11 @@ module _ (call : Call) (lawful : Lawful call.old)
         (λ told. (
           was.line,
           subst (λ (s : Status). IsLineFor s was.line) (sym told.0)
-          (whole_end was.ran.finished was.ran.out call.journal was.line was.line_is).for,
+              (whole_end was.ran.finished was.ran.out call.journal was.line was.line_is).for,
           inl (told.1.whole held bytes),
         ))
         (λ told.
-          let ends = part_end was.ran.finished was.ran.out call.journal was.line was.line_is in (
+        let ends = part_end was.ran.finished was.ran.out call.journal was.line was.line_is in (
           was.line,
           subst (λ (s : Status). IsLineFor s was.line) (sym told.0) ends.0.for,
           inr (told.1, (λ done. ends.1 (sym told.0 ∙ done)), told.2.front held bytes),
@@ -200,9 +202,9 @@ module _ (call : Call) (lawful : Lawful call.old)
         let silent = none_silent call.old call.new each.0.silent each.0.failed none_rose in
         ⊎_elim
         (λ out. smooth.unhindered.in_use (present call.old) each.0.device each.0.uber each.0.entries device holds
-            (subst (λ (n : ℕ). IsChosen (shape_of call.old) n (present call.old) each.0.device each.0.uber each.0.entries)
-            silent each.0.chosen)
-            (subst (λ (n : ℕ). IsOutAtOpening (shape_of call.old) n (present call.old) each.0.uber device) silent out))
+        (subst (λ (n : ℕ). IsChosen (shape_of call.old) n (present call.old) each.0.device each.0.uber each.0.entries)
+        silent each.0.chosen)
+        (subst (λ (n : ℕ). IsOutAtOpening (shape_of call.old) n (present call.old) each.0.uber device) silent out))
         (λ rose. none_rose device rose) (each.2 device has)
 
     keeps : RunKeeps was.carried.script smooth.setting smooth.first smooth.later call.old call.new call.journal

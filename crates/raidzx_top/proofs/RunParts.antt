@@ -1,9 +1,7 @@
 -- What a call of `run` promises, put together from its parts.
-use Rattle.std.proofs.Common.{◌≡◌, ◌≢◌, ⊎_elim, ℕ, List, [], Some, None, true, false, sym, subst}
+use Rattle.std.proofs.Common.{◌≡◌, ◌≢◌, ⊎_elim, ℕ, List, [], Some, None, false, sym, subst}
 use Rattle.bank_trait.specs.Causes.{Rose}
 use Rattle.bank_trait.specs.Disk.{Image, Disk}
-use Rattle.uberblock_ring.specs.Devices.{has_device}
-use Rattle.core_open.specs.Causes.{IsShownChoice}
 use Rattle.core_open.specs.Failing.{HaveFailed}
 use Rattle.core_open.specs.Holds.{HoldsImage}
 use Rattle.core_open.proofs.Unhindered.{none_empty}
@@ -13,7 +11,7 @@ use Rattle.raidzx_top.specs.declared.words.NewPool.{NewPool}
 use Rattle.raidzx_top.specs.declared.words.ServedCommand.{ServedCommand}
 use Rattle.raidzx_top.specs.declared.words.ServedCommand.TheVariants as served
 use Rattle.raidzx_top.specs.Call.{Call}
-use Rattle.raidzx_top.specs.Causes.{NoneRose, IsCause, IsFoundImage, IsReadWhole, IsOrNoMemory, IsTooSmall, FindsNoPool}
+use Rattle.raidzx_top.specs.Causes.{IsCause, IsFoundImage, IsReadWhole, IsOrNoMemory, IsTooSmall, FindsNoPool}
 use Rattle.raidzx_top.specs.Promises.{CallPromises, IsCarriedOut, RunPromises, LeavesNone, IsSmooth, CompletesAll}
 use Rattle.raidzx_top.specs.RunText.{TextIsRight}
 use Rattle.raidzx_top.specs.Spelled.{IsServedAs, command_of}

@@ -1,9 +1,7 @@
 -- What a run promises that was refused before its pool was open.
-use Rattle.std.proofs.Common.{◌≡◌, ◌≢◌, ◌⊎◌, inl, inr, ⊎_elim, ℕ, List, [], Some, refl, sym, ◌∙◌, ap, subst}
-use Rattle.bank_trait.specs.Causes.{Rose}
-use Rattle.bank_trait.specs.Disk.{Image, Disk, Unchanged}
+use Rattle.std.proofs.Common.{◌≡◌, ◌≢◌, ◌⊎◌, inl, inr, ⊎_elim, ℕ, List, [], refl, sym, ◌∙◌, ap, subst}
+use Rattle.bank_trait.specs.Disk.{Disk, Unchanged}
 use Rattle.core_open.specs.Causes.{IsShownChoice}
-use Rattle.core_open.specs.Failing.{HaveFailed}
 use Rattle.core_open.proofs.Unchanged.{unchanged_none}
 use Rattle.core_open.specs.declared.why.OpenWhy.{OpenWhy}
 use Rattle.core_open.specs.declared.why.OpenWhy.TheVariants as reason
@@ -19,7 +17,7 @@ use Rattle.raidzx_top.specs.declared.status.Status.TheVariants as status
 use Rattle.raidzx_top.specs.Call.{Call, shape_of}
 use Rattle.raidzx_top.specs.Causes.{IsCause, IsReadWhole, IsOrNoMemory, FindsNoPool}
 use Rattle.raidzx_top.specs.Exit.{read_status, why_status}
-use Rattle.raidzx_top.specs.Promises.{LeavesNone, IsSmooth, CompletesAll}
+use Rattle.raidzx_top.specs.Promises.{LeavesNone, IsSmooth}
 use Rattle.raidzx_top.specs.Running.{IsWell, IsUnread, IsUnopened, HasRead, IsRefused, Unread, Roomless, Unopened, WasRefused}
 use Rattle.raidzx_top.specs.RunText.{IsLineFor}
 use Rattle.raidzx_top.proofs.Refusing.{said_right}
@@ -137,7 +135,7 @@ unopened call none_yet script was_read why is status_is = record {
     untouched = λ memory many. left why is
         (λ no_memory. memory (status_is ∙ ap why_status no_memory))
         (λ out too_many. many out (status_is ∙ ap why_status too_many));
-    cut = inr (why, status_is, is.cut);
+    cut = inr is.cut;
   };
   smooth = λ smooth. status_is
       ∙ ap why_status (is.opens smooth.setting smooth.first smooth.later smooth.unhindered);

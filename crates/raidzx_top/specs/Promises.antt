@@ -1,6 +1,6 @@
 -- What a call promises: what a new pool is, what a run answers and keeps at each moment and in the end, and
 -- what is written.
-use Rattle.std.specs.Prelude.{◌≡◌, ◌≢◌, ◌⊎◌, ℕ, ◌<◌, ◌≤◌, List, [], Some, true, false, Contains, ⊤}
+use Rattle.std.specs.Prelude.{◌≡◌, ◌≢◌, ◌⊎◌, ℕ, ◌≤◌, List, [], Some, false, ⊤}
 use Rattle.bank_trait.specs.Causes.{Rose}
 use Rattle.bank_trait.specs.Disk.{Image, Unchanged}
 use Rattle.bank_trait.specs.Regions.{Tells, TouchesOnly}
@@ -16,7 +16,6 @@ use Rattle.core_state.specs.Keeps.{Kept, Setting}
 use Rattle.core_state.specs.Shown.{Shows}
 use Rattle.core_state.specs.Collision.{BankKeeps, MightStand}
 use Rattle.core_state.specs.Create.{IsCreated, first_kept, rows_for}
-use Rattle.core_open.specs.declared.why.OpenWhy.{OpenWhy}
 use Rattle.core_open.specs.Causes.{AreTooMany}
 use Rattle.core_open.specs.Opens.{IsUnhindered}
 use Rattle.core_serial.specs.Opening.{CutsOpening, MayBegin}
@@ -30,7 +29,6 @@ use Rattle.raidzx_top.specs.declared.words.ServedCommand.TheVariants as served
 use Rattle.raidzx_top.specs.Spelled.{IsServedAs}
 use Rattle.raidzx_top.specs.Call.{Call, HoldsImage, shape_of}
 use Rattle.raidzx_top.specs.Causes.{NoneRose, IsTooSmall, MeetsLimit, IsCaused, ComesWhere}
-use Rattle.raidzx_top.specs.Exit.{why_status}
 use Rattle.raidzx_top.specs.RunJournal.{NoneWantsMemory}
 use Rattle.raidzx_top.specs.RunText.{TextIsRight, create_text}
 
@@ -104,9 +102,7 @@ pub record LeavesNone (call : Call) : Type 0 where
   pub untouched : (call.status ≡ status.NoMemory → ⊥)
       → ((out : ℕ) → call.status ≡ status.TooManyFailed out → ⊥)
       → Unchanged call.old call.new
-  pub cut : (call.new ≡ call.old)
-      ⊎ ((why : OpenWhy) × (call.status ≡ why_status why)
-      × CutsOpening why call.old call.new)
+  pub cut : (call.new ≡ call.old) ⊎ CutsOpening call.old call.new
 
 -- what a call of `run` promises
 pub record RunIsKept (call : Call) : Type 0 where

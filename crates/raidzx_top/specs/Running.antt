@@ -60,7 +60,7 @@ pub record IsUnread (source source_after : Stream) (why : ReadRefused) : Type 0 
 -- Why no pool was opened, and what that left.
 pub record IsUnopened (old new : Disk) (why : OpenWhy) : Type 0 where
   pub cause : IsOpenCause old new why
-  pub cut : CutsOpening why old new
+  pub cut : CutsOpening old new
   pub untouched : LeavesUnopened why old new
   pub opens : IsForMemory old new why
 

@@ -27,7 +27,7 @@ returns-in_err-reserve g c =
     rw (given.1, given.2) (
       c.reserve.ensures.same ∙ c.requires.empty,
       Roomless script (was_read source after script told.ok told.allowed told.actors told.every_script
-      told.every_fault told.every_limit) refl refl,
+          told.every_fault told.every_limit) refl refl,
     )
 
 pub returns-in_err-ran : goal.returns-in_err-ran
@@ -41,12 +41,12 @@ returns-in_err-ran g c =
     rw (given.1, given.2) (
       c.in_err-ran.ensures.nothing,
       Unopened script (was_read source after script told.ok told.allowed told.actors told.every_script
-      told.every_fault told.every_limit) why (record {
-        cause = c.in_err-ran.ensures.cause;
-        cut = c.in_err-ran.ensures.cut;
-        untouched = c.in_err-ran.ensures.untouched;
-        opens = c.in_err-ran.ensures.opens;
-      }) refl,
+          told.every_fault told.every_limit) why (record {
+            cause = c.in_err-ran.ensures.cause;
+            cut = c.in_err-ran.ensures.cut;
+            untouched = c.in_err-ran.ensures.untouched;
+            opens = c.in_err-ran.ensures.opens;
+          }) refl,
     )
 
 pub returns : goal.returns
