@@ -3,7 +3,7 @@ ghost use Rattle.std.specs.Prelude.{◌≡◌, ◌<◌, ◌≤◌, ◌^◌, ℕ,
 
 use bank_trait::{Bank, Failed};
 use raidzx_top::MOST_SECTORS;
-use std::fs::{File, Files, OpenOptions};
+use std::fs::{File, Files, OpenOptions, TryLockError};
 use std::os::unix::fs::FileExt;
 
 const SECTOR_BYTES: u64 = 512;
@@ -16,17 +16,24 @@ pub struct Image {
     ghost few: { sectors ≤ 65_728 },
 }
 
-/// Opens a file for reading and writing, and locks it, so that no two programs have it. None where
-/// one of these fails.
-pub fn open_image<R: Files<File = File>>(rt: &R, name: &str) -> Option<Image> {
-    let file = OpenOptions::new()
-        .read(true)
-        .write(true)
-        .open(rt, name)
-        .ok()?;
-    if file.try_lock().is_err() {
-        return None;
+/// Another program has the image open, or this one has it under another name.
+pub struct Held;
+
+/// Opens a file for reading and writing, and locks it. None where it can't be used; `Held` where another
+/// has it: then nothing may be done to any image of its pool, for another program may be at work on it.
+pub fn open_image<R: Files<File = File>>(rt: &R, name: &str) -> Result<Option<Image>, Held> {
+    let Ok(file) = OpenOptions::new().read(true).write(true).open(rt, name) else {
+        return Ok(None);
+    };
+    match file.try_lock() {
+        Ok(()) => Ok(measured(file)),
+        Err(TryLockError::WouldBlock) => Err(Held),
+        Err(TryLockError::Error(_)) => Ok(None),
     }
+}
+
+/// The image with its length, where that can be told.
+fn measured(file: File) -> Option<Image> {
     let length = file.metadata().ok()?.len();
     Some(Image {
         file,
@@ -46,21 +53,22 @@ pub struct FileBank {
 }
 
 impl FileBank {
-    /// The bank has as many sectors as the longest file.
+    /// The bank has as many sectors as the longest file; where none could be opened, as many as a device may
+    /// have, so that calls are made, and fail.
     pub fn new(images: Vec<Option<Image>>, faults: Vec<u64>) -> FileBank
         requires counted { length faults.items ≡ length images.items }
         requires few { length images.items < 2 ^ 32 }
     {
-        let mut sectors: u64 = 0;
+        let mut longest: Option<u64> = None;
         for image in images.iter() {
             if let Some(image) = image {
-                sectors = sectors.max(image.sectors);
+                longest = Some(longest.unwrap_or(0).max(image.sectors));
             }
         }
         FileBank {
             images,
             faults,
-            sectors,
+            sectors: longest.unwrap_or(MOST_SECTORS),
         }
     }
 }

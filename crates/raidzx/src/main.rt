@@ -8,25 +8,57 @@ mod streams;
 
 use bank_mem::MemBank;
 use bank_trait::Bank;
-use files::{FileBank, open_image};
-use raidzx_top::{Images, Status, image_words, raidzx, write_status};
-use std::alloc::{AllocError, Global};
+use files::{FileBank, Held, open_image};
+use raidzx_top::{Images, Status, image_words, is_command, raidzx, write_status};
+use std::alloc::{AllocFailed, Global};
 use std::env;
 use std::process::ExitCode;
 use streams::{Input, Output, hold_standard_streams};
+use uberblock_ring::DeviceSet;
 
-/// Opens the files that the words from the second on name, so many of them.
-fn open_files(rt: &HostRuntime, words: &[String], count: u32) -> Result<FileBank, AllocError>
+/// Why there is no bank over files.
+enum NoBank {
+    /// Another program has this image.
+    Held { device: u32 },
+    NoMemory,
+}
+
+impl<T: Drop> From<AllocFailed<T>> for NoBank {
+    fn from(_: AllocFailed<T>) -> NoBank {
+        NoBank::NoMemory
+    }
+}
+
+/// Opens the files that the words from the second on name, so many of them, in this order. At the first one
+/// that another program has it stops, so that of two programs that want the same images one gets them all.
+fn open_files(rt: &HostRuntime, words: &[String], count: u32) -> Result<FileBank, NoBank>
     requires { count + 1 < length words.now }
 {
     let alloc = rt.alloc();
     let mut images = Vec::new(alloc);
     let mut faults = Vec::new(alloc);
-    for index in 0..count {
-        images.push(open_image(rt, words[index as usize + 1].as_str()))?;
+    for device in 0..count {
+        match open_image(rt, words[device as usize + 1].as_str()) {
+            Ok(image) => images.push(image)?,
+            Err(Held) => return Err(NoBank::Held { device }),
+        }
         faults.push(0)?;
     }
     Ok(FileBank::new(images, faults))
+}
+
+/// The status where there is no bank: an image that another program has is told as failed.
+fn status_without_bank(why: NoBank) -> Status {
+    match why {
+        NoBank::Held { device } => {
+            let mut out = DeviceSet::empty();
+            if device < 64 {
+                out.insert(device);
+            }
+            Status::TooManyFailed { out }
+        }
+        NoBank::NoMemory => Status::NoMemory,
+    }
 }
 
 /// Carries out the command over a bank, and gives the exit status.
@@ -65,6 +97,9 @@ fn main(rt: HostRuntime) -> ExitCode {
         return end(&rt, Status::Usage);
     };
     let command = &words[images.count + 1..];
+    if !is_command(command) {
+        return end(&rt, Status::Usage);
+    }
     let Ok(count) = u32::try_from(images.count) else {
         return end(&rt, Status::NoMemory);
     };
@@ -75,7 +110,7 @@ fn main(rt: HostRuntime) -> ExitCode {
         },
         None => match open_files(&rt, &words, count) {
             Ok(bank) => run_over(&rt, command, bank),
-            Err(_) => end(&rt, Status::NoMemory),
+            Err(why) => end(&rt, status_without_bank(why)),
         },
     }
 }

@@ -16,4 +16,4 @@ pub use images::{Images, MOST_SECTORS, image_words};
 pub use report::write_status;
 pub use status::Status;
 pub use top::{Outcome, raidzx};
-pub use words::{NewPool, ServedCommand};
+pub use words::{NewPool, ServedCommand, is_command};

@@ -125,3 +125,10 @@ pub fn read_command(words: &[String]) -> Option<ServedCommand>
         None => None,
     }
 }
+
+/// Whether the words are a command that is carried out. The first word is not looked at.
+pub fn is_command(words: &[String]) -> bool
+    ensures { IsTrue result ↔ IsServed (map string_bytes words.now) }
+{
+    read_command(words).is_some()
+}

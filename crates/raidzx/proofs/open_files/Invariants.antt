@@ -1,8 +1,8 @@
 use Rattle.std.proofs.Common.{◌≡◌, length}
 use Rattle.raidzx.proofs.open_files.Given as goal
 
-abbrev pub invariant-loop-index : goal.invariant-loop-index
-invariant-loop-index l = record {
-  images : length l.images.items ≡ l.index;
-  faults : length l.faults.items ≡ l.index;
+abbrev pub invariant-loop-device : goal.invariant-loop-device
+invariant-loop-device l = record {
+  images : length l.images.items ≡ l.device;
+  faults : length l.faults.items ≡ l.device;
 }

@@ -1,5 +1,5 @@
-use Rattle.std.proofs.Common.{◌≤◌}
+use Rattle.std.specs.Prelude.{◌≤◌, IfSome}
 use Rattle.raidzx.proofs.files.FileBank.new.Given as goal
 
 abbrev pub invariant-loop-image : goal.invariant-loop-image
-invariant-loop-image l = l.sectors ≤ 65728
+invariant-loop-image l = IfSome l.longest (λ sectors. sectors ≤ 65728)
