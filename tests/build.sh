@@ -1,35 +1,98 @@
 # The built program, for the checks beside this file: sets RAIDZX to it, and WORK to an empty folder.
+# RAIDZX_PROGRAM names a program that is built already; without it the program is built here.
 set -eu
 ROOT=$(cd "$(dirname "${BASH_SOURCE[0]}")/.." && pwd)
-RAIDZX=$ROOT/crates/raidzx/out/raidzx
-(cd "$ROOT/crates/raidzx" && rt run -- mem:256 mem:256 -- create --parity 1 --width 2 --id 1 >/dev/null)
+if [ -n "${RAIDZX_PROGRAM:-}" ]; then
+  RAIDZX=$(realpath "$RAIDZX_PROGRAM")
+else
+  RAIDZX=$ROOT/crates/raidzx/out/raidzx
+  (cd "$ROOT/crates/raidzx" && rt run -- mem:256 mem:256 -- create --parity 1 --width 2 --id 1 >/dev/null)
+fi
 WORK=$(mktemp -d)
 trap 'rm -rf "$WORK"' EXIT
 cd "$WORK"
 
-# images COUNT SECTORS: fresh images disk0, disk1, .. that hold a pattern.
+# images COUNT SECTORS: fresh images disk0, disk1, .. that hold a pattern. IMAGES names them.
 images() {
-  rm -f disk*
+  rm -rf disk*
+  IMAGES=()
   for number in $(seq 0 $(($1 - 1))); do
     head -c $(($2 * 512)) /dev/zero | tr '\0' '\245' >"disk$number"
+    IMAGES+=("disk$number")
   done
 }
 
-# expect NAME STATUS TEXT WORD..: a run of the program with these words.
+# pool PARITY WIDTH SECTORS: a fresh pool, of id 9, on fresh images.
+pool() {
+  images "$2" "$3"
+  "$RAIDZX" "${IMAGES[@]}" -- create --parity "$1" --width "$2" --id 9 >/dev/null
+}
+
+# keep FOLDER, back FOLDER: copies of the images as they stand, and the images as they were copied.
+keep() {
+  rm -rf "$1"
+  mkdir "$1"
+  cp -r disk* "$1"
+}
+back() {
+  rm -rf disk*
+  cp -r "$1"/disk* .
+}
+
+# failed NAME FOUND: ends the check.
+failed() {
+  printf 'FAILED %s: %s\n' "$1" "$2"
+  exit 1
+}
+
+# expect NAME STATUS TEXT WORD..: a run of the program with these words. INPUT is its standard input.
 expect() {
-  name=$1 status=$2 text=$3
+  local name=$1 status=$2 text=$3 found found_status=0
   shift 3
-  found_status=0
-  found=$("$RAIDZX" "$@" </dev/null) || found_status=$?
+  found=$("$RAIDZX" "$@" <"${INPUT:-/dev/null}") || found_status=$?
   if [ "$found_status" != "$status" ] || [ "$found" != "$text" ]; then
-    printf 'FAILED %s: status %s, text: %s\n' "$name" "$found_status" "$found"
-    exit 1
+    failed "$name" "status $found_status, text: $found"
   fi
   printf 'ok %s\n' "$name"
 }
 
+# calls CALL..: a script in which one client makes these calls.
+calls() {
+  printf 'clients 1\n'
+  [ $# = 0 ] || printf 'a %s\n' "$@"
+}
+
+# runs NAME STATUS TEXT CALL..: a script of these calls is run on the images.
+runs() {
+  local name=$1 status=$2 text=$3
+  shift 3
+  calls "$@" >script
+  INPUT=script expect "$name" "$status" "$text" "${IMAGES[@]}" -- run
+}
+
 # same NAME FILE FILE
 same() {
-  cmp -s "$2" "$3" || { printf 'FAILED %s\n' "$1"; exit 1; }
+  cmp -s "$2" "$3" || failed "$1" "$2 differs from $3"
   printf 'ok %s\n' "$1"
+}
+
+# unchanged NAME FOLDER [IMAGE..]: these images, else all, stand as they were copied.
+unchanged() {
+  local name=$1 folder=$2 image
+  shift 2
+  for image in "${@:-${IMAGES[@]}}"; do
+    cmp -s "$image" "$folder/$image" || failed "$name" "$image has changed"
+  done
+  printf 'ok %s\n' "$name"
+}
+
+# pattern LEN SEED: the bytes that `put ID LEN SEED` stores.
+pattern() {
+  local at
+  printf "$(for ((at = 0; at < $1; at++)); do printf '\\x%02x' $((($2 + 7 * at + at / 256) % 256)); done)"
+}
+
+# answers: of a journal's text the answers to `get` and `sum`, without their places in the journal.
+answers() {
+  sed -n 's/^[0-9]* [a-h]\.[0-9]* \(get\|sum\) \([0-9]*\)\( at [0-9]*\)\?/\1 \2/p'
 }
