@@ -1,0 +1,50 @@
+#!/usr/bin/env bash
+# A run is stopped at each of its writes and syncs: the next run finds the last group that was synced, or a later one.
+for tool in strace python3; do
+  command -v $tool >/dev/null || { echo "ok stops are passed over: there is no $tool"; exit 0; }
+done
+strace -o /dev/null true 2>/dev/null || { echo 'ok stops are passed over: strace may not trace here'; exit 0; }
+TESTS=$(cd "$(dirname "$0")" && pwd)
+[ ! -w /dev/shm ] || export TMPDIR=/dev/shm # many short runs: files in memory will do
+. "$TESTS/build.sh"
+
+calls 'sum 7' 'sum 8' >reads
+block() { echo "sum $1 length $2 sha $(pattern "$2" "$3" | sha256sum | cut -c 1-64)"; }
+printf 'sum 7 absent\nsum 8 absent\n' >none
+{ block 7 3 5; echo 'sum 8 absent'; } >one
+{ block 7 600 2; block 8 70 1; } >two
+{ echo 'sum 7 absent'; block 8 1500 3; } >three
+
+# stops NAME GROUP=FILE..: traces the run of `script` on the images, and stops it at each call.
+stops() {
+  local name=$1 found
+  shift
+  keep start
+  strace -f -y -xx -s 512 -e trace=pwrite64,pwritev,pwritev2,fdatasync,fsync,sync_file_range,ftruncate,fallocate \
+    -o trace "$RAIDZX" disk0 disk1 disk2 -- run <script >/dev/null
+  keep end
+  rm -rf stop
+  mkdir stop
+  mv trace start end stop
+  cp reads stop
+  found=$(python3 "$TESTS/stops.py" "$RAIDZX" stop "$@") || { echo "$found"; exit 1; }
+  printf 'ok %s: %s\n' "$name" "$found"
+}
+
+pool 1 3 256
+calls 'put 7 3 5' sync 'put 7 600 2' 'put 8 70 1' sync >script
+stops 'the first run of a pool' 1=none 3=none 4=one 5=two
+
+# The uberblock of group 5 stands on disk0 alone, as a stop may leave it: the opening copies it first.
+for device in 1 2; do dd if=/dev/zero of=disk$device bs=512 seek=5 count=1 conv=notrunc status=none; done
+keep torn
+calls 'free 7' 'put 8 1500 3' sync >script
+stops 'a run on what a stop has left' 4=one 5=two 6=one 7=two 8=three
+
+back torn
+rm disk1
+stops 'a run without an image' 4=one 5=two 6=one 7=two 8=three
+
+back torn
+rm disk0
+stops 'a run without the image of the newest group' 4=one 6=one 7=three
