@@ -128,6 +128,8 @@ for device, offset, data in [(None, None, None), *calls()]:
             del stopped[gone]
             look(stopped, min(ended.values()), max(begun.values()), f'{name}, and without disk{gone}')
     count += 1
+if loose:
+    fail('writes that are never synced: ' + ' '.join(f'disk{device} {offset}' for device, offset, _ in loose))
 if written != images(folder / 'end'):
     fail('the calls give the images that the run has left')
 print(f'{count} stops, {opened} images')

@@ -1,0 +1,78 @@
+#!/usr/bin/env bash
+# The system calls of a run, one by one: each image is opened once, and read, written and synced by whole sectors.
+command -v strace >/dev/null || { echo 'ok calls are passed over: there is no strace'; exit 0; }
+strace -o /dev/null true 2>/dev/null || { echo 'ok calls are passed over: strace may not trace here'; exit 0; }
+. "$(dirname "$0")/build.sh"
+
+# traced CALL..: the calls on files of a run, as words: `read disk1 192` is a read of sector 192. A call that is
+# none of these, or not of 512 bytes at a multiple of 512, is left as it is, and is missed in the lists below.
+traced() {
+  calls "$@" >script
+  strace -f -y -s 0 -e trace=%desc -o trace "$RAIDZX" disk0 disk1 disk2 -- run <script >text
+  sed -nE -e 's/^[0-9]+ +//' \
+    -e 's/^openat\(.*"(disk.)", O_RDWR\|O_NOCTTY\|O_CLOEXEC\) = .*/open \1/' \
+    -e 's/^flock\(.*(disk.)>, LOCK_EX\|LOCK_NB\) += 0$/lock \1/' \
+    -e 's/^(statx|fstat|newfstatat)\([0-9]*<[^>]*(disk.)>.*/look \2/' \
+    -e 's/^(fdatasync|close)\(.*(disk.)>\) += 0$/\1 \2/' \
+    -e 's/^p(read|write)64\(.*(disk.)>, ""..., 512, ([0-9]*)\) += 512$/\1 \2 \3/' \
+    -e 's/^write\(1<.*, ""..., ([0-9]+)\) = ([0-9]+)$/answer \1 \2/' \
+    -e '/disk/p' -e '/^answer/p' trace |
+    awk '$1 ~ /^(read|write)$/ && $3 % 512 == 0 { $3 /= 512 } { print }'
+}
+# each WORD [SECTOR]: a call on each image, in order.
+each() { for number in 0 1 2; do echo "$1 disk$number${2:+ $2}"; done; }
+begin() {
+  for number in 0 1 2; do printf '%s disk'$number'\n' open lock look; done
+  for number in 0 1 2; do printf 'read disk'$number' %s\n' $(seq 0 31); done
+}
+# group SLOT [SECTOR..]: a commit, with its index sectors: page, sync, uberblock, sync.
+group() {
+  for number in 0 1 2; do
+    for sector in "${@:2}"; do echo "write disk$number $sector"; done
+  done
+  each fdatasync
+  each write "$1"
+  each fdatasync
+}
+
+pool 1 3 256
+traced 'put 7 3 5' 'get 7' sync >found
+{
+  begin
+  group 3 # the opening
+  printf '%s\n' 'write disk0 192' 'write disk1 192'
+  echo 'read disk1 192'
+  group 4 64
+  echo "answer $(wc -c <text) $(wc -c <text)"
+  each close
+} >wanted
+same 'the calls of a first run' found wanted
+traced 'get 7' >found
+{
+  begin
+  echo 'read disk0 64' # the page of the chosen group, and then on which images it stands
+  each read 64
+  group 6
+  echo 'read disk1 192'
+  echo "answer $(wc -c <text) $(wc -c <text)"
+  each close
+} >wanted
+same 'the calls of a later run' found wanted
+
+# Many blocks, each of 4 rows of 2 content columns: the number of calls, and answers in large pieces.
+pool 1 3 1024
+many=()
+for id in $(seq 100); do many+=("put $id 4000 $id"); done
+many+=(sync)
+for id in $(seq 100); do many+=("get $id"); done
+traced "${many[@]}" >found
+grep -c 'sync' <found >counts
+for word in write read; do grep -c "^$word" found >>counts; done
+grep -vcE '^((write|read) disk[012] [0-9]+|(open|lock|look|fdatasync|close) disk[012]|answer .*)$' found >>counts || true
+# Syncs: 6 of the opening, 6 of the sync. Writes: 3 uberblocks, 1,200 columns, 3 pages of 13 sectors, 3 uberblocks.
+# Reads: 96 slots, 800 columns.
+printf '%s\n' 12 $((3 + 1200 + 39 + 3)) $((96 + 800)) 0 >wanted
+same 'the number of calls' counts wanted
+grep '^answer' found | awk 'last != "" && last < 4096 { exit 1 } $2 != $3 { exit 1 } { last = $2; sum += $3 } END { print sum }' >sum
+wc -c <text | tr -d ' ' >wanted
+same 'answers go out in pieces of 4 KiB and more' sum wanted
