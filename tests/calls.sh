@@ -68,11 +68,12 @@ for id in $(seq 100); do many+=("get $id"); done
 traced "${many[@]}" >found
 grep -c 'sync' <found >counts
 for word in write read; do grep -c "^$word" found >>counts; done
-grep -vcE '^((write|read) disk[012] [0-9]+|(open|lock|look|fdatasync|close) disk[012]|answer .*)$' found >>counts || true
+grep -vcE '^((write|read) disk. [0-9]+|(open|lock|look|fdatasync|close) disk.|answer .*)$' found >>counts || true
 # Syncs: 6 of the opening, 6 of the sync. Writes: 3 uberblocks, 1,200 columns, 3 pages of 13 sectors, 3 uberblocks.
 # Reads: 96 slots, 800 columns.
 printf '%s\n' 12 $((3 + 1200 + 39 + 3)) $((96 + 800)) 0 >wanted
 same 'the number of calls' counts wanted
-grep '^answer' found | awk 'last != "" && last < 4096 { exit 1 } $2 != $3 { exit 1 } { last = $2; sum += $3 } END { print sum }' >sum
+grep '^answer' found |
+  awk 'last != "" && last < 4096 || $2 != $3 { exit } { last = $2; sum += $3 } END { print sum }' >sum
 wc -c <text | tr -d ' ' >wanted
 same 'answers go out in pieces of 4 KiB and more' sum wanted
