@@ -21,6 +21,7 @@ candidate_kept setting first later image device uber entries keeps none above ca
     let held : IsKept setting image (first ∷ later) uber = keeps.only device uber above candidate.shows candidate.pool_is in (
       held,
       sym candidate.gives.page.page ∙ none.page held.kept device candidate.giver uber held.listed candidate.shows
+          candidate.gives.device_in
           (ap (λ (u : Uber). u.group) held.alike) candidate.gives.digest,
     )
 
