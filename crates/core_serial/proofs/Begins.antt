@@ -192,8 +192,8 @@ module _ (setting : Setting) (first : Kept) (later : List Kept) (uber : Uber) (e
   }
 
 -- Where memory was wanting for the index alone, all is kept as the opening left it.
-pub memory_cuts : (result : Result OpenedPool OpenWhy) (uber : Uber) (entries : List IndexEntry) (silent out : ℕ) (old new : Disk)
-    → HaveFailed old new silent → AreOutOf old new uber out → count_of out ≤ uber.parity
+pub memory_cuts : (result : Result OpenedPool OpenWhy) (uber : Uber) (entries : List IndexEntry) (silent out : ℕ)
+    (old new : Disk) → HaveFailed old new silent → AreOutOf old new uber out → count_of out ≤ uber.parity
     → IsOpenedWith uber entries silent out old new → OpeningKeeps silent uber.out old new
     → IfErr result (λ why. CutsOpening old new)
 memory_cuts (Ok opened) uber entries silent out old new failed outs few kept keeps = tt
