@@ -8,3 +8,6 @@ pub mod Syncs
 pub mod LookUps
 pub mod Frees
 pub mod Begins
+pub mod Framing
+pub mod Reopened
+pub mod Made

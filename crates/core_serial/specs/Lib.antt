@@ -5,3 +5,4 @@ pub mod Syncing
 pub mod Putting
 pub mod Getting
 pub mod Opening
+pub mod Stopped

@@ -1,0 +1,49 @@
+-- A bank that holds what a stop left may be opened again.
+use Rattle.std.proofs.Common.{◌≡◌, ℕ, List, [], ◌∷◌, Option, Some, refl, sym, subst}
+use Rattle.std.specs.Prelude.{Contains, IsSome}
+use Rattle.bank_trait.specs.Disk.{Image, Disk}
+use Rattle.bank_trait.specs.Regions.{Tells}
+use Rattle.reconstruct.specs.Lost.{AreBytes}
+use Rattle.core_state.specs.Shown.{Shape}
+use Rattle.core_state.specs.Keeps.{Kept, Setting, Keeps}
+use Rattle.core_state.specs.Collision.{BankKeeps, HasNoOtherPage}
+use Rattle.core_open.specs.Holds.{HoldsImage, shape_of}
+use Rattle.core_serial.specs.Opening.{MayBegin}
+use Rattle.core_serial.specs.Stopped.{SameOn, IsImageOf, HoldsAlone}
+use Rattle.core_serial.proofs.Framing.{same_back, keeps_same}
+
+-- A bank that holds an image tells what it holds.
+alone_tells : (disk : Disk) (image : Image) → HoldsAlone disk image → Tells disk
+alone_tells disk image alone = λ device device_sector inside below.
+    subst (λ (o : Option (List ℕ)). IsSome o) (sym (alone.holds.each device device_sector inside below)) refl
+
+-- Where a bank holds an image of its own alone, it keeps what the image keeps.
+pub alone_keeps : (setting : Setting) (first : Kept) (later : List Kept) (disk : Disk) (image : Image)
+    → setting.shape ≡ shape_of disk → HoldsAlone disk image → IsImageOf setting.shape image
+    → Keeps setting first later image → BankKeeps setting first later disk
+alone_keeps setting first later disk image shape alone only keeps left might =
+    keeps_same setting first later image left
+    (same_back (subst (λ (s : Shape). SameOn s left image) (sym shape) (alone.leaves left might.fits))) only keeps
+
+-- A bank that holds alone what a stop left, where that keeps groups of one width with bytes in their maps, may be
+-- opened again.
+pub stopped_begins : (setting : Setting) (first : Kept) (later : List Kept) (disk : Disk) (image : Image)
+    → setting.shape ≡ shape_of disk → setting.odd ≡ [] → HoldsAlone disk image → IsImageOf setting.shape image
+    → Keeps setting first later image
+    → ((held : Image) → HoldsImage disk held → HasNoOtherPage setting.shape (first ∷ later) held)
+    → ((kept : Kept) → Contains (first ∷ later) kept
+    → (kept.uber.reflow.to ≡ first.uber.reflow.to) × (kept.uber.parity ≡ first.uber.parity))
+    → ((kept : Kept) (id : ℕ) (content : List ℕ) → Contains (first ∷ later) kept → kept.map id ≡ Some content
+    → AreBytes content)
+    → MayBegin setting first later disk
+stopped_begins setting first later disk image shape odd alone only keeps pages width bytes = record {
+  may = record {
+    keeps = alone_keeps setting first later disk image shape alone only keeps;
+    shape = shape;
+    tells = alone_tells disk image alone;
+    pages = pages;
+    width = width;
+  };
+  odd = odd;
+  bytes = bytes;
+}
