@@ -8,3 +8,5 @@ pub mod GrownGroups
 pub mod GrownRun
 pub mod Moments
 pub mod Stepping
+pub mod RunBytes
+pub mod Reopening

@@ -2,3 +2,4 @@ pub mod Steps
 pub mod Moments
 pub mod Running
 pub mod WholeRun
+pub mod Reopened
