@@ -21,7 +21,8 @@ pub record MayFail (setting : Setting) (width silent borne : ℕ) : Type 0 where
   pub silent_in : IsWithinBelow width silent setting.failed
   pub borne_in : IsWithin borne setting.failed
 
--- A script was carried out on a bank that kept these groups, and no devices failed but those that may.
+-- A script was carried out on a bank that kept these groups, and the devices that were silent or have to be borne
+-- may fail.
 pub record HasRunOn (setting : Setting) (first : Kept) (later : List Kept) (script : Script) (old new : Disk)
     (items : List Item) (out : ℕ) : Type 0 where
   pub run : HasRun script old new items out
@@ -81,8 +82,8 @@ pub record ReadsBack (setting : Setting) (groups : List Kept) (script : Script) 
   pub sound : (index : ℕ) (entry : Entry) → CallAt items index entry
       → entry.answer ≢ answer.Damaged
 
--- The image is read back as one of these groups, by each run over a bank that holds it alone in which no devices
--- fail but those that may.
+-- The image is read back as one of these groups by each run over a bank that holds it alone, where the devices that
+-- were silent or have to be borne may fail.
 pub record IsReadBack (setting : Setting) (width : ℕ) (groups : List Kept) (image : Image) : Type 0 where
   pub each : (script : Script) (old new : Disk) (items : List Item) (out : ℕ)
       → IsLeftOn setting groups image old → All (λ placed. IsAllowed placed.call) script.calls
