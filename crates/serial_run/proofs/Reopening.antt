@@ -41,11 +41,22 @@ read_back : (setting : Setting) (groups : List Kept) (opened first : Kept) (late
     → HaveWidthOf opened groups → HaveBytes groups
     → IsReadBack setting opened.uber.reflow.to groups image
 read_back setting groups opened first later image odd only keeps among width bytes = record {
+  opened = λ disk left. record { first = first; later = later; among = among; may = may disk left };
   each = λ script old new items out left allowed run failures. reads script old new items out left allowed run failures;
 }
   where
     here : Contains groups first
     here = among first (0, omega arith, refl)
+
+    may : (disk : Disk) → IsLeftOn setting groups image disk → MayBegin setting first later disk
+    may disk left = stopped_begins setting first later disk image left.shape odd left.alone only keeps
+        (λ held holds. record {
+          page = λ one shower giver uber listed.
+              (left.pages held holds).page one shower giver uber (among one listed);
+        })
+        (λ one listed. let its = width.each one (among one listed) in let firsts = width.each first here in
+        (its.0 ∙ sym firsts.0, its.1 ∙ sym firsts.1))
+        (λ one id content listed. bytes one (among one listed) id content)
 
     reads : (script : Script) (old new : Disk) (items : List Item) (out : ℕ) → IsLeftOn setting groups image old
         → All (λ placed. IsAllowed placed.call) script.calls → (run : HasRun script old new items out)
@@ -62,21 +73,11 @@ read_back setting groups opened first later image odd only keeps among width byt
       sound = kept.sound;
     }
       where
-        may : MayBegin setting first later old
-        may = stopped_begins setting first later old image left.shape odd left.alone only keeps
-            (λ held holds. record {
-              page = λ one shower giver uber listed.
-                  (left.pages held holds).page one shower giver uber (among one listed);
-            })
-            (λ one listed. let its = width.each one (among one listed) in let firsts = width.each first here in
-            (its.0 ∙ sym firsts.0, its.1 ∙ sym firsts.1))
-            (λ one id content listed. bytes one (among one listed) id content)
-
         on : HasRunOn setting first later script old new items out
         on = record {
           run = run;
           allowed = allowed;
-          may = may;
+          may = may old left;
           failures = record {
             silent_in = λ device below. failures.silent_in device
                 (let same = (width.each first here).0 in omega (arith, below, same));

@@ -68,6 +68,13 @@ pub record IsLeftOn (setting : Setting) (groups : List Kept) (image : Image) (di
   pub alone : HoldsAlone disk image
   pub pages : (held : Image) → HoldsImage disk held → HasNoOtherPage setting.shape groups held
 
+-- The bank kept some of these groups, with which a pool may be opened.
+pub record MayBeginAmong (setting : Setting) (groups : List Kept) (disk : Disk) : Type 0 where
+  pub first : Kept
+  pub later : List Kept
+  pub among : (kept : Kept) → Contains (first ∷ later) kept → Contains groups kept
+  pub may : MayBegin setting first later disk
+
 -- A run went on from some of these groups, which the bank kept, and began with one of them: its journal is legal
 -- for its script from that group's map on, and no read in it is told as damaged.
 pub record ReadsBack (setting : Setting) (groups : List Kept) (script : Script) (old new : Disk)
@@ -82,9 +89,10 @@ pub record ReadsBack (setting : Setting) (groups : List Kept) (script : Script) 
   pub sound : (index : ℕ) (entry : Entry) → CallAt items index entry
       → entry.answer ≢ answer.Damaged
 
--- The image is read back as one of these groups by each run over a bank that holds it alone, where the devices that
--- were silent or have to be borne may fail.
+-- A bank that holds the image alone may be opened with some of these groups, and each run over it reads back one of
+-- them, where the devices that were silent or have to be borne may fail.
 pub record IsReadBack (setting : Setting) (width : ℕ) (groups : List Kept) (image : Image) : Type 0 where
+  pub opened : (disk : Disk) → IsLeftOn setting groups image disk → MayBeginAmong setting groups disk
   pub each : (script : Script) (old new : Disk) (items : List Item) (out : ℕ)
       → IsLeftOn setting groups image old → All (λ placed. IsAllowed placed.call) script.calls
       → (run : HasRun script old new items out) → MayFail setting width run.silent run.borne
