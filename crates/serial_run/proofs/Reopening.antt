@@ -85,12 +85,12 @@ read_back setting groups opened first later image odd only keeps among width byt
           };
         }
 
-        kept : RunKeeps script setting first later old new items run.borne out
+        kept : RunKeeps script setting first later old new items run.parity
         kept = kept_by on
 
 module _ (setting : Setting) (first : Kept) (later : List Kept) (script : Script) (old new : Disk)
     (items : List Item) (out : ℕ) (on : HasRunOn setting first later script old new items out) where
-  abbrev keeps : RunKeeps script setting first later old new items on.run.borne out
+  abbrev keeps : RunKeeps script setting first later old new items on.run.parity
   keeps = kept_by on
 
   hands : HandsBytes (handed_by script) items

@@ -34,7 +34,7 @@ pub record HasRunOn (setting : Setting) (first : Kept) (later : List Kept) (scri
 abbrev pub kept_by : {setting : Setting} → {first : Kept} → {later : List Kept} → {script : Script}
     → {old new : Disk} → {items : List Item} → {out : ℕ}
     → (on : HasRunOn setting first later script old new items out)
-    → RunKeeps script setting first later old new items on.run.borne out
+    → RunKeeps script setting first later old new items on.run.parity
 kept_by {setting = setting} {first = first} {later = later} on =
     on.run.keeps setting first later on.may on.failures.silent_in on.failures.borne_in
 
