@@ -19,6 +19,7 @@ use Rattle.core_state.specs.Shown.{Shape, Shows, Gives, IsCandidate, page_on, se
 use Rattle.core_state.specs.Choosing.{Names}
 use Rattle.core_state.specs.Whole.{Cell, IsCellOf, known_of}
 use Rattle.core_state.specs.Keeps.{Kept, Setting, Keeps, IsKept, NamesOther, ShowsGroup}
+use Rattle.core_state.specs.Collision.{HasNoOtherPage}
 use Rattle.core_state.proofs.Listed.{contains_head}
 use Rattle.core_state.proofs.Reader.{shown_alike}
 use Rattle.core_serial.specs.Stopped.{SameOn, IsImageOf}
@@ -63,7 +64,7 @@ sectors_on shape one other device first (suc more) same inside below =
     (sectors_on shape one other device (first + 1) more same inside (omega (arith, below)))
 
 -- A right uberblock's index page stands below the data rows.
-pub page_on_same : (shape : Shape) (one other : Image) (device : ℕ) (uber : Uber) → SameOn shape one other
+page_on_same : (shape : Shape) (one other : Image) (device : ℕ) (uber : Uber) → SameOn shape one other
     → device < shape.devices → 192 ≤ shape.sectors → uber.area ≤ 1 → uber.count ≤ 512
     → page_on one uber device ≡ page_on other uber device
 unfolding page_on
@@ -121,7 +122,7 @@ module _ (setting : Setting) (first : Kept) (later : List Kept) (one other : Ima
     (same : SameOn setting.shape one other) (only : IsImageOf setting.shape one)
     (keeps : Keeps setting first later one) where
   -- The index areas are on the bank.
-  pub areas_in : 192 ≤ setting.shape.sectors
+  areas_in : 192 ≤ setting.shape.sectors
   areas_in = let room = keeps.there.shown.2.room in omega (arith, room)
 
   -- What an image of the bank has of a cell is on the bank.
@@ -175,6 +176,18 @@ module _ (setting : Setting) (first : Kept) (later : List Kept) (one other : Ima
       let count = ap (λ (u : Uber). u.count) first_alike in
       gives_on setting.shape one other first.uber first.entries device same areas_in
       (let low = right.area in omega (arith, low, area)) (let low = right.count in omega (arith, low, count)) gives
+
+  -- The pages that are read are the same, and so none is another's by chance.
+  pub pages_same : (groups : List Kept) → HasNoOtherPage setting.shape groups one
+      → HasNoOtherPage setting.shape groups other
+  pages_same groups pages = record {
+    page = λ kept shower giver uber listed shows inside group digest.
+        let right = shows.valid.right in
+        let page : page_on one uber giver ≡ page_on other uber giver =
+        page_on_same setting.shape one other giver uber same (omega (arith, inside)) areas_in right.area right.count in
+        sym page ∙ pages.page kept shower giver uber listed
+        (shows_on setting.shape other one shower uber (same_back same) shows) inside group (ap sha256 page ∙ digest);
+  }
 
   names_other : (pool device : ℕ) → NamesOther setting first other pool device
       → NamesOther setting first one pool device

@@ -1,5 +1,5 @@
 -- A bank that holds what a stop left may be opened again.
-use Rattle.std.proofs.Common.{◌≡◌, ℕ, List, [], ◌∷◌, Option, Some, refl, sym, subst}
+use Rattle.std.proofs.Common.{◌≡◌, ℕ, List, [], ◌∷◌, Option, Some, refl, sym, ◌∙◌, subst}
 use Rattle.std.specs.Prelude.{Contains, IsSome}
 use Rattle.bank_trait.specs.Disk.{Image, Disk}
 use Rattle.bank_trait.specs.Regions.{Tells}
@@ -10,12 +10,23 @@ use Rattle.core_state.specs.Collision.{BankKeeps, HasNoOtherPage}
 use Rattle.core_open.specs.Holds.{HoldsImage, shape_of}
 use Rattle.core_serial.specs.Opening.{MayBegin}
 use Rattle.core_serial.specs.Stopped.{SameOn, IsImageOf, HoldsAlone}
-use Rattle.core_serial.proofs.Framing.{same_back, keeps_same}
+use Rattle.core_serial.proofs.Framing.{same_back, keeps_same, pages_same}
 
 -- A bank that holds an image tells what it holds.
 alone_tells : (disk : Disk) (image : Image) → HoldsAlone disk image → Tells disk
 alone_tells disk image alone = λ device device_sector inside below.
     subst (λ (o : Option (List ℕ)). IsSome o) (sym (alone.holds.each device device_sector inside below)) refl
+
+-- Two images that a bank holds are the same on its sectors.
+held_same : (disk : Disk) (one other : Image) → HoldsImage disk one → HoldsImage disk other
+    → SameOn (shape_of disk) one other
+held_same disk one other first second = record {
+  at = λ device device_sector inside below. given (sym (first.each device device_sector inside below)
+      ∙ second.each device device_sector inside below);
+}
+  where
+    given : {b c : List ℕ} → Some b ≡ Some c → b ≡ c
+    given is = cc
 
 -- Where a bank holds an image of its own alone, it keeps what the image keeps.
 pub alone_keeps : (setting : Setting) (first : Kept) (later : List Kept) (disk : Disk) (image : Image)
@@ -30,7 +41,7 @@ alone_keeps setting first later disk image shape alone only keeps left might =
 pub stopped_begins : (setting : Setting) (first : Kept) (later : List Kept) (disk : Disk) (image : Image)
     → setting.shape ≡ shape_of disk → setting.odd ≡ [] → HoldsAlone disk image → IsImageOf setting.shape image
     → Keeps setting first later image
-    → ((held : Image) → HoldsImage disk held → HasNoOtherPage setting.shape (first ∷ later) held)
+    → HasNoOtherPage setting.shape (first ∷ later) image
     → ((kept : Kept) → Contains (first ∷ later) kept
     → (kept.uber.reflow.to ≡ first.uber.reflow.to) × (kept.uber.parity ≡ first.uber.parity))
     → ((kept : Kept) (id : ℕ) (content : List ℕ) → Contains (first ∷ later) kept → kept.map id ≡ Some content
@@ -41,7 +52,9 @@ stopped_begins setting first later disk image shape odd alone only keeps pages w
     keeps = alone_keeps setting first later disk image shape alone only keeps;
     shape = shape;
     tells = alone_tells disk image alone;
-    pages = pages;
+    pages = λ held holds. pages_same setting first later image held
+        (subst (λ (s : Shape). SameOn s image held) (sym shape) (held_same disk image held alone.holds holds))
+        only keeps (first ∷ later) pages;
     width = width;
   };
   odd = odd;

@@ -50,10 +50,7 @@ read_back setting groups opened first later image odd only keeps among width byt
 
     may : (disk : Disk) → IsLeftOn setting groups image disk → MayBegin setting first later disk
     may disk left = stopped_begins setting first later disk image left.shape odd left.alone only keeps
-        (λ held holds. record {
-          page = λ one shower giver uber listed.
-              (left.pages held holds).page one shower giver uber (among one listed);
-        })
+        (record { page = λ one shower giver uber listed. left.pages.page one shower giver uber (among one listed) })
         (λ one listed. let its = width.each one (among one listed) in let firsts = width.each first here in
         (its.0 ∙ sym firsts.0, its.1 ∙ sym firsts.1))
         (λ one id content listed. bytes one (among one listed) id content)

@@ -9,7 +9,7 @@ use Rattle.core_state.specs.Legal.{CallAt}
 use Rattle.core_state.specs.Journal.{IsLegalJournal}
 use Rattle.core_state.specs.Keeps.{Kept, Setting}
 use Rattle.core_state.specs.Collision.{MightStand, HasNoOtherPage}
-use Rattle.core_open.specs.Holds.{HoldsImage, shape_of}
+use Rattle.core_open.specs.Holds.{shape_of}
 use Rattle.core_open.specs.Opens.{IsWithinBelow}
 use Rattle.client_script.specs.Script.{Script, IsAllowed, asked_by, handed_by}
 use Rattle.core_serial.specs.Opening.{MayBegin}
@@ -61,12 +61,12 @@ pub record IsLeft (setting : Setting) (disk : Disk) (moment : ℕ) (image : Imag
   pub might : MightStand setting.shape disk moment image
   pub only : IsImageOf setting.shape image
 
--- The bank has the setting's shape and holds the image alone, and no page that it holds is by chance one of these
+-- The bank has the setting's shape and holds the image alone, and no page in that is by chance one of these
 -- groups'.
 pub record IsLeftOn (setting : Setting) (groups : List Kept) (image : Image) (disk : Disk) : Type 0 where
   pub shape : setting.shape ≡ shape_of disk
   pub alone : HoldsAlone disk image
-  pub pages : (held : Image) → HoldsImage disk held → HasNoOtherPage setting.shape groups held
+  pub pages : HasNoOtherPage setting.shape groups image
 
 -- The bank kept some of these groups, with which a pool may be opened.
 pub record MayBeginAmong (setting : Setting) (groups : List Kept) (disk : Disk) : Type 0 where
