@@ -95,7 +95,7 @@ use 'the next use builds again' yes "$repository/raidzx"
 rm -r "$sources/out"
 # A folder with the commands that the door uses, and without rt.
 mkdir plain
-for command in bash env nproc mkdir tail mv readlink; do ln -s "$(PATH=$path command -v "$command")" "plain/$command"; done
+for command in bash env nproc mkdir mv readlink; do ln -s "$(PATH=$path command -v "$command")" "plain/$command"; done
 PATH=$WORK/plain
 refuse 'without rt there is no build'
 PATH=$path
