@@ -212,7 +212,7 @@ module _ (setting : Setting) (last : Kept) (map : Map) (before : State) (is : Is
         → EndsGroup setting last map before after
     ends_group value keeps stay within kept = record {
       next = next;
-      is = record { number = refl; widths = refl; map_is = refl };
+      is = record { number = refl; widths = refl; parity = refl; map_is = refl };
       stands = record {
         knows = keeps.done (begun []) (may_commit []) within;
         alike = ap (λ (u : Uber). record u { out = 0 }) uber_is;
@@ -238,7 +238,7 @@ module _ (setting : Setting) (last : Kept) (map : Map) (before : State) (is : Is
       one = omega arith;
       is = λ kept has. ⊎_elim
           (λ same. subst (λ (k : Kept). IsOpenGroup map before.pool k) (sym same)
-          (record { number = refl; widths = refl; map_is = refl }))
+          (record { number = refl; widths = refl; parity = refl; map_is = refl }))
           (λ none. absurd (contains_none kept none)) (contains_cases next [] kept has);
       stands = record {
         knows = keeps.cut (begun []) (may_commit []) within;

@@ -24,10 +24,11 @@ next_uber uber count digest out = record uber {
   out = out;
 }
 
--- The group is the pool's open one, with this map.
+-- The group is the pool's open one, with its widths and parity, and this map.
 pub record IsOpenGroup (map : Map) (pool : Pool) (kept : Kept) : Type 0 where
   pub number : kept.uber.group ≡ open_group pool
   pub widths : kept.uber.reflow ≡ pool.uber.reflow
+  pub parity : kept.uber.parity ≡ pool.uber.parity
   pub map_is : kept.map ≡ map
 
 -- The open group is the last answered one from now on.
