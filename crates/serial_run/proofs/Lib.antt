@@ -7,6 +7,8 @@ pub mod GrownAnswers
 pub mod GrownGroups
 pub mod GrownRun
 pub mod Moments
+pub mod Rows
+pub mod Widths
 pub mod Stepping
 pub mod RunBytes
 pub mod Reopening

@@ -24,11 +24,12 @@ use Rattle.core_serial.specs.Standing.{Stands, GoesOn}
 use Rattle.core_serial.specs.Syncing.{EndsGroup, CutsGroup}
 use Rattle.serial_run.specs.Moments.{KeepsLast, KeepsUntil, KeepsItemByItem}
 use Rattle.serial_run.specs.Running.{Runs}
+use Rattle.serial_run.proofs.Rows.{last_row, row_among}
 use Rattle.serial_run.proofs.GrownGroups.{latest_grown_group}
 use Rattle.serial_run.proofs.GrownRun.{groups_begun}
 
 -- A list of one holds nothing else.
-contains_one : (only kept : Kept) → Contains (only ∷ []) kept → kept ≡ only
+pub contains_one : (only kept : Kept) → Contains (only ∷ []) kept → kept ≡ only
 contains_one only kept has = elim (contains_cases only [] kept has) [
   | inl same ↦ same
   | inr none ↦ absurd (contains_none kept none)
@@ -153,6 +154,12 @@ module _ (world : World) (origin : Disk) (old : List Item) (before : State) (run
     begun_is = begun_so_far;
     keeps = knows_keep world.setting runs.last runs.groups.begun before.disk runs.stands.knows;
   }
+
+  -- It is one of the run's, and so is the one begun after it.
+  pub now_among : (group : Kept) → Contains (kept_now.last ∷ kept_now.begun) group
+      → Contains (world.known ++ runs.groups.answered ++ runs.groups.begun) group
+  unfolding kept_now
+  now_among = row_among (last_row world origin old before runs)
 
   -- A call goes on from there.
   module _ (after : State) (later : Later before.disk after.disk) where

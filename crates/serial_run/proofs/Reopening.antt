@@ -2,7 +2,7 @@
 use Rattle.std.proofs.Common.{◌≡◌, ⊎_elim, ℕ, zero, suc, ◌≤◌, List, [], ◌∷◌, ◌++◌, refl, sym, ◌∙◌, subst, arith}
 use Rattle.std.specs.Prelude.{All, Contains}
 use Rattle.std.specs.List.{AllZip}
-use Rattle.std.proofs.lemmas.List.Elements.{Contains-append_left, Contains-append_right, Contains-append_cases}
+use Rattle.std.proofs.lemmas.List.Elements.{Contains-append_cases}
 use Rattle.bank_trait.specs.Disk.{Image, Disk}
 use Rattle.core_state.specs.declared.item.Group.{Group as GroupItem}
 use Rattle.core_state.specs.declared.item.Item.{Item}
@@ -15,7 +15,9 @@ use Rattle.core_serial.specs.Stopped.{IsImageOf}
 use Rattle.core_serial.proofs.Reopened.{stopped_begins}
 use Rattle.client_script.specs.Script.{Script, IsAllowed, handed_by}
 use Rattle.serial_run.specs.WholeRun.{RunKeeps, HasRun}
-use Rattle.serial_run.specs.Reopened.{HasRunOn, kept_by, groups_of, last_groups_of, HaveWidthOf, IsLeft, IsLeftOn, MayFail, ReadsBack, IsReadBack, SurvivesStops}
+use Rattle.serial_run.specs.Widths.{HaveWidthOf}
+use Rattle.serial_run.specs.Reopened.{HasRunOn, kept_by, groups_of, last_groups_of, IsLeft, IsLeftOn, MayFail, ReadsBack, IsReadBack, SurvivesStops}
+use Rattle.serial_run.proofs.Rows.{row_among}
 use Rattle.serial_run.proofs.RunBytes.{HoldsBytes, HandsBytes, after_bytes, script_hands}
 
 -- The groups have maps of bytes.
@@ -38,7 +40,7 @@ answered_is handed opening items (group ∷ groups) (one ∷ answered) kept each
 read_back : (setting : Setting) (groups : List Kept) (opened first : Kept) (later : List Kept) (image : Image)
     → setting.odd ≡ [] → IsImageOf setting.shape image → Keeps setting first later image
     → ((kept : Kept) → Contains (first ∷ later) kept → Contains groups kept)
-    → HaveWidthOf opened groups → HaveBytes groups
+    → HaveWidthOf opened.uber groups → HaveBytes groups
     → IsReadBack setting opened.uber.reflow.to groups image
 read_back setting groups opened first later image odd only keeps among width bytes = record {
   opened = λ disk left. record { first = first; later = later; among = among; may = may disk left };
@@ -129,20 +131,18 @@ module _ (setting : Setting) (first : Kept) (later : List Kept) (script : Script
       (contains_cases keeps.kept.last keeps.kept.begun kept listed)
 
   any_moment : (moment : ℕ) (image : Image) → old.clock ≤ moment → moment ≤ new.clock
-      → IsLeft setting new moment image → HaveWidthOf first (groups_of on)
+      → IsLeft setting new moment image
       → IsReadBack setting first.uber.reflow.to (groups_of on) image
-  any_moment moment image since until left width =
+  any_moment moment image since until left =
       let some = keeps.any_moment.since.each moment image since until left.might in
       read_back setting (groups_of on) first some.first some.later image on.may.odd left.only some.keeps
-      (λ kept listed. subst (λ (l : List Kept). Contains l kept) (sym some.row)
-      (Contains-append_left (some.before ++ some.first ∷ some.later) some.after kept
-      (Contains-append_right some.before (some.first ∷ some.later) kept listed)))
-      width all_bytes
+      (row_among (record { before = some.before; after = some.after; row = some.row })) keeps.widths all_bytes
 
-  at_end : (image : Image) → IsLeft setting new new.clock image → HaveWidthOf first (last_groups_of on)
+  at_end : (image : Image) → IsLeft setting new new.clock image
       → IsReadBack setting first.uber.reflow.to (last_groups_of on) image
-  at_end image left width = read_back setting (last_groups_of on) first keeps.kept.last keeps.kept.begun image
-      on.may.odd left.only (keeps.kept.keeps image left.might) (λ kept listed. listed) width last_bytes
+  at_end image left = read_back setting (last_groups_of on) first keeps.kept.last keeps.kept.begun image
+      on.may.odd left.only (keeps.kept.keeps image left.might) (λ kept listed. listed)
+      (record { each = λ kept has. keeps.widths.each kept (keeps.kept_among kept has) }) last_bytes
 
   -- A run survives a stop at any moment of it.
   pub survives_stops : SurvivesStops setting first later script old new items out on

@@ -1,7 +1,6 @@
 -- One call more, and what stood stands.
-use Rattle.std.proofs.Common.{◌≡◌, inl, inr, ℕ, ◌+◌, ◌<◌, ◌≤◌, List, [], ◌∷◌, ◌++◌, length, Option, Some, None, refl, sym, ◌∙◌, ap, subst, arith, append_assoc, length-append}
-use Rattle.std.proofs.lemmas.List.{append-nil}
-use Rattle.std.specs.Prelude.{◌≢◌, option_and_then}
+use Rattle.std.proofs.Common.{◌≡◌, inl, inr, ℕ, ◌+◌, ◌<◌, ◌≤◌, List, [], ◌∷◌, ◌++◌, length, Option, Some, None, refl, sym, ◌∙◌, ap, subst, arith, length-append}
+use Rattle.std.specs.Prelude.{◌≢◌, option_and_then, Contains}
 use Rattle.bank_trait.specs.Disk.{Disk}
 use Rattle.reflow_mark.specs.declared.reflow.Reflow.{Reflow}
 use Rattle.uberblock_ring.specs.Devices.{IsWithin, count_of}
@@ -18,20 +17,23 @@ use Rattle.core_state.specs.Map.{Map, Handed, map_of, map_after, map_after_answe
 use Rattle.core_state.specs.Legal.{CallAt, IsPrevious, IsGroupBefore, IsRightCall, IsRightRead, IsRightFree, IsReadOf, IsRightSync, IsAnsweredGroup, GroupAt}
 use Rattle.core_state.specs.Journal.{Follows, GroupsAreRight}
 use Rattle.core_state.specs.Keeps.{Kept}
-use Rattle.core_state.specs.Moment.{IsGroupOf, IsBegunAfter, IsRowOf, Groups, KeepsSince}
+use Rattle.core_state.specs.Moment.{IsGroupOf, IsBegunAfter, Groups, KeepsSince}
 use Rattle.core_state.specs.CoreState.{World}
 use Rattle.client_script.specs.declared.call.ScriptCall.{ScriptCall}
 use Rattle.client_script.specs.Lines.{fill_bytes}
 use Rattle.core_serial.specs.Pool.{State, HoldsMap, open_group}
 use Rattle.core_serial.specs.Standing.{Stands}
-use Rattle.core_serial.specs.Syncing.{IsOpenGroup, EndsGroup, CutsGroup}
+use Rattle.core_serial.specs.Syncing.{IsOpenGroup, EndsGroup, CutsGroup, LeavesPool}
 use Rattle.serial_run.specs.Steps.{IsCallOf, IsReadNow, IsRightNow, AnswersCall, EndsOpenGroup, CutsSync, open_item}
+use Rattle.serial_run.specs.Widths.{HaveWidthOf}
 use Rattle.serial_run.specs.Running.{Runs}
+use Rattle.serial_run.proofs.Rows.{at_last, ended_row, cut_row, last_row}
+use Rattle.serial_run.proofs.Widths.{widths_synced}
 use Rattle.serial_run.proofs.Grown.{grown_has, first_has, last_there, new_or_before, map_grown_call, map_grown_group, map_at_end, map_before, previous_below}
 use Rattle.serial_run.proofs.GrownAnswers.{answers_grown_call, answers_grown_group}
 use Rattle.serial_run.proofs.GrownGroups.{groups_grown_call, groups_grown_group, latest_grown_call, latest_grown_group, group_of_grown, after_listed}
 use Rattle.serial_run.proofs.GrownRun.{groups_call, groups_end, groups_cut}
-use Rattle.serial_run.proofs.Moments.{answer_listed, group_listed, cut_listed}
+use Rattle.serial_run.proofs.Moments.{contains_one, answer_listed, group_listed, cut_listed}
 
 -- A journal that has a group has an item.
 some_items : (items : List Item) (group : GroupItem) → IsGroupBefore items (length items) group → 0 < length items
@@ -76,33 +78,6 @@ right_at_end handed opening items entry kind.Sync some no_group right previous i
 right_at_end handed opening items entry kind.Attach some no_group right previous is = absurd right
 right_at_end handed opening items entry kind.Copy some no_group right previous is = absurd right
 right_at_end handed opening items entry kind.Scrub some no_group right previous is = absurd right
-
--- Where the last answered group stands among all groups.
-in_row : (known earlier begun : List Kept) (last : Kept)
-    → (known ++ (earlier ++ last ∷ [])) ++ begun ≡ ((known ++ earlier) ++ (last ∷ begun)) ++ []
-in_row known earlier begun last = simp (append_assoc, append-nil)
-
-at_last : (known earlier : List Kept) (last : Kept) → (known ++ (earlier ++ last ∷ [])) ++ [] ≡ (known ++ earlier) ++ last ∷ []
-at_last known earlier last = simp (append_assoc, append-nil)
-
--- The rows of groups that a sync leaves.
-two_at_last : (known earlier : List Kept) (last next : Kept)
-    → ((known ++ earlier) ++ last ∷ []) ++ next ∷ [] ≡ (known ++ ((earlier ++ last ∷ []) ++ next ∷ [])) ++ []
-two_at_last known earlier last next = simp (append_assoc, append-nil)
-
-ended_row : (known earlier answered all begun : List Kept) (last next : Kept) → answered ≡ earlier ++ last ∷ []
-    → all ≡ answered ++ next ∷ [] → begun ≡ []
-    → ((known ++ earlier) ++ last ∷ []) ++ next ∷ [] ≡ known ++ all ++ begun
-ended_row known earlier answered all begun last next answered_are all_is none =
-    two_at_last known earlier last next
-    ∙ (λ i. known ++ sym (all_is ∙ ap (λ (l : List Kept). l ++ next ∷ []) answered_are) i ++ sym none i)
-
-cut_row : (known earlier answered left begun : List Kept) (last : Kept) → answered ≡ earlier ++ last ∷ []
-    → begun ≡ left
-    → ((known ++ earlier) ++ last ∷ []) ++ left ≡ known ++ answered ++ begun
-cut_row known earlier answered left begun last answered_are same =
-    ap (λ (l : List Kept). l ++ left) (append_assoc known earlier (last ∷ []))
-    ∙ (λ i. known ++ sym answered_are i ++ sym same i)
 
 -- A group that stands just before a sync's entry, and was begun after all items before it, answers the sync.
 answers_group : (old : List Item) (item : GroupItem) (entry : Entry) (previous : ℕ) → 0 < length old
@@ -183,14 +158,6 @@ module _ (world : World) (origin : Disk) (call : ScriptCall) (old new : List Ite
   abbrev groups_so_far : List Kept
   groups_so_far = world.known ++ runs.groups.answered ++ runs.groups.begun
 
-  row : IsRowOf groups_so_far runs.last runs.groups.begun
-  row = record {
-    before = world.known ++ runs.earlier;
-    after = [];
-    row = ap (λ (l : List Kept). world.known ++ l ++ runs.groups.begun) runs.answered_are
-        ∙ in_row world.known runs.earlier runs.groups.begun runs.last;
-  }
-
   after_few : runs.item.after ≤ length old
   after_few =
       let few = after_listed old runs.in_order runs.latest.place runs.item runs.latest.there in
@@ -222,7 +189,11 @@ module _ (world : World) (origin : Disk) (call : ScriptCall) (old new : List Ite
             (answers.holds handed (map_of handed opening old) runs.stands.tells fill runs.holds);
         since = subst (λ (l : List Kept). KeepsSince world.setting l origin.clock after.disk)
             (λ i. world.known ++ sym grown.1 i ++ sym grown.2 i)
-            (answers.goes_on.since world.setting runs.last runs.groups.begun groups_so_far origin.clock runs.stands row runs.since);
+            (answers.goes_on.since world.setting runs.last runs.groups.begun groups_so_far origin.clock runs.stands
+            (last_row world origin old before runs) runs.since);
+        widths = subst (λ (uber : Uber). HaveWidthOf uber (world.known ++ grown.0.answered ++ grown.0.begun))
+            (sym answers.goes_on.uber) (subst (λ (l : List Kept). HaveWidthOf before.pool.uber l)
+            (λ i. world.known ++ sym grown.1 i ++ sym grown.2 i) runs.widths);
         no_older = answer_listed world origin old before runs after answers.goes_on.later entry answers.goes_on;
       })
 
@@ -234,11 +205,21 @@ module _ (world : World) (origin : Disk) (call : ScriptCall) (old new : List Ite
     stands_alone : Stands world.setting runs.last [] before
     stands_alone = subst (λ (begun : List Kept). Stands world.setting runs.last begun before) none_begun runs.stands
 
-    since_last : KeepsSince world.setting ((world.known ++ runs.earlier) ++ runs.last ∷ []) origin.clock before.disk
-    since_last = subst (λ (l : List Kept). KeepsSince world.setting l origin.clock before.disk)
-        (ap (λ (l : List Kept). world.known ++ runs.groups.answered ++ l) none_begun
+    last_at_end : groups_so_far ≡ (world.known ++ runs.earlier) ++ runs.last ∷ []
+    last_at_end = ap (λ (l : List Kept). world.known ++ runs.groups.answered ++ l) none_begun
         ∙ ap (λ (l : List Kept). world.known ++ l ++ []) runs.answered_are
-        ∙ at_last world.known runs.earlier runs.last) runs.since
+        ∙ at_last world.known runs.earlier runs.last
+
+    since_last : KeepsSince world.setting ((world.known ++ runs.earlier) ++ runs.last ∷ []) origin.clock before.disk
+    since_last = subst (λ (l : List Kept). KeepsSince world.setting l origin.clock before.disk) last_at_end runs.since
+
+    -- what a sync adds has the width and the parity of the groups so far
+    widths_with : (joined : List Kept) → LeavesPool before after
+        → ((kept : Kept) → Contains joined kept → IsOpenGroup (map_of handed opening old) before.pool kept)
+        → HaveWidthOf after.pool.uber (((world.known ++ runs.earlier) ++ runs.last ∷ []) ++ joined)
+    widths_with joined leaves is_open =
+        widths_synced ((world.known ++ runs.earlier) ++ runs.last ∷ []) joined leaves is_open
+        (subst (λ (l : List Kept). HaveWidthOf before.pool.uber l) last_at_end runs.widths)
 
     reflow_is : before.pool.uber.reflow ≡ runs.last.uber.reflow
     reflow_is = ap (λ (u : Uber). u.reflow) runs.stands.alike
@@ -324,6 +305,11 @@ module _ (world : World) (origin : Disk) (call : ScriptCall) (old new : List Ite
           (subst (IsRightSync (with_group ++ Call entry ∷ []) previous (length with_group)) (sym synced.answer_is)
           (answers_group old next_item entry previous (some_items old runs.item runs.latest) refl previous_is))
 
+      groups_after : ((world.known ++ runs.earlier) ++ runs.last ∷ []) ++ ends.next ∷ []
+          ≡ world.known ++ grown.0.answered ++ grown.0.begun
+      groups_after = ended_row world.known runs.earlier runs.groups.answered grown.0.answered grown.0.begun runs.last ends.next
+          runs.answered_are (grown.1 ∙ ended.1) (grown.2 ∙ ended.2)
+
       pub ended_runs : Runs world origin new after
       ended_runs = subst (λ (items : List Item). Runs world origin items after) (sym listed) (record {
         groups = grown.0;
@@ -342,10 +328,11 @@ module _ (world : World) (origin : Disk) (call : ScriptCall) (old new : List Ite
         stands = subst (λ (begun : List Kept). Stands world.setting ends.next begun after) (sym (grown.2 ∙ ended.2)) ends.stands;
         holds = subst (λ (map : Map). HoldsMap map after) (sym map_is)
             (synced.leaves.holds (map_of handed opening old) runs.holds);
-        since = subst (λ (l : List Kept). KeepsSince world.setting l origin.clock after.disk)
-            (ended_row world.known runs.earlier runs.groups.answered grown.0.answered grown.0.begun runs.last ends.next
-            runs.answered_are (grown.1 ∙ ended.1) (grown.2 ∙ ended.2))
+        since = subst (λ (l : List Kept). KeepsSince world.setting l origin.clock after.disk) groups_after
             (ends.since (world.known ++ runs.earlier) origin.clock since_last);
+        widths = subst (λ (l : List Kept). HaveWidthOf after.pool.uber l) groups_after
+            (widths_with (ends.next ∷ []) synced.leaves (λ kept has.
+            subst (IsOpenGroup (map_of handed opening old) before.pool) (sym (contains_one ends.next kept has)) ends.is));
         no_older = group_listed world origin old before runs after synced.leaves.later (map_of handed opening old) stands_alone
             entry next_item ends (open_begun ends.next ends.is) next_is;
       })
@@ -375,6 +362,11 @@ module _ (world : World) (origin : Disk) (call : ScriptCall) (old new : List Ite
           (sym cuts.asked)
           (subst (IsRightSync (old ++ Call entry ∷ []) previous (length old)) (sym cuts.answer_is) tt)
 
+      groups_left : ((world.known ++ runs.earlier) ++ runs.last ∷ []) ++ cut.begun
+          ≡ world.known ++ cut_grown.0.answered ++ cut_grown.0.begun
+      groups_left = cut_row world.known runs.earlier cut_grown.0.answered cut.begun cut_grown.0.begun runs.last
+          (cut_grown.1 ∙ stopped.1 ∙ runs.answered_are) (cut_grown.2 ∙ stopped.2)
+
       pub cut_runs : Runs world origin new after
       cut_runs = subst (λ (items : List Item). Runs world origin items after) (sym listed) (record {
         groups = cut_grown.0;
@@ -390,10 +382,10 @@ module _ (world : World) (origin : Disk) (call : ScriptCall) (old new : List Ite
         stands = subst (λ (begun : List Kept). Stands world.setting runs.last begun after) (sym (cut_grown.2 ∙ stopped.2)) cut.stands;
         holds = subst (λ (map : Map). HoldsMap map after) (sym cut_map_is)
             (cuts.leaves.holds (map_of handed opening old) runs.holds);
-        since = subst (λ (l : List Kept). KeepsSince world.setting l origin.clock after.disk)
-            (cut_row world.known runs.earlier cut_grown.0.answered cut.begun cut_grown.0.begun runs.last
-            (cut_grown.1 ∙ stopped.1 ∙ runs.answered_are) (cut_grown.2 ∙ stopped.2))
+        since = subst (λ (l : List Kept). KeepsSince world.setting l origin.clock after.disk) groups_left
             (cut.since (world.known ++ runs.earlier) origin.clock since_last);
+        widths = subst (λ (l : List Kept). HaveWidthOf after.pool.uber l) groups_left
+            (widths_with cut.begun cuts.leaves cut.is);
         no_older = cut_listed world origin old before runs after cuts.leaves.later (map_of handed opening old) stands_alone
             entry cut (λ kept has. open_begun kept (cut.is kept has));
       })

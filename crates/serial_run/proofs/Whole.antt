@@ -25,11 +25,13 @@ use Rattle.core_serial.specs.Opening.{MayBegin, Begins, IsBegunWith}
 use Rattle.core_serial.specs.Pool.{Pool, State, HoldsMap, state_of}
 use Rattle.core_serial.specs.Standing.{Stands}
 use Rattle.serial_run.specs.Running.{Runs, HasCome}
+use Rattle.serial_run.specs.Widths.{HaveWidthOf}
 use Rattle.serial_run.specs.WholeRun.{RunKeeps, HasRun, first_item}
 use Rattle.serial_run.proofs.GrownAnswers.{answers_alone}
 use Rattle.serial_run.proofs.GrownGroups.{group_alone, latest_alone}
 use Rattle.serial_run.proofs.GrownRun.{groups_one}
-use Rattle.serial_run.proofs.Moments.{item_first, kept_now}
+use Rattle.serial_run.proofs.Moments.{item_first, kept_now, now_among}
+use Rattle.serial_run.proofs.Widths.{opened_width, widths_of_one, widths_opened}
 
 -- What failed earlier has failed later.
 abbrev shown_later : (old mid new : Disk) (image : Image) → Later mid new → IsShownChoice old mid image → IsShownChoice old new image
@@ -136,6 +138,8 @@ module _ (script : Script) (old mid : Disk) (pool : Pool) (silent : ℕ) (items 
       stands = subst (λ (begun : List Kept). Stands setting next begun start) (sym one.2) begins.stands;
       holds = subst (λ (map : Map). HoldsMap map start) same_map begins.holds;
       since = since_first;
+      widths = subst (λ (l : List Kept). HaveWidthOf pool.uber l)
+          (row (first ∷ later) next one.0.answered one.0.begun one.1 one.2) (widths_opened may.may begins.opened);
       no_older = item_first setting (handed_by script) chosen.map (first ∷ later) old (Group item) mid opened_later
           (record { groups = one.0; since = since_first });
     }
@@ -153,9 +157,7 @@ module _ (script : Script) (old mid : Disk) (pool : Pool) (silent : ℕ) (items 
     runs = come.runs world old refl runs_first borne_in
 
     parity_is : pool.uber.parity ≡ first.uber.parity
-    parity_is = ap (λ (u : Uber). u.parity) begins.opened.alike
-        ∙ ap (λ (u : Uber). u.parity) begins.opened.renews.alike
-        ∙ (may.may.width chosen begins.opened.listed).1
+    parity_is = (opened_width may.may begins.opened).1
 
     pub run_keeps : RunKeeps script setting first later old final.disk items pool.uber.parity
     unfolding begins
@@ -178,6 +180,9 @@ module _ (script : Script) (old mid : Disk) (pool : Pool) (silent : ℕ) (items 
       any_moment = record { groups = runs.groups; since = runs.since };
       no_older = runs.no_older;
       kept = kept_now world old items final runs;
+      kept_among = now_among world old items final runs;
+      widths = widths_of_one ((first ∷ later) ++ runs.groups.answered ++ runs.groups.begun) first (0, omega arith, refl)
+          runs.widths;
       parity_is = sym parity_is;
     }
 

@@ -1,5 +1,6 @@
 pub mod Steps
 pub mod Moments
+pub mod Widths
 pub mod Running
 pub mod WholeRun
 pub mod Reopened

@@ -51,11 +51,6 @@ abbrev pub last_groups_of : {setting : Setting} → {first : Kept} → {later : 
     → HasRunOn setting first later script old new items out → List Kept
 last_groups_of on = (kept_by on).kept.last ∷ (kept_by on).kept.begun
 
--- The groups have the width and the parity of this one.
-pub record HaveWidthOf (first : Kept) (groups : List Kept) : Type 0 where
-  pub each : (kept : Kept) → Contains groups kept
-      → (kept.uber.reflow.to ≡ first.uber.reflow.to) × (kept.uber.parity ≡ first.uber.parity)
-
 -- A crash at this moment might have left the image on the bank, and no uberblock in it is valid by chance.
 pub record IsLeft (setting : Setting) (disk : Disk) (moment : ℕ) (image : Image) : Type 0 where
   pub might : MightStand setting.shape disk moment image
@@ -103,7 +98,7 @@ pub record IsReadBack (setting : Setting) (width : ℕ) (groups : List Kept) (im
 pub record SurvivesStops (setting : Setting) (first : Kept) (later : List Kept) (script : Script) (old new : Disk)
     (items : List Item) (out : ℕ) (on : HasRunOn setting first later script old new items out) : Type 0 where
   pub any_moment : (moment : ℕ) (image : Image) → old.clock ≤ moment → moment ≤ new.clock
-      → IsLeft setting new moment image → HaveWidthOf first (groups_of on)
+      → IsLeft setting new moment image
       → IsReadBack setting first.uber.reflow.to (groups_of on) image
-  pub at_end : (image : Image) → IsLeft setting new new.clock image → HaveWidthOf first (last_groups_of on)
+  pub at_end : (image : Image) → IsLeft setting new new.clock image
       → IsReadBack setting first.uber.reflow.to (last_groups_of on) image

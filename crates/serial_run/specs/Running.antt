@@ -16,9 +16,11 @@ use Rattle.core_client.specs.Outs.{point_of, OnlyFailedGoOut}
 use Rattle.core_serial.specs.Pool.{State, HasBank, HoldsMap}
 use Rattle.core_serial.specs.Standing.{Stands}
 use Rattle.serial_run.specs.Moments.{KeepsItemByItem}
+use Rattle.serial_run.specs.Widths.{HaveWidthOf}
 
 -- After these items the journal is right, the pool holds its map, and each image since the bank was this
--- one keeps groups of the run in a row, none older than the last one listed by then.
+-- one keeps groups of the run in a row, none older than the last one listed by then. All groups of the run
+-- have the pool's width and parity.
 pub record Runs (world : World) (origin : Disk) (items : List Item) (state : State) : Type 0 where
   pub groups : Groups world.handed world.opening world.known items
   pub earlier : List Kept
@@ -34,6 +36,7 @@ pub record Runs (world : World) (origin : Disk) (items : List Item) (state : Sta
   pub holds : HoldsMap (map_of world.handed world.opening items) state
   pub since : KeepsSince world.setting (world.known ++ groups.answered ++ groups.begun) origin.clock
       state.disk
+  pub widths : HaveWidthOf state.pool.uber (world.known ++ groups.answered ++ groups.begun)
   pub no_older : KeepsItemByItem world.setting world.handed world.opening world.known items origin
       state.disk
 

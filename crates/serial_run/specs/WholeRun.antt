@@ -1,5 +1,5 @@
 -- What a run keeps, from the opening of its pool to its end.
-use Rattle.std.specs.Prelude.{◌≡◌, ◌≢◌, ℕ, ◌+◌, ◌<◌, ◌≤◌, List, ◌∷◌, Contains}
+use Rattle.std.specs.Prelude.{◌≡◌, ◌≢◌, ℕ, ◌+◌, ◌<◌, ◌≤◌, List, ◌∷◌, ◌++◌, Contains}
 use Rattle.bank_trait.specs.Disk.{Image, Disk}
 use Rattle.uberblock_ring.specs.Devices.{count_of, IsWithin}
 use Rattle.core_state.specs.declared.answer.Answer.TheVariants as answer
@@ -18,6 +18,7 @@ use Rattle.client_script.specs.Script.{Script, asked_by, handed_by}
 use Rattle.core_serial.specs.Pool.{Pool}
 use Rattle.core_serial.specs.Opening.{MayBegin}
 use Rattle.serial_run.specs.Moments.{KeepsItemByItem}
+use Rattle.serial_run.specs.Widths.{HaveWidthOf}
 pub use Rattle.serial_run.specs.Moments.{KeepsLast}
 
 -- the item of the group that a pool was opened with
@@ -39,8 +40,9 @@ pub record BeginsAfter (chosen : Kept) (items : List Item) : Type 0 where
 -- A run began with one of the groups that the bank kept, and its journal is legal from that group's map
 -- on. Whatever a stop leaves, at any moment of the run, keeps some of the groups in a row: those kept
 -- before, the journal's, and at most one that was begun after them; and none older than the last one listed
--- by then. At its end that is the journal's last one. No read is told as damaged. The run's parity is that
--- of the groups that the bank kept.
+-- by then. At its end that is the journal's last one, and what the bank keeps then is among these groups. All
+-- of them have the width and the parity of the first one that the bank kept, and that is the run's parity. No
+-- read is told as damaged.
 pub record RunKeeps (script : Script) (setting : Setting) (first : Kept) (later : List Kept)
     (old new : Disk) (items : List Item) (parity : ℕ) : Type 0 where
   pub chosen : Kept
@@ -55,6 +57,10 @@ pub record RunKeeps (script : Script) (setting : Setting) (first : Kept) (later 
       new
   pub no_older : KeepsItemByItem setting (handed_by script) chosen.map (first ∷ later) items old new
   pub kept : KeepsLast setting (handed_by script) chosen.map items new
+  pub kept_among : (group : Kept) → Contains (kept.last ∷ kept.begun) group
+      → Contains ((first ∷ later) ++ any_moment.groups.answered ++ any_moment.groups.begun) group
+  pub widths : HaveWidthOf first.uber
+      ((first ∷ later) ++ any_moment.groups.answered ++ any_moment.groups.begun)
   pub parity_is : first.uber.parity ≡ parity
 
 -- A script was carried out on the pool that the devices showed; its journal begins with a group. Each device
