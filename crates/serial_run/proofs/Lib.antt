@@ -12,3 +12,5 @@ pub mod Widths
 pub mod Stepping
 pub mod RunBytes
 pub mod Reopening
+pub mod Causing
+pub mod FullTables

@@ -27,12 +27,14 @@ use Rattle.core_serial.specs.Syncing.{IsOpenGroup, EndsGroup, CutsGroup, LeavesP
 use Rattle.serial_run.specs.Steps.{IsCallOf, IsReadNow, IsRightNow, AnswersCall, EndsOpenGroup, CutsSync, open_item}
 use Rattle.serial_run.specs.Widths.{HaveWidthOf}
 use Rattle.serial_run.specs.Running.{Runs}
+use Rattle.serial_run.specs.Caused.{IsAtLimit}
 use Rattle.serial_run.proofs.Rows.{at_last, ended_row, cut_row, last_row}
 use Rattle.serial_run.proofs.Widths.{widths_synced}
 use Rattle.serial_run.proofs.Grown.{grown_has, first_has, last_there, new_or_before, map_grown_call, map_grown_group, map_at_end, map_before, previous_below}
 use Rattle.serial_run.proofs.GrownAnswers.{answers_grown_call, answers_grown_group}
 use Rattle.serial_run.proofs.GrownGroups.{groups_grown_call, groups_grown_group, latest_grown_call, latest_grown_group, group_of_grown, after_listed}
 use Rattle.serial_run.proofs.GrownRun.{groups_call, groups_end, groups_cut}
+use Rattle.serial_run.proofs.Causing.{limits_call, limits_group, answered_limits}
 use Rattle.serial_run.proofs.Moments.{contains_one, answer_listed, group_listed, cut_listed}
 
 -- A journal that has a group has an item.
@@ -183,6 +185,8 @@ module _ (world : World) (origin : Disk) (call : ScriptCall) (old new : List Ite
             (right_at_end handed opening old entry entry.kind (some_items old runs.item runs.latest) answers.no_group
             (answers.right (map_of handed opening old) runs.holds)) is.answer_is;
         sound = each_grown_call IsSound old entry runs.sound (answers.sound (map_of handed opening old) runs.holds);
+        caused = answered_limits world origin old before runs call after entry is.id_is answers;
+        rest = answers.goes_on.rest runs.rest;
         stands = subst (λ (begun : List Kept). Stands world.setting runs.last begun after) (sym grown.2)
             (answers.goes_on.stands world.setting runs.last runs.groups.begun runs.stands);
         holds = subst (λ (map : Map). HoldsMap map after) (sym (map_grown_call handed opening old entry))
@@ -325,6 +329,9 @@ module _ (world : World) (origin : Disk) (call : ScriptCall) (old new : List Ite
             (answers_grown_group handed opening old next_item runs.right) right is.answer_is;
         sound = each_grown_call IsSound with_group entry (each_grown_group IsSound old next_item runs.sound)
             (λ damaged. synced_sound (sym synced.answer_is ∙ damaged));
+        caused = limits_call handed opening with_group entry (limits_group handed opening old next_item runs.caused)
+            (subst (IsAtLimit handed opening with_group (length with_group) entry.id) (sym synced.answer_is) tt);
+        rest = synced.leaves.rest runs.rest;
         stands = subst (λ (begun : List Kept). Stands world.setting ends.next begun after) (sym (grown.2 ∙ ended.2)) ends.stands;
         holds = subst (λ (map : Map). HoldsMap map after) (sym map_is)
             (synced.leaves.holds (map_of handed opening old) runs.holds);
@@ -379,6 +386,9 @@ module _ (world : World) (origin : Disk) (call : ScriptCall) (old new : List Ite
         in_order = groups_grown_call old entry runs.in_order;
         right = answers_grown_call handed opening old entry runs.right cut_right is.answer_is;
         sound = each_grown_call IsSound old entry runs.sound (λ damaged. cut_sound (sym cuts.answer_is ∙ damaged));
+        caused = limits_call handed opening old entry runs.caused
+            (subst (IsAtLimit handed opening old (length old) entry.id) (sym cuts.answer_is) tt);
+        rest = cuts.leaves.rest runs.rest;
         stands = subst (λ (begun : List Kept). Stands world.setting runs.last begun after) (sym (cut_grown.2 ∙ stopped.2)) cut.stands;
         holds = subst (λ (map : Map). HoldsMap map after) (sym cut_map_is)
             (cuts.leaves.holds (map_of handed opening old) runs.holds);

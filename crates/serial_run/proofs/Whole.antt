@@ -21,6 +21,7 @@ use Rattle.core_open.specs.Causes.{IsShownChoice, IsOutFor, AreOutFor, AreOutOf}
 use Rattle.core_open.specs.Failing.{HaveFailed}
 use Rattle.core_open.specs.Holds.{HoldsImage}
 use Rattle.core_open.specs.Opens.{IsWithinBelow}
+use Rattle.core_blocks.specs.Blocks.{AreUnderWay}
 use Rattle.core_serial.specs.Opening.{MayBegin, Begins, IsBegunWith}
 use Rattle.core_serial.specs.Pool.{Pool, State, HoldsMap, state_of}
 use Rattle.core_serial.specs.Standing.{Stands}
@@ -30,6 +31,7 @@ use Rattle.serial_run.specs.WholeRun.{RunKeeps, HasRun, first_item}
 use Rattle.serial_run.proofs.GrownAnswers.{answers_alone}
 use Rattle.serial_run.proofs.GrownGroups.{group_alone, latest_alone}
 use Rattle.serial_run.proofs.GrownRun.{groups_one}
+use Rattle.serial_run.proofs.Causing.{limits_alone}
 use Rattle.serial_run.proofs.Moments.{item_first, kept_now, now_among}
 use Rattle.serial_run.proofs.Widths.{opened_width, widths_of_one, widths_opened}
 
@@ -64,6 +66,7 @@ module _ (script : Script) (old mid : Disk) (pool : Pool) (silent : ℕ) (items 
     (failed : HaveFailed old mid silent)
     (outs : AreOutOf old mid pool.uber pool.out)
     (begun : IsBegunWith pool silent old mid)
+    (rest : AreUnderWay pool.blocks [])
     (come : HasCome (handed_by script) (state_of pool mid) (alone (first_item pool)) items final)
     (calls : CallsAreRight (asked_by script) items) where
   abbrev item : GroupItem
@@ -135,6 +138,8 @@ module _ (script : Script) (old mid : Disk) (pool : Pool) (silent : ℕ) (items 
       in_order = group_alone item refl;
       right = answers_alone (handed_by script) chosen.map item;
       sound = λ index entry there. absurd (no_call item index entry there);
+      caused = limits_alone (handed_by script) chosen.map item;
+      rest = rest;
       stands = subst (λ (begun : List Kept). Stands setting next begun start) (sym one.2) begins.stands;
       holds = subst (λ (map : Map). HoldsMap map start) same_map begins.holds;
       since = since_first;
@@ -177,6 +182,7 @@ module _ (script : Script) (old mid : Disk) (pool : Pool) (silent : ℕ) (items 
       };
       legal = record { groups = runs.in_order; calls_are = calls; answers = runs.right };
       sound = runs.sound;
+      caused = runs.caused;
       any_moment = record { groups = runs.groups; since = runs.since };
       no_older = runs.no_older;
       kept = kept_now world old items final runs;

@@ -1,6 +1,7 @@
 pub mod Steps
 pub mod Moments
 pub mod Widths
+pub mod Caused
 pub mod Running
 pub mod WholeRun
 pub mod Reopened

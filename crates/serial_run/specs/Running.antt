@@ -12,15 +12,17 @@ use Rattle.core_state.specs.Journal.{GroupsAreRight}
 use Rattle.core_state.specs.Keeps.{Kept}
 use Rattle.core_state.specs.Moment.{IsGroupOf, Groups, KeepsSince}
 use Rattle.core_state.specs.CoreState.{World}
+use Rattle.core_blocks.specs.Blocks.{AreUnderWay}
 use Rattle.core_client.specs.Outs.{point_of, OnlyFailedGoOut}
 use Rattle.core_serial.specs.Pool.{State, HasBank, HoldsMap}
 use Rattle.core_serial.specs.Standing.{Stands}
 use Rattle.serial_run.specs.Moments.{KeepsItemByItem}
 use Rattle.serial_run.specs.Widths.{HaveWidthOf}
+use Rattle.serial_run.specs.Caused.{LimitsAreCaused}
 
--- After these items the journal is right, the pool holds its map, and each image since the bank was this
--- one keeps groups of the run in a row, none older than the last one listed by then. All groups of the run
--- have the pool's width and parity.
+-- After these items the journal is right, the pool holds its map with no put under way, and each image since
+-- the bank was this one keeps groups of the run in a row, none older than the last one listed by then. All
+-- groups of the run have the pool's width and parity.
 pub record Runs (world : World) (origin : Disk) (items : List Item) (state : State) : Type 0 where
   pub groups : Groups world.handed world.opening world.known items
   pub earlier : List Kept
@@ -32,6 +34,8 @@ pub record Runs (world : World) (origin : Disk) (items : List Item) (state : Sta
   pub in_order : GroupsAreRight items
   pub right : AnswersAreRight world.handed world.opening items
   pub sound : (index : ℕ) (entry : Entry) → CallAt items index entry → entry.answer ≢ answer.Damaged
+  pub caused : LimitsAreCaused world.handed world.opening items
+  pub rest : AreUnderWay state.pool.blocks []
   pub stands : Stands world.setting last groups.begun state
   pub holds : HoldsMap (map_of world.handed world.opening items) state
   pub since : KeepsSince world.setting (world.known ++ groups.answered ++ groups.begun) origin.clock
