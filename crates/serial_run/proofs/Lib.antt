@@ -14,3 +14,4 @@ pub mod RunBytes
 pub mod Reopening
 pub mod Causing
 pub mod FullTables
+pub mod ManyIds

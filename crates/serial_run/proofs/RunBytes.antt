@@ -116,7 +116,7 @@ previous_next items caller index earlier = by (slice_get items index) refl
         one same = cc
 
 -- Each index has a caller's previous entry before it, or none.
-previous_of : (items : List Item) (caller index : ℕ) → (previous : ℕ) × IsPrevious items caller index previous
+pub previous_of : (items : List Item) (caller index : ℕ) → (previous : ℕ) × IsPrevious items caller index previous
 previous_of items caller zero = (
   0,
   record { there = inl refl; latest = λ k entry above below there. absurd (omega (arith, below)) },

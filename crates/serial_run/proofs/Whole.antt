@@ -12,7 +12,7 @@ use Rattle.core_state.specs.declared.item.Item.{Item}
 use Rattle.core_state.specs.declared.item.Item.TheVariants.{Group, Call}
 use Rattle.core_state.specs.Map.{Map}
 use Rattle.core_state.specs.Legal.{CallAt}
-use Rattle.core_state.specs.Journal.{CallsAreRight}
+use Rattle.core_state.specs.Journal.{CallsAreRight, IsLegalJournal}
 use Rattle.core_state.specs.Keeps.{Kept, Setting}
 use Rattle.core_state.specs.CoreState.{World}
 use Rattle.core_state.specs.Moment.{IsGroupOf, Groups, KeepsSince}
@@ -32,6 +32,7 @@ use Rattle.serial_run.proofs.GrownAnswers.{answers_alone}
 use Rattle.serial_run.proofs.GrownGroups.{group_alone, latest_alone}
 use Rattle.serial_run.proofs.GrownRun.{groups_one}
 use Rattle.serial_run.proofs.Causing.{limits_alone}
+use Rattle.serial_run.proofs.ManyIds.{too_many_ids}
 use Rattle.serial_run.proofs.Moments.{item_first, kept_now, now_among}
 use Rattle.serial_run.proofs.Widths.{opened_width, widths_of_one, widths_opened}
 
@@ -161,6 +162,9 @@ module _ (script : Script) (old mid : Disk) (pool : Pool) (silent : ℕ) (items 
     runs : Runs world old items final
     runs = come.runs world old refl runs_first borne_in
 
+    legal : IsLegalJournal (asked_by script) (handed_by script) chosen.map items
+    legal = record { groups = runs.in_order; calls_are = calls; answers = runs.right }
+
     parity_is : pool.uber.parity ≡ first.uber.parity
     parity_is = (opened_width may.may begins.opened).1
 
@@ -180,9 +184,10 @@ module _ (script : Script) (old mid : Disk) (pool : Pool) (silent : ℕ) (items 
           ap (λ (u : Uber). u.reflow.to) begins.opened.alike ∙ ap (λ (u : Uber). u.reflow.to) begins.opened.renews.alike,
         );
       };
-      legal = record { groups = runs.in_order; calls_are = calls; answers = runs.right };
+      legal = legal;
       sound = runs.sound;
       caused = runs.caused;
+      full = too_many_ids script chosen.map items legal runs.caused;
       any_moment = record { groups = runs.groups; since = runs.since };
       no_older = runs.no_older;
       kept = kept_now world old items final runs;
