@@ -229,3 +229,30 @@ images 3 256
 keep made
 INPUT=reads
 refused 'images that are no pool' 3 'not a pool'
+
+# Disks in place of files, where this machine has some that may be used.
+back first
+loops=()
+detach() {
+  [ ${#loops[@]} = 0 ] || losetup -d "${loops[@]}"
+  loops=()
+}
+trap 'detach; rm -rf "$WORK"' EXIT
+for image in "${IMAGES[@]}"; do
+  loop=$(losetup --show -f "$image" 2>/dev/null) || break
+  loops+=("$loop")
+done
+if [ ${#loops[@]} = ${#IMAGES[@]} ]; then
+  calls 'get 7' 'puthex 8 ff' sync >script
+  INPUT=script expect 'disks in place of files' 0 '0 group 6 after 0
+1 a.1 get 7 at 1 bytes 050c13
+2 a.2 put 8 ok
+3 group 7 after 3
+4 a.3 sync group 7' "${loops[@]}" -- run
+  detach
+  runs 'hold what the files hold then' 0 '0 group 9 after 0
+1 a.1 get 8 at 1 bytes ff' 'get 8'
+else
+  detach
+  echo 'skipped disks in place of files: there are no loop devices to use'
+fi

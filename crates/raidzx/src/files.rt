@@ -4,6 +4,7 @@ ghost use Rattle.std.specs.Prelude.{◌≡◌, ◌<◌, ◌≤◌, ◌^◌, ℕ,
 use bank_trait::{Bank, Failed};
 use raidzx_top::MOST_SECTORS;
 use std::fs::{File, Files, OpenOptions, TryLockError};
+use std::io::{Seek, SeekFrom};
 use std::os::unix::fs::FileExt;
 
 const SECTOR_BYTES: u64 = 512;
@@ -32,9 +33,10 @@ pub fn open_image<R: Files<File = File>>(rt: &R, name: &str) -> Result<Option<Im
     }
 }
 
-/// The image with its length, where that can be told.
-fn measured(file: File) -> Option<Image> {
-    let length = file.metadata().ok()?.len();
+/// The image with its length, where that can be told: its end is looked for, since a disk has no length
+/// among its metadata.
+fn measured(mut file: File) -> Option<Image> {
+    let length = file.seek(SeekFrom::End(0)).ok()?;
     Some(Image {
         file,
         sectors: (length / SECTOR_BYTES).min(MOST_SECTORS),
