@@ -4,11 +4,19 @@
 //! for each answer of the journal, and `specs/Promises.antt` for what a run keeps.
 #![tactic(auto)]
 
+#[cfg(test)]
+mod create_tests;
+#[cfg(test)]
+mod failing_tests;
 mod images;
 mod making;
 mod report;
+#[cfg(test)]
+mod run_tests;
 mod running;
 mod status;
+#[cfg(test)]
+mod test_calls;
 mod top;
 mod words;
 

@@ -1,0 +1,193 @@
+// Devices, sinks and sources that fail.
+use crate::Status;
+use crate::test_calls::{MAKE_NINE, MAKING, OPENING, RUN, bank_of_nine, call, call_with};
+use bank_mem::{MemBank, MemSink, MemSource};
+use std::alloc::Global;
+use std::test::Fail;
+use uberblock_ring::DeviceSet;
+
+#[test]
+fn a_bank_without_a_pool_is_no_pool(rt: HostRuntime) -> Result<(), Fail> {
+    let alloc = rt.alloc();
+    for (devices, sectors) in [(3, 256), (1, 1), (17, 32)] {
+        let bank = MemBank::new(alloc, devices, sectors)?;
+        let told = call(alloc, RUN, bank, SCRIPT)?;
+        assert_eq!(rt; told.status, Status::NotPool);
+        assert_eq!(rt; told.text.as_slice(), b"not a pool\n".as_slice());
+        assert_eq!(rt; (told.items, told.bank.clock()), (0, 0));
+    }
+    Ok(())
+}
+
+#[test]
+fn a_pool_that_lacks_too_many_devices_is_not_opened(rt: HostRuntime) -> Result<(), Fail> {
+    let alloc = rt.alloc();
+    let rows: [(u64, &[u8]); 3] = [
+        (7, b"too many failed 0 1 2\n"),
+        (5, b"too many failed 0 2\n"),
+        (6, b"too many failed 1 2\n"),
+    ];
+    for (bits, text) in rows {
+        let out = DeviceSet::from_bits(bits);
+        let mut bank = bank_of_nine(alloc)?;
+        let clock = bank.clock();
+        for device in 0..3 {
+            if out.has(device) {
+                bank.fail_at(&[(device, MAKING)])?;
+            }
+        }
+        let told = call(alloc, RUN, bank, SCRIPT)?;
+        assert_eq!(rt; told.status, Status::TooManyFailed { out });
+        assert_eq!(rt; told.text.as_slice(), text);
+        assert_eq!(rt; (told.items, told.bank.clock()), (0, clock));
+    }
+    Ok(())
+}
+
+/// Block 8 has two sectors of content, so that with the parities it has one on each device.
+const SCRIPT: &[u8] = b"clients 1\na put 8 1000 5\na sum 8\na sync\n";
+
+const ANSWERED: &[u8] = b"0 group 3 after 0
+1 a.1 put 8 ok
+2 a.2 sum 8 at 2 length 1000 sha 18249577807d9788926ea4deef2c0c38ddd276c1419f2e5fcb76b7cee66a0b09
+3 group 4 after 3
+4 a.3 sync group 4
+";
+
+const READ: &[u8] = b"clients 1\na sum 8\n";
+
+const READ_ANSWERED: &[u8] = b"0 group 6 after 0
+1 a.1 sum 8 at 1 length 1000 sha 18249577807d9788926ea4deef2c0c38ddd276c1419f2e5fcb76b7cee66a0b09
+";
+
+/// Pools, each with its parity, its width and how many sets of its devices there are.
+const POOLS: [(&str, u32, u32, u64); 3] = [
+    (MAKE_NINE, 1, 3, 8),
+    ("raidzx create --parity 2 --width 4 --id 9", 2, 4, 16),
+    ("raidzx create --parity 3 --width 5 --id 9", 3, 5, 32),
+];
+
+/// A new pool, each of these devices failing from this call on.
+fn failing_bank(
+    alloc: Global,
+    words: &str,
+    width: u32,
+    failing: DeviceSet,
+    from: u64,
+) -> Result<MemBank, Fail> {
+    let bank = MemBank::new(alloc, width, 256)?;
+    let mut bank = call(alloc, words, bank, b"")?.bank;
+    for device in 0..width.min(16) {
+        if failing.has(device) {
+            bank.fail_from(device, from)?;
+        }
+    }
+    Ok(bank)
+}
+
+#[test]
+fn all_is_answered_while_no_more_devices_fail_than_there_are_parities(
+    rt: HostRuntime,
+) -> Result<(), Fail> {
+    let alloc = rt.alloc();
+    for (words, parity, width, sets) in POOLS {
+        for bits in 0..sets {
+            let failing = DeviceSet::from_bits(bits);
+            if failing.len() != parity {
+                continue;
+            }
+            // They fail from the run's beginning on, or once the put is done.
+            for from in [MAKING, MAKING + OPENING + 1] {
+                let mut bank = failing_bank(alloc, words, width, failing, from)?;
+                for (script, text) in [(SCRIPT, ANSWERED), (READ, READ_ANSWERED)] {
+                    let told = call(alloc, RUN, bank, script)?;
+                    assert_eq!(rt; told.text.as_slice(), text, "{bits} of {words} from {from}");
+                    assert_eq!(rt; told.status, Status::Done, "{bits} of {words} from {from}");
+                    bank = told.bank;
+                }
+            }
+        }
+    }
+    Ok(())
+}
+
+#[test]
+fn a_run_that_loses_too_many_devices_tells_them_last(rt: HostRuntime) -> Result<(), Fail> {
+    let alloc = rt.alloc();
+    let out = DeviceSet::from_bits(3);
+    let bank = failing_bank(alloc, MAKE_NINE, 3, out, MAKING + OPENING + 1)?;
+    let told = call(alloc, RUN, bank, SCRIPT)?;
+    let text = b"0 group 3 after 0
+1 a.1 put 8 ok
+2 a.2 sum 8 too many failed 0 1
+3 a.3 sync too many failed 0 1
+too many failed 0 1
+";
+    assert_eq!(rt; told.text.as_slice(), text.as_slice());
+    assert_eq!(rt; told.status, Status::TooManyFailed { out });
+    assert_eq!(rt; told.items, 4);
+    Ok(())
+}
+
+#[test]
+fn a_sink_that_fails_has_a_front_of_the_text(rt: HostRuntime) -> Result<(), Fail> {
+    let alloc = rt.alloc();
+    // (the words, the sink's room, which of its writes fails, the status, what it has)
+    let rows: [(&str, u64, u64, Status, &[u8]); 7] = [
+        (RUN, 10, 9, Status::SinkFault, b"0 group 3 "),
+        (RUN, 1000, 0, Status::SinkFault, b""),
+        (MAKE_NINE, 10, 9, Status::SinkFault, b"pool 9 par"),
+        (MAKE_NINE, 1000, 0, Status::SinkFault, b""),
+        ("raidzx replay", 2, 9, Status::Usage, b"us"),
+        ("raidzx replay", 1000, 0, Status::Usage, b""),
+        (
+            "raidzx create --parity 1 --width 4 --id 9",
+            0,
+            9,
+            Status::TooSmall,
+            b"",
+        ),
+    ];
+    for (words, room, number, status, text) in rows {
+        let source = MemSource::new(alloc, SCRIPT, &[])?;
+        let sink = MemSink::with_room(alloc, room, &[number])?;
+        let told = call_with(alloc, words, bank_of_nine(alloc)?, source, sink)?;
+        assert_eq!(rt; told.status, status, "{words} with room for {room}");
+        assert_eq!(rt; told.text.as_slice(), text, "{words} with room for {room}");
+    }
+    Ok(())
+}
+
+#[test]
+fn what_was_synced_stands_although_it_was_not_told(rt: HostRuntime) -> Result<(), Fail> {
+    let alloc = rt.alloc();
+    let source = MemSource::new(alloc, SCRIPT, &[])?;
+    let sink = MemSink::with_room(alloc, 0, &[])?;
+    let told = call_with(alloc, RUN, bank_of_nine(alloc)?, source, sink)?;
+    assert_eq!(rt; (told.status, told.items), (Status::SinkFault, 5));
+    let told = call(alloc, RUN, told.bank, READ)?;
+    assert_eq!(rt; told.text.as_slice(), READ_ANSWERED);
+    Ok(())
+}
+
+#[test]
+fn a_source_that_fails_is_told_and_changes_nothing(rt: HostRuntime) -> Result<(), Fail> {
+    let alloc = rt.alloc();
+    // (the words, which read fails, the status, the text)
+    let rows: [(&str, u64, Status, &[u8]); 3] = [
+        (RUN, 0, Status::SourceFault, b"source fault\n"),
+        (RUN, 1, Status::SourceFault, b"source fault\n"),
+        ("raidzx replay", 0, Status::Usage, b"usage\n"),
+    ];
+    for (words, number, status, text) in rows {
+        let bank = bank_of_nine(alloc)?;
+        let clock = bank.clock();
+        let source = MemSource::new(alloc, SCRIPT, &[number])?;
+        let sink = MemSink::with_room(alloc, 1000, &[])?;
+        let told = call_with(alloc, words, bank, source, sink)?;
+        assert_eq!(rt; told.status, status, "{words}, read {number}");
+        assert_eq!(rt; told.text.as_slice(), text, "{words}, read {number}");
+        assert_eq!(rt; (told.items, told.bank.clock()), (0, clock));
+    }
+    Ok(())
+}
