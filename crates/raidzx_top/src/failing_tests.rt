@@ -115,17 +115,78 @@ fn all_is_answered_while_no_more_devices_fail_than_there_are_parities(
 fn a_run_that_loses_too_many_devices_tells_them_last(rt: HostRuntime) -> Result<(), Fail> {
     let alloc = rt.alloc();
     let out = DeviceSet::from_bits(3);
-    let bank = failing_bank(alloc, MAKE_NINE, 3, out, MAKING + OPENING + 1)?;
-    let told = call(alloc, RUN, bank, SCRIPT)?;
     let text = b"0 group 3 after 0
 1 a.1 put 8 ok
 2 a.2 sum 8 too many failed 0 1
 3 a.3 sync too many failed 0 1
 too many failed 0 1
 ";
-    assert_eq!(rt; told.text.as_slice(), text.as_slice());
+    // (the sink's room, the status)
+    for (room, status) in [
+        (text.len(), Status::TooManyFailed { out }),
+        (text.len() - 1, Status::SinkFault),
+    ] {
+        let bank = failing_bank(alloc, MAKE_NINE, 3, out, MAKING + OPENING + 1)?;
+        let source = MemSource::new(alloc, SCRIPT, &[])?;
+        let sink = MemSink::with_room(alloc, room as u64, &[])?;
+        let told = call_with(alloc, RUN, bank, source, sink)?;
+        assert_eq!(rt; told.text.as_slice(), text.get(..room).unwrap_or(b""));
+        assert_eq!(rt; told.status, status);
+        assert_eq!(rt; told.items, 4);
+    }
+    Ok(())
+}
+
+/// Device 0 fails its write of block 2, device 2 its read of block 1, device 3 its write of block 3.
+const LOSSES: &[u8] = b"clients 1
+a puthex 1 61
+a sync
+a puthex 2 62
+a get 1
+a sync
+a puthex 3 63
+";
+
+const LOSSES_TOLD: &[u8] = b"0 group 3 after 0
+1 a.1 put 1 ok
+2 group 4 after 2
+3 a.2 sync group 4
+4 a.3 put 2 ok
+5 a.4 get 1 at 5 bytes 61
+6 group 5 after 6
+7 a.5 sync group 5
+8 a.6 put 3 too many failed 0 2 3
+too many failed 0 2 3
+";
+
+#[test]
+fn a_device_that_answers_again_gives_what_was_synced_with_the_others_lost(
+    rt: HostRuntime,
+) -> Result<(), Fail> {
+    let alloc = rt.alloc();
+    let words = "raidzx create --parity 2 --width 4 --id 9";
+    let mut bank = call(alloc, words, MemBank::new(alloc, 4, 256)?, b"")?.bank;
+    // Beside its writes of blocks a device has four calls for a sync: index, sync, uberblock, sync.
+    bank.fail_at(&[
+        (0, MAKING + OPENING + 5),
+        (2, MAKING + OPENING + 5),
+        (3, MAKING + OPENING + 9),
+    ])?;
+    let told = call(alloc, RUN, bank, LOSSES)?;
+    let out = DeviceSet::from_bits(13);
+    assert_eq!(rt; told.text.as_slice(), LOSSES_TOLD);
     assert_eq!(rt; told.status, Status::TooManyFailed { out });
-    assert_eq!(rt; told.items, 4);
+    let mut bank = told.bank;
+    bank.fail_from(0, 0)?;
+    bank.fail_from(2, 0)?;
+    let told = call(alloc, RUN, bank, b"clients 1\na get 1\na get 2\na get 3\n")?;
+    let text = b"0 group 7 after 0
+1 a.1 get 1 at 1 bytes 61
+2 a.2 get 2 at 2 bytes 62
+3 a.3 get 3 at 3 absent
+";
+    assert_eq!(rt; told.text.as_slice(), text.as_slice());
+    assert_eq!(rt; told.status, Status::Done);
     Ok(())
 }
 

@@ -16,6 +16,8 @@ mod run_tests;
 mod running;
 mod status;
 #[cfg(test)]
+mod stop_tests;
+#[cfg(test)]
 mod test_calls;
 mod top;
 mod words;

@@ -206,3 +206,19 @@ fn a_script_of_no_call_opens_the_pool(rt: HostRuntime) -> Result<(), Fail> {
     assert_eq!(rt; told.text.as_slice(), b"0 group 3 after 0\n".as_slice());
     Ok(())
 }
+
+#[test]
+fn a_put_without_space_is_told_and_the_run_is_done(rt: HostRuntime) -> Result<(), Fail> {
+    let alloc = rt.alloc();
+    let mut script = Vec::from_slice(alloc, b"clients 1\n")?;
+    // The pool has 192 sectors, and each of these blocks takes two.
+    for id in 0..97 {
+        let line = format!(in alloc; "a puthex {id} 61\n")?;
+        script.extend_from_slice(line.as_bytes())?;
+    }
+    let told = call(alloc, RUN, bank_of_nine(alloc)?, script.as_slice())?;
+    let last = b"\n96 a.96 put 95 ok\n97 a.97 put 96 no space 2\n";
+    assert!(rt; told.text.as_slice().ends_with(last));
+    assert_eq!(rt; (told.status, told.items), (Status::Done, 98));
+    Ok(())
+}
