@@ -113,6 +113,7 @@ module _ (call : Call) (made : NewPool) (served_as : IsServedAs call.words (serv
   no_run = record {
     opened = λ run. absurd (create_no_run call.words made served_as run);
     unopened = λ run. absurd (create_no_run call.words made served_as run);
+    carried_out = λ run. absurd (create_no_run call.words made served_as run);
   }
 
   no_smooth : RunCompletes call
@@ -226,6 +227,8 @@ module _ (call : Call) (made : NewPool) (served_as : IsServedAs call.words (serv
     cause = caused given is (λ usage. neither usage done) (cause done);
     comes = comes (λ small. absurd (makes.0 small));
     refused = λ none not. absurd (not (⊎_elim (λ d. inl (is ∙ d)) (λ f. inr (is ∙ f.0)) done));
+    quiet = λ none. absurd (none (served.Create made, served_as));
+    turns = quiet_call.turns;
     run = no_run;
     completes = no_smooth;
     create = record {
@@ -293,6 +296,8 @@ module _ (call : Call) (made : NewPool) (served_as : IsServedAs call.words (serv
     refused = λ none not. said_right call given
         (subst (λ (s : Status). IsLineFor s given) (sym is) line)
         (λ done. no_done (sym is ∙ done)) said;
+    quiet = λ none. absurd (none (served.Create made, served_as));
+    turns = quiet_call.turns;
     run = no_run;
     completes = no_smooth;
     create = record {

@@ -26,6 +26,8 @@ refused_words call ends = record {
   refused = λ none not. said_right call status.Usage
       (subst (λ (s : Status). IsLineFor s status.Usage) (sym ends.status_is) refl)
       (λ done. no_done (sym ends.status_is ∙ done)) ends.said;
+  quiet = λ none. ends.quiet;
+  turns = ends.quiet.turns;
   create = record {
     quiet = λ m served_m. ends.quiet;
     keeps = λ m served_m carried tells. absurd (ends.none (served.Create m, served_m));
@@ -36,6 +38,7 @@ refused_words call ends = record {
   run = record {
     opened = λ run. absurd (ends.none (served.Run, run));
     unopened = λ run. absurd (ends.none (served.Run, run));
+    carried_out = λ run. absurd (ends.none (served.Run, run));
   };
   complete = record { done = λ m served_m fits quiet sink. absurd (ends.none (served.Create m, served_m)) };
   completes = λ smooth. absurd (ends.none (served.Run, smooth.served));
@@ -49,5 +52,5 @@ pub ends_promise : (call : Call) → Lawful call.old → Ends call → CallPromi
 ends_promise call lawful ends = elim ends [
   | AsUsage usage ↦ refused_words call usage
   | AsCreate create ↦ created call create.made create.served_as create.quiet call.status refl create.ends
-  | AsRun run ↦ run_promises call lawful run.served_as run.ends
+  | AsRun run ↦ run_promises call lawful run.served_as run.turns run.ends
 ]

@@ -173,6 +173,12 @@ module _ (call : Call) (lawful : Lawful call.old)
     memory = λ other index entry there is. (had_memory other).1 (index, entry, there, is);
     too_many = many_listed;
     text = text;
+    status_is = record {
+      finished = was.ran.finished;
+      line = was.line;
+      line_is = was.line_is;
+      given = ⊎_elim (λ told. inl told.0) (λ told. inr (told.0, told.1)) was.told;
+    };
   }
 
   -- A journal that has an item isn't empty.
@@ -276,5 +282,6 @@ module _ (call : Call) (lawful : Lawful call.old)
     refused = λ none not. absurd (some_items none);
     opened = λ some. promises;
     unopened = λ none. absurd (some_items none);
+    carried_out = λ carried. some_items;
     completes = completes;
   }

@@ -1,5 +1,5 @@
 -- What a call of `run` promises follows from how it ends.
-use Rattle.std.proofs.Common.{inl, inr}
+use Rattle.std.proofs.Common.{◌≡◌, inl, inr}
 use Rattle.bank_trait.specs.Disk.{Lawful}
 use Rattle.raidzx_top.specs.declared.words.ServedCommand.TheVariants as served
 use Rattle.raidzx_top.specs.Call.{Call}
@@ -11,7 +11,8 @@ use Rattle.raidzx_top.proofs.RunParts.{run_keeps_promises}
 use Rattle.raidzx_top.proofs.RunRefused.{refused_run}
 
 pub run_promises : (call : Call) → Lawful call.old → IsServedAs call.words served.Run
+    → call.turns ≡ 0
     → EndsRun call.source call.source_after call.sink call.sink_after call.old call.new call.journal call.status
     → CallPromises call
-run_promises call lawful is (inl refused) = run_keeps_promises call is (refused_run call refused)
-run_promises call lawful is (inr carried) = run_keeps_promises call is (carried_run call lawful carried)
+run_promises call lawful is none (inl refused) = run_keeps_promises call is none (refused_run call refused)
+run_promises call lawful is none (inr carried) = run_keeps_promises call is none (carried_run call lawful carried)

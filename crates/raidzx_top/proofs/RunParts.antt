@@ -35,6 +35,7 @@ pub record IsRunEnd (call : Call) : Type 0 where
   pub refused : call.journal ≡ [] → (IsCarriedOut call → ⊥) → TextIsRight call []
   pub opened : call.journal ≢ [] → RunPromises call
   pub unopened : call.journal ≡ [] → LeavesNone call
+  pub carried_out : IsCarriedOut call → call.journal ≢ []
   pub completes : IsSmooth call → CompletesAll call
 
 -- What an opening finds is what the bank holds at entry.
@@ -46,7 +47,8 @@ pub none_silent : (old new : Disk) (silent : ℕ) → HaveFailed old new silent
     → ((device : ℕ) → Rose (old.faults device) (new.faults device) → ⊥) → silent ≡ 0
 none_silent old new silent failed quiet = none_empty silent (λ device has. quiet device (failed device has).1)
 
-module _ (call : Call) (served_as : IsServedAs call.words served.Run) (ends : IsRunEnd call) where
+module _ (call : Call) (served_as : IsServedAs call.words served.Run) (no_turns : call.turns ≡ 0)
+    (ends : IsRunEnd call) where
   -- The words ask for a run, and for nothing else.
   for_run : (P : Command → Type 0) → P plain_run → (given : ServedCommand) → IsServedAs call.words given
       → P (command_of given)
@@ -83,6 +85,8 @@ module _ (call : Call) (served_as : IsServedAs call.words served.Run) (ends : Is
           (subst (λ (c : Command). FindsNoPool call c) (sym finds.command_is) finds);
     };
     refused = ends.refused;
+    quiet = λ none. absurd (none (served.Run, served_as));
+    turns = no_turns;
     create = record {
       quiet = λ made is. no_create made is;
       keeps = λ made is carried tells. no_create made is;
@@ -90,7 +94,11 @@ module _ (call : Call) (served_as : IsServedAs call.words served.Run) (ends : Is
       others = λ made is. no_create made is;
       untouched = λ refusal. ⊎_elim (λ usage. absurd (ends.no_usage usage)) (λ small. absurd (ends.no_small small)) refusal;
     };
-    run = record { opened = λ run. ends.opened; unopened = λ run. ends.unopened };
+    run = record {
+      opened = λ run. ends.opened;
+      unopened = λ run. ends.unopened;
+      carried_out = λ run. ends.carried_out;
+    };
     complete = record { done = λ made is fits quiet sink. no_create made is };
     completes = ends.completes;
   }

@@ -204,6 +204,7 @@ refused_run call was =
       refused = λ none not. said_right call call.status mine.refusal.line mine.refusal.no_done was.said;
       opened = λ some. absurd (some was.none);
       unopened = λ none. mine.leaves;
+      carried_out = λ carried none. ⊎_elim mine.refusal.no_done mine.refusal.no_fault carried;
       completes = λ smooth. record {
         status_is = inr (inl (mine.smooth smooth));
         answers = λ index entry there. absurd (no_call index entry

@@ -30,6 +30,7 @@ pub record EndsAsCreate (call : Call) : Type 0 where
 -- They asked for a run.
 pub record EndsAsRun (call : Call) : Type 0 where
   pub served_as : IsServedAs call.words served.Run
+  pub turns : call.turns ≡ 0
   pub ends : EndsRun call.source call.source_after call.sink call.sink_after call.old call.new
       call.journal call.status
 

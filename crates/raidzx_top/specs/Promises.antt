@@ -1,6 +1,6 @@
 -- What a call promises: what a new pool is, what a run answers and keeps at each moment and in the end, and
 -- what is written.
-use Rattle.std.specs.Prelude.{◌≡◌, ◌≢◌, ◌⊎◌, ℕ, ◌≤◌, List, [], Some, false, ⊤}
+use Rattle.std.specs.Prelude.{◌≡◌, ◌≢◌, ◌⊎◌, ℕ, ◌≤◌, List, [], Some, Bool, false, ⊤}
 use Rattle.bank_trait.specs.Causes.{Rose}
 use Rattle.bank_trait.specs.Disk.{Image, Unchanged}
 use Rattle.bank_trait.specs.Regions.{Tells, TouchesOnly}
@@ -22,15 +22,17 @@ use Rattle.core_serial.specs.Opening.{CutsOpening, MayBegin}
 use Rattle.client_script.specs.Script.{Script, IsScript, asked_by}
 use Rattle.client_script.specs.Texts.{journal_text}
 use Rattle.serial_run.specs.WholeRun.{HasRun}
+use Rattle.raidzx_top.specs.declared.status.Status.{Status}
 use Rattle.raidzx_top.specs.declared.status.Status.TheVariants as status
 use Rattle.raidzx_top.specs.Words.{Create, Run}
 use Rattle.raidzx_top.specs.declared.words.NewPool.{NewPool}
 use Rattle.raidzx_top.specs.declared.words.ServedCommand.TheVariants as served
 use Rattle.raidzx_top.specs.Spelled.{IsServedAs}
 use Rattle.raidzx_top.specs.Call.{Call, HoldsImage, shape_of}
-use Rattle.raidzx_top.specs.Causes.{NoneRose, IsTooSmall, MeetsLimit, IsCaused, ComesWhere}
+use Rattle.raidzx_top.specs.Causes.{NoneRose, IsTooSmall, MeetsLimit, IsNoCommand, IsCaused, ComesWhere}
 use Rattle.raidzx_top.specs.RunJournal.{NoneWantsMemory}
 use Rattle.raidzx_top.specs.RunText.{TextIsRight, create_text}
+use Rattle.raidzx_top.specs.Running.{IsStatusOf, after_fault}
 
 -- a setting in which a new pool stands: its devices, and failures of no more of them than its parity
 pub record IsNewSetting (call : Call) (parity id : ℕ) (setting : Setting) : Type 0 where
@@ -77,6 +79,15 @@ pub record CreateIsKept (call : Call) : Type 0 where
   pub untouched : (call.status ≡ status.Usage) ⊎ (call.status ≡ status.TooSmall)
       → call.new ≡ call.old
 
+-- The status of a run that opened its pool is the first of want of memory, a limit, a failed sink and too
+-- many failed devices that it met; else it is Done.
+pub record StatusIsRight (call : Call) (out : ℕ) : Type 0 where
+  pub finished : Bool
+  pub line : Status
+  pub line_is : IsStatusOf finished out call.journal line
+  pub given : (call.status ≡ line)
+      ⊎ ((call.status ≡ after_fault line) × Rose call.sink.faults call.sink_after.faults)
+
 -- what a run that opened its pool promises
 pub record RunPromises (call : Call) : Type 0 where
   -- The script that was read,
@@ -95,6 +106,7 @@ pub record RunPromises (call : Call) : Type 0 where
       → (image : Image) → HoldsImage call.old image
       → AreTooMany call.old call.new image listed
   pub text : TextIsRight call (journal_text call.journal)
+  pub status_is : StatusIsRight call out
 
 -- what a run that opened no pool leaves: what was there, but for counts of faults; or an opening that was
 -- cut short, for want of memory or as too many devices failed
@@ -108,6 +120,8 @@ pub record LeavesNone (call : Call) : Type 0 where
 pub record RunIsKept (call : Call) : Type 0 where
   pub opened : IsServedAs call.words served.Run → call.journal ≢ [] → RunPromises call
   pub unopened : IsServedAs call.words served.Run → call.journal ≡ [] → LeavesNone call
+  -- One that was carried out has opened its pool.
+  pub carried_out : IsServedAs call.words served.Run → IsCarriedOut call → call.journal ≢ []
 
 -- Nothing was in a run's way: the source told a script, the bank keeps groups of which none is too near
 -- the greatest number, no device is out, and nothing failed.
@@ -170,6 +184,10 @@ pub record CallPromises (call : Call) : Type 0 where
   pub comes : ComesWhere call
   -- a call that does nothing says so
   pub refused : call.journal ≡ [] → (IsCarriedOut call → ⊥) → TextIsRight call []
+  -- words that are no command do nothing
+  pub quiet : IsNoCommand call → IsQuiet call
+  -- calls are carried out whole, and no turn is made
+  pub turns : call.turns ≡ 0
   -- a new pool is kept, and what was written is the text
   pub create : CreateIsKept call
   -- what a run answers is right and kept, and what was written is the text

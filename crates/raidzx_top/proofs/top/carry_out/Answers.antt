@@ -27,5 +27,6 @@ pub returns-in-Some-Run : goal.returns-in-Some-Run
 returns-in-Some-Run g c = AsRun (record {
   served_as = subst (λ (given : ServedCommand). IsServedAs (map string_bytes c.args.words.now) given)
       c.in-Some-Run.field-0-is c.in-Some-Run.ensures.some;
+  turns = refl;
   ends = c.run.ensures;
 })
