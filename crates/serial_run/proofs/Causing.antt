@@ -46,8 +46,8 @@ pub limits_call : (handed : Handed) (opening : Map) (items : List Item) (entry :
 limits_call handed opening items entry caused new = record {
   each = λ index other there. elim (new_or_before items (Call entry) index (Call other) there) [
     | inl last ↦ at_end index other last.0 last.1
-    | inr earlier ↦ limit_grown handed opening items (Call entry ∷ []) index (omega (arith, earlier.0)) other.id other.answer
-        (caused.each index other earlier.1)
+    | inr earlier ↦ limit_grown handed opening items (Call entry ∷ []) index (omega (arith, earlier.0))
+        other.id other.answer (caused.each index other earlier.1)
   ];
 }
   where
@@ -68,8 +68,8 @@ pub limits_group : (handed : Handed) (opening : Map) (items : List Item) (group 
 limits_group handed opening items group caused = record {
   each = λ index other there. elim (new_or_before items (Group group) index (Call other) there) [
     | inl last ↦ absurd (apart other last.1)
-    | inr earlier ↦ limit_grown handed opening items (Group group ∷ []) index (omega (arith, earlier.0)) other.id other.answer
-        (caused.each index other earlier.1)
+    | inr earlier ↦ limit_grown handed opening items (Group group ∷ []) index (omega (arith, earlier.0))
+        other.id other.answer (caused.each index other earlier.1)
   ];
 }
   where

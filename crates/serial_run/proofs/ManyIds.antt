@@ -59,7 +59,8 @@ first_or_stored handed map (Call entry ∷ items) (suc count) id held = ⊎_elim
     (first_or_stored handed (map_after_answer handed map entry entry.answer) items count id held)
 
 -- What stands in a mapped list is made from what stands there.
-mapped_there : {A B : Type 0} (f : A → B) (list : List A) (index : ℕ) (there : B) → slice_get (map f list) index ≡ Some there
+mapped_there : {A B : Type 0} (f : A → B) (list : List A) (index : ℕ) (there : B)
+    → slice_get (map f list) index ≡ Some there
     → (found : A) × (slice_get list index ≡ Some found) × (f found ≡ there)
 mapped_there {A} {B} f list index there is = by (slice_get list index) refl
   where
@@ -79,10 +80,12 @@ abbrev placed_of : Script → ℕ → List Placed
 placed_of script caller = filter (λ placed. placed.actor == caller) script.calls
 
 -- What a client is asked stands in the script.
-asked_placed : (script : Script) (caller number : ℕ) (asked : Asked) → slice_get (asked_by script caller) number ≡ Some asked
+asked_placed : (script : Script) (caller number : ℕ) (asked : Asked)
+    → slice_get (asked_by script caller) number ≡ Some asked
     → (placed : Placed) × Contains script.calls placed × (placed.call.kind ≡ asked.kind) × (placed.call.id ≡ asked.id)
 asked_placed script caller number asked there =
-    let call = mapped_there (λ call. record { kind = call.kind; id = call.id }) (calls_of script caller) number asked there in
+    let call = mapped_there (λ call. record { kind = call.kind; id = call.id }) (calls_of script caller) number asked
+    there in
     let its = placed_of script caller in
     let placed = mapped_there (λ (placed : Placed). placed.call) its number call.0 call.1 in (
       placed.0,
@@ -106,7 +109,8 @@ module _ (script : Script) (opening : Map) (items : List Item)
       let previous = previous_of items entry.caller index in
       let placed = asked_placed script entry.caller (entry.call - 1) (record { kind = entry.kind; id = entry.id })
       (legal.calls_are.each index entry there).asked in
-      inr (placed.0, placed.1, placed.2 ∙ put (legal.answers.each previous.0 index entry there previous.1).1, placed.3 ∙ same)
+      let right = legal.answers.each previous.0 index entry there previous.1 in
+      inr (placed.0, placed.1, placed.2 ∙ put right.1, placed.3 ∙ same)
 
   held_or_put : (count id : ℕ) → map_after (handed_by script) opening items count id ≢ None
       → IsHeldOrPut script opening id
@@ -116,15 +120,17 @@ module _ (script : Script) (opening : Map) (items : List Item)
       (first_or_stored (handed_by script) opening items count id held)
 
   -- A put is refused as full where there are too many ids.
-  pub too_many_ids : LimitsAreCaused (handed_by script) opening items → (index : ℕ) (entry : Entry) → CallAt items index entry
-      → entry.answer ≡ answer.Full → HasTooManyIds script opening
+  pub too_many_ids : LimitsAreCaused (handed_by script) opening items → (index : ℕ) (entry : Entry)
+      → CallAt items index entry → entry.answer ≡ answer.Full → HasTooManyIds script opening
   too_many_ids caused index entry there is = record {
     ids = full.id ∷ full.others;
     distinct = IsDistinct-cons nat_eq full.id full.others
-        (apart_from (λ other. so_far other ≢ None) full.id full.others (λ there. there full.absent) full.held) full.distinct;
+        (apart_from (λ other. so_far other ≢ None) full.id full.others (λ there. there full.absent) full.held)
+        full.distinct;
     many = (let all = full.all in omega (arith, all));
     each = All-cons (IsHeldOrPut script opening) full.id full.others
-        (put_placed index entry full.id there (λ of. subst (λ (given : Answer). IsAnswerOf entry.kind given) is of) full.put_is)
+        (put_placed index entry full.id there (λ of. subst (λ (given : Answer). IsAnswerOf entry.kind given) is of)
+        full.put_is)
         (λ k d low. held_or_put index _ (full.held k d low));
   }
     where
