@@ -12,7 +12,7 @@ traced() {
   sed -nE -e 's/^[0-9]+ +//' \
     -e 's/^openat\(.*"(disk.)", O_RDWR\|O_NOCTTY\|O_CLOEXEC\) = .*/open \1/' \
     -e 's/^flock\(.*(disk.)>, LOCK_EX\|LOCK_NB\) += 0$/lock \1/' \
-    -e 's/^(statx|fstat|newfstatat)\([0-9]*<[^>]*(disk.)>.*/look \2/' \
+    -e 's/^lseek\(.*(disk.)>, 0, SEEK_END\) += [0-9]+$/measure \1/' \
     -e 's/^(fdatasync|close)\(.*(disk.)>\) += 0$/\1 \2/' \
     -e 's/^p(read|write)64\(.*(disk.)>, ""..., 512, ([0-9]*)\) += 512$/\1 \2 \3/' \
     -e 's/^write\(1<.*, ""..., ([0-9]+)\) = ([0-9]+)$/answer \1 \2/' \
@@ -22,7 +22,7 @@ traced() {
 # each WORD [SECTOR]: a call on each image, in order.
 each() { for number in 0 1 2; do echo "$1 disk$number${2:+ $2}"; done; }
 begin() {
-  for number in 0 1 2; do printf '%s disk'$number'\n' open lock look; done
+  for number in 0 1 2; do printf '%s disk'$number'\n' open lock measure; done
   for number in 0 1 2; do printf 'read disk'$number' %s\n' $(seq 0 31); done
 }
 # group SLOT [SECTOR..]: a commit, with its index sectors: page, sync, uberblock, sync.
