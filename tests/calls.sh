@@ -68,7 +68,7 @@ for id in $(seq 100); do many+=("get $id"); done
 traced "${many[@]}" >found
 grep -c 'sync' <found >counts
 for word in write read; do grep -c "^$word" found >>counts; done
-grep -vcE '^((write|read) disk. [0-9]+|(open|lock|look|fdatasync|close) disk.|answer .*)$' found >>counts || true
+grep -vcE '^((write|read) disk. [0-9]+|(open|lock|measure|fdatasync|close) disk.|answer .*)$' found >>counts || true
 # Syncs: 6 of the opening, 6 of the sync. Writes: 3 uberblocks, 1,200 columns, 3 pages of 13 sectors, 3 uberblocks.
 # Reads: 96 slots, 800 columns.
 printf '%s\n' 12 $((3 + 1200 + 39 + 3)) $((96 + 800)) 0 >wanted
