@@ -163,6 +163,9 @@ module _ (call : Call) (lawful : Lawful call.old)
         )) was.told;
   }
 
+  not_done : after_fault was.line ≢ status.Done
+  not_done = (part_end was.ran.finished was.ran.out call.journal was.line was.line_is).1
+
   promises : RunPromises call
   promises = record {
     script = was.carried.script;
@@ -178,6 +181,9 @@ module _ (call : Call) (lawful : Lawful call.old)
       line = was.line;
       line_is = was.line_is;
       given = ⊎_elim (λ told. inl told.0) (λ told. inr (told.0, told.1)) was.told;
+      written = λ held bytes. ⊎_elim
+          (λ told. inl (told.1.whole held bytes))
+          (λ told. inr (told.1, (λ done. not_done (sym told.0 ∙ done)), told.2.front held bytes)) was.told;
     };
   }
 

@@ -1,6 +1,6 @@
 -- What a call promises: what a new pool is, what a run answers and keeps at each moment and in the end, and
 -- what is written.
-use Rattle.std.specs.Prelude.{◌≡◌, ◌≢◌, ◌⊎◌, ℕ, ◌≤◌, List, [], Some, Bool, false, ⊤}
+use Rattle.std.specs.Prelude.{◌≡◌, ◌≢◌, ◌⊎◌, ℕ, ◌≤◌, List, [], ◌++◌, Some, Bool, false, ⊤}
 use Rattle.bank_trait.specs.Causes.{Rose}
 use Rattle.bank_trait.specs.Disk.{Image, Unchanged}
 use Rattle.bank_trait.specs.Regions.{Tells, TouchesOnly}
@@ -31,7 +31,7 @@ use Rattle.raidzx_top.specs.Spelled.{IsServedAs}
 use Rattle.raidzx_top.specs.Call.{Call, HoldsImage, shape_of}
 use Rattle.raidzx_top.specs.Causes.{NoneRose, IsTooSmall, MeetsLimit, IsNoCommand, IsCaused, ComesWhere}
 use Rattle.raidzx_top.specs.RunJournal.{NoneWantsMemory}
-use Rattle.raidzx_top.specs.RunText.{TextIsRight, create_text}
+use Rattle.raidzx_top.specs.RunText.{IsWritten, TextIsRight, create_text, status_line}
 use Rattle.raidzx_top.specs.Running.{IsStatusOf, after_fault}
 
 -- a setting in which a new pool stands: its devices, and failures of no more of them than its parity
@@ -80,13 +80,16 @@ pub record CreateIsKept (call : Call) : Type 0 where
       → call.new ≡ call.old
 
 -- The status of a run that opened its pool is the first of want of memory, a limit, a failed sink and too
--- many failed devices that it met; else it is Done.
+-- many failed devices that it met; else it is Done. The text ends with the line that it has where no sink
+-- fails.
 pub record StatusIsRight (call : Call) (out : ℕ) : Type 0 where
   pub finished : Bool
   pub line : Status
   pub line_is : IsStatusOf finished out call.journal line
   pub given : (call.status ≡ line)
       ⊎ ((call.status ≡ after_fault line) × Rose call.sink.faults call.sink_after.faults)
+  pub written : (held : List ℕ) → call.sink.bytes ≡ Some held
+      → IsWritten call held (journal_text call.journal ++ status_line line)
 
 -- what a run that opened its pool promises
 pub record RunPromises (call : Call) : Type 0 where
