@@ -11,3 +11,4 @@ pub mod RunAnswers
 pub mod RunCarried
 pub mod RunEnding
 pub mod Ending
+pub mod NewPools
