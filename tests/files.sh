@@ -230,6 +230,24 @@ keep made
 INPUT=reads
 refused 'images that are no pool' 3 'not a pool'
 
+# An image that can be read and not written, by nobody: a program that runs.
+back first
+program=$(command -v sleep)
+rm disk1
+cp "$program" disk1
+./disk1 60 &
+busy=$!
+# It runs once the file can't be opened for writing.
+for wait in $(seq 100); do
+  (: >>disk1) 2>/dev/null || break
+  sleep 0.05
+done
+runs 'an image that can be read alone is a failed device' 0 '0 group 6 after 0
+1 a.1 get 7 at 1 bytes 050c13' 'get 7'
+kill $busy
+wait $busy 2>/dev/null || true
+same 'and it is not written' disk1 "$program"
+
 # Disks in place of files, where this machine has some that may be used.
 back first
 loops=()
