@@ -24,6 +24,11 @@ enum NoBank {
 }
 
 impl<T: Drop> From<AllocFailed<T>> for NoBank {
+    ghost use Rattle.raidzx.specs.declared.NoBank.TheVariants.{NoMemory};
+    ghost use Rattle.std.specs.Prelude.{◌≡◌};
+
+    ghost from_gives = { λ _ why. why ≡ NoMemory };
+
     fn from(_: AllocFailed<T>) -> NoBank {
         NoBank::NoMemory
     }
