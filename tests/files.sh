@@ -244,7 +244,7 @@ for wait in $(seq 100); do
 done
 runs 'an image that can be read alone is a failed device' 0 '0 group 6 after 0
 1 a.1 get 7 at 1 bytes 050c13' 'get 7'
-kill $busy
+kill $busy 2>/dev/null || true
 wait $busy 2>/dev/null || true
 same 'and it is not written' disk1 "$program"
 
