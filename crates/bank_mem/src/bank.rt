@@ -255,6 +255,10 @@ impl Bank for MemBank {
         ensures unchanged { Unchanged (disk_of self.old) (disk_of self.new) }
         ensures listed { OnOk result (FailsNext self.old device → ⊥) }
         ensures only_listed { OnErr result (FailsNext self.old device) }
+        ensures one_more { OnErr result ((d : ℕ)
+            → (disk_of self.new).faults d ≡ counted_on (disk_of self.old).faults device d) }
+        ensures none_more { OnOk result ((d : ℕ)
+            → (disk_of self.new).faults d ≡ (disk_of self.old).faults d) }
         ensures made { (d : ℕ) → made_on self.new d ≡ counted_on (made_on self.old) device d }
         ensures plan { SamePlan self.old self.new }
     {
@@ -272,6 +276,10 @@ impl Bank for MemBank {
         requires sector { sector < (disk_of self.old).sectors }
         ensures wrote { Wrote (disk_of self.old) (disk_of self.new) device sector from.now result }
         ensures listed { OnOk result (FailsNext self.old device → ⊥) }
+        ensures one_more { OnErr result ((d : ℕ)
+            → (disk_of self.new).faults d ≡ counted_on (disk_of self.old).faults device d) }
+        ensures none_more { OnOk result ((d : ℕ)
+            → (disk_of self.new).faults d ≡ (disk_of self.old).faults d) }
         ensures made { (d : ℕ) → made_on self.new d ≡ counted_on (made_on self.old) device d }
         ensures plan { SamePlan self.old self.new }
     {
@@ -305,6 +313,10 @@ impl Bank for MemBank {
         requires { device < (disk_of self.old).devices }
         ensures synced { Synced (disk_of self.old) (disk_of self.new) device result }
         ensures listed { OnOk result (FailsNext self.old device → ⊥) }
+        ensures one_more { OnErr result ((d : ℕ)
+            → (disk_of self.new).faults d ≡ counted_on (disk_of self.old).faults device d) }
+        ensures none_more { OnOk result ((d : ℕ)
+            → (disk_of self.new).faults d ≡ (disk_of self.old).faults d) }
         ensures made { (d : ℕ) → made_on self.new d ≡ counted_on (made_on self.old) device d }
         ensures plan { SamePlan self.old self.new }
     {

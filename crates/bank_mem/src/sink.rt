@@ -1,5 +1,5 @@
 // A sink for bytes in memory.
-ghost use Rattle.std.specs.Prelude.{◌≡◌, ℕ, ◌-◌, ◌<◌, ◌≤◌, [], length, Some, IfOk, OnOk, min};
+ghost use Rattle.std.specs.Prelude.{◌≡◌, ℕ, ◌-◌, ◌<◌, ◌≤◌, [], length, Some, IfOk, OnOk, OnErr, min};
 
 use bank_trait::{Failed, Sink};
 use std::alloc::{AllocError, Global};
@@ -62,6 +62,8 @@ impl Sink for MemSink {
             × (0 < length piece.now → 0 < k)) }
         ensures bytes { Takes (Some (held_of self.old)) (Some (held_of self.new)) result piece.now }
         ensures cause { HasCause (write_faults self.old) (write_faults self.new) result }
+        ensures none_more { OnOk result (write_faults self.new ≡ write_faults self.old) }
+        ensures one_more { OnErr result (write_faults self.new ≡ counted (write_faults self.old)) }
         ensures count { IfOk result (λ k. k
             ≡ min (length piece.now) (room_of self.old - length (held_of self.old))) }
         ensures listed { OnOk result (WriteFailsNext self.old → ⊥) }

@@ -52,6 +52,8 @@ impl Source for MemSource {
         ensures bound { IfOk result (λ k. k ≤ length into.new) }
         ensures bytes { Hands (Some (left_of self.old)) (Some (left_of self.new)) result into.new }
         ensures cause { HasCause (read_faults self.old) (read_faults self.new) result }
+        ensures none_more { OnOk result (read_faults self.new ≡ read_faults self.old) }
+        ensures one_more { OnErr result (read_faults self.new ≡ counted (read_faults self.old)) }
         ensures count { IfOk result (λ k. k ≡ min (length into.new) (length (left_of self.old))) }
         ensures listed { OnOk result (ReadFailsNext self.old → ⊥) }
         ensures only_listed { OnErr result (ReadFailsNext self.old) }
