@@ -1,22 +1,21 @@
 -- Copies as a whole: from what may be copied to what each device has for certain.
-use Rattle.std.proofs.Common.{◌≡◌, ◌≢◌, ◌⊎◌, inl, inr, ⊎_elim, ℕ, ◌+◌, ◌*◌, ◌<◌, ◌≤◌, List, [], ◌∷◌, ◌++◌, length, Bool, true, false, Some, Result, Ok, Err, refl, sym, ◌∙◌, ap, subst, arith}
+use Rattle.std.proofs.Common.{◌≡◌, ◌⊎◌, inl, inr, ⊎_elim, ℕ, ◌+◌, ◌*◌, ◌<◌, List, [], ◌∷◌, length, Bool, true, false, Some, Ok, Err, refl, sym, ◌∙◌, ap, subst}
 use Rattle.std.specs.Prelude.{All, slice_get}
 use Rattle.std.proofs.lemmas.List.{append-nil}
 use Rattle.bank_trait.specs.Disk.{Lawful}
 use Rattle.block_record.specs.declared.entry.IndexEntry.{IndexEntry}
-use Rattle.block_record.specs.Page.{page_sectors, index_page, IsIndex}
+use Rattle.block_record.specs.Page.{page_sectors, IsIndex}
 use Rattle.block_record.proofs.Sectors.{length-index_page}
 use Rattle.uberblock_ring.specs.Devices.{has_device, IsWithin}
 use Rattle.uberblock_ring.specs.Uberblock.{Uber, area_sector}
-use Rattle.uberblock_ring.specs.Valid.{IsRightUber, AreAlike}
+use Rattle.uberblock_ring.specs.Valid.{IsRightUber}
 use Rattle.commit_job.specs.declared.call.CommitCall.{CommitCall}
 use Rattle.commit_job.specs.declared.call.CommitCall.TheVariants.{IndexWrite, BaseSync, UberWrite, UberSync}
 use Rattle.commit_job.specs.Stages.{device_of, copies_of, calls_left, after_next}
-use Rattle.core_state.specs.Keeps.{Kept, Setting, SameGroup}
-use Rattle.core_state.specs.Certain.{SlotOn, Knows, certain}
-use Rattle.core_state.specs.Committing.{Among, Point, IsSealed, Signed, page_part}
+use Rattle.core_state.specs.Keeps.{Kept, Setting}
+use Rattle.core_state.specs.Certain.{SlotOn, certain}
+use Rattle.core_state.specs.Committing.{Among, Point, Signed, page_part}
 use Rattle.core_state.specs.Moment.{IsRowOf, KeepsSince}
-use Rattle.core_state.proofs.Calls.{true_false}
 use Rattle.core_state.proofs.Laying.{IsPaged}
 use Rattle.core_state.proofs.Signing.{IsSigner, signed_passed, signed_laid, signed_signed, signed_sealed}
 use Rattle.core_state.proofs.Since.{since_more, since_now}

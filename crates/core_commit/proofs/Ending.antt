@@ -1,9 +1,9 @@
 -- What a commit promises, from the calls of its halves.
-use Rattle.std.proofs.Common.{◌≡◌, ℕ, ◌^◌, ◌<◌, ◌≤◌, List, [], ◌∷◌, length, true, Some, Result, Ok, Err, refl, sym, ◌∙◌, ap, subst}
+use Rattle.std.proofs.Common.{◌≡◌, ℕ, ◌^◌, ◌<◌, ◌≤◌, List, [], length, true, Some, Ok, Err, sym, ap, subst}
 use Rattle.std.specs.Prelude.{All, slice_get}
 use Rattle.bank_trait.specs.Disk.{Lawful}
 use Rattle.block_record.specs.declared.entry.IndexEntry.{IndexEntry}
-use Rattle.block_record.specs.Page.{page_sectors, IsIndex}
+use Rattle.block_record.specs.Page.{IsIndex}
 use Rattle.uberblock_ring.specs.Devices.{has_device, count_below, IsWithin}
 use Rattle.uberblock_ring.specs.Uberblock.{Uber}
 use Rattle.uberblock_ring.specs.Valid.{IsRightUber}

@@ -1,11 +1,11 @@
 -- What any calls of a commit leave alone, and which devices go out in them.
-use Rattle.std.proofs.Common.{◌≡◌, ◌≢◌, ◌⊎◌, inl, inr, ⊎_elim, ℕ, zero, suc, ◌+◌, ◌-◌, ◌*◌, ◌^◌, ◌<◌, ◌≤◌, List, [], ◌∷◌, length, Bool, true, false, Some, Result, Ok, Err, refl, sym, ◌∙◌, ap, subst, arith}
-use Rattle.std.specs.Prelude.{◌||◌, ◌&&◌, ◌==◌, not, min, is_ok, slice_get, slice_index_or, All, OnErr}
+use Rattle.std.proofs.Common.{◌≡◌, ◌≢◌, ◌⊎◌, inl, inr, ⊎_elim, ℕ, zero, suc, ◌+◌, ◌<◌, ◌≤◌, List, [], ◌∷◌, Bool, true, false, Result, Ok, Err, refl, sym, ◌∙◌, ap, subst, arith}
+use Rattle.std.specs.Prelude.{◌||◌, ◌&&◌, ◌==◌, All, OnErr}
 use Rattle.std.proofs.lemmas.Bool.{cases_eq}
 use Rattle.std.proofs.lemmas.Bool.Decides.{nat_tests}
 use Rattle.bank_trait.specs.declared.Failed.{Failed}
 use Rattle.bank_trait.specs.Causes.{Rose}
-use Rattle.bank_trait.specs.Disk.{Disk, Later, Wrote, Synced, Other}
+use Rattle.bank_trait.specs.Disk.{Wrote, Synced}
 use Rattle.bank_trait.proofs.Moments.{later_refl, later_trans}
 use Rattle.block_record.specs.declared.entry.IndexEntry.{IndexEntry}
 use Rattle.block_record.specs.Page.{page_sectors}
@@ -14,13 +14,13 @@ use Rattle.uberblock_ring.specs.Uberblock.{Uber, slot_of, area_sector}
 use Rattle.commit_job.specs.declared.call.CommitCall.{CommitCall}
 use Rattle.commit_job.specs.declared.call.CommitCall.TheVariants.{IndexWrite, BaseSync, UberWrite, UberSync}
 use Rattle.commit_job.specs.Stages.{device_of}
-use Rattle.core_state.specs.Committing.{Among, Point, Called, lost_by}
-use Rattle.core_state.proofs.Calls.{true_false, both_false}
+use Rattle.core_state.specs.Committing.{Among, Point, Called}
+use Rattle.core_state.proofs.Calls.{true_false}
 use Rattle.core_commit.specs.Ran.{MadeOne, Step, RanBy, IsInside}
-use Rattle.core_commit.specs.Spared.{Spares, HaveGoneOut}
+use Rattle.core_commit.specs.Spared.{Spares}
 use Rattle.core_commit.proofs.Order.{Due, Ordered}
 use Rattle.core_commit.proofs.Plans.{next_among, rest_among}
-use Rattle.core_commit.proofs.Halves.{goes_on, stays_out}
+use Rattle.core_commit.proofs.Halves.{stays_out}
 
 -- Devices go out, each for a call that failed on it, and what is no ring or index area is left alone.
 pub record Went (before after : Point) : Type 0 where
@@ -121,7 +121,7 @@ went_write device sector bytes result before after head called wrote = record {
 }
 
 -- A sync of a device that is still in use changes nothing that is read.
-synced_reads : (device : ℕ) (result : Result (Unit {0}) Failed) (before after : Point)
+pub synced_reads : (device : ℕ) (result : Result (Unit {0}) Failed) (before after : Point)
     → Called device result before after → Synced before.disk after.disk device result
     → (d x : ℕ) → has_device after.out d ≡ false
     → after.disk.reads d x ≡ before.disk.reads d x

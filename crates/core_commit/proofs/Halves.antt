@@ -1,29 +1,28 @@
 -- What the two halves of a commit keep, call by call.
-use Rattle.std.proofs.Common.{◌≡◌, ◌≢◌, ◌⊎◌, inl, inr, ⊎_elim, ℕ, ◌+◌, ◌*◌, ◌%◌, ◌<◌, ◌≤◌, List, [], ◌∷◌, ◌++◌, length, Bool, true, false, Some, Result, refl, sym, ◌∙◌, ap, subst, arith}
-use Rattle.std.specs.Prelude.{Contains, slice_get, ◌||◌, not, if◌then◌else◌}
+use Rattle.std.proofs.Common.{◌≡◌, ◌≢◌, inl, ℕ, ◌*◌, ◌<◌, List, [], ◌∷◌, Bool, true, false, Some, Result, sym, ◌∙◌, ap, subst, arith}
+use Rattle.std.specs.Prelude.{slice_get, ◌||◌}
 use Rattle.bank_trait.specs.declared.Failed.{Failed}
 use Rattle.bank_trait.specs.Disk.{Continues, Wrote}
 use Rattle.block_record.specs.declared.entry.IndexEntry.{IndexEntry}
-use Rattle.block_record.specs.Page.{page_sectors, index_page, IsIndex}
+use Rattle.block_record.specs.Page.{page_sectors}
 use Rattle.block_record.proofs.Sectors.{length-index_page}
 use Rattle.uberblock_ring.specs.Devices.{has_device, IsWithin}
 use Rattle.uberblock_ring.specs.Uberblock.{Uber, encoded, slot_of}
-use Rattle.uberblock_ring.specs.Valid.{IsRightUber}
 use Rattle.commit_job.specs.declared.call.CommitCall.{CommitCall}
 use Rattle.commit_job.specs.declared.call.CommitCall.TheVariants.{IndexWrite, BaseSync, UberWrite, UberSync}
 use Rattle.commit_job.specs.Stages.{device_of, calls_left, after_next}
 use Rattle.core_state.specs.Keeps.{Kept, Setting}
-use Rattle.core_state.specs.Certain.{IsSound, Knows}
+use Rattle.core_state.specs.Certain.{IsSound}
 use Rattle.core_state.specs.Committing.{Among, Point, Called, lost_by, Unsigned, Signed}
 use Rattle.core_state.specs.Moment.{IsRowOf, KeepsSince}
-use Rattle.core_state.proofs.Calls.{true_false, both_false}
+use Rattle.core_state.proofs.Calls.{true_false}
 use Rattle.core_state.proofs.Laying.{IsPaged, unsigned_passed, unsigned_laid, unsigned_settled}
 use Rattle.core_state.proofs.Signing.{IsSigner, signed_passed, signed_signed, signed_sealed}
 use Rattle.core_state.proofs.Since.{since_more}
-use Rattle.core_commit.specs.Ran.{MadeOne, Step, RanBy, IsSigning, IsLaying, IsAny}
+use Rattle.core_commit.specs.Ran.{MadeOne, Step, RanBy, IsLaying, IsAny}
 use Rattle.core_commit.proofs.Order.{Due, Ordered}
 use Rattle.core_commit.proofs.Running.{next_is}
-use Rattle.core_commit.proofs.Plans.{by_next, by_none, next_among, rest_among, next_due, signing_stays, laying_spent}
+use Rattle.core_commit.proofs.Plans.{by_next, by_none, next_among, rest_among, next_due, signing_stays}
 
 -- Each call goes on in time.
 pub goes_on : (uber : Uber) (entries : List IndexEntry) (call : CommitCall) (before after : Point)

@@ -4,6 +4,7 @@ pub mod Plans
 pub mod Rows
 pub mod Halves
 pub mod Going
+pub mod Touching
 pub mod Whole
 pub mod Ending
 pub mod Spreading

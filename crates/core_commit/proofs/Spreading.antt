@@ -1,5 +1,5 @@
 -- The order of copies: page and uberblock of a device are followed by its sync.
-use Rattle.std.proofs.Common.{◌≡◌, ◌⊎◌, ⊎_elim, inl, inr, ℕ, zero, suc, ◌+◌, ◌<◌, ◌≤◌, List, [], ◌∷◌, ◌++◌, Bool, true, false, refl, sym, ◌∙◌, ap, subst, arith, append_assoc}
+use Rattle.std.proofs.Common.{◌≡◌, ◌⊎◌, ⊎_elim, inl, inr, ℕ, zero, suc, ◌<◌, List, [], ◌∷◌, ◌++◌, Bool, true, false, refl, sym, ◌∙◌, ap, subst, arith}
 use Rattle.std.specs.Prelude.{map, flat_map, filter, if◌then◌else◌}
 use Rattle.std.proofs.lemmas.Bool.{cases_lt}
 use Rattle.block_record.specs.Page.{page_sectors}
@@ -9,7 +9,7 @@ use Rattle.commit_job.specs.declared.call.CommitCall.TheVariants.{IndexWrite, Ba
 use Rattle.commit_job.specs.Stages.{numbers_below, index_writes, copies_of}
 use Rattle.core_state.specs.Committing.{Among}
 use Rattle.core_state.proofs.Calls.{true_false}
-use Rattle.core_commit.proofs.Order.{Every, every_append, every_among, every_weaker, every_each, among_front, among_back, among_each}
+use Rattle.core_commit.proofs.Order.{Every, every_append, every_among, every_each, among_front, among_back, among_each}
 
 module _ (devices parts lack_page lack_uber : ℕ) where
   -- What comes after a copy: the sync of what it wrote, and behind the sync of a device nothing of it.

@@ -1,32 +1,31 @@
 -- A commit as a whole: from what may be begun to what is kept at its end.
-use Rattle.std.proofs.Common.{◌≡◌, ◌≢◌, ◌⊎◌, inl, inr, ⊎_elim, ℕ, zero, suc, ◌+◌, ◌*◌, ◌%◌, ◌<◌, ◌≤◌, List, [], ◌∷◌, ◌++◌, length, Bool, true, false, Some, refl, sym, ◌∙◌, ap, subst, arith}
-use Rattle.std.specs.Prelude.{Contains, AllPairs, All, slice_get}
+use Rattle.std.proofs.Common.{◌≡◌, ◌≢◌, inl, ⊎_elim, ℕ, ◌+◌, ◌*◌, List, [], length, Bool, true, false, Some, refl, sym, ◌∙◌, ap, subst, arith}
+use Rattle.std.specs.Prelude.{Contains, slice_get}
 use Rattle.bank_trait.specs.Disk.{Lawful}
 use Rattle.block_record.specs.declared.entry.IndexEntry.{IndexEntry}
 use Rattle.block_record.specs.Page.{page_sectors, IsIndex, index_page}
 use Rattle.block_record.proofs.Sectors.{length-index_page}
 use Rattle.uberblock_ring.specs.Devices.{has_device, IsWithin}
 use Rattle.uberblock_ring.specs.Uberblock.{Uber, slot_of}
-use Rattle.uberblock_ring.specs.Valid.{IsRightUber, AreAlike}
+use Rattle.uberblock_ring.specs.Valid.{IsRightUber}
 use Rattle.commit_job.specs.declared.call.CommitCall.{CommitCall}
-use Rattle.commit_job.specs.declared.call.CommitCall.TheVariants.{IndexWrite, BaseSync, UberWrite, UberSync}
+use Rattle.commit_job.specs.declared.call.CommitCall.TheVariants.{IndexWrite, BaseSync}
 use Rattle.commit_job.specs.Stages.{plan_of, device_of, calls_left}
 use Rattle.core_state.specs.Index.{IsIndexOf}
 use Rattle.core_state.specs.Keeps.{Kept, Setting, SameGroup}
-use Rattle.core_state.specs.Certain.{PageOn, SlotOn, IsRow, IsSound, Knows, certain}
-use Rattle.core_state.specs.Committing.{Among, Point, IsSealed, Unsigned, Signed}
+use Rattle.core_state.specs.Certain.{IsRow, Knows, certain}
+use Rattle.core_state.specs.Committing.{Among, Point, IsSealed}
 use Rattle.core_state.specs.Moment.{KeepsSince}
 use Rattle.core_state.proofs.Calls.{true_false}
 use Rattle.core_state.proofs.Places.{right_widths}
 use Rattle.core_state.proofs.Laying.{IsPaged}
 use Rattle.core_state.proofs.Signing.{IsSigner}
 use Rattle.core_state.proofs.Moving.{MaySign, signs_begin, knows_widen, knows_move}
-use Rattle.core_state.proofs.Since.{since_now}
 use Rattle.core_commit.specs.Ran.{Step, RanBy, IsSigning, IsLaying, IsAny}
 use Rattle.core_commit.specs.Commits.{Begun, row_of, groups_of, group_made, MayCommit}
-use Rattle.core_commit.proofs.Order.{Ordered, plan_ordered, plan_lays, plan_settles, plan_signs}
+use Rattle.core_commit.proofs.Order.{plan_ordered, plan_lays, plan_settles, plan_signs}
 use Rattle.core_commit.proofs.Plans.{laying_spent}
-use Rattle.core_commit.proofs.Rows.{row_before, row_after, row_at_end, kept_listed, alone_at_end, joins}
+use Rattle.core_commit.proofs.Rows.{row_before, row_after, kept_listed, alone_at_end, joins}
 use Rattle.core_commit.proofs.Halves.{sound_paged, HasLaid, lays_all, HasSigned, signs_all, signs_end}
 
 -- Page and uberblock of a group are those of the same group.

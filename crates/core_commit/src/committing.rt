@@ -8,7 +8,7 @@ ghost use Rattle.commit_job.specs.Stages.{device_of, calls_left};
 ghost use Rattle.core_commit.specs.Commits.{CommitKeeps};
 ghost use Rattle.core_commit.specs.Copies.{CopyKeeps};
 ghost use Rattle.core_commit.specs.Ran.{HasMade, MadeOne, Ran, IsInside, FitsBank, IsSigning, IsLaying, IsAny, point_of};
-ghost use Rattle.core_commit.specs.Spared.{Spares, HaveGoneOut};
+ghost use Rattle.core_commit.specs.Spared.{Spares, HaveGoneOut, TouchesGroup};
 
 use bank_trait::{Bank, Failed};
 use block_record::{IndexEntry, index_sector};
@@ -108,6 +108,8 @@ fn lay<B: Bank>(
     requires below { out.old < 2 ^ uber.now.reflow.to }
     ensures ran { Ran IsLaying uber.now entries.now calls.old (point_of out.old (B.disk bank.old))
         calls.new (point_of out.new (B.disk bank.new)) }
+    ensures touches { TouchesGroup uber.now (point_of out.old (B.disk bank.old))
+        (point_of out.new (B.disk bank.new)) }
     ensures ends { count_of out.new ≤ uber.now.parity → (call : CallOf)
         → slice_get (calls_left out.new calls.new) 0 ≡ Some call
         → IsSigning call }
@@ -140,6 +142,8 @@ fn sign<B: Bank>(
     requires below { out.old < 2 ^ uber.now.reflow.to }
     ensures ran { Ran IsAny uber.now entries.now calls.old (point_of out.old (B.disk bank.old))
         calls.new (point_of out.new (B.disk bank.new)) }
+    ensures touches { TouchesGroup uber.now (point_of out.old (B.disk bank.old))
+        (point_of out.new (B.disk bank.new)) }
     ensures ends { count_of out.new ≤ uber.now.parity → calls_left out.new calls.new ≡ [] }
     ensures below { out.new < 2 ^ uber.now.reflow.to }
 {
@@ -174,6 +178,8 @@ pub fn commit<B: Bank>(
     ensures gone { HaveGoneOut (point_of out.old (B.disk bank.old)) uber.new.out
         (point_of out.new (B.disk bank.new)) }
     ensures spares { Spares (point_of out.old (B.disk bank.old))
+        (point_of out.new (B.disk bank.new)) }
+    ensures touches { TouchesGroup uber.old (point_of out.old (B.disk bank.old))
         (point_of out.new (B.disk bank.new)) }
     ensures keeps { CommitKeeps uber.old entries.now (point_of out.old (B.disk bank.old))
         (point_of out.new (B.disk bank.new)) uber.new.out result }
@@ -213,6 +219,8 @@ pub fn copy<B: Bank>(
     ensures gone { HaveGoneOut (point_of out.old (B.disk bank.old)) out.old
         (point_of out.new (B.disk bank.new)) }
     ensures spares { Spares (point_of out.old (B.disk bank.old))
+        (point_of out.new (B.disk bank.new)) }
+    ensures touches { TouchesGroup uber.now (point_of out.old (B.disk bank.old))
         (point_of out.new (B.disk bank.new)) }
     ensures keeps { CopyKeeps uber.now entries.now lack_page lack_uber
         (point_of out.old (B.disk bank.old)) (point_of out.new (B.disk bank.new)) result }

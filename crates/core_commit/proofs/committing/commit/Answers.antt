@@ -1,9 +1,10 @@
-use Rattle.std.proofs.Common.{◌≡◌, ◌∙◌, sym, ap, subst, arith, ℕ, List}
+use Rattle.std.proofs.Common.{◌≡◌, ◌∙◌, ap, arith}
 use Rattle.uberblock_ring.specs.Uberblock.{Uber}
 use Rattle.reflow_mark.specs.declared.reflow.Reflow.{Reflow}
 use Rattle.commit_job.specs.Stages.{plan_of}
 use Rattle.core_commit.specs.Ran.{point_of}
 use Rattle.core_commit.proofs.Ending.{plan_inside, right_listing, cut_gone, cut_spares, cut_keeps, signed_gone, signed_spares, short_keeps, whole_keeps}
+use Rattle.core_commit.proofs.Touching.{touched_both}
 use Rattle.core_commit.proofs.committing.commit.Goals as goal
 
 pub lay-requires-clause-inside : goal.lay-requires-clause-inside
@@ -104,3 +105,17 @@ returns-clause-keeps g c = whole_keeps c.args.uber.now c.args.entries.now
     (c.sign.ensures.ends (let parity : c.set_out.new.self.parity ≡ c.args.uber.now.parity =
     ap (λ (u : Uber). u.parity) c.set_out.ensures.value in
     omega (arith, parity, c.if-len-parity-2.false, c.len-2.ensures.value, c.parity-parity.ensures.value)))
+
+pub returns-then-len-parity-2-clause-touches : goal.returns-then-len-parity-2-clause-touches
+returns-then-len-parity-2-clause-touches g c = touched_both c.args.uber.now c.set_out.new.self
+    (point_of c.args.out.now (g.B.Bank.disk c.args.bank.now))
+    (point_of c.lay.new.out (g.B.Bank.disk c.lay.new.bank))
+    (point_of c.sign.new.out (g.B.Bank.disk c.sign.new.bank)) c.lay.new.out
+    c.set_out.ensures.value c.lay.ensures.touches c.sign.ensures.touches
+
+pub returns-clause-touches : goal.returns-clause-touches
+returns-clause-touches g c = touched_both c.args.uber.now c.set_out.new.self
+    (point_of c.args.out.now (g.B.Bank.disk c.args.bank.now))
+    (point_of c.lay.new.out (g.B.Bank.disk c.lay.new.bank))
+    (point_of c.sign.new.out (g.B.Bank.disk c.sign.new.bank)) c.lay.new.out
+    c.set_out.ensures.value c.lay.ensures.touches c.sign.ensures.touches

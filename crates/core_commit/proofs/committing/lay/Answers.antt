@@ -1,9 +1,10 @@
-use Rattle.std.proofs.Common.{◌∙◌, sym, ap, arith, length, subst}
+use Rattle.std.proofs.Common.{◌∙◌, [], refl, sym, ap, arith, length, subst}
 use Rattle.std.specs.Prelude.{All, List}
 use Rattle.commit_job.specs.declared.call.CommitCall.{CommitCall}
 use Rattle.core_state.proofs.Calls.{true_false}
 use Rattle.core_commit.specs.Ran.{IsInside, Ran, IsLaying, point_of}
 use Rattle.core_commit.proofs.Running.{next_is, ran_more}
+use Rattle.core_commit.proofs.Touching.{touched_none, touched_more}
 use Rattle.core_commit.proofs.committing.lay.Goals as goal
 
 pub make-requires-clause-inside : goal.make-requires-clause-inside
@@ -15,6 +16,15 @@ pub make-requires-clause-in_use : goal.make-requires-clause-in_use
 make-requires-clause-in_use g c =
     (next_is (IsInside c.args.uber.now) c.loop-call.out c.loop-call.calls c.in-Some.call c.loop-call.invariant.inside
     (c.next_call.ensures.some c.in-Some.call c.in-Some.is)).in_use
+
+pub loop-call-init : goal.loop-call-init
+loop-call-init g c = record {
+  ran = ([], (refl, refl));
+  touches = touched_none c.args.uber.now (point_of c.args.out.now (g.B.Bank.disk c.args.bank.now));
+  fits = c.requires.fits;
+  inside = c.requires.inside;
+  below = c.requires.below;
+}
 
 pub loop-call-smaller : goal.loop-call-smaller
 loop-call-smaller g c =
@@ -37,6 +47,11 @@ loop-call-preserved g c =
           (point_of c.make.new.out (g.B.Bank.disk c.make.new.bank))
           c.in-Some.call c.loop-call.invariant.ran
           (λ signing. true_false (sym (c.is_signing.ensures.1 signing) ∙ c.if-is_signing.false)) (c.next_call.ensures.some c.in-Some.call c.in-Some.is) c.make.ensures.made);
+      touches = touched_more c.args.uber.now c.args.entries.now c.in-Some.call
+          (point_of c.args.out.now (g.B.Bank.disk c.args.bank.now))
+          (point_of c.loop-call.out (g.B.Bank.disk c.loop-call.bank))
+          (point_of c.make.new.out (g.B.Bank.disk c.make.new.bank))
+          (g.met.B.Bank.lawful c.loop-call.bank) next.fits c.loop-call.invariant.touches c.make.ensures.made;
       fits = c.make.ensures.fits;
       inside = subst (All (IsInside c.args.uber.now)) (sym c.advance.ensures.left) next.rest;
       below = c.make.ensures.below;
