@@ -5,6 +5,7 @@ pub mod Rows
 pub mod Halves
 pub mod Going
 pub mod Touching
+pub mod Stopping
 pub mod Whole
 pub mod Ending
 pub mod Spreading

@@ -4,7 +4,7 @@ use Rattle.bank_trait.specs.Causes.{Rose}
 use Rattle.bank_trait.specs.Disk.{Later}
 use Rattle.bank_trait.specs.Regions.{TouchesOnly}
 use Rattle.block_record.specs.Page.{page_sectors}
-use Rattle.uberblock_ring.specs.Devices.{has_device, IsWithin}
+use Rattle.uberblock_ring.specs.Devices.{has_device, count_of, IsWithin}
 use Rattle.uberblock_ring.specs.Uberblock.{Uber, slot_of, area_sector}
 use Rattle.core_state.specs.Committing.{Point}
 
@@ -42,3 +42,9 @@ pub record TouchesGroup (uber : Uber) (before after : Point) : Type 0 where
   pub reads : (device device_sector : ℕ) → has_device after.out device ≡ false
       → IsElsewhere uber device_sector
       → after.disk.reads device device_sector ≡ before.disk.reads device device_sector
+
+-- Nothing is called where more devices are out than there are parities, and no more go out than the first
+-- one too many.
+pub record StopsInTime (parity : ℕ) (before after : Point) : Type 0 where
+  pub none : parity < count_of before.out → after ≡ before
+  pub last : count_of before.out ≤ parity → count_of after.out ≤ parity + 1

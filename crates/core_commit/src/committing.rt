@@ -1,5 +1,5 @@
 // A commit and its two halves.
-ghost use Rattle.std.specs.Prelude.{◌≡◌, ◌↔◌, ◌^◌, ◌<◌, ◌≤◌, [], All, Some, None, false, length, slice_get, IsTrue, OnOk, OnErr};
+ghost use Rattle.std.specs.Prelude.{◌≡◌, ◌↔◌, ◌+◌, ◌^◌, ◌<◌, ◌≤◌, [], All, Some, None, false, length, slice_get, IsTrue, OnOk, OnErr};
 ghost use Rattle.block_record.specs.Page.{IsIndex};
 ghost use Rattle.uberblock_ring.specs.Devices.{has_device, count_of};
 ghost use Rattle.uberblock_ring.specs.Valid.{IsRightUber};
@@ -8,7 +8,7 @@ ghost use Rattle.commit_job.specs.Stages.{device_of, calls_left};
 ghost use Rattle.core_commit.specs.Commits.{CommitKeeps};
 ghost use Rattle.core_commit.specs.Copies.{CopyKeeps};
 ghost use Rattle.core_commit.specs.Ran.{HasMade, MadeOne, Ran, IsInside, FitsBank, IsSigning, IsLaying, IsAny, point_of};
-ghost use Rattle.core_commit.specs.Spared.{Spares, HaveGoneOut, TouchesGroup};
+ghost use Rattle.core_commit.specs.Spared.{Spares, HaveGoneOut, TouchesGroup, StopsInTime};
 
 use bank_trait::{Bank, Failed};
 use block_record::{IndexEntry, index_sector};
@@ -62,6 +62,7 @@ fn make<B: Bank>(
     requires below { out.old < 2 ^ uber.now.reflow.to }
     ensures made { MadeOne uber.now entries.now call (point_of out.old (B.disk bank.old))
         (point_of out.new (B.disk bank.new)) }
+    ensures one { count_of out.new ≤ count_of out.old + 1 }
     ensures fits { FitsBank uber.now entries.now out.new (B.disk bank.new) }
     ensures below { out.new < 2 ^ uber.now.reflow.to }
 {
@@ -84,6 +85,7 @@ fn is_signing(call: CommitCall) -> bool
 fn next_call(calls: &Commit, out: DeviceSet, parity: u32) -> Option<CommitCall>
     ensures some { (call : CallOf) → result ≡ Some call
         → slice_get (calls_left out calls.now) 0 ≡ Some call }
+    ensures few { (call : CallOf) → result ≡ Some call → count_of out ≤ parity }
     ensures none { result ≡ None → count_of out ≤ parity → calls_left out calls.now ≡ [] }
 {
     if out.len() > parity {
@@ -109,6 +111,8 @@ fn lay<B: Bank>(
     ensures ran { Ran IsLaying uber.now entries.now calls.old (point_of out.old (B.disk bank.old))
         calls.new (point_of out.new (B.disk bank.new)) }
     ensures touches { TouchesGroup uber.now (point_of out.old (B.disk bank.old))
+        (point_of out.new (B.disk bank.new)) }
+    ensures stops { StopsInTime uber.now.parity (point_of out.old (B.disk bank.old))
         (point_of out.new (B.disk bank.new)) }
     ensures ends { count_of out.new ≤ uber.now.parity → (call : CallOf)
         → slice_get (calls_left out.new calls.new) 0 ≡ Some call
@@ -143,6 +147,8 @@ fn sign<B: Bank>(
     ensures ran { Ran IsAny uber.now entries.now calls.old (point_of out.old (B.disk bank.old))
         calls.new (point_of out.new (B.disk bank.new)) }
     ensures touches { TouchesGroup uber.now (point_of out.old (B.disk bank.old))
+        (point_of out.new (B.disk bank.new)) }
+    ensures stops { StopsInTime uber.now.parity (point_of out.old (B.disk bank.old))
         (point_of out.new (B.disk bank.new)) }
     ensures ends { count_of out.new ≤ uber.now.parity → calls_left out.new calls.new ≡ [] }
     ensures below { out.new < 2 ^ uber.now.reflow.to }
@@ -180,6 +186,8 @@ pub fn commit<B: Bank>(
     ensures spares { Spares (point_of out.old (B.disk bank.old))
         (point_of out.new (B.disk bank.new)) }
     ensures touches { TouchesGroup uber.old (point_of out.old (B.disk bank.old))
+        (point_of out.new (B.disk bank.new)) }
+    ensures stops { StopsInTime uber.old.parity (point_of out.old (B.disk bank.old))
         (point_of out.new (B.disk bank.new)) }
     ensures keeps { CommitKeeps uber.old entries.now (point_of out.old (B.disk bank.old))
         (point_of out.new (B.disk bank.new)) uber.new.out result }
@@ -221,6 +229,8 @@ pub fn copy<B: Bank>(
     ensures spares { Spares (point_of out.old (B.disk bank.old))
         (point_of out.new (B.disk bank.new)) }
     ensures touches { TouchesGroup uber.now (point_of out.old (B.disk bank.old))
+        (point_of out.new (B.disk bank.new)) }
+    ensures stops { StopsInTime uber.now.parity (point_of out.old (B.disk bank.old))
         (point_of out.new (B.disk bank.new)) }
     ensures keeps { CopyKeeps uber.now entries.now lack_page lack_uber
         (point_of out.old (B.disk bank.old)) (point_of out.new (B.disk bank.new)) result }

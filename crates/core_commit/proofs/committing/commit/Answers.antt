@@ -1,10 +1,12 @@
-use Rattle.std.proofs.Common.{◌≡◌, ◌∙◌, ap, arith}
+use Rattle.std.proofs.Common.{◌≡◌, ◌≤◌, ◌∙◌, ap, arith}
+use Rattle.uberblock_ring.specs.Devices.{count_of}
 use Rattle.uberblock_ring.specs.Uberblock.{Uber}
 use Rattle.reflow_mark.specs.declared.reflow.Reflow.{Reflow}
 use Rattle.commit_job.specs.Stages.{plan_of}
 use Rattle.core_commit.specs.Ran.{point_of}
 use Rattle.core_commit.proofs.Ending.{plan_inside, right_listing, cut_gone, cut_spares, cut_keeps, signed_gone, signed_spares, short_keeps, whole_keeps}
 use Rattle.core_commit.proofs.Touching.{touched_both}
+use Rattle.core_commit.proofs.Stopping.{stops_then}
 use Rattle.core_commit.proofs.committing.commit.Goals as goal
 
 pub lay-requires-clause-inside : goal.lay-requires-clause-inside
@@ -119,3 +121,27 @@ returns-clause-touches g c = touched_both c.args.uber.now c.set_out.new.self
     (point_of c.lay.new.out (g.B.Bank.disk c.lay.new.bank))
     (point_of c.sign.new.out (g.B.Bank.disk c.sign.new.bank)) c.lay.new.out
     c.set_out.ensures.value c.lay.ensures.touches c.sign.ensures.touches
+
+pub returns-then-len-parity-2-clause-stops : goal.returns-then-len-parity-2-clause-stops
+returns-then-len-parity-2-clause-stops g c =
+    let few : count_of c.lay.new.out ≤ c.args.uber.now.parity =
+    omega (arith, c.if-len-parity.false, c.len.ensures.value, c.parity-parity.ensures.value) in
+    let parity : c.set_out.new.self.parity ≡ c.args.uber.now.parity =
+    ap (λ (u : Uber). u.parity) c.set_out.ensures.value in
+    stops_then c.args.uber.now.parity
+    (point_of c.args.out.now (g.B.Bank.disk c.args.bank.now))
+    (point_of c.lay.new.out (g.B.Bank.disk c.lay.new.bank))
+    (point_of c.sign.new.out (g.B.Bank.disk c.sign.new.bank)) c.lay.ensures.stops few
+    (let last = c.sign.ensures.stops.last (omega (arith, few, parity)) in omega (arith, last, parity))
+
+pub returns-clause-stops : goal.returns-clause-stops
+returns-clause-stops g c =
+    let few : count_of c.lay.new.out ≤ c.args.uber.now.parity =
+    omega (arith, c.if-len-parity.false, c.len.ensures.value, c.parity-parity.ensures.value) in
+    let parity : c.set_out.new.self.parity ≡ c.args.uber.now.parity =
+    ap (λ (u : Uber). u.parity) c.set_out.ensures.value in
+    stops_then c.args.uber.now.parity
+    (point_of c.args.out.now (g.B.Bank.disk c.args.bank.now))
+    (point_of c.lay.new.out (g.B.Bank.disk c.lay.new.bank))
+    (point_of c.sign.new.out (g.B.Bank.disk c.sign.new.bank)) c.lay.ensures.stops few
+    (let last = c.sign.ensures.stops.last (omega (arith, few, parity)) in omega (arith, last, parity))

@@ -1,13 +1,14 @@
 use Rattle.std.proofs.Common.{◌≡◌, sym, subst, ℕ, arith}
-use Rattle.std.specs.Prelude.{◌||◌, ◌<◌, ◌^◌}
+use Rattle.std.specs.Prelude.{◌||◌, ◌+◌, ◌<◌, ◌≤◌, ◌^◌}
 use Rattle.uberblock_ring.proofs.DeviceSets.{with_below}
-use Rattle.uberblock_ring.specs.Devices.{has_device, with_device}
+use Rattle.uberblock_ring.specs.Devices.{has_device, with_device, count_of}
 use Rattle.commit_job.specs.Stages.{device_of}
 use Rattle.core_state.specs.Committing.{lost_by}
 use Rattle.core_commit.specs.Ran.{MadeOne, point_of}
 use Rattle.core_commit.proofs.Going.{inside_device, in_use_before}
 use Rattle.core_commit.proofs.Halves.{goes_on, stays_out}
 use Rattle.core_commit.proofs.Running.{none_lost, one_lost}
+use Rattle.core_commit.proofs.Stopping.{one_out}
 use Rattle.core_commit.proofs.committing.make.Goals as goal
 
 pub returns-then-is_err-clause-made : goal.returns-then-is_err-clause-made
@@ -64,3 +65,12 @@ returns-then-is_err-clause-fits g c =
       counted = fits.counted;
       count = fits.count;
     }
+
+pub returns-then-is_err-clause-one : goal.returns-then-is_err-clause-one
+returns-then-is_err-clause-one g c =
+    let few = c.requires.fits.few in
+    let inside = inside_device c.args.uber.now c.args.call c.requires.inside in
+    subst (λ (out : ℕ). count_of out ≤ count_of c.args.out.now + 1) (sym c.insert.ensures.value)
+    (subst (λ (device : ℕ). count_of (with_device c.args.out.now device) ≤ count_of c.args.out.now + 1)
+    (sym c.device.ensures.value)
+    (one_out c.args.out.now (device_of c.args.call) c.requires.in_use (omega (arith, few, inside))))

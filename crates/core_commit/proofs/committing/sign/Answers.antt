@@ -4,6 +4,7 @@ use Rattle.commit_job.specs.declared.call.CommitCall.{CommitCall}
 use Rattle.core_commit.specs.Ran.{IsInside, Ran, IsAny, point_of}
 use Rattle.core_commit.proofs.Running.{next_is, ran_more}
 use Rattle.core_commit.proofs.Touching.{touched_none, touched_more}
+use Rattle.core_commit.proofs.Stopping.{stops_none, stops_then}
 use Rattle.core_commit.proofs.committing.sign.Goals as goal
 
 pub make-requires-clause-inside : goal.make-requires-clause-inside
@@ -20,6 +21,7 @@ pub loop-call-init : goal.loop-call-init
 loop-call-init g c = record {
   ran = ([], (refl, refl));
   touches = touched_none c.args.uber.now (point_of c.args.out.now (g.B.Bank.disk c.args.bank.now));
+  stops = stops_none c.args.uber.now.parity (point_of c.args.out.now (g.B.Bank.disk c.args.bank.now));
   fits = c.requires.fits;
   inside = c.requires.inside;
   below = c.requires.below;
@@ -50,6 +52,14 @@ loop-call-preserved g c =
           (point_of c.loop-call.out (g.B.Bank.disk c.loop-call.bank))
           (point_of c.make.new.out (g.B.Bank.disk c.make.new.bank))
           (g.met.B.Bank.lawful c.loop-call.bank) next.fits c.loop-call.invariant.touches c.make.ensures.made;
+      stops =
+          let few = c.next_call.ensures.few c.in-Some.call c.in-Some.is in
+          stops_then c.args.uber.now.parity
+          (point_of c.args.out.now (g.B.Bank.disk c.args.bank.now))
+          (point_of c.loop-call.out (g.B.Bank.disk c.loop-call.bank))
+          (point_of c.make.new.out (g.B.Bank.disk c.make.new.bank))
+          c.loop-call.invariant.stops (omega (arith, few, c.parity.ensures.value))
+          (omega (arith, few, c.make.ensures.one, c.parity.ensures.value));
       fits = c.make.ensures.fits;
       inside = subst (All (IsInside c.args.uber.now)) (sym c.advance.ensures.left) next.rest;
       below = c.make.ensures.below;
