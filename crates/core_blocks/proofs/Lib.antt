@@ -9,3 +9,5 @@ pub mod Loaded
 pub mod Claimed
 pub mod Opened
 pub mod UnderWay
+pub mod Usage
+pub mod Sizes

@@ -87,10 +87,10 @@ module _ {T : Type 0} where
 
 -- Pairs in any order.
 module _ {T : Type 0} (R : T → T → Type 0) (turn : (x y : T) → R x y → R y x) where
-  head_pairs : (x : T) (xs : List T) → AllPairs R (x ∷ xs) → All (R x) xs
+  pub head_pairs : (x : T) (xs : List T) → AllPairs R (x ∷ xs) → All (R x) xs
   head_pairs x xs pairs k d within = pairs 0 (suc k) d (omega arith) (omega (arith, within))
 
-  tail_pairs : (x : T) (xs : List T) → AllPairs R (x ∷ xs) → AllPairs R xs
+  pub tail_pairs : (x : T) (xs : List T) → AllPairs R (x ∷ xs) → AllPairs R xs
   tail_pairs x xs pairs i j d before within =
       pairs (suc i) (suc j) d (omega (arith, before)) (omega (arith, within))
 

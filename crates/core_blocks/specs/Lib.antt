@@ -4,3 +4,4 @@ pub mod Blocks
 pub mod Puts
 pub mod Kept
 pub mod Loading
+pub mod Usage
