@@ -11,3 +11,4 @@ pub mod Begins
 pub mod Framing
 pub mod Reopened
 pub mod Made
+pub mod Adding

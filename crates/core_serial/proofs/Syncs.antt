@@ -17,6 +17,7 @@ use Rattle.uberblock_ring.specs.Valid.{IsRightUber}
 use Rattle.uberblock_ring.proofs.Digest.{sha256_is_digest}
 use Rattle.core_state.specs.Index.{IsFitting}
 use Rattle.core_blocks.specs.Blocks.{AreUnderWay}
+use Rattle.core_blocks.specs.Usage.{AddsAtMost}
 use Rattle.core_blocks.proofs.Listed.{among_listed}
 use Rattle.core_client.specs.Outs.{OnlyFailedGoOut, point_of}
 use Rattle.core_commit.specs.Ran.{FitsBank}
@@ -49,17 +50,19 @@ bank_alike uber other out disk same bank = record {
 pub commit_leaves : (before after : State) (listed : ℕ)
     → after.pool.uber.parity ≡ before.pool.uber.parity → after.pool.uber.reflow ≡ before.pool.uber.reflow
     → after.pool.uber.births ≡ before.pool.uber.births → after.pool.blocks.table ≡ before.pool.blocks.table
+    → AddsAtMost before.pool.blocks.space after.pool.blocks.space []
     → ((entry : IndexEntry) (content : List ℕ) (known : Known) (out : ℕ) → IsRead before.pool.uber entry content known out
     → IsRead after.pool.uber entry content known out)
     → (AreUnderWay before.pool.blocks [] → AreUnderWay after.pool.blocks [])
     → HaveGoneOut (point_of before.pool.out before.disk) listed (point_of after.pool.out after.disk)
     → Spares (point_of before.pool.out before.disk) (point_of after.pool.out after.disk)
     → LeavesPool before after
-commit_leaves before after listed parity widths births table alike rest gone spares = record {
+commit_leaves before after listed parity widths births table adds alike rest gone spares = record {
   parity = parity;
   widths = widths;
   births = births;
   entries = table;
+  adds = adds;
   later = spares.later;
   bank = λ bank. bank_alike before.pool.uber after.pool.uber after.pool.out after.disk widths
       (bank_later before.pool.uber before.disk after.disk before.pool.out after.pool.out spares.later outs.still bank);

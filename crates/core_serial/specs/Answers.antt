@@ -1,5 +1,5 @@
 -- What calls of an open pool answer, and what they make of the map that it holds.
-use Rattle.std.specs.Prelude.{◌≡◌, ◌≢◌, ℕ, ◌^◌, ◌<◌, ◌≤◌, List, [], Some, None, ⊤}
+use Rattle.std.specs.Prelude.{◌≡◌, ◌≢◌, ℕ, ◌^◌, ◌<◌, ◌≤◌, List, [], ◌∷◌, Some, None, ⊤}
 use Rattle.space_alloc.specs.Space.{IsFull as HasNoRun}
 use Rattle.block_table.specs.Table.{IsFull, entry_of}
 use Rattle.uberblock_ring.specs.Devices.{count_of}
@@ -49,6 +49,12 @@ IsPutAnswered old new id len (answer.NoSpace sectors) =
 IsPutAnswered old new id len (answer.TooManyFailed out) = ListsTooMany new out
 IsPutAnswered old new id len answer.NoMemory = ⊤
 IsPutAnswered old new id len other = ⊥
+
+-- the sizes of the runs that a put of so many bytes adds to those in use: one where it is stored
+abbrev pub sizes_added : Pool → ℕ → Answer → List ℕ
+sizes_added pool len answer.Stored =
+    sectors_taken pool.uber.parity pool.uber.births len (open_group pool) ∷ []
+sizes_added pool len other = []
 
 -- No hold stands in a put's way.
 abbrev pub IsRefusal : PutRefused → Type 0

@@ -1,7 +1,7 @@
 -- What the second half of a put does: its block is written to the range that the put has taken.
-use Rattle.std.specs.Prelude.{◌≡◌, ℕ, ◌<◌, ◌≤◌, List, Some}
+use Rattle.std.specs.Prelude.{◌≡◌, ℕ, ◌<◌, ◌≤◌, List, [], Some}
 use Rattle.bank_trait.specs.Regions.{Tells, TouchesOnly}
-use Rattle.space_alloc.specs.Space.{Gains}
+use Rattle.space_alloc.specs.Space.{Run, Space, Gains, IsDropping}
 use Rattle.shadow_write.specs.Required.{front_after_stop}
 use Rattle.shadow_write.specs.Writes.{writes_of}
 use Rattle.block_record.specs.declared.entry.IndexEntry.{IndexEntry}
@@ -13,6 +13,7 @@ use Rattle.core_state.specs.Index.{layout_of, IsEntryOf}
 use Rattle.core_blocks.specs.declared.range.PutRange.{PutRange}
 use Rattle.core_blocks.specs.Blocks.{AreUnderWay, put_run}
 use Rattle.core_blocks.specs.Kept.{NoneFree, SparesAll}
+use Rattle.core_blocks.specs.Usage.{AddsAtMost}
 use Rattle.core_client.specs.Outs.{point_of, OnlyFailedGoOut}
 use Rattle.core_client.specs.Writing.{IsPlaceOf}
 use Rattle.core_serial.specs.Answers.{ListsTooMany}
@@ -39,6 +40,12 @@ EndsWriting before after range bytes answer.NoMemory =
     (count_of after.pool.out ≤ after.pool.uber.parity)
     × (after.pool.blocks.table.entries ≡ before.pool.blocks.table.entries)
 EndsWriting before after range bytes other = ⊥
+
+-- A put that has taken a run keeps it where it is stored, and no more is in use then; else the run is given
+-- back.
+abbrev pub LeavesRun : Space → Space → Run → Answer → Type 0
+LeavesRun old new run answer.Stored = AddsAtMost old new []
+LeavesRun old new run other = IsDropping old new run.start run.len
 
 -- Only places of the block are touched; the put is no longer under way, and frees nothing that is kept.
 pub record WritesPut (before after : State) (range : PutRange) (bytes : List ℕ) (given : Answer) :

@@ -9,6 +9,7 @@ use Rattle.core_state.specs.Map.{Map}
 use Rattle.core_state.specs.Keeps.{Kept, Setting}
 use Rattle.core_state.specs.Moment.{KeepsSince}
 use Rattle.core_blocks.specs.Blocks.{AreUnderWay}
+use Rattle.core_blocks.specs.Usage.{AddsAtMost}
 use Rattle.core_client.specs.Outs.{point_of, OnlyFailedGoOut}
 use Rattle.core_serial.specs.Pool.{Pool, State, HasBank, HoldsMap, open_group}
 use Rattle.core_serial.specs.Standing.{Stands, GoesOn}
@@ -52,9 +53,11 @@ pub record CutsGroup (setting : Setting) (last : Kept) (map : Map) (before after
         → KeepsSince setting (earlier ++ last ∷ []) time before.disk
         → KeepsSince setting ((earlier ++ last ∷ []) ++ begun) time after.disk
 
--- A sync that began its group and was cut short: the devices that the group lists as out are at most as
--- many as there are parities, and where these may fail, it keeps the last group and maybe its own.
+-- A sync that began its group and was cut short: the last group stays the last answered one. The devices that
+-- the new one lists as out are at most as many as there are parities, and where these may fail, it keeps the
+-- last group and maybe its own.
 pub record IsCutShort (before after : State) : Type 0 where
+  pub uber : after.pool.uber ≡ before.pool.uber
   pub listed : ℕ
   pub few : count_of listed ≤ before.pool.uber.parity
   pub earlier : IsWithin before.pool.out listed
@@ -79,6 +82,7 @@ pub record LeavesPool (before after : State) : Type 0 where
   pub widths : after.pool.uber.reflow ≡ before.pool.uber.reflow
   pub births : after.pool.uber.births ≡ before.pool.uber.births
   pub entries : after.pool.blocks.table ≡ before.pool.blocks.table
+  pub adds : AddsAtMost before.pool.blocks.space after.pool.blocks.space []
   pub later : Later before.disk after.disk
   pub bank : HasBank before.pool.uber before.pool.out before.disk
       → HasBank after.pool.uber after.pool.out after.disk

@@ -1,7 +1,8 @@
 // Frees.
-ghost use Rattle.std.specs.Prelude.{◌≡◌};
+ghost use Rattle.std.specs.Prelude.{◌≡◌, []};
 ghost use Rattle.bank_trait.specs.Disk.{Disk};
 ghost use Rattle.core_state.specs.Map.{Map};
+ghost use Rattle.core_blocks.specs.Usage.{AddsAtMost};
 ghost use Rattle.core_serial.specs.Answers.{HasTooManyOut, IsFreeAnswered, TellsTooMany, map_after_free};
 ghost use Rattle.core_serial.specs.Pool.{HoldsMap, state_of};
 ghost use Rattle.core_serial.specs.Standing.{GoesOn};
@@ -19,6 +20,7 @@ impl Pool {
         ensures holds { (map : Map) (disk : Disk) → HoldsMap map (state_of self.old disk)
             → HoldsMap (map_after_free map id result) (state_of self.new disk) }
         ensures answered { IsFreeAnswered self.old self.new id result }
+        ensures adds { AddsAtMost self.old.blocks.space self.new.blocks.space [] }
         ensures too_many { TellsTooMany self.new result }
         ensures quiet { HasTooManyOut self.old → self.new ≡ self.old }
     {

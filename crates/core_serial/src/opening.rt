@@ -50,6 +50,9 @@ pub fn open_pool<B: Bank>(alloc: Global, bank: &mut B) -> Result<OpenedPool, Ope
         HasBank opened.pool.uber opened.pool.out (B.disk bank.new)) }
     ensures later { IfOk result (λ opened. Later (B.disk bank.old) (B.disk bank.new)) }
     ensures rest { IfOk result (λ opened. AreUnderWay opened.pool.blocks []) }
+    ensures right { IfOk result (λ opened. IsRightUber opened.pool.uber) }
+    ensures loaded { IfOk result (λ opened. AreLoaded opened.pool.uber
+        opened.pool.blocks.table.entries opened.pool.blocks) }
     ensures few { IfOk result (λ opened. count_of opened.pool.out ≤ opened.pool.uber.parity) }
     ensures silent { IfOk result (λ opened.
         HaveFailed (B.disk bank.old) (B.disk bank.new) opened.silent) }

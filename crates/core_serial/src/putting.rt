@@ -5,12 +5,13 @@ ghost use Rattle.shadow_write.specs.Required.{front_after_stop};
 ghost use Rattle.block_table.specs.Table.{IsFull};
 ghost use Rattle.uberblock_ring.specs.Devices.{count_of};
 ghost use Rattle.core_state.specs.Map.{Map};
-ghost use Rattle.core_blocks.specs.Blocks.{IsUnderWay};
+ghost use Rattle.core_blocks.specs.Blocks.{IsUnderWay, put_run};
 ghost use Rattle.core_blocks.specs.Puts.{IsRangeFor};
+ghost use Rattle.core_blocks.specs.Usage.{AddsAtMost};
 ghost use Rattle.core_client.specs.Pool.{IsInPool};
-ghost use Rattle.core_serial.specs.Answers.{HasTooManyOut, IsPutAnswered, AnswersRefusal, IsRefusal, TellsTooMany, map_after_put};
+ghost use Rattle.core_serial.specs.Answers.{HasTooManyOut, IsPutAnswered, AnswersRefusal, IsRefusal, TellsTooMany, map_after_put, sizes_added};
 ghost use Rattle.core_serial.specs.Pool.{HasBank, HoldsMap, pool_of, state_of};
-ghost use Rattle.core_serial.specs.Putting.{WritesPut};
+ghost use Rattle.core_serial.specs.Putting.{LeavesRun, WritesPut};
 ghost use Rattle.core_serial.specs.Standing.{GoesOn};
 
 use crate::Pool;
@@ -75,6 +76,7 @@ fn write_put<B: Bank>(
     ensures parity { blocks.new.parity ≡ blocks.old.parity }
     ensures births { blocks.new.births ≡ blocks.old.births }
     ensures capacity { blocks.new.space.capacity ≡ blocks.old.space.capacity }
+    ensures run { LeavesRun blocks.old.space blocks.new.space (put_run range) result }
     ensures below { out.old < 2 ^ uber.now.reflow.to → out.new < 2 ^ uber.now.reflow.to }
 {
     let reflow = uber.reflow();
@@ -115,6 +117,8 @@ impl Pool {
             → HoldsMap (map_after_put map id bytes.now result)
             (state_of self.new (B.disk bank.new)) }
         ensures answered { IsPutAnswered self.old self.new id (length bytes.now) result }
+        ensures adds { AddsAtMost self.old.blocks.space self.new.blocks.space
+            (sizes_added self.old (length bytes.now) result) }
         ensures too_many { TellsTooMany self.new result }
         ensures quiet { HasTooManyOut self.old → state_of self.new (B.disk bank.new)
             ≡ state_of self.old (B.disk bank.old) }

@@ -9,7 +9,9 @@ use Rattle.core_state.specs.declared.answer.Answer.{Answer}
 use Rattle.core_blocks.specs.declared.range.PutRange.{PutRange}
 use Rattle.core_state.specs.Committing.{Point}
 use Rattle.core_serial.specs.Pool.{pool_of, state_of}
-use Rattle.core_serial.specs.Putting.{EndsWriting}
+use Rattle.core_serial.specs.Putting.{EndsWriting, LeavesRun}
+use Rattle.core_blocks.proofs.Usage.{adds_held_back}
+use Rattle.core_blocks.specs.Blocks.{put_run}
 use Rattle.core_serial.proofs.Puts.{only_at_front, went_well, went_ill, entry_layout, entry_range, stored_read}
 use Rattle.core_serial.proofs.putting.write_put.Goals as goal
 
@@ -82,3 +84,12 @@ returns-clause-writes g c =
             (went_well c.store_block-stored.result c.if-is_err.ensures.value c.store_block-stored.ensures.right) few;
       };
     }
+
+pub returns-then-is_too_many-clause-run : goal.returns-then-is_too_many-clause-run
+returns-then-is_too_many-clause-run g c =
+    subst (λ (a : Answer). LeavesRun c.args.blocks.now.space c.give_up-then-is_too_many.new.self.space (put_run c.args.range) a)
+    (sym c.too_many.ensures) c.give_up-then-is_too_many.ensures.dropped
+
+pub returns-clause-run : goal.returns-clause-run
+returns-clause-run g c = adds_held_back c.args.blocks.now.parity c.args.blocks.now.births c.args.blocks.now.space
+    c.end_put.new.self.space _ c.end_put.result c.end_put.ensures.held

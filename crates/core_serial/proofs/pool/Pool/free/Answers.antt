@@ -1,8 +1,10 @@
-use Rattle.std.proofs.Common.{sym, ◌∙◌, subst, arith}
+use Rattle.std.proofs.Common.{[], sym, ◌∙◌, subst, arith}
 use Rattle.core_state.specs.declared.answer.Answer.{Answer}
 use Rattle.core_serial.specs.Answers.{map_after_free}
 use Rattle.core_serial.specs.Pool.{Pool, HoldsMap, pool_of, state_of}
 use Rattle.core_serial.specs.Standing.{GoesOn}
+use Rattle.core_blocks.specs.Usage.{AddsAtMost}
+use Rattle.core_blocks.proofs.Usage.{adds_held_back}
 use Rattle.core_serial.proofs.Frees.{free_goes_on, freed_holds, none_freed_holds}
 use Rattle.core_serial.proofs.pool.Pool.free.Goals as goal
 use Rattle.core_serial.proofs.pool.Pool.free.Goals.{in-Some, in-None}
@@ -29,3 +31,9 @@ returns-clause-holds c = λ map disk holds.
           (none_freed_holds map pool c.remove.new.self disk c.args.id c.remove.ensures.change
           (sym c.remove.ensures.was ∙ w.in-None.is) old)
     ]
+
+pub returns-clause-adds : goal.returns-clause-adds
+returns-clause-adds c =
+    subst (λ (p : Pool). AddsAtMost p.blocks.space c.remove.new.self.space []) c.self.view_is
+    (adds_held_back c.self.inside.blocks.parity c.self.inside.blocks.births c.self.inside.blocks.space
+    c.remove.new.self.space _ c.remove.result c.remove.ensures.held)

@@ -4,9 +4,11 @@ use Rattle.uberblock_ring.specs.Devices.{count_of}
 use Rattle.core_state.specs.Map.{Map}
 use Rattle.range_locks.specs.declared.hold.Hold.{Hold}
 use Rattle.core_blocks.specs.Puts.{IsPutCause, sectors_taken}
-use Rattle.core_serial.specs.Answers.{map_after_put, IsPutAnswered}
+use Rattle.core_serial.specs.Answers.{map_after_put, IsPutAnswered, sizes_added}
 use Rattle.core_serial.specs.Pool.{Pool, HoldsMap, pool_of, state_of}
 use Rattle.core_serial.specs.Standing.{GoesOn}
+use Rattle.core_blocks.specs.Usage.{AddsAtMost}
+use Rattle.core_serial.proofs.Adding.{put_adds, refusal_adds}
 use Rattle.core_serial.proofs.Puts.{range_in_pool, put_goes_on, put_holds_map, put_is_pool, refused_is_pool, refused_goes_on, refused_holds, refusal_leaves, refusal_caused}
 use Rattle.core_serial.proofs.pool.Pool.put.Goals as goal
 
@@ -93,3 +95,20 @@ returns-clause-answered g c =
     (subst (λ (holds : List Hold). IsPutCause c.self.inside.blocks holds c.args.id
     (sectors_taken c.self.inside.blocks.parity c.self.inside.blocks.births (length c.args.bytes.now) (c.group-group.result + 1)) c.in-Err.refused) c.new.ensures.value
     c.in-Err.ensures.cause)))
+
+pub returns-in-Ok-clause-adds : goal.returns-in-Ok-clause-adds
+returns-in-Ok-clause-adds g c =
+    let pool = pool_of c.self.inside.uber c.self.inside.blocks c.self.inside.out in
+    subst (λ (p : Pool). AddsAtMost p.blocks.space c.write_put.new.blocks.space
+    (sizes_added p (length c.args.bytes.now) c.write_put.result)) c.self.view_is
+    (put_adds pool c.begin_put-2.new.self c.write_put.new.blocks.space c.in-Ok.range c.args.id (length c.args.bytes.now) _
+    c.write_put.result c.self.invariant c.group-group.ensures.value c.in-Ok.ensures.begins.parity c.in-Ok.ensures.begins.births
+    c.in-Ok.ensures.range c.in-Ok.ensures.begins.taken c.write_put.ensures.run)
+
+pub returns-clause-adds : goal.returns-clause-adds
+returns-clause-adds g c =
+    let pool = pool_of c.self.inside.uber c.self.inside.blocks c.self.inside.out in
+    subst (λ (p : Pool). AddsAtMost p.blocks.space c.begin_put-2.new.self.space
+    (sizes_added p (length c.args.bytes.now) c.refusal.result)) c.self.view_is
+    (refusal_adds pool c.begin_put-2.new.self.space (length c.args.bytes.now) c.in-Err.refused c.refusal.result
+    c.refusal.ensures c.in-Err.ensures.err.space)

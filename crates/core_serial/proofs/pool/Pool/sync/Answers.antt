@@ -1,6 +1,7 @@
 use Rattle.std.proofs.Common.{◌≡◌, inr, ⊎_elim, ◌≤◌, [], ap, sym, subst, refl, ◌∙◌, List, arith, length, Result, Ok, Err}
 use Rattle.std.proofs.lemmas.Bool.{cases_lt, true≢false}
 use Rattle.sha2.specs.Sha256.{sha256}
+use Rattle.space_alloc.specs.Space.{Space}
 use Rattle.block_record.specs.declared.entry.IndexEntry.{IndexEntry}
 use Rattle.block_record.specs.Page.{index_page}
 use Rattle.block_table.proofs.Tables.{few_entries}
@@ -10,6 +11,8 @@ use Rattle.uberblock_ring.specs.Valid.{IsRightUber}
 use Rattle.core_state.specs.declared.answer.Answer.{Answer}
 use Rattle.core_blocks.specs.Blocks.{Blocks}
 use Rattle.core_blocks.specs.Kept.{NoneFree}
+use Rattle.core_blocks.specs.Usage.{AddsAtMost}
+use Rattle.core_blocks.proofs.Usage.{adds_none, adds_synced}
 use Rattle.core_commit.specs.Commits.{CommitKeeps}
 use Rattle.core_commit.specs.declared.committing.TooManyOut.{TooManyOut}
 use Rattle.core_commit.specs.Ran.{FitsBank, point_of}
@@ -72,6 +75,7 @@ returns-then-is_err-clause-ends g c =
     let old_parity : c.in-Ok.next.parity ≡ c.self.inside.uber.parity = ap (λ (u : Uber). u.parity) c.in-Ok.ensures in
     let many = went_ill c.commit.result c.if-is_err.ensures.value c.commit.ensures.err in
     let cut : IsCutShort (state_of pool (g.B.Bank.disk c.args.bank.now)) (state_of after (g.B.Bank.disk c.commit.new.bank)) = record {
+      uber = refl;
       listed = c.commit.new.uber.out;
       few = (let few = lists_few c.commit.new.uber c.commit.ensures.right in omega (arith, few, parity));
       earlier = c.commit.ensures.gone.earlier;
@@ -91,7 +95,8 @@ returns-then-is_err-clause-leaves g c =
     let after = pool_of c.self.inside.uber c.self.inside.blocks c.commit.new.out in
     subst (λ (p : Pool). LeavesPool (state_of p (g.B.Bank.disk c.args.bank.now)) (state_of after (g.B.Bank.disk c.commit.new.bank))) c.self.view_is
     (commit_leaves (state_of pool (g.B.Bank.disk c.args.bank.now)) (state_of after (g.B.Bank.disk c.commit.new.bank)) c.commit.new.uber.out
-    refl refl refl refl (λ entry content known out read. read) (λ rest. rest) c.commit.ensures.gone c.commit.ensures.spares)
+    refl refl refl refl (adds_none c.self.inside.blocks.space c.self.inside.blocks.space refl)
+    (λ entry content known out read. read) (λ rest. rest) c.commit.ensures.gone c.commit.ensures.spares)
 
 pub returns-clause-ends : goal.returns-clause-ends
 returns-clause-ends g c = λ setting last map stands_now holds_now within.
@@ -140,5 +145,7 @@ returns-clause-leaves g c =
     (commit_leaves (state_of pool (g.B.Bank.disk c.args.bank.now)) (state_of after (g.B.Bank.disk c.commit.new.bank)) c.commit.new.uber.out
     (ap (λ (u : Uber). u.parity) uber_is) (ap (λ (u : Uber). u.reflow) uber_is) (ap (λ (u : Uber). u.births) uber_is)
     (ap (λ (b : Blocks). b.table) c.synced.ensures.value)
+    (subst (λ (s : Space). AddsAtMost c.self.inside.blocks.space s []) (sym (ap (λ (b : Blocks). b.space) c.synced.ensures.value))
+    (adds_synced c.self.inside.blocks.space c.group-group.result))
     (λ entry content known out read. subst (λ (u : Uber). IsRead u entry content known out) (sym uber_is) read)
     (c.synced.ensures.under []) c.commit.ensures.gone c.commit.ensures.spares)
