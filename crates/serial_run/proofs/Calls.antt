@@ -4,7 +4,12 @@ use Rattle.std.specs.Prelude.{⊤}
 use Rattle.bank_trait.specs.Regions.{Tells}
 use Rattle.block_table.specs.Table.{entry_of}
 use Rattle.block_record.specs.declared.entry.IndexEntry.{IndexEntry}
+use Rattle.space_alloc.specs.Space.{Space}
+use Rattle.core_blocks.specs.Blocks.{Blocks}
+use Rattle.core_blocks.specs.Puts.{sectors_taken}
+use Rattle.core_blocks.specs.Usage.{AddsAtMost}
 use Rattle.core_blocks.proofs.Listed.{found_id, found_listed}
+use Rattle.core_blocks.proofs.Usage.{adds_none, adds_fewer}
 use Rattle.core_state.specs.declared.answer.Answer.{Answer}
 use Rattle.core_state.specs.declared.answer.Answer.TheVariants as answer
 use Rattle.core_state.specs.declared.answer.Kind.{Kind}
@@ -15,9 +20,9 @@ use Rattle.core_state.specs.Legal.{IsAnswerOf, IsRightFree}
 use Rattle.client_script.specs.declared.call.ScriptCall.{ScriptCall}
 use Rattle.client_script.specs.Lines.{fill_bytes}
 use Rattle.client_script.specs.Script.{NamesBlock, MayHave, IsAllowed}
-use Rattle.core_serial.specs.Answers.{IsPutAnswered, IsReadAnswered, IsFreeAnswered, IsSyncAnswered, map_after_put, map_after_free}
+use Rattle.core_serial.specs.Answers.{IsPutAnswered, IsReadAnswered, IsFreeAnswered, IsSyncAnswered, map_after_put, map_after_free, sizes_added}
 use Rattle.core_serial.specs.Getting.{IsReadRight}
-use Rattle.core_serial.specs.Pool.{Pool, State, HoldsMap}
+use Rattle.core_serial.specs.Pool.{Pool, State, HoldsMap, open_group}
 use Rattle.core_serial.specs.Standing.{GoesOn}
 use Rattle.core_serial.specs.Syncing.{EndsSync, LeavesPool}
 use Rattle.core_state.specs.declared.item.Item.{Item}
@@ -52,11 +57,20 @@ put_map handed map call id actor number count len before after answer.Stored ans
 put_map handed map call id actor number count len before after answer.Freed answered same = absurd answered
 put_map handed map call id actor number count len before after other answered same = refl
 
+-- What it adds is of its size at most.
+put_size : (before : Pool) (after : Space) (len : ℕ) (given : Answer)
+    → AddsAtMost before.blocks.space after (sizes_added before len given)
+    → AddsAtMost before.blocks.space after (sectors_taken before.uber.parity before.uber.births len (open_group before) ∷ [])
+put_size before after len answer.Stored adds = adds
+put_size before after len other adds = adds_fewer before.blocks.space after _ adds
+
 pub put_does : (call : ScriptCall) (id : ℕ) (before after : State) (given : Answer) → call.kind ≡ kind.Put
     → call.id ≡ Some id → GoesOn before after
     → ((map : Map) → Tells before.disk → HoldsMap map before → HoldsMap (map_after_put map id (fill_bytes call.fill) given) after)
-    → IsPutAnswered before.pool after.pool id (length (fill_bytes call.fill)) given → Does call before after given
-put_does call id before after given kind_is id_is goes_on holds answered =
+    → IsPutAnswered before.pool after.pool id (length (fill_bytes call.fill)) given
+    → AddsAtMost before.pool.blocks.space after.pool.blocks.space (sizes_added before.pool (length (fill_bytes call.fill)) given)
+    → Does call before after given
+put_does call id before after given kind_is id_is goes_on holds answered adds =
     as_call call kind.Put (Some id) before after given kind_is id_is (λ actor number count. record {
       no_group = λ group is. subst (IsPutAnswered before.pool after.pool id (length (fill_bytes call.fill))) is answered;
       goes_on = goes_on;
@@ -66,6 +80,7 @@ put_does call id before after given kind_is id_is goes_on holds answered =
           (put_map handed map call id actor number count (length (fill_bytes call.fill)) before.pool after.pool given answered same) (holds map tells held);
       too_many = λ out is. subst (IsPutAnswered before.pool after.pool id (length (fill_bytes call.fill))) is answered;
       caused = answered;
+      adds = put_size before.pool after.pool.blocks.space (length (fill_bytes call.fill)) given adds;
     })
 
 -- A read is right of the map as it is, and leaves it.
@@ -93,8 +108,9 @@ pub get_does : (call : ScriptCall) (id : ℕ) (before after : State) (given : An
     → call.id ≡ Some id → GoesOn before after
     → ((map : Map) → HoldsMap map before → HoldsMap map after)
     → ((map : Map) → HoldsMap map before → IsReadRight (map id) kind.Get given)
-    → IsReadAnswered before.pool after.pool id kind.Get given → Does call before after given
-get_does call id before after given kind_is id_is goes_on holds right answered =
+    → IsReadAnswered before.pool after.pool id kind.Get given → after.pool.blocks ≡ before.pool.blocks
+    → Does call before after given
+get_does call id before after given kind_is id_is goes_on holds right answered same_blocks =
     as_call call kind.Get (Some id) before after given kind_is id_is (λ actor number count. record {
       no_group = λ group is. subst (IsReadAnswered before.pool after.pool id kind.Get) is answered;
       goes_on = goes_on;
@@ -105,14 +121,16 @@ get_does call id before after given kind_is id_is goes_on holds right answered =
           (holds map held);
       too_many = λ out is. subst (IsReadAnswered before.pool after.pool id kind.Get) is answered;
       caused = answered;
+      adds = adds_none before.pool.blocks.space after.pool.blocks.space (ap (λ (b : Blocks). b.space) same_blocks);
     })
 
 pub sum_does : (call : ScriptCall) (id : ℕ) (before after : State) (given : Answer) → call.kind ≡ kind.Sum
     → call.id ≡ Some id → GoesOn before after
     → ((map : Map) → HoldsMap map before → HoldsMap map after)
     → ((map : Map) → HoldsMap map before → IsReadRight (map id) kind.Sum given)
-    → IsReadAnswered before.pool after.pool id kind.Sum given → Does call before after given
-sum_does call id before after given kind_is id_is goes_on holds right answered =
+    → IsReadAnswered before.pool after.pool id kind.Sum given → after.pool.blocks ≡ before.pool.blocks
+    → Does call before after given
+sum_does call id before after given kind_is id_is goes_on holds right answered same_blocks =
     as_call call kind.Sum (Some id) before after given kind_is id_is (λ actor number count. record {
       no_group = λ group is. subst (IsReadAnswered before.pool after.pool id kind.Sum) is answered;
       goes_on = goes_on;
@@ -123,6 +141,7 @@ sum_does call id before after given kind_is id_is goes_on holds right answered =
           (holds map held);
       too_many = λ out is. subst (IsReadAnswered before.pool after.pool id kind.Sum) is answered;
       caused = answered;
+      adds = adds_none before.pool.blocks.space after.pool.blocks.space (ap (λ (b : Blocks). b.space) same_blocks);
     })
 
 -- A free is right of the map as it is.
@@ -161,8 +180,9 @@ free_map handed map call id actor number count before after other answered = ref
 pub free_does : (call : ScriptCall) (id : ℕ) (before after : State) (given : Answer) → call.kind ≡ kind.Free
     → call.id ≡ Some id → GoesOn before after
     → ((map : Map) → HoldsMap map before → HoldsMap (map_after_free map id given) after)
-    → IsFreeAnswered before.pool after.pool id given → Does call before after given
-free_does call id before after given kind_is id_is goes_on holds answered =
+    → IsFreeAnswered before.pool after.pool id given
+    → AddsAtMost before.pool.blocks.space after.pool.blocks.space [] → Does call before after given
+free_does call id before after given kind_is id_is goes_on holds answered adds =
     as_call call kind.Free (Some id) before after given kind_is id_is (λ actor number count. record {
       no_group = λ group is. subst (IsFreeAnswered before.pool after.pool id) is answered;
       goes_on = goes_on;
@@ -172,6 +192,7 @@ free_does call id before after given kind_is id_is goes_on holds answered =
           (free_map handed map call id actor number count before.pool after.pool given answered) (holds map held);
       too_many = λ out is. subst (IsFreeAnswered before.pool after.pool id) is answered;
       caused = answered;
+      adds = adds;
     })
 
 -- A call that names a block was answered.
@@ -189,9 +210,8 @@ sync_map handed map entry before after other answered = refl
 -- A sync that ended no group was answered.
 sync_does : (call : ScriptCall) (before after : State) (given : Answer) → call.kind ≡ kind.Sync → call.id ≡ None
     → ((group : ℕ) → given ≡ answer.Synced group → ⊥) → GoesOn before after
-    → ((map : Map) → HoldsMap map before → HoldsMap map after) → IsSyncAnswered before.pool after.pool given
-    → Does call before after given
-sync_does call before after given kind_is id_is none goes_on holds answered =
+    → LeavesPool before after → IsSyncAnswered before.pool after.pool given → Does call before after given
+sync_does call before after given kind_is id_is none goes_on leaves answered =
     as_call call kind.Sync None before after given kind_is id_is (λ actor number count. record {
       no_group = none;
       goes_on = goes_on;
@@ -199,9 +219,10 @@ sync_does call before after given kind_is id_is none goes_on holds answered =
       sound = λ map held damaged. subst (IsSyncAnswered before.pool after.pool) damaged answered;
       holds = λ handed map tells same held. subst (λ (m : Map). HoldsMap m after)
           (sync_map handed map (entry_made (with_kind call kind.Sync None) actor number count given) before.pool after.pool given answered)
-          (holds map held);
+          (leaves.holds map held);
       too_many = λ out is. subst (IsSyncAnswered before.pool after.pool) is answered;
       caused = answered;
+      adds = leaves.adds;
     })
 
 pub sync_answered : (call : ScriptCall) (old : List Item) (before after : State) (given : Answer) → call.kind ≡ kind.Sync
@@ -211,7 +232,7 @@ pub sync_answered : (call : ScriptCall) (old : List Item) (before after : State)
 sync_answered call old before after (answer.Synced group) kind_is id_is none ends leaves answered = absurd (none group refl)
 sync_answered call old before after (answer.TooManyFailed out) kind_is id_is none ends leaves answered = λ actor number.
     elim ends [
-      | inl goes_on ↦ Answered (sync_does call before after (answer.TooManyFailed out) kind_is id_is none goes_on leaves.holds answered
+      | inl goes_on ↦ Answered (sync_does call before after (answer.TooManyFailed out) kind_is id_is none goes_on leaves answered
           actor number (length old)) refl
       | inr cut ↦ Cut (record {
         asked = kind_is;
@@ -223,9 +244,9 @@ sync_answered call old before after (answer.TooManyFailed out) kind_is id_is non
       }) refl
     ]
 sync_answered call old before after (answer.Limit reached) kind_is id_is none ends leaves answered = λ actor number.
-    Answered (sync_does call before after (answer.Limit reached) kind_is id_is none ends leaves.holds answered actor number (length old)) refl
+    Answered (sync_does call before after (answer.Limit reached) kind_is id_is none ends leaves answered actor number (length old)) refl
 sync_answered call old before after answer.NoMemory kind_is id_is none ends leaves answered = λ actor number.
-    Answered (sync_does call before after answer.NoMemory kind_is id_is none ends leaves.holds answered actor number (length old)) refl
+    Answered (sync_does call before after answer.NoMemory kind_is id_is none ends leaves answered actor number (length old)) refl
 sync_answered call old before after other kind_is id_is none ends leaves answered = absurd answered
 
 -- What a sync answers is for syncs.

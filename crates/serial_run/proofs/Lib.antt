@@ -15,3 +15,5 @@ pub mod Reopening
 pub mod Causing
 pub mod FullTables
 pub mod ManyIds
+pub mod NoSpace
+pub mod NoSpaceOpened

@@ -6,6 +6,8 @@ use Rattle.bank_trait.specs.Causes.{Rose}
 use Rattle.bank_trait.specs.Disk.{Image, Disk, Later}
 use Rattle.uberblock_ring.specs.Devices.{has_device, IsWithin}
 use Rattle.uberblock_ring.specs.Uberblock.{Uber}
+use Rattle.uberblock_ring.specs.Valid.{IsRightUber}
+use Rattle.block_record.specs.declared.entry.IndexEntry.{IndexEntry}
 use Rattle.core_state.specs.declared.item.Entry.{Entry}
 use Rattle.core_state.specs.declared.item.Group.{Group as GroupItem}
 use Rattle.core_state.specs.declared.item.Item.{Item}
@@ -22,9 +24,10 @@ use Rattle.core_open.specs.Failing.{HaveFailed}
 use Rattle.core_open.specs.Holds.{HoldsImage}
 use Rattle.core_open.specs.Opens.{IsWithinBelow}
 use Rattle.core_blocks.specs.Blocks.{AreUnderWay}
-use Rattle.core_serial.specs.Opening.{MayBegin, Begins, IsBegunWith}
+use Rattle.core_serial.specs.Opening.{AreLoaded, MayBegin, Begins, IsBegunWith}
 use Rattle.core_serial.specs.Pool.{Pool, State, HoldsMap, state_of}
 use Rattle.core_serial.specs.Standing.{Stands}
+use Rattle.serial_run.specs.NoSpace.{HasUsed, NoSpaceIsCaused}
 use Rattle.serial_run.specs.Running.{Runs, HasCome}
 use Rattle.serial_run.specs.Widths.{HaveWidthOf}
 use Rattle.serial_run.specs.WholeRun.{RunKeeps, HasRun, first_item}
@@ -33,6 +36,7 @@ use Rattle.serial_run.proofs.GrownGroups.{group_alone, latest_alone}
 use Rattle.serial_run.proofs.GrownRun.{groups_one}
 use Rattle.serial_run.proofs.Causing.{limits_alone}
 use Rattle.serial_run.proofs.ManyIds.{too_many_ids}
+use Rattle.serial_run.proofs.NoSpaceOpened.{used_first, no_space_alike}
 use Rattle.serial_run.proofs.Moments.{item_first, kept_now, now_among}
 use Rattle.serial_run.proofs.Widths.{opened_width, widths_of_one, widths_opened}
 
@@ -68,8 +72,13 @@ module _ (script : Script) (old mid : Disk) (pool : Pool) (silent : ℕ) (items 
     (outs : AreOutOf old mid pool.uber pool.out)
     (begun : IsBegunWith pool silent old mid)
     (rest : AreUnderWay pool.blocks [])
+    (right : IsRightUber pool.uber)
+    (loaded : AreLoaded pool.uber pool.blocks.table.entries pool.blocks)
     (come : HasCome (handed_by script) (state_of pool mid) (alone (first_item pool)) items final)
-    (calls : CallsAreRight (asked_by script) items) where
+    (calls : CallsAreRight (asked_by script) items)
+    (no_space : (uber : Uber) (entries : List IndexEntry)
+    → HasUsed script uber entries 0 (alone (first_item pool)) (state_of pool mid)
+    → NoSpaceIsCaused script uber entries items) where
   abbrev item : GroupItem
   item = first_item pool
 
@@ -188,6 +197,12 @@ module _ (script : Script) (old mid : Disk) (pool : Pool) (silent : ℕ) (items 
       sound = runs.sound;
       caused = runs.caused;
       full = too_many_ids script chosen.map items legal runs.caused;
+      no_space = no_space_alike script pool.uber chosen.uber pool.blocks.table.entries chosen.entries items
+          (ap (λ (u : Uber). u.parity) begins.opened.alike ∙ ap (λ (u : Uber). u.parity) begins.opened.renews.alike)
+          (ap (λ (u : Uber). u.births) begins.opened.alike ∙ ap (λ (u : Uber). u.births) begins.opened.renews.alike)
+          (ap (λ (u : Uber). u.reflow) begins.opened.alike ∙ ap (λ (u : Uber). u.reflow) begins.opened.renews.alike)
+          (begins.opened.entries_are ∙ begins.opened.renews.entries)
+          (no_space pool.uber pool.blocks.table.entries (used_first script pool mid right loaded));
       any_moment = record { groups = runs.groups; since = runs.since };
       no_older = runs.no_older;
       kept = kept_now world old items final runs;

@@ -1,3 +1,4 @@
+pub mod NoSpace
 pub mod Steps
 pub mod Moments
 pub mod Widths

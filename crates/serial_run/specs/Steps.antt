@@ -1,5 +1,5 @@
 -- What carrying out one call of a script does to the pool and to the journal.
-use Rattle.std.specs.Prelude.{◌≡◌, ◌≢◌, ℕ, ◌≤◌, List, [], ◌∷◌, ◌++◌, length, Option, Some, None, option_and_then, ⊤}
+use Rattle.std.specs.Prelude.{◌≡◌, ◌≢◌, ℕ, ◌≤◌, List, [], ◌∷◌, ◌++◌, length, map, Option, Some, None, option_and_then, ⊤}
 use Rattle.bank_trait.specs.Regions.{Tells}
 use Rattle.uberblock_ring.specs.Devices.{count_of}
 use Rattle.core_state.specs.declared.answer.Answer.{Answer}
@@ -12,12 +12,15 @@ use Rattle.core_state.specs.declared.item.Item.{Item}
 use Rattle.core_state.specs.declared.item.Item.TheVariants.{Group, Call}
 use Rattle.core_state.specs.Map.{Map, Handed, map_after_answer}
 use Rattle.core_state.specs.Legal.{IsReadOf, IsCutShort as IsCutAnswer, IsRightFree, IsAnswerOf}
+use Rattle.core_blocks.specs.Puts.{sectors_taken}
+use Rattle.core_blocks.specs.Usage.{AddsAtMost}
 use Rattle.client_script.specs.declared.call.ScriptCall.{ScriptCall}
 use Rattle.client_script.specs.Lines.{fill_bytes}
 use Rattle.core_serial.specs.Answers.{ListsTooMany, IsPutAnswered, IsReadAnswered, IsFreeAnswered, IsSyncAnswered}
 use Rattle.core_serial.specs.Pool.{Pool, State, HoldsMap, open_group}
 use Rattle.core_serial.specs.Standing.{GoesOn}
 use Rattle.core_serial.specs.Syncing.{EndsSync, LeavesPool, IsCutShort}
+use Rattle.serial_run.specs.NoSpace.{length_put}
 
 -- The entry answers this call of this caller, the one of this number.
 pub record IsCallOf (call : ScriptCall) (actor number : ℕ) (entry : Entry) : Type 0 where
@@ -81,6 +84,12 @@ entry_of call actor number count given = record {
 abbrev pub SaysTooMany : State → Answer → Type 0
 SaysTooMany after given = (out : ℕ) → given ≡ answer.TooManyFailed out → ListsTooMany after.pool out
 
+-- the sizes of what a call puts, in the open group
+abbrev pub sizes_put : Pool → Kind → List ℕ → List ℕ
+sizes_put pool asked bytes = map
+    (λ len. sectors_taken pool.uber.parity pool.uber.births len (open_group pool))
+    (length_put asked bytes)
+
 -- Why a call is answered so.
 abbrev pub IsCaused : Kind → Option ℕ → ℕ → Pool → Pool → Answer → Type 0
 IsCaused kind.Put (Some id) len before after given = IsPutAnswered before after id len given
@@ -93,7 +102,7 @@ IsCaused kind.Sync None len before after given = IsSyncAnswered before after giv
 IsCaused asked id len before after given = ⊥
 
 -- A call that ends no group: its answer is right for the map that the pool holds, which is then the map
--- that the answer leaves.
+-- that the answer leaves. What is in use grows at most by what it puts.
 pub record AnswersCall (call : ScriptCall) (count : ℕ) (before after : State) (entry : Entry)
     : Type 0 where
   pub no_group : (group : ℕ) → entry.answer ≡ answer.Synced group → ⊥
@@ -106,11 +115,14 @@ pub record AnswersCall (call : ScriptCall) (count : ℕ) (before after : State) 
   pub too_many : SaysTooMany after entry.answer
   pub caused : IsCaused call.kind call.id (length (fill_bytes call.fill)) before.pool after.pool
       entry.answer
+  pub adds : AddsAtMost before.pool.blocks.space after.pool.blocks.space
+      (sizes_put before.pool call.kind (fill_bytes call.fill))
 
 -- A sync that ended the open group.
 pub record EndsOpenGroup (before after : State) (entry : Entry) : Type 0 where
   pub asked : entry.kind ≡ kind.Sync
   pub answer_is : entry.answer ≡ answer.Synced (open_group before.pool)
+  pub number : after.pool.uber.group ≡ open_group before.pool
   pub few : count_of after.pool.out ≤ before.pool.uber.parity
   pub ends : EndsSync before after (answer.Synced (open_group before.pool))
   pub leaves : LeavesPool before after

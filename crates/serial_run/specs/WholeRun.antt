@@ -20,6 +20,7 @@ use Rattle.core_serial.specs.Opening.{MayBegin}
 use Rattle.serial_run.specs.Moments.{KeepsItemByItem}
 use Rattle.serial_run.specs.Widths.{HaveWidthOf}
 use Rattle.serial_run.specs.Caused.{LimitsAreCaused, HasTooManyIds}
+use Rattle.serial_run.specs.NoSpace.{NoSpaceIsCaused}
 pub use Rattle.serial_run.specs.Moments.{KeepsLast}
 
 -- the item of the group that a pool was opened with
@@ -44,7 +45,8 @@ pub record BeginsAfter (chosen : Kept) (items : List Item) : Type 0 where
 -- by then. At its end that is the journal's last one, and what the bank keeps then is among these groups. All
 -- of them have the width and the parity of the first one that the bank kept, and that is the run's parity. No
 -- read is told as damaged. An answer that tells of a limit has its cause; where one says `Full`, the chosen
--- group's map and the script have too many ids.
+-- group's map and the script have too many ids, and where one says `NoSpace`, its index and the script have too
+-- large blocks.
 pub record RunKeeps (script : Script) (setting : Setting) (first : Kept) (later : List Kept)
     (old new : Disk) (items : List Item) (parity : ℕ) : Type 0 where
   pub chosen : Kept
@@ -58,6 +60,7 @@ pub record RunKeeps (script : Script) (setting : Setting) (first : Kept) (later 
   pub caused : LimitsAreCaused (handed_by script) chosen.map items
   pub full : (index : ℕ) (entry : Entry) → CallAt items index entry → entry.answer ≡ answer.Full
       → HasTooManyIds script chosen.map
+  pub no_space : NoSpaceIsCaused script chosen.uber chosen.entries items
   pub any_moment : KeepsThroughout setting (handed_by script) chosen.map (first ∷ later) items old
       new
   pub no_older : KeepsItemByItem setting (handed_by script) chosen.map (first ∷ later) items old new

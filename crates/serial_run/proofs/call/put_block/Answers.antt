@@ -1,5 +1,6 @@
 use Rattle.std.proofs.Common.{◌∙◌, List, ℕ, length, subst}
-use Rattle.core_serial.specs.Answers.{map_after_put, IsPutAnswered}
+use Rattle.core_blocks.specs.Usage.{AddsAtMost}
+use Rattle.core_serial.specs.Answers.{map_after_put, IsPutAnswered, sizes_added}
 use Rattle.core_serial.specs.Pool.{HoldsMap, state_of}
 use Rattle.serial_run.proofs.Calls.{put_does}
 use Rattle.serial_run.proofs.call.put_block.Goals as goal
@@ -14,3 +15,6 @@ returns-in-Ok-clause-answers g c =
     (c.as_slice.ensures.value ∙ c.in-Ok.ensures) (c.put.ensures.holds map tells holds))
     (subst (λ (bytes : List ℕ). IsPutAnswered c.args.pool.now c.put.new.self c.args.id (length bytes) c.put.result)
     (c.as_slice.ensures.value ∙ c.in-Ok.ensures) c.put.ensures.answered)
+    (subst (λ (bytes : List ℕ). AddsAtMost c.args.pool.now.blocks.space c.put.new.self.blocks.space
+    (sizes_added c.args.pool.now (length bytes) c.put.result))
+    (c.as_slice.ensures.value ∙ c.in-Ok.ensures) c.put.ensures.adds)

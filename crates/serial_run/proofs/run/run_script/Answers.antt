@@ -6,6 +6,8 @@ use Rattle.client_script.specs.InOrder.{InOrder, given_of}
 use Rattle.client_script.specs.Script.{Script, handed_by}
 use Rattle.core_serial.specs.Pool.{state_of}
 use Rattle.serial_run.specs.Steps.{CarriesOut}
+use Rattle.serial_run.specs.NoSpace.{HasUsed, NoSpaceIsCaused}
+use Rattle.serial_run.proofs.NoSpace.{has_used_more}
 use Rattle.serial_run.proofs.Coming.{has_gone_on, one_more_answered}
 use Rattle.serial_run.proofs.run.run_script.Goals as goal
 
@@ -27,6 +29,14 @@ loop-next-preserved g c =
       come = has_gone_on (handed_by script) start c.args.journal.now.items c.loop-next.journal.items
           c.carry_out.new.journal.items before after c.loop-next.invariant.come call actor number done
           (ap (λ (s : Script). handed_by s actor number) (sym is_script) ∙ next.handed);
+      used = record {
+        each = λ uber entries started. subst (λ (count : ℕ). HasUsed script uber entries count c.carry_out.new.journal.items after)
+            (sym (ap (λ (calls : InOrder). calls.given) next.one_more))
+            (has_used_more script uber entries c.loop-next.calls.given c.loop-next.journal.items c.carry_out.new.journal.items
+            before after (c.loop-next.invariant.used.each uber entries started) (record { actor = actor; call = call })
+            (ap (λ (s : Script). slice_get s.calls c.loop-next.calls.given) (sym is_script) ∙ next.there)
+            actor number done (ap (λ (s : Script). handed_by s actor number) (sym is_script) ∙ next.handed));
+      };
       answered = subst (λ (count : ℕ). AreAnswered script count c.carry_out.new.journal.items)
           (sym (ap (λ (calls : InOrder). calls.given) next.one_more))
           (one_more_answered script c.loop-next.calls.given c.loop-next.journal.items c.carry_out.new.journal.items
@@ -34,3 +44,11 @@ loop-next-preserved g c =
           (ap (λ (s : Script). slice_get s.calls c.loop-next.calls.given) (sym is_script) ∙ next.there)
           (next.counted ∙ ap (λ (s : Script). given_of s c.loop-next.calls.given actor + 1) is_script) done);
     }
+
+pub returns-in_err-reserve-clause-no_space : goal.returns-in_err-reserve-clause-no_space
+returns-in_err-reserve-clause-no_space g c = λ uber entries started.
+    subst (λ (items : List Item). NoSpaceIsCaused c.args.script.now uber entries items) (sym c.reserve.ensures.same)
+    (c.loop-next.invariant.used.each uber entries started).caused
+
+pub returns-clause-no_space : goal.returns-clause-no_space
+returns-clause-no_space g c = λ uber entries started. (c.loop-next.invariant.used.each uber entries started).caused

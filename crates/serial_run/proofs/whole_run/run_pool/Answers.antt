@@ -4,6 +4,7 @@ use Rattle.core_state.specs.declared.item.Item.{Item}
 use Rattle.core_state.specs.declared.item.Item.TheVariants.{Group}
 use Rattle.client_script.specs.Script.{handed_by}
 use Rattle.core_serial.specs.Pool.{state_of}
+use Rattle.serial_run.specs.NoSpace.{HasUsed}
 use Rattle.serial_run.specs.Running.{HasCome}
 use Rattle.serial_run.specs.WholeRun.{HasRun, first_item}
 use Rattle.serial_run.proofs.Whole.{has_run}
@@ -23,5 +24,8 @@ returns-clause-run g c =
     subst (λ (out : ℕ). HasRun script old final.disk items out) (sym c.out.ensures)
     (has_run script old mid pool c.in_ok-opened.opened.silent items final
     c.in_ok-opened.ensures.later c.in_ok-opened.ensures.silent c.in_ok-opened.ensures.out c.in_ok-opened.ensures.begins c.in_ok-opened.ensures.rest
+    c.in_ok-opened.ensures.right c.in_ok-opened.ensures.loaded
     (subst (λ (first : List Item). HasCome (handed_by script) (state_of pool mid) first items final) listed c.run_script.ensures.come)
-    c.run_script.ensures.calls)
+    c.run_script.ensures.calls
+    (λ uber entries used. c.run_script.ensures.no_space uber entries
+    (subst (λ (first : List Item). HasUsed script uber entries 0 first (state_of pool mid)) (sym listed) used)))
