@@ -234,6 +234,18 @@ few_enough layout reflow out pool few = record {
       omega (arith, counted, apart, tally_devices out reflow.to, below_all out reflow.to (omega (arith, pool.few)), few);
 }
 
+-- Where each column that is lost stands on a device that is out, its row has not lost too much.
+pub lost_few_out : (layout : Layout) (reflow : Reflow) (out : ℕ) (read : ColumnsRead) → IsInPool layout reflow
+    → count_of out ≤ layout.parity → (row : ℕ) → row < rows_of layout
+    → ((column : ℕ) → column < columns_in layout row → is_lost read row column ≡ true
+    → has_device out (spot_of layout reflow row column).device ≡ true)
+    → HasTooFew layout read.lost.items row → ⊥
+lost_few_out layout reflow out read pool few row row_in lost_out too_few =
+    let enough = few_enough layout reflow out pool few in
+    let counted = count_mono (is_lost read row) (λ column. has_device out (spot_of layout reflow row column).device) 0
+    (columns_in layout row) (λ column from below lost. lost_out column (omega (arith, below)) lost) in
+    omega (arith, counted, enough.each row row_in, too_few)
+
 -- So no row has lost too much.
 pub few_lost : (layout : Layout) (reflow : Reflow) (known : Known) (before after : ℕ) (read : ColumnsRead) → IsInPool layout reflow
     → IsReadOf layout reflow known before after read → count_of after ≤ layout.parity → HasLostFew layout read

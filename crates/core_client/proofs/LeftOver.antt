@@ -29,7 +29,7 @@ and_false true = refl
 and_false false = refl
 
 -- A column of a block that is right is told where it is read, while the device is in use.
-told_there : (layout : Layout) (reflow : Reflow) (done : ℕ) (known : Known) (out : ℕ) (bytes : List ℕ) (row column : ℕ)
+pub told_there : (layout : Layout) (reflow : Reflow) (done : ℕ) (known : Known) (out : ℕ) (bytes : List ℕ) (row column : ℕ)
     → IsInPool layout reflow → IsFrontIn reflow.state reflow done → IsRightBlock layout bytes reflow done known out
     → IsColumn layout row column → has_device out (spot_of layout reflow row column).device ≡ false
     → known (spot_of layout reflow row column).device (spot_of layout reflow row column).device_sector ≡ Some (column_bytes layout bytes row column)
@@ -40,7 +40,7 @@ told_there layout reflow done known out bytes row column pool front right there 
     (spot_required layout reflow done row column pool there front) used (λ listed. absurd (omega (arith, listed.1)))
 
 -- What is missing counts as zeros.
-missing_bytes : (layout : Layout) (bytes : List ℕ) (row column : ℕ) → part_of layout row column ≡ Missing
+pub missing_bytes : (layout : Layout) (bytes : List ℕ) (row column : ℕ) → part_of layout row column ≡ Missing
     → column_bytes layout bytes row column ≡ zero_sector
 unfolding column_bytes
 missing_bytes layout bytes row column missing = ap (part_bytes layout bytes row) missing

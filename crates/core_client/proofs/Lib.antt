@@ -9,3 +9,4 @@ pub mod LeftOver
 pub mod Enough
 pub mod Stored
 pub mod Cells
+pub mod BlockTurns

@@ -37,7 +37,7 @@ inside_later rows write before after later still inside = record {
 abbrev pub IsNumber : List Write → ℕ → Write → Type 0
 IsNumber writes number write = (number < length writes) × (slice_index_or writes number write ≡ write)
 
-same_number : (writes : List Write) (number : ℕ) (write other : Write) → IsNumber writes number write → IsNumber writes number other
+pub same_number : (writes : List Write) (number : ℕ) (write other : Write) → IsNumber writes number write → IsNumber writes number other
     → other ≡ write
 same_number writes number write other is also =
     sym also.1 ∙ get_or_default writes number other write is.0 ∙ is.1
@@ -151,7 +151,7 @@ wrote_more rows writes count write before mid after is so_far step = ⊎_elim
     step
 
 -- Writes of a block that go to one place are of one column.
-plan_agrees : (layout : Layout) (reflow : Reflow) (done : ℕ) (bytes : List ℕ) (rows : Rows) (writes : List Write)
+pub plan_agrees : (layout : Layout) (reflow : Reflow) (done : ℕ) (bytes : List ℕ) (rows : Rows) (writes : List Write)
     → IsPlanOf layout reflow done bytes rows writes → AgreeByPlace rows writes
 plan_agrees layout reflow done bytes rows writes plan = record {
   same = λ one other listed also device device_sector.

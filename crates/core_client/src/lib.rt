@@ -6,6 +6,8 @@
 //! on `core_state`, `shadow_write` and `reconstruct`.
 #![tactic(auto)]
 
+mod block_read;
+mod block_write;
 mod columns_read;
 mod fetching;
 mod reading;
@@ -17,6 +19,8 @@ mod storing;
 mod tests;
 mod writing;
 
+pub use block_read::BlockRead;
+pub use block_write::BlockWrite;
 pub use columns_read::ColumnsRead;
 pub use fetching::{checked_bytes, fetch_block};
 pub use reading::{read_block, read_column};

@@ -1,0 +1,100 @@
+// A block that is read, one column at a time.
+ghost use Rattle.std.specs.Prelude.{◌≡◌, ◌+◌, ◌^◌, ◌<◌, ◌↔◌, IfOk, IsTrue};
+ghost use Rattle.bank_trait.specs.Disk.{Unchanged};
+ghost use Rattle.row_layout.specs.Layout.{IsLayout, rows_of};
+ghost use Rattle.core_client.specs.Outs.{point_of, OnlyFailedGoOut};
+ghost use Rattle.core_client.specs.Pool.{IsInPool, HasPool};
+ghost use Rattle.core_client.specs.BlockTurns.{IsReadBegun, ReadsColumn};
+
+use crate::{ColumnsRead, read_column};
+use bank_trait::Bank;
+use reflow_mark::Reflow;
+use row_layout::Layout;
+use std::alloc::{AllocError, Global};
+use std::marker::Model;
+use uberblock_ring::DeviceSet;
+
+/// A block that is read column by column, row after row, its parity too: what was read so far, and the
+/// column that comes next.
+#[derive(Drop)]
+pub struct BlockRead {
+    layout: Layout,
+    read: ColumnsRead,
+    row: u32,
+    column: u32,
+}
+
+impl Model for BlockRead {
+    ghost use Rattle.core_client.specs.BlockTurns.{BlockRead as BlockReadOf, IsPlace};
+
+    ghost Value = { BlockReadOf };
+
+    ghost view = { λ run. record {
+      layout = run.layout;
+      read = run.read;
+      row = run.row;
+      column = run.column;
+    } };
+
+    ghost invariant = { λ run. IsPlace (record {
+      layout = run.layout;
+      read = run.read;
+      row = run.row;
+      column = run.column;
+    }) };
+}
+
+impl BlockRead {
+    /// A block of this layout, of which nothing was read yet.
+    pub fn new(alloc: Global, layout: &Layout) -> Result<BlockRead, AllocError>
+        requires layout { IsLayout layout.now }
+        ensures { IfOk result (IsReadBegun layout.now) }
+    {
+        let read = ColumnsRead::blank(alloc, layout)?;
+        Ok(BlockRead {
+            layout: *layout,
+            read,
+            row: 0,
+            column: 0,
+        })
+    }
+
+    /// Whether all columns were read or passed over.
+    pub fn is_done(&self) -> bool
+        ensures { IsTrue result ↔ (self.now.row ≡ rows_of self.now.layout) }
+    {
+        self.row == self.layout.rows()
+    }
+
+    /// What was read so far.
+    pub fn columns(&self) -> &ColumnsRead
+        ensures { result.now ≡ self.now.read }
+    {
+        &self.read
+    }
+
+    /// Reads the next column where its row stands. A device that is out is passed over; one whose read
+    /// fails is out.
+    pub fn step<B: Bank>(&mut self, bank: &mut B, reflow: &Reflow, out: &mut DeviceSet)
+        requires left { self.old.row < rows_of self.old.layout }
+        requires pool { IsInPool self.old.layout reflow.now }
+        requires bank { HasPool reflow.now out.old (B.disk bank.old) }
+        ensures step { ReadsColumn reflow.now self.old (point_of out.old (B.disk bank.old))
+            self.new (point_of out.new (B.disk bank.new)) }
+        ensures unchanged { Unchanged (B.disk bank.old) (B.disk bank.new) }
+        ensures out { OnlyFailedGoOut (point_of out.old (B.disk bank.old))
+            (point_of out.new (B.disk bank.new)) }
+        ensures below { out.old < 2 ^ reflow.now.to → out.new < 2 ^ reflow.now.to }
+    {
+        let row = self.row;
+        let column = self.column;
+        let got = read_column(bank, &self.layout, reflow, row, column, out);
+        self.read.put(row, column, got);
+        if column + 1 < self.layout.columns_in(row) {
+            self.column = column + 1;
+        } else {
+            self.row = row + 1;
+            self.column = 0;
+        }
+    }
+}
