@@ -179,9 +179,9 @@ place_begun layout read is shape zero = record {
 }
 
 -- Nothing was read yet.
-pub read_begun : (layout : Layout) (bytes : List ℕ) (reflow : Reflow) (out : ℕ) (run : BlockRead) → IsLayout layout
+pub read_begun : (layout : Layout) (bytes : List ℕ) (reflow : Reflow) (out : ℕ) (run : BlockRead)
     → IsReadBegun layout run → IsReadSoFar bytes reflow out run
-read_begun layout bytes reflow out run is begun = record {
+read_begun layout bytes reflow out run begun = record {
   got = λ row column there before. absurd (⊎_elim
       (λ low. let first = begun.first.0 in omega (arith, low, first))
       (λ here. let first = begun.first.1 in omega (arith, here.1, first)) before);

@@ -4,6 +4,7 @@ ghost use Rattle.bank_trait.specs.Disk.{Unchanged};
 ghost use Rattle.row_layout.specs.Layout.{IsLayout, rows_of};
 ghost use Rattle.core_client.specs.Outs.{point_of, OnlyFailedGoOut};
 ghost use Rattle.core_client.specs.Pool.{IsInPool, HasPool};
+ghost use Rattle.core_client.specs.Got.{IsShapedAs};
 ghost use Rattle.core_client.specs.BlockTurns.{IsReadBegun, ReadsColumn};
 
 use crate::{ColumnsRead, read_column};
@@ -25,6 +26,7 @@ pub struct BlockRead {
 }
 
 impl Model for BlockRead {
+    ghost use Rattle.core_client.specs.Got.{IsShapedAs};
     ghost use Rattle.core_client.specs.BlockTurns.{BlockRead as BlockReadOf, IsPlace};
 
     ghost Value = { BlockReadOf };
@@ -66,9 +68,16 @@ impl BlockRead {
         self.row == self.layout.rows()
     }
 
+    pub fn layout(&self) -> &Layout
+        ensures { result.now ≡ self.now.layout }
+    {
+        &self.layout
+    }
+
     /// What was read so far.
     pub fn columns(&self) -> &ColumnsRead
-        ensures { result.now ≡ self.now.read }
+        ensures value { result.now ≡ self.now.read }
+        ensures shape { IsShapedAs self.now.layout result.now }
     {
         &self.read
     }

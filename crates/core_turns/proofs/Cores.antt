@@ -1,0 +1,34 @@
+-- A core of which devices went out, and its bank.
+use Rattle.std.proofs.Common.{◌≡◌, ℕ, ◌^◌, ◌<◌, sym, subst}
+use Rattle.bank_trait.specs.Disk.{Disk}
+use Rattle.reflow_mark.specs.declared.reflow.Reflow.{Reflow}
+use Rattle.uberblock_ring.specs.Devices.{IsWithin}
+use Rattle.uberblock_ring.specs.Uberblock.{Uber}
+use Rattle.core_client.specs.Pool.{HasPool}
+use Rattle.core_serial.specs.Pool.{Pool, IsPool, HasBank}
+use Rattle.core_turns.specs.Core.{Core, IsCore}
+
+-- More devices may be out.
+pub pool_out : (pool : Pool) (out : ℕ) → IsPool pool → out < 2 ^ pool.uber.reflow.to → IsWithin pool.out out
+    → IsPool (record pool { out = out })
+pool_out pool out is below within = record {
+  right = is.right;
+  parity = is.parity;
+  births = is.births;
+  capacity = is.capacity;
+  born = is.born;
+  below = below;
+  lists = λ device has. within device (is.lists device has);
+}
+
+pub core_out : (core : Core) (out : ℕ) → IsCore core → out < 2 ^ core.pool.uber.reflow.to → IsWithin core.pool.out out
+    → IsCore (record core { pool = record core.pool { out = out } })
+core_out core out is below within = record { is = pool_out core.pool out is.is below within; begun = is.begun; few = is.few }
+
+-- The bank of a pool has what a block's calls ask for.
+pub bank_has : (uber : Uber) (reflow : Reflow) (out : ℕ) (disk : Disk) → reflow ≡ uber.reflow → HasBank uber out disk
+    → HasPool reflow out disk
+bank_has uber reflow out disk same bank = subst (λ (r : Reflow). HasPool r out disk) (sym same) (record {
+  devices = bank.devices;
+  sectors = bank.room;
+})

@@ -1,0 +1,34 @@
+use Rattle.std.proofs.Common.{sym, ◌∙◌, subst}
+use Rattle.std.proofs.lemmas.Bool.{true≢false}
+use Rattle.core_turns.specs.declared.getting.GetRun.{GetRun}
+use Rattle.core_turns.specs.declared.getting.Solved.TheVariants.{NotYet}
+use Rattle.core_turns.specs.declared.turn.Turn.TheVariants.{More}
+use Rattle.core_turns.specs.Core.{Core}
+use Rattle.core_turns.specs.Getting.{HasTooManyOut, BeginsGet}
+use Rattle.core_turns.proofs.GetTurns.{get_begins}
+use Rattle.core_turns.proofs.open_core.Core.begin_get.Goals as goal
+
+pub returns : goal.returns
+returns c =
+    let inside = c.self.inside in
+    let core : Core = record {
+      pool = record { uber = inside.uber; blocks = inside.blocks; out = inside.out };
+      holds = inside.locks;
+      begun = inside.begun;
+    } in
+    let entry = c.in-Some.entry.now in
+    let run : GetRun = record {
+      kind = c.args.kind;
+      hold = c.in-Ok-try_shared.hold;
+      entry = entry;
+      read = c.in-Ok.read;
+      solved = NotYet;
+    } in
+    let few : HasTooManyOut core → ⊥ = subst (λ (core : Core). HasTooManyOut core → ⊥) (sym c.self.view_is)
+    (λ many. true≢false (sym (c.has_too_many_out.ensures.1 many) ∙ c.if-has_too_many_out.false)) in
+    subst (λ (old : Core). BeginsGet old (record core { holds = c.try_shared.new.self }) c.args.actor c.args.kind c.args.id (More run))
+    c.self.view_is
+    (get_begins core c.args.actor c.args.id c.args.kind entry c.layout_of-layout.result c.alloc_size.result
+    c.in-Ok-try_shared.hold c.in-Ok.read c.try_shared.new.self c.self.invariant c.get.ensures.step few
+    (sym c.in-Some.ensures.value) c.layout_of-layout.ensures c.alloc_size.ensures.value
+    c.in-Ok-try_shared.ensures.hold c.in-Ok.ensures c.in-Ok-try_shared.ensures.ok)

@@ -1,0 +1,19 @@
+use Rattle.std.proofs.Common.{◌≡◌, ◌^◌, ◌<◌, ℕ, sym, ap, subst}
+use Rattle.reflow_mark.specs.declared.reflow.Reflow.{Reflow}
+use Rattle.core_serial.specs.Pool.{HasBank}
+use Rattle.core_turns.specs.Core.{Core}
+use Rattle.core_turns.proofs.Cores.{bank_has, core_out}
+use Rattle.core_turns.proofs.open_core.Core.read_get.Goals as goal
+
+pub step-requires-clause-bank : goal.step-requires-clause-bank
+step-requires-clause-bank g c = bank_has c.self.inside.uber c.reflow-reflow.result c.self.inside.out (g.B.Bank.disk c.args.bank.now)
+    c.reflow-reflow.ensures.value
+    (subst (λ (core : Core). HasBank core.pool.uber core.pool.out (g.B.Bank.disk c.args.bank.now)) (sym c.self.view_is) c.requires.bank)
+
+pub invariant_of-self-2 : goal.invariant_of-self-2
+invariant_of-self-2 g c =
+    let to : c.reflow-reflow.result.to ≡ c.self.inside.uber.reflow.to = ap (λ (r : Reflow). r.to) c.reflow-reflow.ensures.value in
+    core_out _ c.step.new.out c.self.invariant
+    (subst (λ (n : ℕ). c.step.new.out < 2 ^ n) to
+    (c.step.ensures.below (subst (λ (n : ℕ). c.self.inside.out < 2 ^ n) (sym to) c.self.invariant.is.below)))
+    c.step.ensures.out.still

@@ -1,0 +1,29 @@
+-- An open pool while calls are under way, and the bank under it.
+use Rattle.std.specs.Prelude.{ℕ, ◌≤◌, ◌<◌, ◌^◌, List}
+use Rattle.bank_trait.specs.Disk.{Disk}
+use Rattle.range_locks.specs.declared.hold.Hold.{Hold}
+use Rattle.core_serial.specs.Pool.{Pool, State, IsPool}
+
+-- the pool, the holds of the calls under way, and the group that was begun last
+pub record Core : Type 0 where
+  pub pool : Pool
+  pub holds : List Hold
+  pub begun : ℕ
+
+-- The pool is one, and the last group begun is the last answered one or a later one.
+pub record IsCore (core : Core) : Type 0 where
+  pub is : IsPool core.pool
+  pub begun : core.pool.uber.group ≤ core.begun
+  pub few : core.begun < 2 ^ 63
+
+-- an open pool while calls are under way, and what its devices hold
+pub record CoreState : Type 0 where
+  pub core : Core
+  pub disk : Disk
+
+abbrev pub at_disk : Core → Disk → CoreState
+at_disk core disk = record { core = core; disk = disk }
+
+-- its pool and its disk alone
+abbrev pub pool_at : CoreState → State
+pool_at state = record { pool = state.core.pool; disk = state.disk }

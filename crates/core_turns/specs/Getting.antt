@@ -1,0 +1,186 @@
+-- Gets and sums, turn by turn.
+use Rattle.std.specs.Prelude.{◌≡◌, ℕ, ◌+◌, ◌^◌, ◌<◌, ◌≤◌, List, ◌∷◌, [], ◌++◌, length, Some, None, Contains, ⊤}
+use Rattle.sha2.specs.Sha256.{sha256}
+use Rattle.width_map.specs.Births.{width_of_birth}
+use Rattle.range_locks.specs.declared.hold.Hold.{Hold}
+use Rattle.range_locks.specs.declared.hold.HoldKind.TheVariants.{Shared}
+use Rattle.range_locks.specs.Holds.{IsBusyBy, EndsHold}
+use Rattle.row_layout.specs.Layout.{allocated_of}
+use Rattle.shadow_write.specs.Required.{front_after_stop}
+use Rattle.block_record.specs.declared.entry.IndexEntry.{IndexEntry}
+use Rattle.block_record.specs.Page.{IsRightEntry}
+use Rattle.block_table.specs.Table.{entry_of}
+use Rattle.reconstruct.specs.Lost.{AreBytes, IsLeftOver}
+use Rattle.uberblock_ring.specs.Uberblock.{Uber}
+use Rattle.uberblock_ring.specs.Devices.{count_of}
+use Rattle.core_state.specs.declared.answer.Answer.{Answer}
+use Rattle.core_state.specs.declared.answer.Answer.TheVariants as answer
+use Rattle.core_state.specs.declared.answer.Kind.{Kind}
+use Rattle.core_state.specs.declared.answer.Kind.TheVariants as kind
+use Rattle.core_state.specs.Map.{Map}
+use Rattle.core_state.specs.Index.{layout_of}
+use Rattle.core_client.specs.Outs.{point_of}
+use Rattle.core_client.specs.Pool.{IsInPool, IsRightBlock}
+use Rattle.core_client.specs.Got.{HasLostFew}
+use Rattle.core_client.specs.BlockTurns.{IsReadBegun, ReadsColumn, IsReadSoFar}
+use Rattle.core_serial.specs.Getting.{IsReadRight}
+use Rattle.core_turns.specs.declared.getting.GetRun.{GetRun}
+use Rattle.core_turns.specs.declared.getting.Solved.{Solved}
+use Rattle.core_turns.specs.declared.getting.Solved.TheVariants.{NotYet, Bytes, Damaged}
+use Rattle.core_turns.specs.declared.turn.Turn.{Turn}
+use Rattle.core_turns.specs.declared.turn.Turn.TheVariants.{More, Busy, Done}
+use Rattle.core_turns.specs.Core.{Core, CoreState}
+
+-- the calls that read a block
+abbrev pub IsRead : Kind → Type 0
+IsRead kind.Get = ⊤
+IsRead kind.Sum = ⊤
+IsRead other = ⊥
+
+-- A layout can be made of the entry's block.
+pub record HasLayout (uber : Uber) (entry : IndexEntry) : Type 0 where
+  pub right : IsRightEntry entry
+  pub start : entry.start < 2 ^ 54
+  pub wide : uber.parity < width_of_birth uber.births entry.birth
+  pub narrow : width_of_birth uber.births entry.birth ≤ 64
+  pub some_lost : 1 ≤ uber.parity
+  pub few_lost : uber.parity ≤ 3
+
+-- the hold of a call on its block
+abbrev pub hold_of : Uber → IndexEntry → ℕ → Hold
+hold_of uber entry actor = record {
+  lo = entry.start;
+  hi = entry.start + allocated_of (layout_of uber.parity uber.births entry);
+  actor = actor;
+  kind = Shared;
+}
+
+-- The read is one of a block of this pool, whose sectors it holds.
+pub record IsGetOf (core : Core) (run : GetRun) : Type 0 where
+  pub layout_is : run.read.layout ≡ layout_of core.pool.uber.parity core.pool.uber.births run.entry
+  pub pool : IsInPool run.read.layout core.pool.uber.reflow
+  pub holds : Contains core.holds run.hold
+  pub actor : ℕ
+  pub hold_is : run.hold ≡ hold_of core.pool.uber run.entry actor
+
+-- More devices are out than there are parities.
+abbrev pub HasTooManyOut : Core → Type 0
+HasTooManyOut core = core.pool.uber.parity < count_of core.pool.out
+
+-- A turn changes nothing but the holds.
+pub record ChangesHolds (old new : Core) (holds : List Hold) : Type 0 where
+  pub is : new ≡ record old { holds = holds }
+
+-- what the first turn of a read comes to
+abbrev pub BeginsGet : Core → Core → ℕ → Kind → ℕ → Turn GetRun → Type 0
+BeginsGet old new actor asked id (More run) = (HasTooManyOut old → ⊥)
+    × (entry_of old.pool.blocks.table.entries id ≡ Some run.entry) × (run.kind ≡ asked)
+    × (run.solved ≡ NotYet)
+    × (run.hold ≡ hold_of old.pool.uber run.entry actor)
+    × IsReadBegun (layout_of old.pool.uber.parity old.pool.uber.births run.entry) run.read
+    × (new ≡ record old { holds = old.holds ++ run.hold ∷ [] }) × IsGetOf new run
+BeginsGet old new actor asked id (Busy by) = (HasTooManyOut old → ⊥) × (new ≡ old)
+    × ((entry : IndexEntry) × (entry_of old.pool.blocks.table.entries id ≡ Some entry)
+    × (let hold : Hold = hold_of old.pool.uber entry actor in IsBusyBy old.holds hold.lo hold.hi Shared by))
+BeginsGet old new actor asked id (Done (answer.TooManyFailed out)) =
+    (new ≡ old) × HasTooManyOut old × (out ≡ old.pool.out)
+BeginsGet old new actor asked id (Done answer.Absent) = (HasTooManyOut old → ⊥) × (new ≡ old)
+    × (entry_of old.pool.blocks.table.entries id ≡ None)
+BeginsGet old new actor asked id (Done answer.NoMemory) = (HasTooManyOut old → ⊥) × (new ≡ old)
+BeginsGet old new actor asked id (Done other) = ⊥
+
+-- The call is answered so where too many devices are out: its hold has ended, and nothing else changed.
+pub record IsStoppedGet (old new : Core) (hold : Hold) (given : Answer) : Type 0 where
+  pub many : HasTooManyOut old
+  pub given_is : given ≡ answer.TooManyFailed old.pool.out
+  pub rest : new ≡ record old { holds = new.holds }
+  pub ends : EndsHold old.holds new.holds hold
+
+-- what a turn that reads a column comes to
+abbrev pub ReadsTurn : CoreState → GetRun → CoreState → Turn GetRun → Type 0
+ReadsTurn before run after (More next) = (HasTooManyOut before.core → ⊥)
+    × (next ≡ record run { read = next.read })
+    × (after.core ≡ record before.core { pool = record before.core.pool { out = after.core.pool.out } })
+    × ReadsColumn before.core.pool.uber.reflow run.read (point_of before.core.pool.out before.disk)
+    next.read (point_of after.core.pool.out after.disk)
+ReadsTurn before run after (Busy by) = ⊥
+ReadsTurn before run after (Done given) = IsStoppedGet before.core after.core run.hold given
+    × (after.disk ≡ before.disk)
+
+-- What was solved has the entry's length and digest, and is whatever the columns are left of. It is damaged
+-- only where too much of a row is lost, or nothing of that digest is what they are left of.
+abbrev pub IsSolved : GetRun → Solved → Type 0
+IsSolved run NotYet = ⊥
+IsSolved run (Bytes bytes) = (length bytes ≡ run.entry.len) × (sha256 bytes ≡ run.entry.digest)
+IsSolved run Damaged = (wanted : List ℕ)
+    → IsLeftOver run.read.layout wanted run.read.read.rows run.read.read.lost.items
+    → length wanted ≡ run.entry.len → AreBytes wanted → sha256 wanted ≡ run.entry.digest
+    → HasLostFew run.read.layout run.read.read → ⊥
+
+abbrev pub IsLeftOf : GetRun → Solved → Type 0
+IsLeftOf run (Bytes bytes) = (wanted : List ℕ)
+    → IsLeftOver run.read.layout wanted run.read.read.rows run.read.read.lost.items
+    → length wanted ≡ run.entry.len → AreBytes wanted → sha256 wanted ≡ run.entry.digest
+    → HasLostFew run.read.layout run.read.read → bytes ≡ wanted
+IsLeftOf run other = ⊤
+
+-- The block was solved from what was read.
+pub record SolvesGet (old new : GetRun) : Type 0 where
+  pub rest : new ≡ record old { solved = new.solved }
+  pub solved : IsSolved old new.solved
+  pub left : IsLeftOf old new.solved
+
+-- a get answers the bytes, a sum their length and digest
+abbrev pub answer_of : Kind → IndexEntry → List ℕ → Answer
+answer_of kind.Sum entry bytes = answer.Digest entry.len entry.digest
+answer_of other entry bytes = answer.Read bytes
+
+abbrev pub AnswersSolved : GetRun → Solved → Answer → Type 0
+AnswersSolved run NotYet given = given ≡ answer.NoMemory
+AnswersSolved run (Bytes bytes) given = given ≡ answer_of run.kind run.entry bytes
+AnswersSolved run Damaged given = given ≡ answer.Damaged
+
+-- A read ends: its hold too, and it is answered by what was solved, unless too many devices are out.
+pub record EndsGetSo (old new : Core) (run : GetRun) (given : Answer) : Type 0 where
+  pub rest : new ≡ record old { holds = new.holds }
+  pub ends : EndsHold old.holds new.holds run.hold
+  pub too_many : HasTooManyOut old → given ≡ answer.TooManyFailed old.pool.out
+  pub solved : (HasTooManyOut old → ⊥) → AnswersSolved run run.solved given
+
+abbrev pub EndsGet : Core → GetRun → Core → Turn GetRun → Type 0
+EndsGet old run new (Done given) = EndsGetSo old new run given
+EndsGet old run new other = ⊥
+
+-- What was solved is this block.
+abbrev pub IsSolvedAs : List ℕ → Solved → Type 0
+IsSolvedAs content NotYet = ⊤
+IsSolvedAs content (Bytes bytes) = bytes ≡ content
+IsSolvedAs content Damaged = ⊥
+
+-- A read is of a block of these bytes, which is right on the devices in use; what was read so far are its
+-- columns, and what was solved is it.
+pub record HoldsGet (content : List ℕ) (state : CoreState) (run : GetRun) : Type 0 where
+  pub right : IsRightBlock run.read.layout content state.core.pool.uber.reflow
+      (front_after_stop state.core.pool.uber.reflow) state.disk.reads state.core.pool.out
+  pub len_is : length content ≡ run.entry.len
+  pub are_bytes : AreBytes content
+  pub digest_is : sha256 content ≡ run.entry.digest
+  pub so_far : IsReadSoFar content state.core.pool.uber.reflow state.core.pool.out run.read
+  pub solved : (HasTooManyOut state.core → ⊥) → IsSolvedAs content run.solved
+
+-- What a read that begins finds in a map: its block, or nothing.
+abbrev pub FindsGet : Map → CoreState → ℕ → Turn GetRun → Type 0
+FindsGet map state id (More run) =
+    (content : List ℕ) × (map id ≡ Some content) × HoldsGet content state run
+FindsGet map state id (Busy by) = ⊤
+FindsGet map state id (Done given) = given ≡ answer.Absent → map id ≡ None
+
+-- A read goes on with its block.
+abbrev pub KeepsGet : List ℕ → CoreState → Turn GetRun → Type 0
+KeepsGet content state (More run) = HoldsGet content state run
+KeepsGet content state other = ⊤
+
+-- A read is answered by its block, or was cut short.
+abbrev pub TellsGet : List ℕ → GetRun → Turn GetRun → Type 0
+TellsGet content run (Done given) = IsReadRight (Some content) run.kind given
+TellsGet content run other = ⊤

@@ -1,0 +1,231 @@
+// Reads, turn by turn.
+ghost use Rattle.std.specs.Prelude.{◌≡◌, ℕ, List, ◌+◌, ◌^◌, ◌<◌, ◌≤◌, ◌↔◌, IsTrue, OnErr, OnOk};
+ghost use Rattle.bank_trait.specs.Disk.{Disk, Unchanged};
+ghost use Rattle.row_layout.specs.Layout.{rows_of};
+ghost use Rattle.reconstruct.specs.Rows.{sectors_for};
+ghost use Rattle.uberblock_ring.specs.Devices.{count_of};
+ghost use Rattle.core_state.specs.Map.{Map};
+ghost use Rattle.core_state.specs.Index.{layout_of};
+ghost use Rattle.core_client.specs.BlockTurns.{IsPlace};
+ghost use Rattle.core_client.specs.Outs.{point_of, OnlyFailedGoOut};
+ghost use Rattle.core_serial.specs.Pool.{HasBank, HoldsMap};
+ghost use Rattle.core_turns.specs.Core.{CoreState, IsCore, at_disk, pool_at};
+ghost use Rattle.core_turns.specs.Getting.{HasLayout, HoldsGet, FindsGet, KeepsGet, TellsGet, IsGetOf, IsRead, BeginsGet, ReadsTurn, SolvesGet, EndsGet, answer_of};
+
+use crate::turn::too_many;
+use crate::{Core, Turn};
+use bank_trait::Bank;
+use block_record::IndexEntry;
+use core_client::{BlockRead, FetchRefused, checked_bytes};
+use core_state::{Answer, Bytes, Kind};
+use range_locks::{Hold, LockRefused};
+use row_layout::Layout;
+use std::alloc::Global;
+use uberblock_ring::Uber;
+use width_map::width_at;
+
+/// A get or a sum under way. It holds its block's sectors, beside other readers.
+#[derive(Drop)]
+pub struct GetRun {
+    kind: Kind,
+    hold: Hold,
+    entry: IndexEntry,
+    read: BlockRead,
+    solved: Solved,
+}
+
+/// What the columns that were read come to.
+#[derive(Drop)]
+pub enum Solved {
+    NotYet,
+    Bytes(Bytes),
+    Damaged,
+}
+
+/// No memory was left.
+#[derive(Clone, Copy, Debug, PartialEq, Eq)]
+pub struct OutOfMemory;
+
+/// The layout of a block of the pool.
+fn layout_of(uber: &Uber, entry: &IndexEntry) -> Layout
+    requires { HasLayout uber.now entry.now }
+    ensures { result ≡ layout_of uber.now.parity uber.now.births entry.now }
+{
+    Layout::of(
+        entry.start,
+        (entry.len + 511) / 512,
+        uber.parity(),
+        width_at(uber.births(), entry.birth),
+    )
+}
+
+impl GetRun {
+    /// Whether all columns were read. The block is solved then, and the read ended.
+    pub fn is_read(&self) -> bool
+        ensures { IsTrue result ↔ (self.now.read.row ≡ rows_of self.now.read.layout) }
+    {
+        self.read.is_done()
+    }
+
+    /// Solves the block from what was read. Calls no device, and is no turn.
+    pub fn solve(&mut self, alloc: Global) -> Result<(), OutOfMemory>
+        requires len { sectors_for self.old.entry.len ≡ self.old.read.layout.sectors }
+        ensures ok { OnOk result (SolvesGet self.old self.new) }
+        ensures keeps { OnOk result ((content : List ℕ) (state : CoreState)
+            → self.old.read.row ≡ rows_of self.old.read.layout → IsGetOf state.core self.old
+            → HoldsGet content state self.old → HoldsGet content state self.new) }
+        ensures err { OnErr result (self.new ≡ self.old) }
+    {
+        self.solve_columns(alloc)
+    }
+
+    fn solve_columns(&mut self, alloc: Global) -> Result<(), OutOfMemory>
+        requires len { sectors_for self.old.entry.len ≡ self.old.read.layout.sectors }
+        ensures ok { OnOk result (SolvesGet self.old self.new) }
+        ensures err { OnErr result (self.new ≡ self.old) }
+    {
+        let solved = checked_bytes(
+            alloc,
+            self.read.layout(),
+            self.read.columns(),
+            self.entry.len as usize,
+            &self.entry.digest,
+        );
+        self.solved = match solved {
+            Ok(bytes) => Solved::Bytes(Bytes::new(bytes)),
+            Err(FetchRefused::NoMemory) => return Err(OutOfMemory),
+            Err(_) => Solved::Damaged,
+        };
+        Ok(())
+    }
+}
+
+impl Core {
+    /// The first turn of a get, or a sum, of an id: finds its block and holds its sectors.
+    pub fn get_begin(&mut self, alloc: Global, actor: u8, kind: Kind, id: u64) -> Turn<GetRun>
+        requires kind { IsRead kind }
+        ensures begins { BeginsGet self.old self.new actor kind id result }
+
+        // A block that is found is the one of the map.
+        ensures finds { (map : Map) (disk : Disk) → HoldsMap map (pool_at (at_disk self.old disk))
+            → FindsGet map (at_disk self.new disk) id result }
+    {
+        self.begin_get(alloc, actor, kind, id)
+    }
+
+    /// The next column of a block that is read.
+    pub fn get_read<B: Bank>(&mut self, bank: &mut B, run: GetRun) -> Turn<GetRun>
+        requires left { run.read.row < rows_of run.read.layout }
+        requires of { IsGetOf self.old run }
+        requires bank { HasBank self.old.pool.uber self.old.pool.out (B.disk bank.old) }
+        ensures reads { ReadsTurn (at_disk self.old (B.disk bank.old)) run
+            (at_disk self.new (B.disk bank.new)) result }
+        ensures keeps { (content : List ℕ)
+            → HoldsGet content (at_disk self.old (B.disk bank.old)) run
+            → KeepsGet content (at_disk self.new (B.disk bank.new)) result }
+        ensures unchanged { Unchanged (B.disk bank.old) (B.disk bank.new) }
+        ensures out { OnlyFailedGoOut (point_of self.old.pool.out (B.disk bank.old))
+            (point_of self.new.pool.out (B.disk bank.new)) }
+    {
+        self.read_get(bank, run)
+    }
+
+    /// The last turn of a read: tells its block, once it was solved, or that memory was wanting for that.
+    pub fn get_end(&mut self, run: GetRun) -> Turn<GetRun>
+        requires kind { IsRead run.kind }
+        requires of { IsGetOf self.old run }
+        ensures ends { EndsGet self.old run self.new result }
+        ensures tells { (content : List ℕ) (disk : Disk) → HoldsGet content (at_disk self.old disk) run
+            → TellsGet content run result }
+    {
+        self.end_get(run)
+    }
+
+    fn begin_get(&mut self, alloc: Global, actor: u8, kind: Kind, id: u64) -> Turn<GetRun>
+        ensures { BeginsGet self.old self.new actor kind id result }
+    {
+        if self.has_too_many_out() {
+            return Turn::Done(too_many(self.out));
+        }
+        let Some(entry) = self.blocks.get(id) else {
+            return Turn::Done(Answer::Absent);
+        };
+        let entry = *entry;
+        let layout = layout_of(&self.uber, &entry);
+        let Ok(read) = BlockRead::new(alloc, &layout) else {
+            return Turn::Done(Answer::NoMemory);
+        };
+        let end = entry.start + layout.alloc_size();
+        let hold = match self.locks.try_shared(entry.start, end, actor) {
+            Ok(hold) => hold,
+            Err(LockRefused::Busy { by }) => return Turn::Busy { by },
+            Err(LockRefused::NoMemory) => return Turn::Done(Answer::NoMemory),
+        };
+        Turn::More(GetRun {
+            kind,
+            hold,
+            entry,
+            read,
+            solved: Solved::NotYet,
+        })
+    }
+
+    fn read_get<B: Bank>(&mut self, bank: &mut B, run: GetRun) -> Turn<GetRun>
+        requires left { run.read.row < rows_of run.read.layout }
+        requires of { IsGetOf self.old run }
+        requires bank { HasBank self.old.pool.uber self.old.pool.out (B.disk bank.old) }
+        ensures reads { ReadsTurn (at_disk self.old (B.disk bank.old)) run
+            (at_disk self.new (B.disk bank.new)) result }
+        ensures was { IsCore self.old }
+        ensures place { IsPlace run.read }
+        ensures unchanged { Unchanged (B.disk bank.old) (B.disk bank.new) }
+        ensures out { OnlyFailedGoOut (point_of self.old.pool.out (B.disk bank.old))
+            (point_of self.new.pool.out (B.disk bank.new)) }
+    {
+        let mut run = run;
+        if self.has_too_many_out() {
+            self.locks.end(run.hold);
+            return Turn::Done(too_many(self.out));
+        }
+        let reflow = self.uber.reflow();
+        run.read.step(bank, &reflow, &mut self.out);
+        Turn::More(run)
+    }
+
+    fn end_get(&mut self, run: GetRun) -> Turn<GetRun>
+        requires of { IsGetOf self.old run }
+        ensures { EndsGet self.old run self.new result }
+    {
+        let GetRun {
+            kind,
+            hold,
+            entry,
+            read: _,
+            solved,
+        } = run;
+        self.locks.end(hold);
+        if self.has_too_many_out() {
+            return Turn::Done(too_many(self.out));
+        }
+        Turn::Done(match solved {
+            Solved::NotYet => Answer::NoMemory,
+            Solved::Damaged => Answer::Damaged,
+            Solved::Bytes(bytes) => answer_of(kind, &entry, bytes),
+        })
+    }
+}
+
+/// A get answers the bytes, a sum their length and digest.
+fn answer_of(kind: Kind, entry: &IndexEntry, bytes: Bytes) -> Answer
+    ensures { result ≡ answer_of kind entry.now bytes }
+{
+    match kind {
+        Kind::Sum => {
+            Answer::Digest {
+                len: entry.len,
+                sha: entry.digest,
+            }
+        }
+        _ => Answer::Read { bytes },
+    }
+}

@@ -1,0 +1,16 @@
+//! An open pool, turn by turn: several calls go on side by side, and a turn makes at most one device
+//! call.
+//!
+//! A call under way is a value that its caller keeps, a `PutRun` or a `GetRun`; each turn takes it and
+//! gives it back, until the call is answered. A hold on its block's sectors keeps others away. Read
+//! `specs/Core.antt`, then `specs/Getting.antt` and `specs/Putting.antt`. Stands on `core_blocks`,
+//! `core_client` and `range_locks`, and on the definitions of `core_serial`.
+#![tactic(auto)]
+
+mod getting;
+mod open_core;
+mod turn;
+
+pub use getting::{GetRun, OutOfMemory, Solved};
+pub use open_core::Core;
+pub use turn::Turn;

@@ -1,0 +1,60 @@
+// An open pool while calls are under way.
+ghost use Rattle.std.specs.Prelude.{◌≡◌, ◌+◌, ◌<◌, ◌↔◌, IsTrue};
+ghost use Rattle.uberblock_ring.specs.Devices.{count_of};
+
+use core_blocks::Blocks;
+use range_locks::Locks;
+use std::marker::Model;
+use uberblock_ring::{DeviceSet, Uber};
+
+/// The last answered group's uberblock, the blocks with the sectors that they take, the devices that
+/// are out, the holds of the calls under way, and the group that was begun last.
+#[derive(Drop)]
+pub struct Core {
+    pub(crate) uber: Uber,
+    pub(crate) blocks: Blocks,
+    pub(crate) out: DeviceSet,
+    pub(crate) locks: Locks,
+    pub(crate) begun: u64,
+}
+
+impl Model for Core {
+    ghost use Rattle.core_turns.specs.Core.{Core as CoreOf, IsCore};
+
+    ghost Value = { CoreOf };
+
+    ghost view = { λ core. record {
+      pool = record { uber = core.uber; blocks = core.blocks; out = core.out };
+      holds = core.locks;
+      begun = core.begun;
+    } };
+
+    ghost invariant = { λ core. IsCore (record {
+      pool = record { uber = core.uber; blocks = core.blocks; out = core.out };
+      holds = core.locks;
+      begun = core.begun;
+    }) };
+}
+
+impl Core {
+    /// The devices that are out.
+    pub fn out(&self) -> DeviceSet
+        ensures { result ≡ self.now.pool.out }
+    {
+        self.out
+    }
+
+    /// The group that the next commit makes.
+    pub fn open_group(&self) -> u64
+        ensures { result ≡ self.now.begun + 1 }
+    {
+        self.begun + 1
+    }
+
+    /// Whether more devices are out than there are parities. Each turn says so then.
+    pub fn has_too_many_out(&self) -> bool
+        ensures { IsTrue result ↔ (self.now.pool.uber.parity < count_of self.now.pool.out) }
+    {
+        self.out.len() > self.uber.parity()
+    }
+}
