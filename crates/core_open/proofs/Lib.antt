@@ -26,3 +26,4 @@ pub mod Renewal
 pub mod Written
 pub mod Unhindered
 pub mod Finishing
+pub mod Seen

@@ -1,6 +1,6 @@
--- An opening that nothing hinders is refused for want of memory alone.
-use Rattle.std.proofs.Common.{◌≡◌, ◌≢◌, inl, inr, ⊎_elim, ℕ, ◌+◌, ◌^◌, ◌<◌, List, true, Result, Ok, Err, refl, sym, ◌∙◌, ap, subst, arith}
-use Rattle.std.specs.Prelude.{IfErr}
+-- An opening that nothing hinders, and a look, are refused for want of memory alone.
+use Rattle.std.proofs.Common.{◌≡◌, ◌≢◌, inl, inr, ⊎_elim, ℕ, ◌+◌, ◌^◌, ◌<◌, List, Bool, true, false, Result, Ok, Err, refl, sym, ◌∙◌, ap, subst, arith}
+use Rattle.std.specs.Prelude.{◌≤◌, ◌∷◌, Contains, IfErr}
 use Rattle.std.specs.Int.{bit_at}
 use Rattle.std.proofs.lemmas.Nat.Bits.{bit_at-lt, same_from_bits}
 use Rattle.bank_trait.specs.Disk.{Image, Disk, Lawful}
@@ -24,7 +24,8 @@ use Rattle.core_open.specs.Causes.{IsShownChoice, AreOutFor, AreTooMany, IsOpenC
 use Rattle.core_open.specs.Failing.{HaveFailed}
 use Rattle.core_open.specs.Finding.{IsFindCause}
 use Rattle.core_open.specs.Holds.{HoldsImage, shape_of}
-use Rattle.core_open.specs.Opens.{IsUnhindered, IsForMemory}
+use Rattle.core_open.specs.Looking.{IsLookForMemory}
+use Rattle.core_open.specs.Opens.{IsInSight, IsForMemory}
 use Rattle.core_open.proofs.Ends.{present_held}
 use Rattle.core_open.proofs.Written.{none_listed}
 
@@ -35,8 +36,19 @@ none_empty devices none = same_from_bits devices 0 (λ device.
     let not_there : bit_at 0 device ≢ 1 = λ one. true_false (sym (bit_has 0 device one) ∙ none_in device) in
     omega (arith, bit_at-lt devices device, bit_at-lt 0 device, not_one, not_there))
 
+-- Whether a refusal is for the number of a group.
+abbrev is_limit : OpenWhy → Bool
+is_limit reason.NotPool = false
+is_limit (reason.TooManyFailed out) = false
+is_limit (reason.Limit group) = true
+is_limit reason.NoMemory = false
+
+-- One for anything else names no group.
+pub limit_apart : (why : OpenWhy) → is_limit why ≡ false → (group : ℕ) → why ≢ reason.Limit group
+limit_apart why other group is = true_false (sym (ap is_limit is) ∙ other)
+
 module _ (setting : Setting) (first : Kept) (later : List Kept) (old new : Disk) (lawful : Lawful old)
-    (free : IsUnhindered setting first later old new) where
+    (free : IsInSight setting first later old new) where
   abbrev image : Image
   image = present old
 
@@ -61,8 +73,9 @@ module _ (setting : Setting) (first : Kept) (later : List Kept) (old new : Disk)
       (none_in keeps.there.device) keeps.there.shown.2)
 
   -- A group can be numbered two more than the chosen one.
-  is_within : (shown : IsShownChoice old new image) → 2 ^ 62 < shown.uber.group + 2 → ⊥
-  is_within shown high =
+  is_within : ((kept : Kept) → Contains (first ∷ later) kept → kept.uber.group + 2 ≤ 2 ^ 62)
+      → (shown : IsShownChoice old new image) → 2 ^ 62 < shown.uber.group + 2 → ⊥
+  is_within limits shown high =
       let chosen = subst (λ (s : Shape). IsChosen s shown.silent image shown.device shown.uber shown.entries)
       (sym free.may.shape) shown.chosen in
       let within : (device : ℕ) → device < first.uber.reflow.to → has_device shown.silent device ≡ true
@@ -73,7 +86,7 @@ module _ (setting : Setting) (first : Kept) (later : List Kept) (old new : Disk)
       let group : shown.uber.group ≡ held.kept.uber.group =
       chosen_group setting first later old knows lawful shown.silent within (free.may.pages image holds)
       shown.device shown.uber shown.entries chosen in
-      let limit = free.limit held.kept held.listed in
+      let limit = limits held.kept held.listed in
       omega (arith, high, group, limit)
 
   silent_none : (shown : IsShownChoice old new image) → shown.silent ≡ 0
@@ -99,21 +112,41 @@ module _ (setting : Setting) (first : Kept) (later : List Kept) (old new : Disk)
       let counted : count_of listed ≡ count_of 0 = ap count_of (none_empty listed (none_out listed many)) in
       omega (arith, more, none, counted)
 
-  for_memory : (why : OpenWhy) → IsOpenCause old new why → why ≡ reason.NoMemory
-  for_memory reason.NotPool cause = absurd (is_pool
+  for_memory : (why : OpenWhy) → ((group : ℕ) → why ≢ reason.Limit group) → IsOpenCause old new why
+      → why ≡ reason.NoMemory
+  for_memory reason.NotPool unlimited cause = absurd (is_pool
       (subst (λ (s : Shape). IsNotPool s 0 image) (sym free.may.shape) (cause image holds)))
-  for_memory (reason.TooManyFailed out) (inl found) =
+  for_memory (reason.TooManyFailed out) unlimited (inl found) =
       absurd (found.0 (none_empty out (none_failed out found.1)))
-  for_memory (reason.TooManyFailed out) (inr many) = absurd (is_few out (many image holds))
-  for_memory (reason.Limit group) cause = absurd (is_within (cause image holds).0 (cause image holds).1)
-  for_memory reason.NoMemory cause = refl
+  for_memory (reason.TooManyFailed out) unlimited (inr many) = absurd (is_few out (many image holds))
+  for_memory (reason.Limit group) unlimited cause = absurd (unlimited group refl)
+  for_memory reason.NoMemory unlimited cause = refl
+
+  -- None of the groups is too near the greatest number.
+  not_limited : ((kept : Kept) → Contains (first ∷ later) kept → kept.uber.group + 2 ≤ 2 ^ 62)
+      → (why : OpenWhy) → IsOpenCause old new why → (group : ℕ) → why ≢ reason.Limit group
+  not_limited limits reason.NotPool cause group is = limit_apart _ refl group is
+  not_limited limits (reason.TooManyFailed out) cause group is = limit_apart _ refl group is
+  not_limited limits (reason.Limit number) cause group is =
+      is_within limits (cause image holds).0 (cause image holds).1
+  not_limited limits reason.NoMemory cause group is = limit_apart _ refl group is
 
 -- Whatever the cause of a refusal is, it is not that where nothing hinders.
 pub caused : (old new : Disk) (why : OpenWhy) → Lawful old → IsOpenCause old new why → IsForMemory old new why
-caused old new why lawful cause setting first later free = for_memory setting first later old new lawful free why cause
+caused old new why lawful cause setting first later free =
+    let sight : IsInSight setting first later old new = record { may = free.may; works = free.works; in_use = free.in_use } in
+    for_memory setting first later old new lawful sight why
+    (not_limited setting first later old new lawful sight free.limit why cause) cause
+
+-- The same of a look, which is refused for the number of no group.
+pub look_caused : (old new : Disk) (why : OpenWhy) → Lawful old → ((group : ℕ) → why ≢ reason.Limit group)
+    → IsOpenCause old new why
+    → IsLookForMemory old new why
+look_caused old new why lawful unlimited cause setting first later sight =
+    for_memory setting first later old new lawful sight why unlimited cause
 
 -- The same where nothing was found.
-find_caused : (old new : Disk) (why : OpenWhy) → IsFindCause old new why → IsOpenCause old new why
+pub find_caused : (old new : Disk) (why : OpenWhy) → IsFindCause old new why → IsOpenCause old new why
 find_caused old new reason.NotPool cause = cause
 find_caused old new (reason.TooManyFailed out) cause = inl cause
 find_caused old new (reason.Limit group) cause = absurd cause

@@ -7,6 +7,7 @@ pub mod Lacking
 pub mod Pages
 pub mod Opens
 pub mod OpensFound
+pub mod Looking
 pub mod Causes
 pub mod Regions
 pub mod Sets

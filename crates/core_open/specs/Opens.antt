@@ -115,16 +115,29 @@ pub record IsOpenedWith (uber : Uber) (entries : List IndexEntry) (silent out : 
         → IsWithinBelow first.uber.reflow.to silent setting.failed → IsWithin out setting.failed
         → HasOpened setting first later uber entries old new
 
--- Nothing hinders an opening: images keep groups, of which none is too near the greatest number; no device
--- fails in it, and none is out, whatever the devices choose.
+-- No device fails in a call.
+abbrev pub NoneFails : Disk → Disk → Type 0
+NoneFails old new = (device : ℕ) → Rose (old.faults device) (new.faults device) → ⊥
+
+-- No device is out where all answer, whatever they choose.
+abbrev pub NoneIsOut : Disk → Type 0
+NoneIsOut disk = (image : Image) (shower : ℕ) (uber : Uber) (entries : List IndexEntry) (device : ℕ)
+    → HoldsImage disk image → IsChosen (shape_of disk) 0 image shower uber entries
+    → IsOutAtOpening (shape_of disk) 0 image uber device
+    → ⊥
+
+-- Nothing hinders a look at a pool: images keep groups, no device fails in it, and none is out.
+pub record IsInSight (setting : Setting) (first : Kept) (later : List Kept) (old new : Disk) : Type 0 where
+  pub may : MayOpen setting first later old
+  pub works : NoneFails old new
+  pub in_use : NoneIsOut old
+
+-- Nothing hinders an opening: beside that, none of the groups is too near the greatest number.
 pub record IsUnhindered (setting : Setting) (first : Kept) (later : List Kept) (old new : Disk) : Type 0 where
   pub may : MayOpen setting first later old
   pub limit : (kept : Kept) → Contains (first ∷ later) kept → kept.uber.group + 2 ≤ 2 ^ 62
-  pub works : (device : ℕ) → Rose (old.faults device) (new.faults device) → ⊥
-  pub in_use : (image : Image) (shower : ℕ) (uber : Uber) (entries : List IndexEntry) (device : ℕ)
-      → HoldsImage old image → IsChosen (shape_of old) 0 image shower uber entries
-      → IsOutAtOpening (shape_of old) 0 image uber device
-      → ⊥
+  pub works : NoneFails old new
+  pub in_use : NoneIsOut old
 
 -- Then nothing but memory may be wanting.
 abbrev pub IsForMemory : Disk → Disk → OpenWhy → Type 0

@@ -1,5 +1,5 @@
 // How an opening finds its pool.
-ghost use Rattle.std.specs.Prelude.{◌≡◌, [], All, Contains, IfErr, IfOk, OnErr};
+ghost use Rattle.std.specs.Prelude.{◌≡◌, ◌<◌, ◌↔◌, [], All, Contains, IfErr, IfOk, IsTrue, OnErr};
 ghost use Rattle.bank_trait.specs.Disk.{Disk, Image, Unchanged};
 ghost use Rattle.uberblock_ring.specs.Devices.{IsWithin};
 ghost use Rattle.uberblock_ring.specs.Valid.{IsRightUber};
@@ -34,6 +34,17 @@ pub struct Found {
     pub out: DeviceSet,
     /// Devices in use that show no candidate of the chosen group.
     pub lacks_uber: DeviceSet,
+}
+
+impl Found {
+    ghost use Rattle.uberblock_ring.specs.Devices.{count_of};
+
+    /// Whether more devices are out than there are parities.
+    pub fn has_too_many_out(&self) -> bool
+        ensures { IsTrue result ↔ (self.now.uber.parity < count_of self.now.out) }
+    {
+        self.out.len() > self.uber.parity()
+    }
 }
 
 /// Finds what a pool is to be opened with, by reads alone. A device that fails isn't called again,

@@ -3,8 +3,9 @@
 //! Creating gives each device an empty ring and the first uberblock: read `create`. An opening
 //! reads the rings once; the devices that answered choose a pool, and of that pool the greatest
 //! group that has a candidate is copied to those that lack it and renewed: read `open`, with
-//! `specs/Opens.antt`. Stands on `core_commit`, and on `core_state`, whose `specs/Create.antt` says
-//! what a new pool is, and `specs/Choosing.antt` what is chosen.
+//! `specs/Opens.antt`. A look chooses in the same way and writes nothing: read `look`. Stands on
+//! `core_commit`, and on `core_state`, whose `specs/Create.antt` says what a new pool is, and
+//! `specs/Choosing.antt` what is chosen.
 #![tactic(auto)]
 
 mod candidates;
@@ -13,10 +14,12 @@ mod creating;
 mod finding;
 mod fitting;
 mod index_page;
+mod looking;
 mod opening;
 mod out;
 mod page_lack;
 mod reading;
+mod sight;
 mod stopped;
 #[cfg(test)]
 mod tests;
@@ -26,5 +29,7 @@ mod why;
 
 pub use creating::{create, data_rows};
 pub use finding::{Found, find};
+pub use looking::look;
 pub use opening::{Opened, open};
+pub use sight::Look;
 pub use why::OpenWhy;

@@ -77,10 +77,10 @@ fn open_found<B: Bank>(alloc: Global, bank: &mut B, found: Found) -> Result<Open
     if found.uber.group() > MAX_GROUP - 2 {
         return Err(OpenWhy::Limit { group: MAX_GROUP });
     }
-    let mut out = found.out;
-    if out.len() > found.uber.parity() {
-        return Err(OpenWhy::TooManyFailed { out });
+    if found.has_too_many_out() {
+        return Err(OpenWhy::TooManyFailed { out: found.out });
     }
+    let mut out = found.out;
     let lack_page = devices_without_page(alloc, bank, &found.uber, &found.entries, &mut out)?;
     let uber = renew(
         bank,

@@ -1,5 +1,5 @@
 // Pools that are found on banks in memory.
-use crate::{OpenWhy, create, find, open};
+use crate::{OpenWhy, create, find, look, open};
 use bank_mem::MemBank;
 use bank_trait::Bank;
 use sha2::{Digest, Sha256};
@@ -187,5 +187,64 @@ fn each_opening_takes_two_more(rt: HostRuntime) -> Result<(), Fail> {
     let mut out = DeviceSet::empty();
     out.insert(1);
     assert!(rt; opened.uber.group() == 5 && opened.out == out && opened.uber.out() == out);
+    Ok(())
+}
+
+#[test]
+fn a_look_tells_the_uberblock_and_who_is_out_and_writes_nothing(
+    rt: HostRuntime,
+) -> Result<(), Fail> {
+    let mut bank = bank_of_nine(&rt, rt.alloc())?;
+    let mut later = second_group();
+    later.set_out(DeviceSet::from_bits(4));
+    for device in 0..2 {
+        show(&rt, &mut bank, &later, device)?;
+        give(&rt, &mut bank, device)?;
+    }
+    let clock = bank.clock();
+    let seen = look(rt.alloc(), &mut bank)?;
+    assert!(rt; seen.uber == later);
+    assert_eq!(rt; (seen.out.bits(), seen.silent.bits()), (4, 0));
+    assert_eq!(rt; bank.clock(), clock);
+    Ok(())
+}
+
+#[test]
+fn a_look_is_refused_where_too_many_are_out_and_for_no_number(rt: HostRuntime) -> Result<(), Fail> {
+    let mut last = Uber::first(9, 1, 3, 64);
+    last.set_group(1 << 62);
+    // (the devices that fail in the look, what an opening answers with them)
+    let cases = [
+        (0, OpenWhy::Limit { group: 1 << 62 }),
+        (2, OpenWhy::Limit { group: 1 << 62 }),
+        (6, OpenWhy::Limit { group: 1 << 62 }),
+    ];
+    for (bits, refused) in cases {
+        let mut bank = bank_of_nine(&rt, rt.alloc())?;
+        let out = DeviceSet::from_bits(bits);
+        for device in 0..3 {
+            show(&rt, &mut bank, &last, device)?;
+            if out.has(device) {
+                bank.fail_from(device, MAKING + 1)?;
+            }
+        }
+        let clock = bank.clock();
+        match look(rt.alloc(), &mut bank) {
+            Ok(seen) => assert!(rt; out.len() <= 1 && seen.uber == last && seen.out == out),
+            Err(why) => {
+                assert!(rt;
+                    out.len() == 2 && why == OpenWhy::TooManyFailed { out },
+                    "{bits}"
+                )
+            }
+        }
+        match open(rt.alloc(), &mut bank) {
+            Ok(_) => panic!(rt; "a pool was opened with {bits}"),
+            Err(why) => assert!(rt; why == refused, "{bits}"),
+        }
+        assert_eq!(rt; bank.clock(), clock, "{bits}");
+    }
+    let mut blank = MemBank::new(rt.alloc(), 3, 256)?;
+    assert!(rt; matches!(look(rt.alloc(), &mut blank), Err(OpenWhy::NotPool)));
     Ok(())
 }
