@@ -18,7 +18,7 @@ use Rattle.core_state.specs.Committing.{Among, Point, Called}
 use Rattle.core_state.proofs.Calls.{true_false}
 use Rattle.core_commit.specs.Ran.{MadeOne, Step, RanBy, IsInside}
 use Rattle.core_commit.specs.Spared.{Spares}
-use Rattle.core_commit.proofs.Order.{Due, Ordered}
+use Rattle.core_commit.specs.Ordered.{Due, Ordered}
 use Rattle.core_commit.proofs.Plans.{next_among, rest_among}
 use Rattle.core_commit.proofs.Halves.{stays_out}
 
@@ -162,7 +162,7 @@ AreInside uber plan = (call : CommitCall) → Among plan call → IsInside uber 
 
 module _ (uber : Uber) (entries : List IndexEntry) (area : uber.area ≤ 1) (count : uber.count ≤ 512)
   where
-    went_one : (call : CommitCall) (before after : Point)
+    pub went_one : (call : CommitCall) (before after : Point)
         → IsInside uber call → MadeOne uber entries call before after
         → Went before after
     went_one (IndexWrite device part) before after inside made =

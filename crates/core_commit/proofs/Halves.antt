@@ -20,7 +20,7 @@ use Rattle.core_state.proofs.Laying.{IsPaged, unsigned_passed, unsigned_laid, un
 use Rattle.core_state.proofs.Signing.{IsSigner, signed_passed, signed_signed, signed_sealed}
 use Rattle.core_state.proofs.Since.{since_more}
 use Rattle.core_commit.specs.Ran.{MadeOne, Step, RanBy, IsLaying, IsAny}
-use Rattle.core_commit.proofs.Order.{Due, Ordered}
+use Rattle.core_commit.specs.Ordered.{Due, Ordered}
 use Rattle.core_commit.proofs.Running.{next_is}
 use Rattle.core_commit.proofs.Plans.{by_next, by_none, next_among, rest_among, next_due, signing_stays}
 
@@ -90,7 +90,7 @@ module _ (setting : Setting) (groups : List Kept) (time : ℕ) (first : Kept) (l
   lays (UberWrite device) rest before after laying due made u = absurd (laying tt)
   lays (UberSync device) rest before after laying due made u = absurd (laying tt)
 
-  lays_next : (plan : List CommitCall) (call : CommitCall) (before after : Point) → IsLaying call
+  pub lays_next : (plan : List CommitCall) (call : CommitCall) (before after : Point) → IsLaying call
       → slice_get (calls_left before.out plan) 0 ≡ Some call
       → MadeOne next.uber next.entries call before after → HasLaid plan before
       → HasLaid (after_next before.out plan) after
@@ -163,7 +163,7 @@ module _ (setting : Setting) (groups : List Kept) (time : ℕ) (first : Kept) (l
       signed_sealed setting first later next uber paged_first paged signer device rest before after
       made.result due.0 due.1 (λ part. due.2 device part) made.called made.made s
 
-  signs_next : (plan : List CommitCall) (call : CommitCall) (before after : Point)
+  pub signs_next : (plan : List CommitCall) (call : CommitCall) (before after : Point)
       → slice_get (calls_left before.out plan) 0 ≡ Some call
       → MadeOne uber next.entries call before after → HasSigned plan before
       → HasSigned (after_next before.out plan) after

@@ -10,3 +10,4 @@ pub mod Whole
 pub mod Ending
 pub mod Spreading
 pub mod Copying
+pub mod Stepping

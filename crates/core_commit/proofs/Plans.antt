@@ -7,7 +7,7 @@ use Rattle.commit_job.specs.declared.call.CommitCall.TheVariants.{IndexWrite, Ba
 use Rattle.commit_job.specs.Stages.{device_of, calls_left, after_next}
 use Rattle.core_state.specs.Committing.{Among}
 use Rattle.core_commit.specs.Ran.{IsSigning, IsLaying}
-use Rattle.core_commit.proofs.Order.{Due, Ordered}
+use Rattle.core_commit.specs.Ordered.{Due, Ordered}
 use Rattle.core_commit.proofs.Running.{some_same}
 
 -- What holds of a plan and what is left behind its next call holds where that call stands first, and is

@@ -2,3 +2,5 @@ pub mod Ran
 pub mod Commits
 pub mod Copies
 pub mod Spared
+pub mod Ordered
+pub mod CommitTurns

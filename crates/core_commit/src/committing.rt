@@ -47,7 +47,7 @@ fn call_bank<B: Bank>(
 }
 
 /// Makes one call, and puts its device out where it fails.
-fn make<B: Bank>(
+pub(crate) fn make<B: Bank>(
     bank: &mut B,
     uber: &Uber,
     entries: &[IndexEntry],
@@ -72,7 +72,7 @@ fn make<B: Bank>(
 }
 
 /// Whether a call writes an uberblock of the group, or syncs one.
-fn is_signing(call: CommitCall) -> bool
+pub(crate) fn is_signing(call: CommitCall) -> bool
     ensures { IsTrue result ↔ IsSigning call }
 {
     match call {

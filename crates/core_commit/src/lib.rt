@@ -6,6 +6,8 @@
 //! keeps. Stands on `commit_job` and `core_state`.
 #![tactic(auto)]
 
+mod commit_run;
 mod committing;
 
+pub use commit_run::{CommitRun, CommitStep};
 pub use committing::{TooManyOut, commit, copy};

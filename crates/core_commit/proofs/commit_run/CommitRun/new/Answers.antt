@@ -1,0 +1,15 @@
+use Rattle.std.proofs.Common.{◌∙◌, ap}
+use Rattle.reflow_mark.specs.declared.reflow.Reflow.{Reflow}
+use Rattle.commit_job.specs.Stages.{plan_of}
+use Rattle.core_commit.proofs.Ending.{plan_inside}
+use Rattle.core_commit.proofs.commit_run.CommitRun.new.Goals as goal
+
+pub invariant_of-result : goal.invariant_of-result
+invariant_of-result c = record {
+  right = c.requires.right;
+  index = c.requires.index;
+  counted = c.requires.counted;
+  inside = plan_inside c.args.uber c.new-calls.result
+      (c.new-calls.ensures.value ∙ ap (λ (r : Reflow). plan_of r.to c.count.result) c.reflow.ensures.value
+      ∙ ap (plan_of c.args.uber.reflow.to) c.count.ensures.value);
+}

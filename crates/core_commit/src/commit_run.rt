@@ -1,0 +1,149 @@
+// A commit that makes one device call a step, so that other calls may come between.
+ghost use Rattle.std.specs.Prelude.{◌≡◌, ◌^◌, ◌<◌, ◌≤◌, Some, IsTrue, length, slice_get};
+ghost use Rattle.block_record.specs.Page.{IsIndex};
+ghost use Rattle.uberblock_ring.specs.Devices.{count_of};
+ghost use Rattle.uberblock_ring.specs.Valid.{IsRightUber};
+ghost use Rattle.commit_job.specs.declared.call.CommitCall.{CommitCall as CallOf};
+ghost use Rattle.commit_job.specs.Stages.{calls_left, plan_of};
+ghost use Rattle.core_commit.specs.declared.commit_run.Stage.TheVariants.{Lays};
+ghost use Rattle.core_commit.specs.CommitTurns.{IsReady, Steps};
+ghost use Rattle.core_commit.specs.Ran.{FitsBank, IsLaying, IsSigning, point_of};
+ghost use Rattle.core_commit.specs.Spared.{HaveGoneOut, Spares};
+
+use crate::committing::{is_signing, make};
+use bank_trait::Bank;
+use block_record::IndexEntry;
+use commit_job::{Commit, CommitCall};
+use std::marker::Model;
+use uberblock_ring::{DeviceSet, Uber};
+
+/// The half of a commit that comes next: the index page and its syncs, or the uberblock and its own.
+#[derive(Clone, Copy, Debug, PartialEq, Eq)]
+pub enum Stage {
+    Lays,
+    Signs,
+}
+
+/// What a step of a commit did: it made a device call, or none was left and the group is the last one.
+#[derive(Clone, Copy, Debug, PartialEq, Eq)]
+pub enum CommitStep {
+    Called,
+    Ended,
+}
+
+/// A commit under way: the group that is made, its index, and the calls that are still to be made.
+#[derive(Drop)]
+pub struct CommitRun {
+    uber: Uber,
+    entries: Vec<IndexEntry>,
+    calls: Commit,
+    stage: Stage,
+}
+
+impl Model for CommitRun {
+    ghost use Rattle.core_commit.specs.CommitTurns.{CommitRun as RunOf, IsCommitRun};
+
+    ghost Value = { RunOf };
+
+    ghost view = { λ run. record {
+      uber = run.uber;
+      entries = run.entries.items;
+      calls = run.calls;
+      stage = run.stage;
+    } };
+
+    ghost invariant = { λ run. IsCommitRun (record {
+      uber = run.uber;
+      entries = run.entries.items;
+      calls = run.calls;
+      stage = run.stage;
+    }) };
+}
+
+/// Whether the first half of a commit is done where this call comes next.
+fn is_laid(next: Option<CommitCall>) -> bool
+    ensures done { IsTrue result → (call : CallOf) → next ≡ Some call → IsSigning call }
+    ensures goes_on { (IsTrue result → ⊥) → (call : CallOf) × (next ≡ Some call) × IsLaying call }
+{
+    match next {
+        Some(call) => is_signing(call),
+        None => true,
+    }
+}
+
+impl CommitRun {
+    /// The commit of a group with its index; no call is made yet.
+    pub fn new(uber: Uber, entries: Vec<IndexEntry>) -> CommitRun
+        requires right { IsRightUber uber }
+        requires index { IsIndex entries.items }
+        requires counted { length entries.items ≡ uber.count }
+        ensures value { result ≡ record {
+          uber = uber;
+          entries = entries.items;
+          calls = plan_of uber.reflow.to uber.count;
+          stage = Lays;
+        } }
+    {
+        let calls = Commit::new(uber.reflow().to, uber.count());
+        CommitRun {
+            uber,
+            entries,
+            calls,
+            stage: Stage::Lays,
+        }
+    }
+
+    /// The uberblock of the group.
+    pub fn uber(&self) -> &Uber
+        ensures value { result.now ≡ self.now.uber }
+    {
+        &self.uber
+    }
+
+    /// The index of the group.
+    pub fn entries(&self) -> &[IndexEntry]
+        ensures value { result.now ≡ self.now.entries }
+    {
+        &self.entries
+    }
+
+    /// The next call. Where the first half is done by now, the second one begins, and the uberblock
+    /// lists the devices that are out.
+    fn ready(&mut self, out: DeviceSet) -> Option<CommitCall>
+        requires few { count_of out ≤ self.old.uber.parity }
+        requires below { out < 2 ^ self.old.uber.reflow.to }
+        ensures value { result ≡ slice_get (calls_left out self.old.calls) 0 }
+        ensures ready { IsReady out self.old self.new }
+        ensures right { IsRightUber self.new.uber }
+    {
+        let next = self.calls.next(out);
+        if self.stage == Stage::Lays && is_laid(next) {
+            self.uber.set_out(out);
+            self.stage = Stage::Signs;
+        }
+        next
+    }
+
+    /// Makes the next device call, and puts its device out where it fails. The uberblock lists the
+    /// devices that are out as the first half ends.
+    pub fn step<B: Bank>(&mut self, bank: &mut B, out: &mut DeviceSet) -> CommitStep
+        requires fits { FitsBank self.old.uber self.old.entries out.old (B.disk bank.old) }
+        requires few { count_of out.old ≤ self.old.uber.parity }
+        requires below { out.old < 2 ^ self.old.uber.reflow.to }
+        ensures steps { Steps self.old (point_of out.old (B.disk bank.old)) self.new
+            (point_of out.new (B.disk bank.new)) result }
+        ensures gone { HaveGoneOut (point_of out.old (B.disk bank.old)) out.old
+            (point_of out.new (B.disk bank.new)) }
+        ensures spares { Spares (point_of out.old (B.disk bank.old))
+            (point_of out.new (B.disk bank.new)) }
+        ensures fits { FitsBank self.new.uber self.new.entries out.new (B.disk bank.new) }
+        ensures below { out.new < 2 ^ self.new.uber.reflow.to }
+    {
+        let Some(call) = self.ready(*out) else {
+            return CommitStep::Ended;
+        };
+        let _ = self.calls.advance(*out);
+        make(bank, &self.uber, &self.entries, call, out);
+        CommitStep::Called
+    }
+}
