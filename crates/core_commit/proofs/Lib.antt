@@ -11,3 +11,5 @@ pub mod Ending
 pub mod Spreading
 pub mod Copying
 pub mod Stepping
+pub mod Beside
+pub mod CommitTurns

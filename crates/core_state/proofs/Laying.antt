@@ -51,7 +51,7 @@ module _ (setting : Setting) (first : Kept) (later : List Kept) (next : Kept)
     (paged_first : IsPaged first) (paged : IsPaged next) where
   -- A call that touches spare sectors, none of the next group's blocks, and of its page and synced
   -- bases only what is still to be called for.
-  unsigned_frame : (here : ℕ → ℕ → Type 0) (plan : List CommitCall) (before after : Point)
+  pub unsigned_frame : (here : ℕ → ℕ → Type 0) (plan : List CommitCall) (before after : Point)
       → Moves here before after
       → ((d x : ℕ) → here d x → IsSpare setting first later d x)
       → ((d x : ℕ) (bytes : List ℕ) → here d x → Asks next d x bytes

@@ -37,7 +37,7 @@ module _ (setting : Setting) (first : Kept) (later : List Kept) (next : Kept) (u
     (paged_first : IsPaged first) (paged : IsPaged next) (signer : IsSigner setting first next uber)
   where
     -- A call of whose places in the page and slot what matters is still to be called for.
-    signed_frame : (here : ℕ → ℕ → Type 0) (plan : List CommitCall) (before after : Point)
+    pub signed_frame : (here : ℕ → ℕ → Type 0) (plan : List CommitCall) (before after : Point)
         → Moves here before after → Knows setting first later after.disk
         → IsCertain setting after.disk (first ∷ later) uber
         → ((d : ℕ) → (Among plan (UberWrite d) × Among plan (UberSync d))
