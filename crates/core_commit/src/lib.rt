@@ -3,11 +3,14 @@
 //! The index page goes to each device and is synced there; then an uberblock that names it goes to
 //! each device, and is synced. A device whose call fails is out from then on, and is passed over. Read
 //! `specs/Ran.antt` for what was called, and `core_state`'s `specs/Committing.antt` for what that
-//! keeps. Stands on `commit_job` and `core_state`.
+//! keeps; and `specs/CommitTurns.antt` for a commit that makes one call a step. Stands on `commit_job`
+//! and `core_state`.
 #![tactic(auto)]
 
 mod commit_run;
 mod committing;
+#[cfg(test)]
+mod tests;
 
 pub use commit_run::{CommitRun, CommitStep};
 pub use committing::{TooManyOut, commit, copy};
