@@ -9,6 +9,8 @@
 mod call;
 #[cfg(test)]
 mod failing_tests;
+#[cfg(test)]
+mod first_run_tests;
 mod run;
 #[cfg(test)]
 mod stop_tests;
