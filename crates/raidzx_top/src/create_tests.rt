@@ -8,13 +8,20 @@ use uberblock_ring::DeviceSet;
 #[test]
 fn a_pool_is_made_and_told_where_the_bank_is_large_enough(rt: HostRuntime) -> Result<(), Fail> {
     let alloc = rt.alloc();
-    let rows: [(&str, u32, u64, Status, &[u8]); 7] = [
+    let rows: [(&str, u32, u64, Status, &[u8]); 8] = [
         (
             MAKE_NINE,
             3,
             256,
             Status::Done,
             b"pool 9 parity 1 width 3 rows 64 group 1\n",
+        ),
+        (
+            "raidzx create --parity 2 --width 4 --id 9",
+            4,
+            256,
+            Status::Done,
+            b"pool 9 parity 2 width 4 rows 64 group 1\n",
         ),
         (
             MAKE_NINE,

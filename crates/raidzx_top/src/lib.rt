@@ -9,6 +9,8 @@ mod create_tests;
 #[cfg(test)]
 mod failing_tests;
 mod images;
+#[cfg(test)]
+mod lost_block_tests;
 mod making;
 mod report;
 #[cfg(test)]
