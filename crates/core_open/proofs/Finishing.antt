@@ -2,6 +2,7 @@
 use Rattle.std.proofs.Common.{◌≡◌, ◌⊎◌, inl, inr, ℕ, ◌+◌, ◌^◌, ◌<◌, ◌≤◌, List, Bool, true, false, Result, Ok, Err, refl, sym, ◌∙◌, ap, subst, arith}
 use Rattle.std.specs.Prelude.{IfOk, IfErr}
 use Rattle.bank_trait.specs.Disk.{Image, Disk, Lawful, Later, Unchanged}
+use Rattle.bank_trait.specs.Regions.{TouchesOnly}
 use Rattle.bank_trait.proofs.Moments.{later_trans}
 use Rattle.block_record.specs.declared.entry.IndexEntry.{IndexEntry}
 use Rattle.uberblock_ring.specs.Devices.{has_device, count_of, IsWithin}
@@ -21,10 +22,12 @@ use Rattle.core_open.specs.Causes.{AreTooMany, AreOutOf, IsOpenCause}
 use Rattle.core_open.specs.Failing.{HaveFailed}
 use Rattle.core_open.specs.Finding.{IsFoundIn, FitsOpening}
 use Rattle.core_open.specs.Holds.{HoldsImage, shape_of}
-use Rattle.core_open.specs.Opens.{OpeningKeeps, CutKeeps, LeavesBank, HasBank, IsOpenedWith, StopsCopying, StopsRenewing, renewed_by}
+use Rattle.core_open.specs.Opens.{OpeningKeeps, CutKeeps, LeavesBank, LeavesOthers, HasBank, IsOpenedWith, StopsCopying, StopsRenewing, renewed_by}
+use Rattle.core_open.specs.Regions.{IsOnBelow}
 use Rattle.core_open.specs.OpensFound.{WritesFound, OpensFound}
 use Rattle.core_open.proofs.Renewal.{right_with}
 use Rattle.core_open.proofs.Unchanged.{unchanged_then}
+use Rattle.core_open.proofs.Others.{found_touches}
 use Rattle.core_open.proofs.Written.{unchanged_cut, none_listed, silent_now, choice, limit_caused, many_caused, went_spread, went_renewed, out_caused, many_gone, keeps_copied, keeps_renewed, kept_renewed, few_renewed}
 
 within_trans : (one two three : ℕ) → IsWithin one two → IsWithin two three → IsWithin one three
@@ -52,12 +55,15 @@ pub record IsOpen (old new : Disk) (opened : Opened) : Type 0 where
   pub spares : Spares (point_of opened.out old) (point_of opened.out new)
   pub kept : IsOpenedWith opened.uber opened.entries.items opened.silent opened.out old new
   pub since : OpeningKeeps opened.silent opened.uber.out old new
+  pub only : TouchesOnly (IsOnBelow opened.uber.reflow.to) old new
+  pub others : LeavesOthers old new
 
 -- What is known of a pool that wasn't.
 pub record IsRefused (old new : Disk) (why : OpenWhy) : Type 0 where
   pub cause : IsOpenCause old new why
   pub cut : CutKeeps why old new
   pub untouched : LeavesBank why old new
+  pub others : LeavesOthers old new
 
 module _ (found : Found) (old mid new : Disk) (lawful : Lawful old) (same_found : Unchanged old mid)
     (found_in : (image : Image) → HoldsImage old image → IsFoundIn (shape_of old) image found)
@@ -144,6 +150,12 @@ module _ (found : Found) (old mid new : Disk) (lawful : Lawful old) (same_found 
             (sym items) kept);
         since = subst (λ (n : ℕ). OpeningKeeps n opened.uber.out old new) (sym silent_is)
             (subst (λ (n : ℕ). OpeningKeeps found.silent n old new) (sym out_is) keeps);
+        only = subst (λ (n : ℕ). TouchesOnly (IsOnBelow n) old new) (sym wide)
+            (found_touches found opened.out (Ok opened.uber) same_found writes);
+        others = inr (λ image holds. (
+          choice found old mid new lawful same_found found_in right silent_failed fits later image holds,
+          found_touches found opened.out (Ok opened.uber) same_found writes,
+        ));
       }
 
   -- Too many went out among the writes.
@@ -174,6 +186,10 @@ module _ (found : Found) (old mid new : Disk) (lawful : Lawful old) (same_found 
                   (Err (reason.TooManyFailed out)) writes (Err stops.why) stops.copied;
             };
             untouched = tt;
+            others = inr (λ image holds. (
+              choice found old mid new lawful same_found found_in right silent_failed fits later image holds,
+              found_touches found out (Err (reason.TooManyFailed out)) same_found writes,
+            ));
           }
       by (inr stops) =
           let later = later_trans writes.same.goes_on.later
@@ -200,6 +216,10 @@ module _ (found : Found) (old mid new : Disk) (lawful : Lawful old) (same_found 
                   (Err (reason.TooManyFailed out)) writes stops.renewed (Err stops.why) stops.ran;
             };
             untouched = tt;
+            others = inr (λ image holds. (
+              choice found old mid new lawful same_found found_in right silent_failed fits later image holds,
+              found_touches found out (Err (reason.TooManyFailed out)) same_found writes,
+            ));
           }
 
   -- A pool that was not opened.
@@ -213,16 +233,18 @@ module _ (found : Found) (old mid new : Disk) (lawful : Lawful old) (same_found 
             refuses.0.goes_on.later refuses.1;
         cut = unchanged_cut (reason.Limit group) old new lawful same;
         untouched = same;
+        others = inl same;
       }
   refused_promises reason.NoMemory refuses =
       let same = unchanged_then same_found refuses in
-      record { cause = tt; cut = unchanged_cut reason.NoMemory old new lawful same; untouched = same }
+      record { cause = tt; cut = unchanged_cut reason.NoMemory old new lawful same; untouched = same; others = inl same }
   refused_promises (reason.TooManyFailed out) (inl read) = record {
     cause = inr (subst (λ (n : ℕ). (image : Image) → HoldsImage old image → AreTooMany old new image n) (sym read.1)
         (many_caused found old mid new lawful same_found found_in right silent_failed fits read.0.goes_on.later
         (subst (λ (n : ℕ). found.uber.parity < count_of n) read.1 read.2)));
     cut = unchanged_cut (reason.TooManyFailed out) old new lawful (unchanged_then same_found read.0);
     untouched = tt;
+    others = inl (unchanged_then same_found read.0);
   }
   refused_promises (reason.TooManyFailed out) (inr writes) = refused_writes out writes
 
@@ -286,3 +308,10 @@ untouched_all (Err reason.NotPool) old new same = same
 untouched_all (Err (reason.TooManyFailed out)) old new same = tt
 untouched_all (Err (reason.Limit group)) old new same = same
 untouched_all (Err reason.NoMemory) old new same = same
+
+-- Either way no other device is touched.
+pub others_of : {old new : Disk} (result : Result Opened OpenWhy) → IfOk result (IsOpen old new)
+    → IfErr result (IsRefused old new)
+    → LeavesOthers old new
+others_of (Ok opened) opens refuses = opens.others
+others_of (Err why) opens refuses = refuses.others

@@ -18,6 +18,7 @@ pub mod Settled
 pub mod Sorting
 pub mod SpanOrder
 pub mod Unchanged
+pub mod Others
 pub mod Voters
 pub mod Voting
 pub mod Joining

@@ -2,7 +2,7 @@
 use Rattle.std.specs.Prelude.{◌≡◌, ◌⊎◌, ℕ, ◌-◌, ◌^◌, ◌+◌, ◌<◌, ◌≤◌, true, ⊤, List, [], ◌∷◌, ◌++◌, length, Contains, Result, Ok, Err}
 use Rattle.bank_trait.specs.Causes.{Rose}
 use Rattle.bank_trait.specs.Disk.{Image, Disk, Unchanged}
-use Rattle.bank_trait.specs.Regions.{Tells}
+use Rattle.bank_trait.specs.Regions.{Tells, TouchesOnly}
 use Rattle.block_record.specs.declared.entry.IndexEntry.{IndexEntry}
 use Rattle.uberblock_ring.specs.Devices.{has_device, count_below, count_of, IsWithin}
 use Rattle.uberblock_ring.specs.Uberblock.{Uber}
@@ -15,13 +15,14 @@ use Rattle.core_state.specs.Committing.{Point}
 use Rattle.core_state.specs.Moment.{KeepsSince}
 use Rattle.core_commit.specs.declared.committing.TooManyOut.{TooManyOut}
 use Rattle.core_commit.specs.Copies.{CopyKeeps}
-use Rattle.core_commit.specs.Spared.{HaveGoneOut, Spares}
+use Rattle.core_commit.specs.Spared.{HaveGoneOut, Spares, TouchesGroup}
 use Rattle.core_open.specs.declared.why.OpenWhy.{OpenWhy}
 use Rattle.core_open.specs.declared.why.OpenWhy.TheVariants as reason
 use Rattle.core_open.specs.Causes.{IsOutFor, IsShownChoice}
 use Rattle.core_open.specs.Failing.{HaveFailed}
 use Rattle.core_open.specs.Holds.{HoldsImage, shape_of}
 use Rattle.core_open.specs.Lacking.{HasAllBut}
+use Rattle.core_open.specs.Regions.{IsOnBelow}
 
 -- Each image that a crash may leave keeps these groups, all of one width; the bank tells what it holds,
 -- and no page in that is another's by chance.
@@ -79,6 +80,13 @@ LeavesBank reason.NotPool old new = Unchanged old new
 LeavesBank (reason.TooManyFailed out) old new = ⊤
 LeavesBank (reason.Limit group) old new = Unchanged old new
 LeavesBank reason.NoMemory old new = Unchanged old new
+
+-- Nothing is changed but counts of faults; or no device is touched but those of the pool that the devices
+-- show.
+abbrev pub LeavesOthers : Disk → Disk → Type 0
+LeavesOthers old new = Unchanged old new
+    ⊎ ((image : Image) → HoldsImage old image → (shown : IsShownChoice old new image)
+    × TouchesOnly (IsOnBelow shown.uber.reflow.to) old new)
 
 -- The bank has the pool's data rows, and each device of the pool that isn't out.
 pub record HasBank (uber : Uber) (out : ℕ) (disk : Disk) : Type 0 where
@@ -155,6 +163,7 @@ pub record HasSpread (uber : Uber) (entries : List IndexEntry) (lack_page lack_u
   pub keeps : CopyKeeps uber entries lack_page lack_uber before after result
   pub gone : HaveGoneOut before before.out after
   pub spares : Spares before after
+  pub touches : TouchesGroup uber before after
 
 -- the uberblock of an opening's group
 abbrev pub renewed_by : Uber → ℕ → Uber

@@ -1,5 +1,6 @@
 // Opening a pool.
 ghost use Rattle.std.specs.Prelude.{◌≡◌, ◌+◌, ◌^◌, ◌<◌, ◌≤◌, IfErr, IfOk};
+ghost use Rattle.bank_trait.specs.Regions.{TouchesOnly};
 ghost use Rattle.block_record.specs.Page.{IsIndex};
 ghost use Rattle.uberblock_ring.specs.Devices.{count_of};
 ghost use Rattle.uberblock_ring.specs.Valid.{IsRightUber};
@@ -9,8 +10,9 @@ ghost use Rattle.core_open.specs.Candidates.{IsIndexFor};
 ghost use Rattle.core_open.specs.Causes.{AreOutOf, IsOpenCause};
 ghost use Rattle.core_open.specs.Failing.{HaveFailed};
 ghost use Rattle.core_open.specs.Finding.{FitsOpening};
-ghost use Rattle.core_open.specs.Opens.{CutKeeps, EndsRenewal, HasBank, IsForMemory, IsOpenedWith, LeavesBank, OpeningKeeps};
+ghost use Rattle.core_open.specs.Opens.{CutKeeps, EndsRenewal, HasBank, IsForMemory, IsOpenedWith, LeavesBank, LeavesOthers, OpeningKeeps};
 ghost use Rattle.core_open.specs.OpensFound.{OpensFound};
+ghost use Rattle.core_open.specs.Regions.{IsOnBelow};
 
 use crate::OpenWhy;
 use crate::finding::{Found, find};
@@ -124,6 +126,11 @@ pub fn open<B: Bank>(alloc: Global, bank: &mut B) -> Result<Opened, OpenWhy>
     ensures untouched { IfErr result (λ why.
         LeavesBank why (B.disk bank.old) (B.disk bank.new)) }
     ensures opens { IfErr result (IsForMemory (B.disk bank.old) (B.disk bank.new)) }
+
+    // No device is touched but those of the pool.
+    ensures only { IfOk result (λ opened. TouchesOnly (IsOnBelow opened.uber.reflow.to)
+        (B.disk bank.old) (B.disk bank.new)) }
+    ensures others { LeavesOthers (B.disk bank.old) (B.disk bank.new) }
 {
     let found = find(alloc, bank)?;
     open_found(alloc, bank, found)

@@ -1,7 +1,7 @@
-use Rattle.std.proofs.Common.{rules}
+use Rattle.std.proofs.Common.{inl, rules}
 use Rattle.std.specs.Prelude.{IfErr}
 use Rattle.core_open.specs.Finding.{IsFindCause}
-use Rattle.core_open.proofs.Finishing.{opens_promises, known, refused, fits_then, cut_all, untouched_all}
+use Rattle.core_open.proofs.Finishing.{opens_promises, known, refused, fits_then, cut_all, untouched_all, others_of}
 use Rattle.core_open.proofs.Unhindered.{caused, find_memory}
 use Rattle.core_open.proofs.opening.open.Goals as goal
 
@@ -99,3 +99,18 @@ returns-clause-opens g c = refused c.open_found.result (λ why told. caused (g.B
     (g.met.B.Bank.lawful c.args.bank.now) told.cause) (opens_promises _ c.open_found.result (g.met.B.Bank.lawful c.args.bank.now)
     c.find.ensures.unchanged c.in_ok-found.ensures.found c.in_ok-found.ensures.right c.in_ok-found.ensures.silent
     c.in_ok-found.ensures.fits c.in_ok-found.ensures.index c.open_found.ensures.opens).1
+
+pub returns-clause-only : goal.returns-clause-only
+returns-clause-only g c = known c.open_found.result (λ opened told. told.only) (opens_promises _ c.open_found.result (g.met.B.Bank.lawful c.args.bank.now)
+    c.find.ensures.unchanged c.in_ok-found.ensures.found c.in_ok-found.ensures.right c.in_ok-found.ensures.silent
+    c.in_ok-found.ensures.fits c.in_ok-found.ensures.index c.open_found.ensures.opens).0
+
+pub returns-clause-others : goal.returns-clause-others
+returns-clause-others g c =
+    let told = opens_promises _ c.open_found.result (g.met.B.Bank.lawful c.args.bank.now)
+    c.find.ensures.unchanged c.in_ok-found.ensures.found c.in_ok-found.ensures.right c.in_ok-found.ensures.silent
+    c.in_ok-found.ensures.fits c.in_ok-found.ensures.index c.open_found.ensures.opens in
+    others_of c.open_found.result told.0 told.1
+
+pub returns-in_err-found-clause-others : goal.returns-in_err-found-clause-others
+returns-in_err-found-clause-others g c = inl c.find.ensures.unchanged
