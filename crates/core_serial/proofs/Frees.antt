@@ -15,6 +15,8 @@ use Rattle.core_client.proofs.Outs.{outs_none}
 use Rattle.core_serial.specs.Pool.{Pool, State, HoldsMap, state_of, open_group}
 use Rattle.core_serial.specs.Standing.{GoesOn}
 use Rattle.core_serial.proofs.Holding.{free_holds}
+use Rattle.bank_trait.proofs.Touches.{touches_none}
+use Rattle.core_commit.specs.Spared.{IsOnInUse}
 
 -- Taking a block away leaves what the devices keep.
 pub free_goes_on : (pool : Pool) (blocks : Blocks) (disk : Disk)
@@ -27,6 +29,7 @@ free_goes_on pool blocks disk under kept = record {
   later = later_refl disk;
   bank = λ bank. bank;
   out = outs_none (point_of pool.out disk);
+  only = touches_none (IsOnInUse pool.uber.reflow.to pool.out) disk;
   rest = under [];
   stands = λ setting last begun stands. record {
     knows = stands.knows;

@@ -3,7 +3,7 @@ use Rattle.std.proofs.Common.{◌≡◌, ℕ, zero, suc, ◌+◌, ◌<◌, ◌�
 use Rattle.bank_trait.specs.Disk.{Disk, Lawful, Later, Unchanged}
 use Rattle.bank_trait.specs.Regions.{TouchesOnly}
 use Rattle.bank_trait.proofs.Moments.{later_refl}
-use Rattle.bank_trait.proofs.Touches.{tells_later}
+use Rattle.bank_trait.proofs.Touches.{tells_later, touches_none, touches_widen}
 use Rattle.block_record.specs.declared.entry.IndexEntry.{IndexEntry}
 use Rattle.uberblock_ring.specs.Devices.{has_device, count_below, count_of, IsWithin}
 use Rattle.uberblock_ring.specs.Uberblock.{Uber}
@@ -21,6 +21,8 @@ use Rattle.core_client.proofs.Outs.{outs_none, was_used}
 use Rattle.core_open.specs.Holds.{shape_of}
 use Rattle.core_serial.specs.Pool.{State, HasBank, open_group}
 use Rattle.core_serial.specs.Standing.{Stands, GoesOn}
+use Rattle.core_commit.specs.Spared.{IsOnInUse}
+use Rattle.core_open.proofs.Others.{read_touches}
 
 -- A set within another has no more devices.
 below_grows : (devices others width : ℕ) → IsWithin devices others
@@ -85,6 +87,7 @@ goes_nowhere state = record {
   later = later_refl state.disk;
   bank = λ bank. bank;
   out = outs_none (point_of state.pool.out state.disk);
+  only = touches_none (IsOnInUse state.pool.uber.reflow.to state.pool.out) state.disk;
   rest = λ rest. rest;
   stands = λ setting last begun stands. stands;
   since = λ setting last begun groups time stands row kept. kept;
@@ -101,6 +104,7 @@ goes_read before after lawful uber blocks same outs = record {
   bank = λ bank. subst (λ (u : Uber). HasBank u after.pool.out after.disk) (sym uber)
       (bank_later before.pool.uber before.disk after.disk before.pool.out after.pool.out same.goes_on.later outs.still bank);
   out = outs;
+  only = read_touches (IsOnInUse before.pool.uber.reflow.to before.pool.out) same;
   rest = λ rest. subst (λ (b : Blocks). AreUnderWay b []) (sym blocks) rest;
   stands = λ setting last begun stands. stands_anew setting last begun before after uber same.goes_on.later outs.still
       (λ kept. subst (λ (b : Blocks). NoneFree b before.pool.uber.group last.entries) (sym blocks) kept)
@@ -117,6 +121,7 @@ goes_read before after lawful uber blocks same outs = record {
 -- Spare sectors were written while not too many devices were out.
 pub goes_written : (P : ℕ → ℕ → Type 0) (before after : State) → Lawful before.disk
     → after.pool.uber ≡ before.pool.uber → TouchesOnly P before.disk after.disk
+    → ((d x : ℕ) → P d x → IsOnInUse before.pool.uber.reflow.to before.pool.out d x)
     → OnlyFailedGoOut (point_of before.pool.out before.disk) (point_of after.pool.out after.disk)
     → count_of before.pool.out ≤ before.pool.uber.parity
     → ((past : ℕ) (kept : List IndexEntry) → past < open_group before.pool
@@ -125,12 +130,13 @@ pub goes_written : (P : ℕ → ℕ → Type 0) (before after : State) → Lawfu
     → ((setting : Setting) (last : Kept) → Stands setting last [] before
     → (d x : ℕ) → P d x → IsSpare setting last [] d x)
     → GoesOn before after
-goes_written P before after lawful uber touched outs few kept rest spare = record {
+goes_written P before after lawful uber touched inside outs few kept rest spare = record {
   uber = uber;
   later = touched.later;
   bank = λ bank. subst (λ (u : Uber). HasBank u after.pool.out after.disk) (sym uber)
       (bank_later before.pool.uber before.disk after.disk before.pool.out after.pool.out touched.later outs.still bank);
   out = outs;
+  only = touches_widen P (IsOnInUse before.pool.uber.reflow.to before.pool.out) inside touched;
   rest = rest;
   stands = λ setting last begun stands. stands_anew setting last begun before after uber touched.later outs.still
       (kept before.pool.uber.group last.entries (omega arith))

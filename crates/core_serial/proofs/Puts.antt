@@ -16,7 +16,7 @@ use Rattle.reflow_mark.specs.Reflow.{sectors_of}
 use Rattle.block_record.specs.declared.entry.IndexEntry.{IndexEntry}
 use Rattle.block_table.specs.Table.{ChangesOnly}
 use Rattle.reconstruct.specs.Lost.{AreBytes}
-use Rattle.uberblock_ring.specs.Devices.{count_of}
+use Rattle.uberblock_ring.specs.Devices.{count_of, has_device}
 use Rattle.uberblock_ring.specs.Uberblock.{Uber}
 use Rattle.core_state.specs.declared.answer.Answer.{Answer}
 use Rattle.core_state.specs.declared.answer.Answer.TheVariants as answer
@@ -43,6 +43,11 @@ use Rattle.core_serial.proofs.Layouts.{front_is_right, layout_in_pool, total_few
 use Rattle.core_serial.proofs.Holding.{put_holds, spared_holds}
 use Rattle.core_serial.proofs.Going.{goes_written}
 use Rattle.core_serial.proofs.Sparing.{put_spares}
+use Rattle.bank_trait.proofs.Touches.{touches_none}
+use Rattle.core_commit.specs.Spared.{IsOnInUse}
+use Rattle.core_client.proofs.Stored.{plan_below}
+use Rattle.shadow_write.proofs.Whole.{are_required}
+use Rattle.shadow_write.specs.declared.write.Write.{Write}
 
 -- A bank that tells what it holds tells what stands where a block of the pool is written.
 pub tells_at : (layout : Layout) (uber : Uber) (out : ℕ) (disk : Disk) → IsInPool layout uber.reflow → HasBank uber out disk
@@ -127,6 +132,17 @@ stored_read uber entry bytes layout reflow done out still old new same front lay
     (subst (λ (d : ℕ). IsRightBlock layout bytes reflow d new.reads still) front
     (right told (omega (arith, few, parity)))))
 
+-- The places of a block are on devices of its pool that are in use.
+places_in_use : (uber : Uber) (layout : Layout) (out : ℕ) → IsInPool layout uber.reflow → (device device_sector : ℕ)
+    → IsPlaceOf (writes_of layout uber.reflow (front_after_stop uber.reflow)) out device device_sector
+    → IsOnInUse uber.reflow.to out device device_sector
+places_in_use uber layout out pool device device_sector (write, listed, used, device_is, sector_is) =
+    let done = front_after_stop uber.reflow in
+    let below = plan_below layout uber.reflow done (writes_of layout uber.reflow done) pool
+    (are_required layout uber.reflow done) listed.0 write listed.1 in
+    subst (λ (d : ℕ). (d < uber.reflow.to) × (has_device out d ≡ false)) (sym device_is)
+    (subst (λ (w : Write). w.device < uber.reflow.to) listed.2 below, used)
+
 -- A pool with the uberblock that it has.
 pool_with : (pool : Pool) {uber : Uber} → pool.uber ≡ uber → record pool { uber = uber } ≡ pool
 pool_with pool same i = record pool { uber = sym same i }
@@ -150,7 +166,7 @@ module _ (before : State) (begun : Blocks) (after : State) (range : PutRange) (b
       → GoesOn before after
   put_goes_on lawful few kept spares under = goes_written
       (IsPlaceOf (writes_of range.layout before.pool.uber.reflow (front_after_stop before.pool.uber.reflow)) before.pool.out)
-      before after lawful writes.uber writes.only writes.out few
+      before after lawful writes.uber writes.only (places_in_use before.pool.uber range.layout before.pool.out pool) writes.out few
       (λ past listed below none. writes.kept past listed below
       (subst (λ (p : ℕ). SparesAll p begun.births listed (put_run range)) (sym parity)
       (subst (λ (b : List Birth). SparesAll before.pool.blocks.parity b listed (put_run range)) (sym births)
@@ -298,6 +314,7 @@ module _ (before : State) (after : Blocks) (same : IsAsBefore before.pool.blocks
     later = later_refl before.disk;
     bank = λ bank. bank;
     out = outs_none (point_of before.pool.out before.disk);
+    only = touches_none (IsOnInUse before.pool.uber.reflow.to before.pool.out) before.disk;
     rest = under [];
     stands = λ setting last begun stands. record {
       knows = stands.knows;

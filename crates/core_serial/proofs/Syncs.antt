@@ -1,5 +1,5 @@
 -- What a sync leaves, from what its commit did.
-use Rattle.std.proofs.Common.{get_or, ◌≡◌, ⊎_elim, ℕ, ◌+◌, ◌^◌, ◌<◌, ◌≤◌, List, [], sym, ◌∙◌, ap, subst, arith}
+use Rattle.std.proofs.Common.{get_or, ◌≡◌, ⊎_elim, ℕ, ◌+◌, ◌^◌, ◌<◌, ◌≤◌, List, [], sym, ◌∙◌, ap, subst, arith, refl}
 use Rattle.std.proofs.lemmas.Bool.{true≢false}
 use Rattle.std.specs.Prelude.{length, All}
 use Rattle.std.proofs.lemmas.List.Elements.{Contains-get_or}
@@ -18,16 +18,21 @@ use Rattle.uberblock_ring.proofs.Digest.{sha256_is_digest}
 use Rattle.core_state.specs.Index.{IsFitting}
 use Rattle.core_blocks.specs.Blocks.{AreUnderWay}
 use Rattle.core_blocks.specs.Usage.{AddsAtMost}
+use Rattle.core_blocks.proofs.Usage.{adds_none}
 use Rattle.core_blocks.proofs.Listed.{among_listed}
 use Rattle.core_client.specs.Outs.{OnlyFailedGoOut, point_of}
 use Rattle.core_commit.specs.Ran.{FitsBank}
-use Rattle.core_commit.specs.Spared.{HaveGoneOut, Spares}
+use Rattle.core_commit.specs.Spared.{HaveGoneOut, Spares, IsOnInUse}
 use Rattle.core_open.proofs.Renewal.{count_within}
 use Rattle.core_serial.specs.Pool.{Pool, IsPool, State, HasBank, IsRead}
 use Rattle.core_serial.specs.Syncing.{LeavesPool, next_uber}
 use Rattle.core_serial.proofs.Going.{bank_later}
 use Rattle.core_serial.proofs.Committing.{right_next}
 use Rattle.core_serial.proofs.Holding.{same_holds}
+use Rattle.bank_trait.specs.Regions.{TouchesOnly}
+use Rattle.core_client.proofs.Outs.{outs_none}
+use Rattle.bank_trait.proofs.Moments.{later_refl}
+use Rattle.bank_trait.proofs.Touches.{touches_none}
 
 -- Devices that went out failed.
 outs_gone : (before after : State) (listed : ℕ)
@@ -46,6 +51,22 @@ bank_alike uber other out disk same bank = record {
   devices = λ device inside used. bank.devices device (subst (λ (r : Reflow). device < r.to) same inside) used;
 }
 
+-- Nothing was called.
+pub leaves_nowhere : (state : State) → LeavesPool state state
+leaves_nowhere state = record {
+  parity = refl;
+  widths = refl;
+  births = refl;
+  entries = refl;
+  adds = adds_none state.pool.blocks.space state.pool.blocks.space refl;
+  later = later_refl state.disk;
+  bank = λ bank. bank;
+  out = outs_none (point_of state.pool.out state.disk);
+  only = touches_none (IsOnInUse state.pool.uber.reflow.to state.pool.out) state.disk;
+  rest = λ rest. rest;
+  holds = λ map holds. holds;
+}
+
 -- A commit leaves what is no ring and no index area.
 pub commit_leaves : (before after : State) (listed : ℕ)
     → after.pool.uber.parity ≡ before.pool.uber.parity → after.pool.uber.reflow ≡ before.pool.uber.reflow
@@ -56,8 +77,9 @@ pub commit_leaves : (before after : State) (listed : ℕ)
     → (AreUnderWay before.pool.blocks [] → AreUnderWay after.pool.blocks [])
     → HaveGoneOut (point_of before.pool.out before.disk) listed (point_of after.pool.out after.disk)
     → Spares (point_of before.pool.out before.disk) (point_of after.pool.out after.disk)
+    → TouchesOnly (IsOnInUse before.pool.uber.reflow.to before.pool.out) before.disk after.disk
     → LeavesPool before after
-commit_leaves before after listed parity widths births table adds alike rest gone spares = record {
+commit_leaves before after listed parity widths births table adds alike rest gone spares only = record {
   parity = parity;
   widths = widths;
   births = births;
@@ -67,6 +89,7 @@ commit_leaves before after listed parity widths births table adds alike rest gon
   bank = λ bank. bank_alike before.pool.uber after.pool.uber after.pool.out after.disk widths
       (bank_later before.pool.uber before.disk after.disk before.pool.out after.pool.out spares.later outs.still bank);
   out = outs;
+  only = only;
   rest = rest;
   holds = λ map holds. same_holds map before after alike (ap (λ (t : Table). t.entries) table) outs.still
       (λ device device_sector bytes stands_in used read. spares.reads device device_sector used stands_in ∙ read) holds;

@@ -1,7 +1,7 @@
 -- What the devices keep while a pool is open, and what a call keeps of that.
 use Rattle.std.specs.Prelude.{◌≡◌, ℕ, ◌≤◌, List, []}
 use Rattle.bank_trait.specs.Disk.{Later}
-use Rattle.bank_trait.specs.Regions.{Tells}
+use Rattle.bank_trait.specs.Regions.{Tells, TouchesOnly}
 use Rattle.uberblock_ring.specs.Devices.{count_of}
 use Rattle.uberblock_ring.specs.Valid.{AreAlike}
 use Rattle.core_state.specs.Keeps.{Kept, Setting}
@@ -12,6 +12,7 @@ use Rattle.core_blocks.specs.Kept.{NoneFree}
 use Rattle.core_client.specs.Outs.{point_of, OnlyFailedGoOut}
 use Rattle.core_open.specs.Holds.{shape_of}
 use Rattle.core_serial.specs.Pool.{State, HasBank}
+use Rattle.core_commit.specs.Spared.{IsOnInUse}
 
 -- The last answered group is certain on the devices, and maybe one that was begun after it where too
 -- many devices are out since; no sector of the last one's blocks is free.
@@ -24,8 +25,8 @@ pub record Stands (setting : Setting) (last : Kept) (begun : List Kept) (state :
   pub shape : setting.shape ≡ shape_of state.disk
   pub tells : Tells state.disk
 
--- A call that ends no group: the bank goes on, devices go out where they failed, no put is left under
--- way, and what the devices keep they keep, at each moment of it.
+-- A call that ends no group: the bank goes on, devices go out where they failed, no device is touched but
+-- those of the pool that were in use, no put is left under way, and what the devices keep they keep, at each moment of it.
 pub record GoesOn (before after : State) : Type 0 where
   pub uber : after.pool.uber ≡ before.pool.uber
   pub later : Later before.disk after.disk
@@ -33,6 +34,7 @@ pub record GoesOn (before after : State) : Type 0 where
       → HasBank after.pool.uber after.pool.out after.disk
   pub out : OnlyFailedGoOut (point_of before.pool.out before.disk)
       (point_of after.pool.out after.disk)
+  pub only : TouchesOnly (IsOnInUse before.pool.uber.reflow.to before.pool.out) before.disk after.disk
   pub rest : AreUnderWay before.pool.blocks [] → AreUnderWay after.pool.blocks []
   pub stands : (setting : Setting) (last : Kept) (begun : List Kept)
       → Stands setting last begun before → Stands setting last begun after

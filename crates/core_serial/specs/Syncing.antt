@@ -13,6 +13,8 @@ use Rattle.core_blocks.specs.Usage.{AddsAtMost}
 use Rattle.core_client.specs.Outs.{point_of, OnlyFailedGoOut}
 use Rattle.core_serial.specs.Pool.{Pool, State, HasBank, HoldsMap, open_group}
 use Rattle.core_serial.specs.Standing.{Stands, GoesOn}
+use Rattle.bank_trait.specs.Regions.{TouchesOnly}
+use Rattle.core_commit.specs.Spared.{IsOnInUse}
 
 -- the uberblock of the group after this one: its page goes to the other area, and it lists these devices
 -- as out
@@ -88,5 +90,6 @@ pub record LeavesPool (before after : State) : Type 0 where
       → HasBank after.pool.uber after.pool.out after.disk
   pub out : OnlyFailedGoOut (point_of before.pool.out before.disk)
       (point_of after.pool.out after.disk)
+  pub only : TouchesOnly (IsOnInUse before.pool.uber.reflow.to before.pool.out) before.disk after.disk
   pub rest : AreUnderWay before.pool.blocks [] → AreUnderWay after.pool.blocks []
   pub holds : (map : Map) → HoldsMap map before → HoldsMap map after

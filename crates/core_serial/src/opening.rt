@@ -1,13 +1,15 @@
 // Opening a pool.
 ghost use Rattle.std.specs.Prelude.{◌≡◌, ◌≤◌, [], IfErr, IfOk};
 ghost use Rattle.bank_trait.specs.Disk.{Later};
+ghost use Rattle.bank_trait.specs.Regions.{TouchesOnly};
 ghost use Rattle.uberblock_ring.specs.Devices.{count_of};
 ghost use Rattle.uberblock_ring.specs.Valid.{IsRightUber};
 ghost use Rattle.core_blocks.specs.Blocks.{AreUnderWay};
 ghost use Rattle.core_open.specs.Candidates.{IsIndexFor};
 ghost use Rattle.core_open.specs.Causes.{AreOutOf, IsOpenCause};
 ghost use Rattle.core_open.specs.Failing.{HaveFailed};
-ghost use Rattle.core_open.specs.Opens.{IsForMemory};
+ghost use Rattle.core_open.specs.Opens.{IsForMemory, LeavesOthers};
+ghost use Rattle.core_open.specs.Regions.{IsOnBelow};
 ghost use Rattle.core_serial.specs.Opening.{AreLoaded, CutsOpening, IsBegunWith, LeavesUnopened};
 ghost use Rattle.core_serial.specs.Pool.{HasBank};
 
@@ -65,6 +67,11 @@ pub fn open_pool<B: Bank>(alloc: Global, bank: &mut B) -> Result<OpenedPool, Ope
     ensures untouched { IfErr result (λ why.
         LeavesUnopened why (B.disk bank.old) (B.disk bank.new)) }
     ensures opens { IfErr result (IsForMemory (B.disk bank.old) (B.disk bank.new)) }
+
+    // No device is touched but those of the pool.
+    ensures only { IfOk result (λ opened. TouchesOnly (IsOnBelow opened.pool.uber.reflow.to)
+        (B.disk bank.old) (B.disk bank.new)) }
+    ensures others { LeavesOthers (B.disk bank.old) (B.disk bank.new) }
 {
     let opened = open(alloc, bank)?;
     let blocks = load(alloc, &opened.uber, &opened.entries)?;

@@ -8,6 +8,7 @@ use Rattle.core_blocks.proofs.Usage.{adds_held_back}
 use Rattle.core_serial.proofs.Frees.{free_goes_on, freed_holds, none_freed_holds}
 use Rattle.core_serial.proofs.pool.Pool.free.Goals as goal
 use Rattle.core_serial.proofs.pool.Pool.free.Goals.{in-Some, in-None}
+use Rattle.core_serial.proofs.Going.{goes_nowhere}
 
 pub returns-clause-goes_on : goal.returns-clause-goes_on
 returns-clause-goes_on c = λ disk.
@@ -37,3 +38,6 @@ returns-clause-adds c =
     subst (λ (p : Pool). AddsAtMost p.blocks.space c.remove.new.self.space []) c.self.view_is
     (adds_held_back c.self.inside.blocks.parity c.self.inside.blocks.births c.self.inside.blocks.space
     c.remove.new.self.space _ c.remove.result c.remove.ensures.held)
+
+pub returns-then-is_too_many-clause-goes_on : goal.returns-then-is_too_many-clause-goes_on
+returns-then-is_too_many-clause-goes_on c = λ disk. goes_nowhere (state_of c.args.self.now disk)

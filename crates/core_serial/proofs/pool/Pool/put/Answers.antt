@@ -10,6 +10,7 @@ use Rattle.core_serial.specs.Standing.{GoesOn}
 use Rattle.core_blocks.specs.Usage.{AddsAtMost}
 use Rattle.core_serial.proofs.Adding.{put_adds, refusal_adds}
 use Rattle.core_serial.proofs.Puts.{range_in_pool, put_goes_on, put_holds_map, put_is_pool, refused_is_pool, refused_goes_on, refused_holds, refusal_leaves, refusal_caused}
+use Rattle.core_serial.proofs.Going.{goes_nowhere}
 use Rattle.core_serial.proofs.pool.Pool.put.Goals as goal
 
 pub write_put-requires-clause-pool : goal.write_put-requires-clause-pool
@@ -112,3 +113,6 @@ returns-clause-adds g c =
     (sizes_added p (length c.args.bytes.now) c.refusal.result)) c.self.view_is
     (refusal_adds pool c.begin_put-2.new.self.space (length c.args.bytes.now) c.in-Err.refused c.refusal.result
     c.refusal.ensures c.in-Err.ensures.err.space)
+
+pub returns-then-is_too_many-clause-goes_on : goal.returns-then-is_too_many-clause-goes_on
+returns-then-is_too_many-clause-goes_on g c = goes_nowhere (state_of c.args.self.now (g.B.Bank.disk c.args.bank.now))

@@ -1,4 +1,4 @@
-use Rattle.std.proofs.Common.{◌≡◌, inr, ⊎_elim, ◌≤◌, [], ap, sym, subst, refl, ◌∙◌, List, arith, length, Result, Ok, Err}
+use Rattle.std.proofs.Common.{◌≡◌, inr, ⊎_elim, ◌≤◌, [], ap, sym, subst, refl, ◌∙◌, List, arith, length, Result, Ok, Err, inl}
 use Rattle.std.proofs.lemmas.Bool.{cases_lt, true≢false}
 use Rattle.sha2.specs.Sha256.{sha256}
 use Rattle.space_alloc.specs.Space.{Space}
@@ -20,9 +20,12 @@ use Rattle.core_serial.specs.Pool.{Pool, HasBank, HoldsMap, IsRead, pool_of, sta
 use Rattle.core_serial.specs.Standing.{Stands}
 use Rattle.core_serial.specs.Syncing.{EndsSync, EndsGroup, IsCutShort, LeavesPool, next_uber}
 use Rattle.core_serial.proofs.Puts.{went_ill, well_is, ill_is}
-use Rattle.core_serial.proofs.Syncs.{ready, next_fits, lists_few, commit_leaves}
+use Rattle.core_serial.proofs.Syncs.{ready, next_fits, lists_few, commit_leaves, leaves_nowhere}
 use Rattle.core_serial.proofs.Committing.{ends_group, cuts_group}
 use Rattle.core_serial.proofs.pool.Pool.sync.Goals as goal
+use Rattle.bank_trait.specs.Regions.{TouchesOnly}
+use Rattle.core_commit.specs.Spared.{IsOnInUse}
+use Rattle.core_serial.proofs.Going.{goes_nowhere}
 
 pub next_uber-requires-clause-few : goal.next_uber-requires-clause-few
 next_uber-requires-clause-few g c =
@@ -96,7 +99,9 @@ returns-then-is_err-clause-leaves g c =
     subst (λ (p : Pool). LeavesPool (state_of p (g.B.Bank.disk c.args.bank.now)) (state_of after (g.B.Bank.disk c.commit.new.bank))) c.self.view_is
     (commit_leaves (state_of pool (g.B.Bank.disk c.args.bank.now)) (state_of after (g.B.Bank.disk c.commit.new.bank)) c.commit.new.uber.out
     refl refl refl refl (adds_none c.self.inside.blocks.space c.self.inside.blocks.space refl)
-    (λ entry content known out read. read) (λ rest. rest) c.commit.ensures.gone c.commit.ensures.spares)
+    (λ entry content known out read. read) (λ rest. rest) c.commit.ensures.gone c.commit.ensures.spares
+    (subst (λ (u : Uber). TouchesOnly (IsOnInUse u.reflow.to c.self.inside.out) (g.B.Bank.disk c.args.bank.now) (g.B.Bank.disk c.commit.new.bank))
+    c.in-Ok.ensures c.commit.ensures.touches.only))
 
 pub returns-clause-ends : goal.returns-clause-ends
 returns-clause-ends g c = λ setting last map stands_now holds_now within.
@@ -148,4 +153,26 @@ returns-clause-leaves g c =
     (subst (λ (s : Space). AddsAtMost c.self.inside.blocks.space s []) (sym (ap (λ (b : Blocks). b.space) c.synced.ensures.value))
     (adds_synced c.self.inside.blocks.space c.group-group.result))
     (λ entry content known out read. subst (λ (u : Uber). IsRead u entry content known out) (sym uber_is) read)
-    (c.synced.ensures.under []) c.commit.ensures.gone c.commit.ensures.spares)
+    (c.synced.ensures.under []) c.commit.ensures.gone c.commit.ensures.spares
+    (subst (λ (u : Uber). TouchesOnly (IsOnInUse u.reflow.to c.self.inside.out) (g.B.Bank.disk c.args.bank.now) (g.B.Bank.disk c.commit.new.bank))
+    c.in-Ok.ensures c.commit.ensures.touches.only))
+
+pub returns-then-is_too_many-clause-ends : goal.returns-then-is_too_many-clause-ends
+returns-then-is_too_many-clause-ends g c = subst (λ (a : Answer). EndsSync (state_of c.args.self.now (g.B.Bank.disk c.args.bank.now))
+    (state_of c.args.self.now (g.B.Bank.disk c.args.bank.now)) a) (sym c.too_many.ensures)
+    (inl (goes_nowhere (state_of c.args.self.now (g.B.Bank.disk c.args.bank.now))))
+
+pub returns-then-is_too_many-clause-leaves : goal.returns-then-is_too_many-clause-leaves
+returns-then-is_too_many-clause-leaves g c = leaves_nowhere (state_of c.args.self.now (g.B.Bank.disk c.args.bank.now))
+
+pub returns-then-group-clause-ends : goal.returns-then-group-clause-ends
+returns-then-group-clause-ends g c = goes_nowhere (state_of c.args.self.now (g.B.Bank.disk c.args.bank.now))
+
+pub returns-then-group-clause-leaves : goal.returns-then-group-clause-leaves
+returns-then-group-clause-leaves g c = leaves_nowhere (state_of c.args.self.now (g.B.Bank.disk c.args.bank.now))
+
+pub returns-in_default-clause-ends : goal.returns-in_default-clause-ends
+returns-in_default-clause-ends g c = goes_nowhere (state_of c.args.self.now (g.B.Bank.disk c.args.bank.now))
+
+pub returns-in_default-clause-leaves : goal.returns-in_default-clause-leaves
+returns-in_default-clause-leaves g c = leaves_nowhere (state_of c.args.self.now (g.B.Bank.disk c.args.bank.now))
