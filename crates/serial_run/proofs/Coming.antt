@@ -26,6 +26,11 @@ use Rattle.serial_run.specs.Running.{HasCome}
 use Rattle.serial_run.proofs.Grown.{grown_has}
 use Rattle.serial_run.proofs.Answering.{answered_call, answered_group}
 use Rattle.serial_run.proofs.Stepping.{each_grown_call, each_grown_group, answered_runs, ended_runs, cut_runs}
+use Rattle.bank_trait.specs.Regions.{TouchesOnly}
+use Rattle.bank_trait.proofs.Touches.{touches_none, touches_then}
+use Rattle.reflow_mark.specs.declared.reflow.Reflow.{Reflow}
+use Rattle.core_commit.specs.Spared.{IsOnInUse}
+use Rattle.core_commit.proofs.Going.{in_use_before}
 
 -- where a run begins
 pub has_begun : (handed : Handed) (start : State) (first : List Item) → HasBank start.pool.uber start.pool.out start.disk
@@ -34,6 +39,8 @@ pub has_begun : (handed : Handed) (start : State) (first : List Item) → HasBan
 has_begun handed start first bank few = record {
   later = later_refl start.disk;
   parity = refl;
+  widths = refl;
+  only = touches_none (IsOnInUse start.pool.uber.reflow.to start.pool.out) start.disk;
   bank = bank;
   out = outs_none (point_of start.pool.out start.disk);
   listed = λ index item there. there;
@@ -80,6 +87,15 @@ module _ (handed : Handed) (start : State) (first old new : List Item) (before a
   outs_on outs later = outs_then (point_of start.pool.out start.disk) (point_of before.pool.out before.disk)
       (point_of after.pool.out after.disk) come.later.faults later.faults come.out outs
 
+  only_on : TouchesOnly (IsOnInUse before.pool.uber.reflow.to before.pool.out) before.disk after.disk
+      → TouchesOnly (IsOnInUse start.pool.uber.reflow.to start.pool.out) start.disk after.disk
+  only_on only = touches_then (IsOnInUse start.pool.uber.reflow.to start.pool.out)
+      (IsOnInUse before.pool.uber.reflow.to before.pool.out) (IsOnInUse start.pool.uber.reflow.to start.pool.out)
+      (λ d x here. here)
+      (λ d x here. (subst (λ (r : Reflow). d < r.to) come.widths here.0,
+      in_use_before (point_of start.pool.out start.disk) (point_of before.pool.out before.disk) d come.out.still here.1))
+      come.only only
+
   -- A call that ends no group.
   module _ (call : ScriptCall) (actor number : ℕ) (entry : Entry) (is : IsCallOf call actor number entry)
       (fill : handed actor number ≡ fill_bytes call.fill) where
@@ -91,6 +107,8 @@ module _ (handed : Handed) (start : State) (first old new : List Item) (before a
     goes_answered answers listed = record {
       later = later_trans come.later answers.goes_on.later;
       parity = parity ∙ come.parity;
+      widths = ap (λ (u : Uber). u.reflow) answers.goes_on.uber ∙ come.widths;
+      only = only_on answers.goes_on.only;
       bank = answers.goes_on.bank come.bank;
       out = outs_on answers.goes_on.out answers.goes_on.later;
       listed = λ index item there. still_listed (Call entry ∷ []) index item listed there;
@@ -117,6 +135,8 @@ module _ (handed : Handed) (start : State) (first old new : List Item) (before a
     goes_ended synced listed = record {
       later = later_trans come.later synced.leaves.later;
       parity = synced.leaves.parity ∙ come.parity;
+      widths = synced.leaves.widths ∙ come.widths;
+      only = only_on synced.leaves.only;
       bank = synced.leaves.bank come.bank;
       out = outs_on synced.leaves.out synced.leaves.later;
       listed = λ index item there. still_listed (Group (open_item before.pool (length old)) ∷ Call entry ∷ []) index item
@@ -148,6 +168,8 @@ module _ (handed : Handed) (start : State) (first old new : List Item) (before a
     goes_cut cuts listed = record {
       later = later_trans come.later cuts.leaves.later;
       parity = cuts.leaves.parity ∙ come.parity;
+      widths = cuts.leaves.widths ∙ come.widths;
+      only = only_on cuts.leaves.only;
       bank = cuts.leaves.bank come.bank;
       out = outs_on cuts.leaves.out cuts.leaves.later;
       listed = λ index item there. still_listed (Call entry ∷ []) index item listed there;

@@ -39,6 +39,10 @@ use Rattle.serial_run.proofs.ManyIds.{too_many_ids}
 use Rattle.serial_run.proofs.NoSpaceOpened.{used_first, no_space_alike}
 use Rattle.serial_run.proofs.Moments.{item_first, kept_now, now_among}
 use Rattle.serial_run.proofs.Widths.{opened_width, widths_of_one, widths_opened}
+use Rattle.bank_trait.specs.Regions.{TouchesOnly}
+use Rattle.bank_trait.proofs.Touches.{touches_then}
+use Rattle.core_open.specs.Regions.{IsOnBelow}
+use Rattle.core_commit.specs.Spared.{IsOnInUse}
 
 -- What failed earlier has failed later.
 abbrev shown_later : (old mid new : Disk) (image : Image) → Later mid new → IsShownChoice old mid image → IsShownChoice old new image
@@ -68,6 +72,7 @@ no_call item (suc index) entry is = apart is
 
 module _ (script : Script) (old mid : Disk) (pool : Pool) (silent : ℕ) (items : List Item) (final : State)
     (opened_later : Later old mid)
+    (opened_only : TouchesOnly (IsOnBelow pool.uber.reflow.to) old mid)
     (failed : HaveFailed old mid silent)
     (outs : AreOutOf old mid pool.uber pool.out)
     (begun : IsBegunWith pool silent old mid)
@@ -219,6 +224,8 @@ module _ (script : Script) (old mid : Disk) (pool : Pool) (silent : ℕ) (items 
     silent = silent;
     failed = λ device has. let was = failed device has in (was.0, rose_on device was.1);
     parity = pool.uber.parity;
+    only = touches_then (IsOnBelow pool.uber.reflow.to) (IsOnInUse pool.uber.reflow.to pool.out)
+        (IsOnBelow pool.uber.reflow.to) (λ d x here. here) (λ d x here. here.0) opened_only come.only;
     each = out_for;
     too_many = λ index listed entry there is. ⊎_elim
         (λ (at : (place : ℕ) × CallAt (alone item) place entry). absurd (no_call item at.0 entry at.1))

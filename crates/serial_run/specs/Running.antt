@@ -19,6 +19,8 @@ use Rattle.core_serial.specs.Standing.{Stands}
 use Rattle.serial_run.specs.Moments.{KeepsItemByItem}
 use Rattle.serial_run.specs.Widths.{HaveWidthOf}
 use Rattle.serial_run.specs.Caused.{LimitsAreCaused}
+use Rattle.bank_trait.specs.Regions.{TouchesOnly}
+use Rattle.core_commit.specs.Spared.{IsOnInUse}
 
 -- After these items the journal is right, the pool holds its map with no put under way, and each image since
 -- the bank was this one keeps groups of the run in a row, none older than the last one listed by then. All
@@ -51,6 +53,8 @@ pub record HasCome (handed : Handed) (start : State) (first items : List Item) (
   where
     pub later : Later start.disk state.disk
     pub parity : state.pool.uber.parity ≡ start.pool.uber.parity
+    pub widths : state.pool.uber.reflow ≡ start.pool.uber.reflow
+    pub only : TouchesOnly (IsOnInUse start.pool.uber.reflow.to start.pool.out) start.disk state.disk
     pub bank : HasBank state.pool.uber state.pool.out state.disk
     pub out : OnlyFailedGoOut (point_of start.pool.out start.disk)
         (point_of state.pool.out state.disk)

@@ -21,6 +21,8 @@ use Rattle.serial_run.specs.Moments.{KeepsItemByItem}
 use Rattle.serial_run.specs.Widths.{HaveWidthOf}
 use Rattle.serial_run.specs.Caused.{LimitsAreCaused, HasTooManyIds}
 use Rattle.serial_run.specs.NoSpace.{NoSpaceIsCaused}
+use Rattle.bank_trait.specs.Regions.{TouchesOnly}
+use Rattle.core_open.specs.Regions.{IsOnBelow}
 pub use Rattle.serial_run.specs.Moments.{KeepsLast}
 
 -- the item of the group that a pool was opened with
@@ -75,13 +77,14 @@ pub record RunKeeps (script : Script) (setting : Setting) (first : Kept) (later 
 -- that is out at the end was out at the opening, or failed in the run. A call that tells of too many devices
 -- lists devices that are out, more than there are parities. All that a run keeps it keeps where the devices
 -- that were silent when the pool was looked for may fail, and those of the devices out that have to be borne,
--- no more than there are parities.
+-- no more than there are parities. No device is touched but those of the pool.
 pub record HasRun (script : Script) (old new : Disk) (items : List Item) (out : ℕ) : Type 0 where
   pub opened : GroupItem
   pub there : GroupAt items 0 opened
   pub silent : ℕ
   pub failed : HaveFailed old new silent
   pub parity : ℕ
+  pub only : TouchesOnly (IsOnBelow opened.to) old new
   pub each : (image : Image) → HoldsImage old image
       → (shown : IsShownChoice old new image) × (shown.uber.parity ≡ parity) × AreOutFor shown out
   pub too_many : (index listed : ℕ) (entry : Entry) → CallAt items index entry

@@ -2,7 +2,7 @@
 ghost use Rattle.std.specs.Prelude.{◌≡◌, ◌≤◌, [], All, IfOk, IfErr, IsTrue};
 ghost use Rattle.core_state.specs.Journal.{IsComplete};
 ghost use Rattle.core_open.specs.Causes.{IsOpenCause};
-ghost use Rattle.core_open.specs.Opens.{IsForMemory};
+ghost use Rattle.core_open.specs.Opens.{IsForMemory, LeavesOthers};
 ghost use Rattle.client_script.specs.Script.{IsAllowed, asked_by};
 ghost use Rattle.core_serial.specs.Opening.{CutsOpening, LeavesUnopened};
 ghost use Rattle.serial_run.specs.WholeRun.{HasRun, first_item};
@@ -60,6 +60,7 @@ pub fn run_pool<B: Bank>(
     ensures untouched { IfErr result (λ why.
         LeavesUnopened why (B.disk bank.old) (B.disk bank.new)) }
     ensures opens { IfErr result (IsForMemory (B.disk bank.old) (B.disk bank.new)) }
+    ensures others { IfErr result (λ why. LeavesOthers (B.disk bank.old) (B.disk bank.new)) }
 {
     let opened = open_pool(alloc, bank)?;
     let mut pool = opened.pool;

@@ -8,8 +8,22 @@ use Rattle.core_serial.specs.Pool.{state_of}
 use Rattle.serial_run.specs.Steps.{CarriesOut}
 use Rattle.serial_run.specs.NoSpace.{HasUsed, NoSpaceIsCaused}
 use Rattle.serial_run.proofs.NoSpace.{has_used_more}
-use Rattle.serial_run.proofs.Coming.{has_gone_on, one_more_answered}
+use Rattle.serial_run.proofs.Coming.{has_begun, has_gone_on, one_more_answered}
 use Rattle.serial_run.proofs.run.run_script.Goals as goal
+
+pub loop-next-init : goal.loop-next-init
+loop-next-init g c = record {
+  script = ap (λ (calls : InOrder). calls.script) c.calls_in_order-calls.ensures;
+  come = has_begun (handed_by c.args.script.now) (state_of c.args.pool.now (g.B.Bank.disk c.args.bank.now))
+      c.args.journal.now.items c.requires.bank c.requires.few;
+  used = record {
+    each = λ uber entries started. subst (λ (count : ℕ). HasUsed c.args.script.now uber entries count c.args.journal.now.items
+        (state_of c.args.pool.now (g.B.Bank.disk c.args.bank.now)))
+        (sym (ap (λ (calls : InOrder). calls.given) c.calls_in_order-calls.ensures)) started;
+  };
+  answered = subst (λ (count : ℕ). AreAnswered c.args.script.now count c.args.journal.now.items)
+      (sym (ap (λ (calls : InOrder). calls.given) c.calls_in_order-calls.ensures)) c.requires.none;
+}
 
 pub loop-next-preserved : goal.loop-next-preserved
 loop-next-preserved g c =

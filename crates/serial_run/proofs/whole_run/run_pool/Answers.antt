@@ -23,7 +23,7 @@ returns-clause-run g c =
     ∙ ap (λ (group : GroupItem). Group group ∷ []) c.first_item.ensures in
     subst (λ (out : ℕ). HasRun script old final.disk items out) (sym c.out.ensures)
     (has_run script old mid pool c.in_ok-opened.opened.silent items final
-    c.in_ok-opened.ensures.later c.in_ok-opened.ensures.silent c.in_ok-opened.ensures.out c.in_ok-opened.ensures.begins c.in_ok-opened.ensures.rest
+    c.in_ok-opened.ensures.later c.in_ok-opened.ensures.only c.in_ok-opened.ensures.silent c.in_ok-opened.ensures.out c.in_ok-opened.ensures.begins c.in_ok-opened.ensures.rest
     c.in_ok-opened.ensures.right c.in_ok-opened.ensures.loaded
     (subst (λ (first : List Item). HasCome (handed_by script) (state_of pool mid) first items final) listed c.run_script.ensures.come)
     c.run_script.ensures.calls
