@@ -85,6 +85,7 @@ unread call why is same status_is = record {
   leaves = record {
     untouched = λ memory many. subst (λ (disk : Disk). Unchanged call.old disk) (sym same) (unchanged_none call.old);
     cut = inl same;
+    others = inl same;
   };
   smooth = λ smooth. status_is
       ∙ ap read_status (is.script smooth.bytes smooth.script (smooth_well call smooth) smooth.script_is);
@@ -117,7 +118,11 @@ roomless call script was_read same status_is = record {
   limit = λ bytes well over. inr status_is;
   fault = λ bytes line well at. inr status_is;
   no_pool = λ finds. inr status_is;
-  leaves = record { untouched = λ memory many. absurd (memory status_is); cut = inl same };
+  leaves = record {
+    untouched = λ memory many. absurd (memory status_is);
+    cut = inl same;
+    others = inl same;
+  };
   smooth = λ smooth. status_is;
 }
 
@@ -136,6 +141,7 @@ unopened call none_yet script was_read why is status_is = record {
         (λ no_memory. memory (status_is ∙ ap why_status no_memory))
         (λ out too_many. many out (status_is ∙ ap why_status too_many));
     cut = inr is.cut;
+    others = inr is.others;
   };
   smooth = λ smooth. status_is
       ∙ ap why_status (is.opens smooth.setting smooth.first smooth.later smooth.unhindered);

@@ -17,7 +17,7 @@ use Rattle.core_state.specs.Shown.{Shows}
 use Rattle.core_state.specs.Collision.{BankKeeps, MightStand}
 use Rattle.core_state.specs.Create.{IsCreated, first_kept, rows_for}
 use Rattle.core_open.specs.Causes.{AreTooMany}
-use Rattle.core_open.specs.Opens.{IsUnhindered}
+use Rattle.core_open.specs.Opens.{IsUnhindered, LeavesOthers}
 use Rattle.core_serial.specs.Opening.{CutsOpening, MayBegin}
 use Rattle.client_script.specs.Script.{Script, IsScript, asked_by}
 use Rattle.client_script.specs.Texts.{journal_text}
@@ -118,6 +118,8 @@ pub record LeavesNone (call : Call) : Type 0 where
       → ((out : ℕ) → call.status ≡ status.TooManyFailed out → ⊥)
       → Unchanged call.old call.new
   pub cut : (call.new ≡ call.old) ⊎ CutsOpening call.old call.new
+  -- Devices that are not of the pool that the devices show are left alone.
+  pub others : (call.new ≡ call.old) ⊎ LeavesOthers call.old call.new
 
 -- what a call of `run` promises
 pub record RunIsKept (call : Call) : Type 0 where

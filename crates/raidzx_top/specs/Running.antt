@@ -10,7 +10,7 @@ use Rattle.core_state.specs.declared.item.Item.TheVariants.{Group, Call as CallI
 use Rattle.core_state.specs.Journal.{IsComplete}
 use Rattle.core_state.specs.Legal.{CallAt}
 use Rattle.core_open.specs.Causes.{IsOpenCause}
-use Rattle.core_open.specs.Opens.{IsForMemory}
+use Rattle.core_open.specs.Opens.{IsForMemory, LeavesOthers}
 use Rattle.core_open.specs.declared.why.OpenWhy.{OpenWhy}
 use Rattle.core_serial.specs.Opening.{CutsOpening, LeavesUnopened}
 use Rattle.client_script.specs.FromSource.{IsToldWell, IsNotReadFor}
@@ -62,6 +62,7 @@ pub record IsUnopened (old new : Disk) (why : OpenWhy) : Type 0 where
   pub cause : IsOpenCause old new why
   pub cut : CutsOpening old new
   pub untouched : LeavesUnopened why old new
+  pub others : LeavesOthers old new
   pub opens : IsForMemory old new why
 
 -- A run that was refused before its pool was open: there was no script, no room for its journal, or no

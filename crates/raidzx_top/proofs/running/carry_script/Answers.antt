@@ -45,6 +45,7 @@ returns-in_err-ran g c =
             cause = c.in_err-ran.ensures.cause;
             cut = c.in_err-ran.ensures.cut;
             untouched = c.in_err-ran.ensures.untouched;
+            others = c.in_err-ran.ensures.others;
             opens = c.in_err-ran.ensures.opens;
           }) refl,
     )
