@@ -21,11 +21,15 @@ read_touches P {old = old} {new = new} same = record {
   later = same.goes_on.later;
   reads = λ d x not_p. same.reads d x;
   leaves = λ d x not_p. (at new.clock (omega (arith, same.clock)) (omega (arith, same.clock)) d x).0;
-  crash = λ image left. (image, record {
-    at = λ d x bytes is. left.fits.at d x bytes
-        ((same.goes_on.later.past left.moment (omega (arith, left.until, same.clock)) d x).0
-        ∙ ap (λ s. old.leaves s d x) (now left.moment left.since (omega (arith, left.until, same.clock))) ∙ is);
-  }, λ d x not_p. refl);
+  crash = λ image left. (
+    image,
+    record {
+      at = λ d x bytes is. left.fits.at d x bytes
+          ((same.goes_on.later.past left.moment (omega (arith, left.until, same.clock)) d x).0
+          ∙ ap (λ s. old.leaves s d x) (now left.moment left.since (omega (arith, left.until, same.clock))) ∙ is);
+    },
+    λ d x not_p. refl,
+  );
   moments = λ t low high d x not_p. at t (omega (arith, high, same.clock)) low d x;
 }
   where

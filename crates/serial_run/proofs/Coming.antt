@@ -92,8 +92,10 @@ module _ (handed : Handed) (start : State) (first old new : List Item) (before a
   only_on only = touches_then (IsOnInUse start.pool.uber.reflow.to start.pool.out)
       (IsOnInUse before.pool.uber.reflow.to before.pool.out) (IsOnInUse start.pool.uber.reflow.to start.pool.out)
       (λ d x here. here)
-      (λ d x here. (subst (λ (r : Reflow). d < r.to) come.widths here.0,
-      in_use_before (point_of start.pool.out start.disk) (point_of before.pool.out before.disk) d come.out.still here.1))
+      (λ d x here. (
+        subst (λ (r : Reflow). d < r.to) come.widths here.0,
+        in_use_before (point_of start.pool.out start.disk) (point_of before.pool.out before.disk) d come.out.still here.1,
+      ))
       come.only only
 
   -- A call that ends no group.
