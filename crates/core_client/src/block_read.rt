@@ -1,5 +1,5 @@
 // A block that is read, one column at a time.
-ghost use Rattle.std.specs.Prelude.{◌≡◌, ◌+◌, ◌^◌, ◌<◌, ◌↔◌, IfOk, IsTrue};
+ghost use Rattle.std.specs.Prelude.{◌≡◌, ◌+◌, ◌^◌, ◌<◌, ◌↔◌, IfOk, IsTrue, false};
 ghost use Rattle.bank_trait.specs.Disk.{Unchanged};
 ghost use Rattle.row_layout.specs.Layout.{IsLayout, rows_of};
 ghost use Rattle.core_client.specs.Outs.{point_of, OnlyFailedGoOut};
@@ -63,7 +63,8 @@ impl BlockRead {
 
     /// Whether all columns were read or passed over.
     pub fn is_done(&self) -> bool
-        ensures { IsTrue result ↔ (self.now.row ≡ rows_of self.now.layout) }
+        ensures value { IsTrue result ↔ (self.now.row ≡ rows_of self.now.layout) }
+        ensures left { result ≡ false → self.now.row < rows_of self.now.layout }
     {
         self.row == self.layout.rows()
     }

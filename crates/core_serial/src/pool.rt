@@ -2,7 +2,7 @@
 ghost use Rattle.std.specs.Prelude.{◌≡◌, ◌+◌, ◌<◌, ◌↔◌, IsTrue};
 ghost use Rattle.uberblock_ring.specs.Devices.{count_of};
 ghost use Rattle.core_serial.specs.Answers.{HasTooManyOut};
-ghost use Rattle.core_serial.specs.Pool.{open_group};
+ghost use Rattle.core_serial.specs.Pool.{IsPool, open_group, pool_of};
 
 use core_blocks::Blocks;
 use core_state::Answer;
@@ -59,6 +59,14 @@ impl Pool {
         ensures { result ≡ self.now.out }
     {
         self.out
+    }
+
+    /// The last answered group's uberblock, the blocks, and the devices that are out.
+    pub fn into_parts(self) -> (Uber, Blocks, DeviceSet)
+        ensures value { pool_of result.0 result.1 result.2 ≡ self }
+        ensures is { IsPool self }
+    {
+        (self.uber, self.blocks, self.out)
     }
 
     /// The group that the next sync ends.

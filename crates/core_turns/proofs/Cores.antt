@@ -1,12 +1,13 @@
 -- A core of which devices went out, and its bank.
-use Rattle.std.proofs.Common.{◌≡◌, ℕ, ◌^◌, ◌<◌, sym, subst}
+use Rattle.std.proofs.Common.{List, arith, ◌≡◌, ℕ, ◌^◌, ◌<◌, sym, subst}
 use Rattle.bank_trait.specs.Disk.{Disk}
 use Rattle.reflow_mark.specs.declared.reflow.Reflow.{Reflow}
+use Rattle.range_locks.specs.declared.hold.Hold.{Hold}
 use Rattle.uberblock_ring.specs.Devices.{IsWithin}
 use Rattle.uberblock_ring.specs.Uberblock.{Uber}
 use Rattle.core_client.specs.Pool.{HasPool}
 use Rattle.core_serial.specs.Pool.{Pool, IsPool, HasBank}
-use Rattle.core_turns.specs.Core.{Core, IsCore}
+use Rattle.core_turns.specs.Core.{Core, IsCore, as_begun}
 
 -- More devices may be out.
 pub pool_out : (pool : Pool) (out : ℕ) → IsPool pool → out < 2 ^ pool.uber.reflow.to → IsWithin pool.out out
@@ -23,7 +24,12 @@ pool_out pool out is below within = record {
 
 pub core_out : (core : Core) (out : ℕ) → IsCore core → out < 2 ^ core.pool.uber.reflow.to → IsWithin core.pool.out out
     → IsCore (record core { pool = record core.pool { out = out } })
-core_out core out is below within = record { is = pool_out core.pool out is.is below within; begun = is.begun; few = is.few }
+core_out core out is below within = record { is = pool_out (as_begun core) out is.is below within; begun = is.begun; few = is.few }
+
+-- A pool at rest is a core: its last answered group is the last one begun.
+pub core_of : (pool : Pool) (holds : List Hold) → IsPool pool
+    → IsCore (record { pool = pool; holds = holds; begun = pool.uber.group })
+core_of pool holds is = record { is = is; begun = omega arith; few = is.right.group.1 }
 
 -- The bank of a pool has what a block's calls ask for.
 pub bank_has : (uber : Uber) (reflow : Reflow) (out : ℕ) (disk : Disk) → reflow ≡ uber.reflow → HasBank uber out disk

@@ -57,7 +57,7 @@ get_finds map old new disk actor id asked (More run) holds begins =
     )
 get_finds map old new disk actor id asked (Busy by) holds begins = tt
 get_finds map old new disk actor id asked (Done given) holds begins = λ absent.
-    let none = (subst (λ (a : Answer). BeginsGet old new actor asked id (Done a)) absent begins).2 in
+    let none = (subst (λ (a : Answer). BeginsGet old new actor asked id (Done a)) absent begins).1.1 in
     by none (map id) refl
   where
     by : entry_of old.pool.blocks.table.entries id ≡ None → (value : Option (List ℕ)) → map id ≡ value → map id ≡ None

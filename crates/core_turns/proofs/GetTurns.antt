@@ -1,12 +1,13 @@
 -- Gets and sums, turn by turn: what each turn comes to, and what it keeps.
-use Rattle.std.proofs.Common.{◌≡◌, ℕ, ◌+◌, List, ◌∷◌, [], ◌++◌, Some, refl, sym, ◌∙◌, ap, subst}
-use Rattle.std.specs.Prelude.{Contains}
-use Rattle.std.proofs.lemmas.List.Elements.{Contains-append_right}
+use Rattle.std.proofs.Common.{◌≡◌, ℕ, ◌+◌, List, ◌∷◌, [], ◌++◌, Some, refl, sym, ◌∙◌, ap, subst, Result, Ok, Err}
+use Rattle.std.specs.Prelude.{Contains, OnOk, OnErr}
+use Rattle.std.proofs.lemmas.List.Elements.{Contains-append_left, Contains-append_right}
 use Rattle.range_locks.specs.declared.hold.Hold.{Hold}
 use Rattle.range_locks.specs.declared.hold.HoldKind.TheVariants.{Shared}
 use Rattle.row_layout.specs.Layout.{Layout, allocated_of}
 use Rattle.block_record.specs.declared.entry.IndexEntry.{IndexEntry}
 use Rattle.block_table.specs.Table.{entry_of}
+use Rattle.uberblock_ring.specs.Uberblock.{Uber}
 use Rattle.core_state.specs.Index.{layout_of}
 use Rattle.core_state.specs.declared.answer.Kind.{Kind}
 use Rattle.core_state.proofs.Listed.{contains_head}
@@ -15,10 +16,13 @@ use Rattle.core_blocks.proofs.Listed.{found_listed}
 use Rattle.core_client.specs.Pool.{IsInPool}
 use Rattle.core_client.specs.BlockTurns.{BlockRead, IsReadBegun}
 use Rattle.core_serial.proofs.Holding.{listed_in_pool}
+use Rattle.core_turns.specs.declared.getting.GetRun.{GetRun}
+use Rattle.core_turns.specs.declared.getting.OutOfMemory.{OutOfMemory}
 use Rattle.core_turns.specs.declared.getting.Solved.TheVariants.{NotYet}
-use Rattle.core_turns.specs.declared.turn.Turn.TheVariants.{More}
-use Rattle.core_turns.specs.Core.{Core, IsCore}
-use Rattle.core_turns.specs.Getting.{HasTooManyOut, hold_of, BeginsGet}
+use Rattle.core_turns.specs.declared.turn.Turn.{Turn}
+use Rattle.core_turns.specs.declared.turn.Turn.TheVariants.{More, Busy, Done}
+use Rattle.core_turns.specs.Core.{Core, CoreState, IsCore, as_begun}
+use Rattle.core_turns.specs.Getting.{HasTooManyOut, IsGetOf, IsMoreOf, hold_of, BeginsGet, ReadsTurn, SolvesGet}
 
 -- A read begins.
 pub get_begins : (core : Core) (actor id : ℕ) (asked : Kind) (entry : IndexEntry) (layout : Layout) (size : ℕ) (hold : Hold)
@@ -40,7 +44,7 @@ get_begins core actor id asked entry layout size hold read holds is step few fou
   record {
     layout_is = begun.layout_is ∙ layout_is;
     pool = subst (λ (l : Layout). IsInPool l core.pool.uber.reflow) (sym (begun.layout_is ∙ layout_is))
-        (listed_in_pool core.pool entry is.is step (found_listed core.pool.blocks.table.entries id entry found));
+        (listed_in_pool (as_begun core) entry is.is step (found_listed core.pool.blocks.table.entries id entry found));
     holds = subst (λ (l : List Hold). Contains l hold) (sym held)
         (Contains-append_right core.holds (hold ∷ []) hold (contains_head hold []));
     actor = actor;
@@ -51,3 +55,65 @@ get_begins core actor id asked entry layout size hold read holds is step few fou
     its_hold : hold ≡ hold_of core.pool.uber entry actor
     its_hold = hold_is
         ∙ (λ i. record { lo = entry.start; hi = entry.start + (size_is ∙ ap allocated_of layout_is) i; actor = actor; kind = Shared })
+
+-- A read is one of a block of the pool still where the uberblock and its hold are there.
+pub get_of : (old new : Core) (run : GetRun) → new.pool.uber ≡ old.pool.uber → Contains new.holds run.hold → IsGetOf old run
+    → IsGetOf new run
+get_of old new run uber listed of = record {
+  layout_is = subst (λ (u : Uber). run.read.layout ≡ layout_of u.parity u.births run.entry) (sym uber) of.layout_is;
+  pool = subst (λ (u : Uber). IsInPool run.read.layout u.reflow) (sym uber) of.pool;
+  holds = listed;
+  actor = of.actor;
+  hold_is = subst (λ (u : Uber). run.hold ≡ hold_of u run.entry of.actor) (sym uber) of.hold_is;
+}
+
+-- One that has one column more is so too.
+pub get_of_more : (before after : CoreState) (run : GetRun) (result : Turn GetRun) → IsGetOf before.core run
+    → ReadsTurn before run after result → IsMoreOf after.core result
+get_of_more before after run (More next) of reads =
+    subst (λ (core : Core). IsGetOf core next) (sym reads.2)
+    (subst (IsGetOf (record before.core { pool = record before.core.pool { out = after.core.pool.out } })) (sym reads.1) (record {
+      layout_is = reads.3.on.layout_is ∙ of.layout_is;
+      pool = subst (λ (l : Layout). IsInPool l before.core.pool.uber.reflow) (sym reads.3.on.layout_is) of.pool;
+      holds = of.holds;
+      actor = of.actor;
+      hold_is = of.hold_is;
+    }))
+get_of_more before after run (Busy by) of reads = tt
+get_of_more before after run (Done given) of reads = tt
+
+-- The uberblock stays in a turn that reads.
+pub reads_uber : (before after : CoreState) (run : GetRun) (result : Turn GetRun) → ReadsTurn before run after result
+    → after.core.pool.uber ≡ before.core.pool.uber
+reads_uber before after run (More next) reads = ap (λ (core : Core). core.pool.uber) reads.2
+reads_uber before after run (Busy by) reads = absurd reads
+reads_uber before after run (Done given) reads = ap (λ (core : Core). core.pool.uber) reads.0.rest
+
+-- Another read that begins leaves the pool, and the holds of those under way.
+pub begins_pool : (old new : Core) (actor id : ℕ) (asked : Kind) (result : Turn GetRun) → BeginsGet old new actor asked id result
+    → new.pool ≡ old.pool
+begins_pool old new actor id asked (More run) begins = ap (λ (core : Core). core.pool) begins.6
+begins_pool old new actor id asked (Busy by) begins = ap (λ (core : Core). core.pool) begins.1
+begins_pool old new actor id asked (Done given) begins = ap (λ (core : Core). core.pool) begins.0
+
+pub begins_holds : (old new : Core) (actor id : ℕ) (asked : Kind) (result : Turn GetRun) (hold : Hold)
+    → BeginsGet old new actor asked id result → Contains old.holds hold → Contains new.holds hold
+begins_holds old new actor id asked (More run) hold begins has =
+    subst (λ (core : Core). Contains core.holds hold) (sym begins.6) (Contains-append_left old.holds (run.hold ∷ []) hold has)
+begins_holds old new actor id asked (Busy by) hold begins has = subst (λ (core : Core). Contains core.holds hold) (sym begins.1) has
+begins_holds old new actor id asked (Done given) hold begins has = subst (λ (core : Core). Contains core.holds hold) (sym begins.0) has
+
+-- Solving changes no more than what was solved.
+pub solved_of : (core : Core) (old new : GetRun) → SolvesGet old new → IsGetOf core old → IsGetOf core new
+solved_of core old new solves of = subst (IsGetOf core) (sym solves.rest) (record {
+  layout_is = of.layout_is;
+  pool = of.pool;
+  holds = of.holds;
+  actor = of.actor;
+  hold_is = of.hold_is;
+})
+
+pub went_of : (old new : GetRun) (result : Result (Unit {0}) OutOfMemory) → OnOk result (SolvesGet old new)
+    → OnErr result (new ≡ old) → (core : Core) → IsGetOf core old → IsGetOf core new
+went_of old new (Ok value) solves same core of = solved_of core old new solves of
+went_of old new (Err why) solves same core of = subst (IsGetOf core) (sym same) of

@@ -1,5 +1,5 @@
 -- An open pool while calls are under way, and the bank under it.
-use Rattle.std.specs.Prelude.{ℕ, ◌≤◌, ◌<◌, ◌^◌, List}
+use Rattle.std.specs.Prelude.{ℕ, ◌≤◌, ◌^◌, List}
 use Rattle.bank_trait.specs.Disk.{Disk}
 use Rattle.range_locks.specs.declared.hold.Hold.{Hold}
 use Rattle.core_serial.specs.Pool.{Pool, State, IsPool}
@@ -10,11 +10,15 @@ pub record Core : Type 0 where
   pub holds : List Hold
   pub begun : ℕ
 
+-- the pool as if the group that was begun last were the last answered one: blocks are born in the group after it
+abbrev pub as_begun : Core → Pool
+as_begun core = record core.pool { uber = record core.pool.uber { group = core.begun } }
+
 -- The pool is one, and the last group begun is the last answered one or a later one.
 pub record IsCore (core : Core) : Type 0 where
-  pub is : IsPool core.pool
+  pub is : IsPool (as_begun core)
   pub begun : core.pool.uber.group ≤ core.begun
-  pub few : core.begun < 2 ^ 63
+  pub few : core.begun ≤ 2 ^ 62
 
 -- an open pool while calls are under way, and what its devices hold
 pub record CoreState : Type 0 where

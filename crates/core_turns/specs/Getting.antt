@@ -71,6 +71,14 @@ HasTooManyOut core = core.pool.uber.parity < count_of core.pool.out
 pub record ChangesHolds (old new : Core) (holds : List Hold) : Type 0 where
   pub is : new ≡ record old { holds = holds }
 
+-- Why a read of an id ends in its first turn.
+abbrev pub IsGetRefused : Core → ℕ → Answer → Type 0
+IsGetRefused core id (answer.TooManyFailed out) = HasTooManyOut core × (out ≡ core.pool.out)
+IsGetRefused core id answer.Absent =
+    (HasTooManyOut core → ⊥) × (entry_of core.pool.blocks.table.entries id ≡ None)
+IsGetRefused core id answer.NoMemory = HasTooManyOut core → ⊥
+IsGetRefused core id other = ⊥
+
 -- what the first turn of a read comes to
 abbrev pub BeginsGet : Core → Core → ℕ → Kind → ℕ → Turn GetRun → Type 0
 BeginsGet old new actor asked id (More run) = (HasTooManyOut old → ⊥)
@@ -82,12 +90,7 @@ BeginsGet old new actor asked id (More run) = (HasTooManyOut old → ⊥)
 BeginsGet old new actor asked id (Busy by) = (HasTooManyOut old → ⊥) × (new ≡ old)
     × ((entry : IndexEntry) × (entry_of old.pool.blocks.table.entries id ≡ Some entry)
     × (let hold : Hold = hold_of old.pool.uber entry actor in IsBusyBy old.holds hold.lo hold.hi Shared by))
-BeginsGet old new actor asked id (Done (answer.TooManyFailed out)) =
-    (new ≡ old) × HasTooManyOut old × (out ≡ old.pool.out)
-BeginsGet old new actor asked id (Done answer.Absent) = (HasTooManyOut old → ⊥) × (new ≡ old)
-    × (entry_of old.pool.blocks.table.entries id ≡ None)
-BeginsGet old new actor asked id (Done answer.NoMemory) = (HasTooManyOut old → ⊥) × (new ≡ old)
-BeginsGet old new actor asked id (Done other) = ⊥
+BeginsGet old new actor asked id (Done given) = (new ≡ old) × IsGetRefused old id given
 
 -- The call is answered so where too many devices are out: its hold has ended, and nothing else changed.
 pub record IsStoppedGet (old new : Core) (hold : Hold) (given : Answer) : Type 0 where
@@ -184,3 +187,8 @@ KeepsGet content state other = ⊤
 abbrev pub TellsGet : List ℕ → GetRun → Turn GetRun → Type 0
 TellsGet content run (Done given) = IsReadRight (Some content) run.kind given
 TellsGet content run other = ⊤
+
+-- A read that goes on is one of a block of this pool still.
+abbrev pub IsMoreOf : Core → Turn GetRun → Type 0
+IsMoreOf core (More run) = IsGetOf core run
+IsMoreOf core other = ⊤

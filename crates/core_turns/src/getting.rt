@@ -1,5 +1,5 @@
 // Reads, turn by turn.
-ghost use Rattle.std.specs.Prelude.{◌≡◌, ℕ, List, ◌+◌, ◌^◌, ◌<◌, ◌≤◌, ◌↔◌, IsTrue, OnErr, OnOk};
+ghost use Rattle.std.specs.Prelude.{◌≡◌, ℕ, List, false, ◌+◌, ◌^◌, ◌<◌, ◌≤◌, ◌↔◌, IsTrue, OnErr, OnOk};
 ghost use Rattle.bank_trait.specs.Disk.{Disk, Unchanged};
 ghost use Rattle.row_layout.specs.Layout.{rows_of};
 ghost use Rattle.reconstruct.specs.Rows.{sectors_for};
@@ -9,8 +9,9 @@ ghost use Rattle.core_state.specs.Index.{layout_of};
 ghost use Rattle.core_client.specs.BlockTurns.{IsPlace};
 ghost use Rattle.core_client.specs.Outs.{point_of, OnlyFailedGoOut};
 ghost use Rattle.core_serial.specs.Pool.{HasBank, HoldsMap};
-ghost use Rattle.core_turns.specs.Core.{CoreState, IsCore, at_disk, pool_at};
-ghost use Rattle.core_turns.specs.Getting.{HasLayout, HoldsGet, FindsGet, KeepsGet, TellsGet, IsGetOf, IsRead, BeginsGet, ReadsTurn, SolvesGet, EndsGet, answer_of};
+ghost use Rattle.core_turns.specs.declared.getting.GetRun.{GetRun as GetRunOf};
+ghost use Rattle.core_turns.specs.Core.{Core as CoreOf, CoreState, IsCore, at_disk, pool_at};
+ghost use Rattle.core_turns.specs.Getting.{HasLayout, HoldsGet, FindsGet, KeepsGet, TellsGet, IsGetOf, IsMoreOf, IsRead, BeginsGet, ReadsTurn, SolvesGet, EndsGet, answer_of};
 
 use crate::turn::too_many;
 use crate::{Core, Turn};
@@ -62,7 +63,8 @@ fn layout_of(uber: &Uber, entry: &IndexEntry) -> Layout
 impl GetRun {
     /// Whether all columns were read. The block is solved then, and the read ended.
     pub fn is_read(&self) -> bool
-        ensures { IsTrue result ↔ (self.now.read.row ≡ rows_of self.now.read.layout) }
+        ensures value { IsTrue result ↔ (self.now.read.row ≡ rows_of self.now.read.layout) }
+        ensures left { result ≡ false → self.now.read.row < rows_of self.now.read.layout }
     {
         self.read.is_done()
     }
@@ -74,6 +76,7 @@ impl GetRun {
         ensures keeps { OnOk result ((content : List ℕ) (state : CoreState)
             → self.old.read.row ≡ rows_of self.old.read.layout → IsGetOf state.core self.old
             → HoldsGet content state self.old → HoldsGet content state self.new) }
+        ensures of { (core : CoreOf) → IsGetOf core self.old → IsGetOf core self.new }
         ensures err { OnErr result (self.new ≡ self.old) }
     {
         self.solve_columns(alloc)
@@ -109,6 +112,11 @@ impl Core {
         // A block that is found is the one of the map.
         ensures finds { (map : Map) (disk : Disk) → HoldsMap map (pool_at (at_disk self.old disk))
             → FindsGet map (at_disk self.new disk) id result }
+
+        // Other reads go on.
+        ensures others { (run : GetRunOf) → IsGetOf self.old run → IsGetOf self.new run }
+        ensures bank { (disk : Disk) → HasBank self.old.pool.uber self.old.pool.out disk
+            → HasBank self.new.pool.uber self.new.pool.out disk }
     {
         self.begin_get(alloc, actor, kind, id)
     }
@@ -123,6 +131,8 @@ impl Core {
         ensures keeps { (content : List ℕ)
             → HoldsGet content (at_disk self.old (B.disk bank.old)) run
             → KeepsGet content (at_disk self.new (B.disk bank.new)) result }
+        ensures of { IsMoreOf self.new result }
+        ensures bank { HasBank self.new.pool.uber self.new.pool.out (B.disk bank.new) }
         ensures unchanged { Unchanged (B.disk bank.old) (B.disk bank.new) }
         ensures out { OnlyFailedGoOut (point_of self.old.pool.out (B.disk bank.old))
             (point_of self.new.pool.out (B.disk bank.new)) }

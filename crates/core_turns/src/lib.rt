@@ -7,8 +7,11 @@
 //! `core_client` and `range_locks`, and on the definitions of `core_serial`.
 #![tactic(auto)]
 
+mod freeing;
 mod getting;
 mod open_core;
+#[cfg(test)]
+mod tests;
 mod turn;
 
 pub use getting::{GetRun, OutOfMemory, Solved};

@@ -1,9 +1,11 @@
 // An open pool while calls are under way.
-ghost use Rattle.std.specs.Prelude.{◌≡◌, ◌+◌, ◌<◌, ◌↔◌, IsTrue};
+ghost use Rattle.std.specs.Prelude.{◌≡◌, ◌+◌, ◌<◌, ◌↔◌, [], IsTrue};
 ghost use Rattle.uberblock_ring.specs.Devices.{count_of};
 
 use core_blocks::Blocks;
+use core_serial::Pool;
 use range_locks::Locks;
+use std::alloc::Global;
 use std::marker::Model;
 use uberblock_ring::{DeviceSet, Uber};
 
@@ -37,6 +39,21 @@ impl Model for Core {
 }
 
 impl Core {
+    /// A pool at rest, of which no call is under way.
+    pub fn new(alloc: Global, pool: Pool) -> Core
+        ensures { result ≡ record { pool = pool; holds = []; begun = pool.uber.group } }
+    {
+        let (uber, blocks, out) = pool.into_parts();
+        let begun = uber.group();
+        Core {
+            uber,
+            blocks,
+            out,
+            locks: Locks::new(alloc),
+            begun,
+        }
+    }
+
     /// The devices that are out.
     pub fn out(&self) -> DeviceSet
         ensures { result ≡ self.now.pool.out }

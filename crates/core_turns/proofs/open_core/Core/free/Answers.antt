@@ -1,0 +1,39 @@
+use Rattle.std.proofs.Common.{refl, sym, ◌∙◌, subst}
+use Rattle.core_state.specs.declared.answer.Answer.{Answer}
+use Rattle.core_blocks.specs.Blocks.{AreUnderWay}
+use Rattle.core_serial.specs.Answers.{map_after_free}
+use Rattle.core_serial.specs.Pool.{HasBank, HoldsMap, pool_of, state_of}
+use Rattle.core_serial.proofs.Frees.{freed_holds, none_freed_holds}
+use Rattle.core_turns.specs.Core.{Core, at_disk, pool_at}
+use Rattle.core_turns.specs.Getting.{IsGetOf}
+use Rattle.core_turns.proofs.GetTurns.{get_of}
+use Rattle.core_turns.proofs.open_core.Core.free.Goals as goal
+use Rattle.core_turns.proofs.open_core.Core.free.Goals.{in-Some, in-None}
+
+pub returns-clause-holds : goal.returns-clause-holds
+returns-clause-holds c = λ map disk holds.
+    let pool = pool_of c.self.inside.uber c.self.inside.blocks c.self.inside.out in
+    let old : HoldsMap map (state_of pool disk) =
+    subst (λ (core : Core). HoldsMap map (pool_at (at_disk core disk))) (sym c.self.view_is) holds in
+    let now = λ (given : Answer). HoldsMap (map_after_free map c.args.id given)
+    (state_of (pool_of c.self.inside.uber c.remove.new.self c.self.inside.out) disk) in
+    elim c.match-remove.branch [
+      | in-Some w ↦ subst now (sym w.result-is)
+          (freed_holds map pool c.remove.new.self disk c.args.id c.remove.ensures.change old)
+      | in-None w ↦ subst now (sym w.result-is)
+          (none_freed_holds map pool c.remove.new.self disk c.args.id c.remove.ensures.change
+          (sym c.remove.ensures.was ∙ w.in-None.is) old)
+    ]
+
+pub returns-clause-under : goal.returns-clause-under
+returns-clause-under c = λ ranges under. c.remove.ensures.under ranges
+    (subst (λ (core : Core). AreUnderWay core.pool.blocks ranges) (sym c.self.view_is) under)
+
+pub returns-clause-gets : goal.returns-clause-gets
+returns-clause-gets c = λ run of.
+    let old = subst (λ (core : Core). IsGetOf core run) (sym c.self.view_is) of in
+    get_of _ _ run refl old.holds old
+
+pub returns-clause-bank : goal.returns-clause-bank
+returns-clause-bank c = λ disk bank.
+    subst (λ (core : Core). HasBank core.pool.uber core.pool.out disk) (sym c.self.view_is) bank

@@ -1,0 +1,28 @@
+-- Frees.
+use Rattle.std.specs.Prelude.{◌≡◌, ℕ, ◌+◌, Some, None}
+use Rattle.block_record.specs.declared.entry.IndexEntry.{IndexEntry}
+use Rattle.block_table.specs.Table.{ChangesOnly, entry_of}
+use Rattle.core_state.specs.declared.answer.Answer.{Answer}
+use Rattle.core_state.specs.declared.answer.Answer.TheVariants as answer
+use Rattle.core_blocks.specs.Puts.{HoldsBack}
+use Rattle.core_turns.specs.Core.{Core}
+use Rattle.core_turns.specs.Getting.{HasTooManyOut}
+
+-- The block of an id is gone, and its sectors are held back until the open group is answered; all else is as
+-- it was.
+pub record TakesAway (old new : Core) (id : ℕ) (entry : IndexEntry) : Type 0 where
+  pub was : entry_of old.pool.blocks.table.entries id ≡ Some entry
+  pub change : ChangesOnly old.pool.blocks.table.entries new.pool.blocks.table.entries id None
+  pub held : HoldsBack old.pool.blocks.parity old.pool.blocks.births old.pool.blocks.space
+      new.pool.blocks.space (old.begun + 1) (Some entry)
+  pub rest : new ≡ record old { pool = record old.pool { blocks = new.pool.blocks } }
+
+-- what a free comes to
+abbrev pub FreesBlock : Core → Core → ℕ → Answer → Type 0
+FreesBlock old new id answer.Freed =
+    (HasTooManyOut old → ⊥) × (entry : IndexEntry) × TakesAway old new id entry
+FreesBlock old new id answer.Absent =
+    (HasTooManyOut old → ⊥) × (entry_of old.pool.blocks.table.entries id ≡ None)
+FreesBlock old new id (answer.TooManyFailed out) =
+    HasTooManyOut old × (out ≡ old.pool.out) × (new ≡ old)
+FreesBlock old new id other = ⊥
