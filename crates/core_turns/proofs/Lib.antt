@@ -1,3 +1,4 @@
 pub mod Cores
 pub mod GetTurns
 pub mod GetLaws
+pub mod Beside
