@@ -1,24 +1,31 @@
 -- A put's writes leave the reads that are under way beside it, and a commit.
-use Rattle.std.proofs.Common.{◌≡◌, ℕ, List, sym, ◌∙◌, subst}
+use Rattle.std.proofs.Common.{◌≡◌, ℕ, List, sym, ◌∙◌, subst, refl}
 use Rattle.std.specs.Prelude.{Contains}
 use Rattle.bank_trait.specs.Regions.{TouchesOnly}
 use Rattle.reflow_mark.specs.declared.reflow.Reflow.{Reflow}
 use Rattle.row_layout.specs.Layout.{Layout, sector_of, end_of}
 use Rattle.shadow_write.specs.Required.{IsRequiredPlace, front_after_stop}
 use Rattle.shadow_write.specs.Writes.{writes_of}
+use Rattle.shadow_write.specs.declared.write.Write.{Write}
 use Rattle.shadow_write.proofs.Whole.{are_required}
+use Rattle.reconstruct.specs.Columns.{column_bytes}
 use Rattle.block_record.specs.declared.entry.IndexEntry.{IndexEntry}
 use Rattle.uberblock_ring.specs.Devices.{IsWithin}
 use Rattle.core_state.specs.Index.{layout_of}
 use Rattle.core_state.specs.Keeps.{Kept, Setting}
 use Rattle.core_state.specs.Certain.{Asks}
+use Rattle.core_state.specs.Committing.{Point}
 use Rattle.core_state.specs.Whole.{Cell, IsCell}
 use Rattle.core_state.proofs.Places.{IsDataSector, required_sector}
 use Rattle.core_blocks.specs.Blocks.{layout_run}
 use Rattle.core_blocks.specs.Kept.{SparesAll}
 use Rattle.core_blocks.specs.Runs.{AreClear}
 use Rattle.core_client.specs.Pool.{IsInPool}
-use Rattle.core_client.specs.Writing.{IsPlaceOf}
+use Rattle.core_client.specs.Outs.{point_of}
+use Rattle.core_client.specs.Writing.{IsPlaceOf, IsPlanOf}
+use Rattle.core_client.specs.BlockTurns.{BlockWrite, IsWrittenSoFar}
+use Rattle.core_client.proofs.BlockTurns.{written_stays}
+use Rattle.core_commit.specs.Spared.{Spares}
 use Rattle.core_commit.specs.CommitTurns.{IsBeside}
 use Rattle.core_serial.proofs.Layouts.{blocks_apart}
 use Rattle.core_turns.specs.declared.getting.GetRun.{GetRun}
@@ -100,3 +107,61 @@ put_beside_commit setting first next reflow layout out inside_first inside_next 
         subst IsDataSector (sym sector_is)
         (required_sector reflow (end_of layout write.row) (sector_of layout write.row write.column) write.device write.device_sector
         required.1)
+
+-- ---- what has been written of a put
+
+-- A place that a write of a plan goes to is required by a cell of its block.
+written_cell : (layout : Layout) (bytes : List ℕ) (reflow : Reflow) (done : ℕ) (run : BlockWrite) (write : Write)
+    → IsPlanOf layout reflow done bytes run.rows run.writes → Contains run.writes write
+    → (cell : Cell) × IsCell layout bytes cell
+    × IsRequiredPlace reflow done cell.row_end cell.sector write.device write.device_sector
+written_cell layout bytes reflow done run write plan has =
+    let required = plan.required.only write has in (
+      record {
+        sector = sector_of layout write.row write.column;
+        row_end = end_of layout write.row;
+        bytes = column_bytes layout bytes write.row write.column;
+      },
+      record { row = write.row; column = write.column; there = required.0; sector = refl; row_end = refl; bytes = refl },
+      required.1,
+    )
+
+-- What has been written of a put stays over the writes of another that has no sector in common with it,
+pub put_beside_put : (layout other : Layout) (bytes : List ℕ) (reflow : Reflow) (before after : Point) (run : BlockWrite)
+    → IsInPool layout reflow → IsInPool other reflow → AreClear (layout_run other) (layout_run layout)
+    → IsWithin before.out after.out
+    → TouchesOnly (IsWrittenTo other reflow before.out) before.disk after.disk
+    → IsWrittenSoFar layout bytes reflow (front_after_stop reflow) before.disk.reads before.out run
+    → IsWrittenSoFar layout bytes reflow (front_after_stop reflow) after.disk.reads after.out run
+put_beside_put layout other bytes reflow before after run pool other_pool clear within touched so_far =
+    written_stays layout bytes reflow (front_after_stop reflow) before.disk.reads after.disk.reads before.out after.out run within
+    (λ write has used.
+    let cell = written_cell layout bytes reflow (front_after_stop reflow) run write so_far.plan has in
+    touched.reads write.device write.device_sector
+    (λ written. never_both reflow other layout before.out write.device write.device_sector cell.0 bytes other_pool pool clear
+    cell.1 cell.2 written))
+    so_far
+
+-- and over a step of a commit.
+pub put_beside_step : (layout : Layout) (bytes : List ℕ) (reflow : Reflow) (before after : Point) (run : BlockWrite)
+    → IsWithin before.out after.out → Spares before after
+    → IsWrittenSoFar layout bytes reflow (front_after_stop reflow) before.disk.reads before.out run
+    → IsWrittenSoFar layout bytes reflow (front_after_stop reflow) after.disk.reads after.out run
+put_beside_step layout bytes reflow before after run within spares so_far =
+    written_stays layout bytes reflow (front_after_stop reflow) before.disk.reads after.disk.reads before.out after.out run within
+    (λ write has used.
+    let cell = written_cell layout bytes reflow (front_after_stop reflow) run write so_far.plan has in
+    spares.reads write.device write.device_sector used
+    (required_sector reflow cell.0.row_end cell.0.sector write.device write.device_sector cell.2))
+    so_far
+
+-- A read stays with its block over a step of a commit.
+pub get_beside_step : (content : List ℕ) (before after : CoreState) (run : GetRun)
+    → after.core.pool.uber ≡ before.core.pool.uber → IsWithin before.core.pool.out after.core.pool.out
+    → ((HasTooManyOut after.core → ⊥) → HasTooManyOut before.core → ⊥)
+    → Spares (point_of before.core.pool.out before.disk) (point_of after.core.pool.out after.disk)
+    → HoldsGet content before run → HoldsGet content after run
+get_beside_step content before after run uber within few spares holds = get_stays content before after run uber within few
+    (λ cell device device_sector cell_is required used read. spares.reads device device_sector used
+    (required_sector before.core.pool.uber.reflow cell.row_end cell.sector device device_sector required) ∙ read)
+    holds
