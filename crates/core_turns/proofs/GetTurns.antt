@@ -4,6 +4,7 @@ use Rattle.std.specs.Prelude.{Contains, OnOk, OnErr}
 use Rattle.std.proofs.lemmas.List.Elements.{Contains-append_left, Contains-append_right}
 use Rattle.range_locks.specs.declared.hold.Hold.{Hold}
 use Rattle.range_locks.specs.declared.hold.HoldKind.TheVariants.{Shared}
+use Rattle.range_locks.specs.Holds.{IsClear}
 use Rattle.row_layout.specs.Layout.{Layout, allocated_of}
 use Rattle.block_record.specs.declared.entry.IndexEntry.{IndexEntry}
 use Rattle.block_table.specs.Table.{entry_of}
@@ -31,9 +32,10 @@ pub get_begins : (core : Core) (actor id : ℕ) (asked : Kind) (entry : IndexEnt
     → layout ≡ layout_of core.pool.uber.parity core.pool.uber.births entry → size ≡ allocated_of layout
     → hold ≡ record { lo = entry.start; hi = entry.start + size; actor = actor; kind = Shared }
     → IsReadBegun layout read → holds ≡ core.holds ++ hold ∷ []
+    → IsClear core.holds entry.start (entry.start + size) Shared
     → BeginsGet core (record core { holds = holds }) actor asked id
     (More (record { kind = asked; hold = hold; entry = entry; read = read; solved = NotYet }))
-get_begins core actor id asked entry layout size hold read holds is step few found layout_is size_is hold_is begun held = (
+get_begins core actor id asked entry layout size hold read holds is step few found layout_is size_is hold_is begun held clear = (
   few,
   found,
   refl,
@@ -50,6 +52,7 @@ get_begins core actor id asked entry layout size hold read holds is step few fou
     actor = actor;
     hold_is = its_hold;
   },
+  subst (λ (h : Hold). IsClear core.holds h.lo h.hi Shared) (sym hold_is) clear,
 )
   where
     its_hold : hold ≡ hold_of core.pool.uber entry actor

@@ -17,12 +17,18 @@ pub record TakesAway (old new : Core) (id : ℕ) (entry : IndexEntry) : Type 0 w
       new.pool.blocks.space (old.begun + 1) (Some entry)
   pub rest : new ≡ record old { pool = record old.pool { blocks = new.pool.blocks } }
 
+-- There was no block of this id, and all is as it was.
+pub record HadNone (old new : Core) (id : ℕ) : Type 0 where
+  pub none : entry_of old.pool.blocks.table.entries id ≡ None
+  pub change : ChangesOnly old.pool.blocks.table.entries new.pool.blocks.table.entries id None
+  pub space : new.pool.blocks.space ≡ old.pool.blocks.space
+  pub rest : new ≡ record old { pool = record old.pool { blocks = new.pool.blocks } }
+
 -- what a free comes to
 abbrev pub FreesBlock : Core → Core → ℕ → Answer → Type 0
 FreesBlock old new id answer.Freed =
     (HasTooManyOut old → ⊥) × (entry : IndexEntry) × TakesAway old new id entry
-FreesBlock old new id answer.Absent =
-    (HasTooManyOut old → ⊥) × (entry_of old.pool.blocks.table.entries id ≡ None)
+FreesBlock old new id answer.Absent = (HasTooManyOut old → ⊥) × HadNone old new id
 FreesBlock old new id (answer.TooManyFailed out) =
     HasTooManyOut old × (out ≡ old.pool.out) × (new ≡ old)
 FreesBlock old new id other = ⊥

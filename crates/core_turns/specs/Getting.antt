@@ -4,7 +4,7 @@ use Rattle.sha2.specs.Sha256.{sha256}
 use Rattle.width_map.specs.Births.{width_of_birth}
 use Rattle.range_locks.specs.declared.hold.Hold.{Hold}
 use Rattle.range_locks.specs.declared.hold.HoldKind.TheVariants.{Shared}
-use Rattle.range_locks.specs.Holds.{IsBusyBy, EndsHold}
+use Rattle.range_locks.specs.Holds.{IsBusyBy, IsClear, EndsHold}
 use Rattle.row_layout.specs.Layout.{allocated_of}
 use Rattle.shadow_write.specs.Required.{front_after_stop}
 use Rattle.block_record.specs.declared.entry.IndexEntry.{IndexEntry}
@@ -67,10 +67,6 @@ pub record IsGetOf (core : Core) (run : GetRun) : Type 0 where
 abbrev pub HasTooManyOut : Core → Type 0
 HasTooManyOut core = core.pool.uber.parity < count_of core.pool.out
 
--- A turn changes nothing but the holds.
-pub record ChangesHolds (old new : Core) (holds : List Hold) : Type 0 where
-  pub is : new ≡ record old { holds = holds }
-
 -- Why a read of an id ends in its first turn.
 abbrev pub IsGetRefused : Core → ℕ → Answer → Type 0
 IsGetRefused core id (answer.TooManyFailed out) = HasTooManyOut core × (out ≡ core.pool.out)
@@ -87,6 +83,7 @@ BeginsGet old new actor asked id (More run) = (HasTooManyOut old → ⊥)
     × (run.hold ≡ hold_of old.pool.uber run.entry actor)
     × IsReadBegun (layout_of old.pool.uber.parity old.pool.uber.births run.entry) run.read
     × (new ≡ record old { holds = old.holds ++ run.hold ∷ [] }) × IsGetOf new run
+    × IsClear old.holds run.hold.lo run.hold.hi Shared
 BeginsGet old new actor asked id (Busy by) = (HasTooManyOut old → ⊥) × (new ≡ old)
     × ((entry : IndexEntry) × (entry_of old.pool.blocks.table.entries id ≡ Some entry)
     × (let hold : Hold = hold_of old.pool.uber entry actor in IsBusyBy old.holds hold.lo hold.hi Shared by))

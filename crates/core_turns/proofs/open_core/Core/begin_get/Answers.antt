@@ -31,4 +31,4 @@ returns c =
     (get_begins core c.args.actor c.args.id c.args.kind entry c.layout_of-layout.result c.alloc_size.result
     c.in-Ok-try_shared.hold c.in-Ok.read c.try_shared.new.self c.self.invariant c.get.ensures.step few
     (sym c.in-Some.ensures.value) c.layout_of-layout.ensures c.alloc_size.ensures.value
-    c.in-Ok-try_shared.ensures.hold c.in-Ok.ensures c.in-Ok-try_shared.ensures.ok)
+    c.in-Ok-try_shared.ensures.hold c.in-Ok.ensures c.in-Ok-try_shared.ensures.ok c.in-Ok-try_shared.ensures.clear)
