@@ -15,3 +15,4 @@ mod syncing;
 
 pub use opening::{OpenedPool, open_pool};
 pub use pool::Pool;
+pub use syncing::next_uber;

@@ -20,7 +20,7 @@ use uberblock_ring::{DeviceSet, Uber};
 const MOST_GROUPS: u64 = 1 << 62;
 
 /// The uberblock of the group after this one, with this index in the other area.
-fn next_uber(
+pub fn next_uber(
     alloc: Global,
     uber: &Uber,
     entries: &[IndexEntry],

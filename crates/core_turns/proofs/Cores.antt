@@ -1,5 +1,5 @@
 -- A core of which devices went out, and its bank.
-use Rattle.std.proofs.Common.{List, arith, ◌≡◌, ℕ, ◌^◌, ◌<◌, sym, subst}
+use Rattle.std.proofs.Common.{List, arith, ◌≡◌, ℕ, None, ◌^◌, ◌<◌, sym, subst}
 use Rattle.bank_trait.specs.Disk.{Disk}
 use Rattle.reflow_mark.specs.declared.reflow.Reflow.{Reflow}
 use Rattle.range_locks.specs.declared.hold.Hold.{Hold}
@@ -28,7 +28,7 @@ core_out core out is below within = record { is = pool_out (as_begun core) out i
 
 -- A pool at rest is a core: its last answered group is the last one begun.
 pub core_of : (pool : Pool) (holds : List Hold) → IsPool pool
-    → IsCore (record { pool = pool; holds = holds; begun = pool.uber.group })
+    → IsCore (record { pool = pool; holds = holds; begun = pool.uber.group; committing = None })
 core_of pool holds is = record { is = is; begun = omega arith; few = is.right.group.1 }
 
 -- The bank of a pool has what a block's calls ask for.

@@ -1,23 +1,30 @@
 -- An open pool while calls are under way, and the bank under it.
-use Rattle.std.specs.Prelude.{ℕ, ◌≤◌, ◌^◌, List}
+use Rattle.std.specs.Prelude.{◌≡◌, ℕ, ◌+◌, ◌≤◌, ◌^◌, List, Option, Some, None}
 use Rattle.bank_trait.specs.Disk.{Disk}
 use Rattle.range_locks.specs.declared.hold.Hold.{Hold}
 use Rattle.core_serial.specs.Pool.{Pool, State, IsPool}
 
--- the pool, the holds of the calls under way, and the group that was begun last
+-- the pool, the holds of the calls under way, the group that was begun last, and who makes it where it isn't
+-- answered
 pub record Core : Type 0 where
   pub pool : Pool
   pub holds : List Hold
   pub begun : ℕ
+  pub committing : Option ℕ
+
+-- how many groups were begun and aren't answered
+abbrev pub groups_begun : Option ℕ → ℕ
+groups_begun None = 0
+groups_begun (Some actor) = 1
 
 -- the pool as if the group that was begun last were the last answered one: blocks are born in the group after it
 abbrev pub as_begun : Core → Pool
 as_begun core = record core.pool { uber = record core.pool.uber { group = core.begun } }
 
--- The pool is one, and the last group begun is the last answered one or a later one.
+-- The pool is one, and the last group begun is the last answered one, or the one after it, which is under way.
 pub record IsCore (core : Core) : Type 0 where
   pub is : IsPool (as_begun core)
-  pub begun : core.pool.uber.group ≤ core.begun
+  pub begun : core.begun ≡ core.pool.uber.group + groups_begun core.committing
   pub few : core.begun ≤ 2 ^ 62
 
 -- an open pool while calls are under way, and what its devices hold

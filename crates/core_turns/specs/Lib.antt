@@ -1,3 +1,6 @@
 pub mod Core
 pub mod Getting
 pub mod Freeing
+pub mod Putting
+pub mod Committing
+pub mod UnderWay

@@ -7,13 +7,16 @@
 //! `core_client` and `range_locks`, and on the definitions of `core_serial`.
 #![tactic(auto)]
 
+mod committing;
 mod freeing;
 mod getting;
 mod open_core;
+mod putting;
 #[cfg(test)]
 mod tests;
 mod turn;
 
 pub use getting::{GetRun, OutOfMemory, Solved};
 pub use open_core::Core;
+pub use putting::{Filled, PutRun};
 pub use turn::Turn;

@@ -1,5 +1,5 @@
 // An open pool while calls are under way.
-ghost use Rattle.std.specs.Prelude.{◌≡◌, ◌+◌, ◌<◌, ◌↔◌, [], IsTrue};
+ghost use Rattle.std.specs.Prelude.{◌≡◌, ◌+◌, ◌<◌, ◌↔◌, [], None, IsTrue};
 ghost use Rattle.uberblock_ring.specs.Devices.{count_of};
 
 use core_blocks::Blocks;
@@ -10,7 +10,8 @@ use std::marker::Model;
 use uberblock_ring::{DeviceSet, Uber};
 
 /// The last answered group's uberblock, the blocks with the sectors that they take, the devices that
-/// are out, the holds of the calls under way, and the group that was begun last.
+/// are out, the holds of the calls under way, the group that was begun last, and who makes it where it
+/// isn't answered. A commit that is cut short stays there: too many devices are out then.
 #[derive(Drop)]
 pub struct Core {
     pub(crate) uber: Uber,
@@ -18,6 +19,7 @@ pub struct Core {
     pub(crate) out: DeviceSet,
     pub(crate) locks: Locks,
     pub(crate) begun: u64,
+    pub(crate) committing: Option<u8>,
 }
 
 impl Model for Core {
@@ -29,19 +31,26 @@ impl Model for Core {
       pool = record { uber = core.uber; blocks = core.blocks; out = core.out };
       holds = core.locks;
       begun = core.begun;
+      committing = core.committing;
     } };
 
     ghost invariant = { λ core. IsCore (record {
       pool = record { uber = core.uber; blocks = core.blocks; out = core.out };
       holds = core.locks;
       begun = core.begun;
+      committing = core.committing;
     }) };
 }
 
 impl Core {
     /// A pool at rest, of which no call is under way.
     pub fn new(alloc: Global, pool: Pool) -> Core
-        ensures { result ≡ record { pool = pool; holds = []; begun = pool.uber.group } }
+        ensures { result ≡ record {
+          pool = pool;
+          holds = [];
+          begun = pool.uber.group;
+          committing = None;
+        } }
     {
         let (uber, blocks, out) = pool.into_parts();
         let begun = uber.group();
@@ -51,6 +60,7 @@ impl Core {
             out,
             locks: Locks::new(alloc),
             begun,
+            committing: None,
         }
     }
 

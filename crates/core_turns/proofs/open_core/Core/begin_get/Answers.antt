@@ -15,6 +15,7 @@ returns c =
       pool = record { uber = inside.uber; blocks = inside.blocks; out = inside.out };
       holds = inside.locks;
       begun = inside.begun;
+      committing = inside.committing;
     } in
     let entry = c.in-Some.entry.now in
     let run : GetRun = record {

@@ -1,0 +1,220 @@
+-- Puts, turn by turn.
+use Rattle.std.specs.Prelude.{◌≡◌, ℕ, ◌+◌, ◌<◌, ◌≤◌, List, ◌∷◌, [], ◌++◌, length, slice_get, Some, None, Contains}
+use Rattle.sha2.specs.Sha256.{sha256}
+use Rattle.range_locks.specs.declared.hold.Hold.{Hold}
+use Rattle.range_locks.specs.declared.hold.HoldKind.TheVariants.{Shared}
+use Rattle.range_locks.specs.Holds.{EndsHold}
+use Rattle.row_layout.specs.Layout.{allocated_of}
+use Rattle.shadow_write.specs.declared.write.Write.{Write}
+use Rattle.shadow_write.specs.Required.{front_after_stop}
+use Rattle.shadow_write.specs.Writes.{writes_of}
+use Rattle.space_alloc.specs.Space.{Gains, IsDropping, IsBusySpace, IsFull as HasNoRun}
+use Rattle.block_record.specs.declared.entry.IndexEntry.{IndexEntry}
+use Rattle.block_table.specs.Table.{ChangesOnly, IsFull, entry_of, without_one}
+use Rattle.reconstruct.specs.Lost.{AreBytes}
+use Rattle.core_state.specs.declared.answer.Answer.{Answer}
+use Rattle.core_state.specs.declared.answer.Answer.TheVariants as answer
+use Rattle.core_blocks.specs.declared.range.PutRange.{PutRange}
+use Rattle.core_blocks.specs.Blocks.{AreUnderWay, IsUnderWay, put_run}
+use Rattle.core_blocks.specs.Kept.{NoneFree, SparesAll}
+use Rattle.core_blocks.specs.Puts.{BeginsPut, HoldsBack, IsRangeFor, sectors_taken}
+use Rattle.core_blocks.specs.Usage.{AddsAtMost}
+use Rattle.core_client.specs.Outs.{point_of}
+use Rattle.core_client.specs.Pool.{IsInPool}
+use Rattle.core_client.specs.Writing.{IsPassedOrMade, IsPlanOf}
+use Rattle.core_client.specs.BlockTurns.{IsWrittenSoFar}
+use Rattle.core_turns.specs.declared.putting.Filled.{Filled}
+use Rattle.core_turns.specs.declared.putting.PutRun.{PutRun}
+use Rattle.core_turns.specs.declared.turn.Turn.{Turn}
+use Rattle.core_turns.specs.declared.turn.Turn.TheVariants.{More, Busy, Done}
+use Rattle.core_turns.specs.Core.{Core, CoreState}
+use Rattle.core_turns.specs.Getting.{HasTooManyOut}
+
+-- the hold of a put on its sectors
+abbrev pub hold_on : PutRange → ℕ → Hold
+hold_on range actor = record {
+  lo = range.layout.start;
+  hi = range.layout.start + allocated_of range.layout;
+  actor = actor;
+  kind = Shared;
+}
+
+-- What was filled in is a block of these bytes.
+pub record IsFilledWith (core : Core) (run : PutRun) (filled : Filled) (content : List ℕ) : Type 0 where
+  pub plan : IsPlanOf run.range.layout core.pool.uber.reflow (front_after_stop core.pool.uber.reflow) content
+      filled.write.rows filled.write.writes
+  pub writes : filled.write.writes
+      ≡ writes_of run.range.layout core.pool.uber.reflow (front_after_stop core.pool.uber.reflow)
+  pub len_is : length content ≡ run.len
+  pub digest_is : filled.digest ≡ sha256 content
+
+-- The put is one of this pool, whose sectors it holds.
+pub record IsPutOf (core : Core) (run : PutRun) : Type 0 where
+  pub pool : IsInPool run.range.layout core.pool.uber.reflow
+  pub reflow_is : run.reflow ≡ core.pool.uber.reflow
+  pub range : IsRangeFor core.pool.blocks run.range.id run.len run.range.birth run.range
+  pub born : (1 ≤ run.range.birth) × (run.range.birth ≤ core.begun + 1)
+  pub len : (1 ≤ run.len) × (run.len ≤ 65536)
+  pub holds : Contains core.holds run.hold
+  pub hold_is : run.hold ≡ hold_on run.range run.hold.actor
+  pub filled : (filled : Filled) → run.filled ≡ Some filled
+      → (content : List ℕ) × IsFilledWith core run filled content
+
+-- The blocks are as they were but for the order in which ids are reserved, and all else is as it was.
+pub record LeavesBlocks (old new : Core) : Type 0 where
+  pub rest : new ≡ record old { pool = record old.pool { blocks = new.pool.blocks } }
+  pub parity : new.pool.blocks.parity ≡ old.pool.blocks.parity
+  pub births : new.pool.blocks.births ≡ old.pool.blocks.births
+  pub entries : new.pool.blocks.table.entries ≡ old.pool.blocks.table.entries
+  pub capacity : new.pool.blocks.space.capacity ≡ old.pool.blocks.space.capacity
+  pub adds : AddsAtMost old.pool.blocks.space new.pool.blocks.space []
+  pub under : (ranges : List PutRange) → AreUnderWay old.pool.blocks ranges
+      → AreUnderWay new.pool.blocks ranges
+  pub kept : (past : ℕ) (kept : List IndexEntry) → NoneFree old.pool.blocks past kept
+      → NoneFree new.pool.blocks past kept
+
+-- A put of so many bytes begins: its id is reserved, it has taken the lowest run of free sectors that fits, and
+-- holds it. Its block is born in the open group.
+pub record BeginsPutSo (old new : Core) (actor id len : ℕ) (run : PutRun) : Type 0 where
+  pub few : HasTooManyOut old → ⊥
+  pub len_is : run.len ≡ len
+  pub unfilled : run.filled ≡ None
+  pub range : IsRangeFor new.pool.blocks id len (old.begun + 1) run.range
+  pub begins : BeginsPut old.pool.blocks new.pool.blocks old.holds run.range
+  pub under_way : IsUnderWay new.pool.blocks run.range
+  pub hold_is : run.hold ≡ hold_on run.range actor
+  pub rest : new ≡ record old {
+    pool = record old.pool { blocks = new.pool.blocks };
+    holds = old.holds ++ run.hold ∷ [];
+  }
+  pub of : IsPutOf new run
+  pub under : (ranges : List PutRange) → AreUnderWay old.pool.blocks ranges
+      → AreUnderWay new.pool.blocks (ranges ++ run.range ∷ [])
+  pub kept : (past : ℕ) (kept : List IndexEntry) → NoneFree old.pool.blocks past kept
+      → NoneFree new.pool.blocks past kept
+  pub spares : (past : ℕ) (kept : List IndexEntry) → NoneFree old.pool.blocks past kept
+      → SparesAll old.pool.blocks.parity old.pool.blocks.births kept (put_run run.range)
+
+-- Why a put of so many bytes ends in its first turn.
+abbrev pub IsPutRefused : Core → Core → ℕ → ℕ → Answer → Type 0
+IsPutRefused old new id len (answer.TooManyFailed out) =
+    HasTooManyOut old × (out ≡ old.pool.out) × (new ≡ old)
+IsPutRefused old new id len answer.Full =
+    (HasTooManyOut old → ⊥) × IsFull old.pool.blocks.table id × LeavesBlocks old new
+IsPutRefused old new id len (answer.NoSpace sectors) = (HasTooManyOut old → ⊥)
+    × (sectors ≡ sectors_taken old.pool.uber.parity old.pool.uber.births len (old.begun + 1))
+    × HasNoRun old.pool.blocks.space old.holds sectors × LeavesBlocks old new
+IsPutRefused old new id len answer.NoMemory = (HasTooManyOut old → ⊥) × LeavesBlocks old new
+IsPutRefused old new id len other = ⊥
+
+-- what the first turn of a put comes to
+abbrev pub BeginsPutTurn : Core → Core → ℕ → ℕ → ℕ → Turn PutRun → Type 0
+BeginsPutTurn old new actor id len (More run) = BeginsPutSo old new actor id len run
+BeginsPutTurn old new actor id len (Busy by) = (HasTooManyOut old → ⊥) × LeavesBlocks old new
+    × IsBusySpace old.pool.blocks.space old.holds
+    (sectors_taken old.pool.uber.parity old.pool.uber.births len (old.begun + 1)) by
+BeginsPutTurn old new actor id len (Done given) = IsPutRefused old new id len given
+
+-- A block was filled in: these bytes' columns, of which nothing was written yet.
+pub record FillsPut (old new : PutRun) (content : List ℕ) : Type 0 where
+  pub filled : Filled
+  pub rest : new ≡ record old { filled = Some filled }
+  pub next : filled.write.next ≡ 0
+  pub plan : IsPlanOf old.range.layout old.reflow (front_after_stop old.reflow) content filled.write.rows
+      filled.write.writes
+  pub writes : filled.write.writes ≡ writes_of old.range.layout old.reflow (front_after_stop old.reflow)
+  pub digest_is : filled.digest ≡ sha256 content
+
+-- A put is given up: its hold has ended, its sectors are free, and its id is no longer reserved for it.
+pub record GivesUp (old new : Core) (run : PutRun) : Type 0 where
+  pub rest : new ≡ record old { pool = record old.pool { blocks = new.pool.blocks }; holds = new.holds }
+  pub ends : EndsHold old.holds new.holds run.hold
+  pub parity : new.pool.blocks.parity ≡ old.pool.blocks.parity
+  pub births : new.pool.blocks.births ≡ old.pool.blocks.births
+  pub entries : new.pool.blocks.table.entries ≡ old.pool.blocks.table.entries
+  pub reserved : new.pool.blocks.table.reserved ≡ without_one run.range.id old.pool.blocks.table.reserved
+  pub dropped : IsDropping old.pool.blocks.space new.pool.blocks.space run.range.layout.start
+      (allocated_of run.range.layout)
+  pub under : (left ranges : List PutRange) → Gains left ranges run.range
+      → AreUnderWay old.pool.blocks ranges → AreUnderWay new.pool.blocks left
+  pub kept : (past : ℕ) (kept : List IndexEntry)
+      → SparesAll old.pool.blocks.parity old.pool.blocks.births kept (put_run run.range)
+      → NoneFree old.pool.blocks past kept → NoneFree new.pool.blocks past kept
+
+-- It was given up because too many devices are out.
+pub record IsStoppedPut (old new : Core) (run : PutRun) (given : Answer) : Type 0 where
+  pub many : HasTooManyOut old
+  pub given_is : given ≡ answer.TooManyFailed old.pool.out
+  pub gives_up : GivesUp old new run
+
+-- The next write of a put was made, or passed over where its device is out.
+pub record WritesOne (before : CoreState) (run : PutRun) (after : CoreState) (next : PutRun) : Type 0 where
+  pub few : HasTooManyOut before.core → ⊥
+  pub filled : Filled
+  pub filled_is : run.filled ≡ Some filled
+  pub write : Write
+  pub write_is : slice_get filled.write.writes filled.write.next ≡ Some write
+  pub next_is : next ≡ record run {
+    filled = Some (record filled { write = record filled.write { next = filled.write.next + 1 } });
+  }
+  pub rest : after.core ≡ record before.core { pool = record before.core.pool { out = after.core.pool.out } }
+  pub made : IsPassedOrMade filled.write.rows write (point_of before.core.pool.out before.disk)
+      (point_of after.core.pool.out after.disk)
+
+-- what a turn that writes comes to
+abbrev pub WritesTurn : CoreState → PutRun → CoreState → Turn PutRun → Type 0
+WritesTurn before run after (More next) = WritesOne before run after next
+WritesTurn before run after (Busy by) = ⊥
+WritesTurn before run after (Done given) = IsStoppedPut before.core after.core run given
+    × (after.disk ≡ before.disk)
+
+-- the entry of a put's block
+abbrev pub entry_for : PutRun → Filled → IndexEntry
+entry_for run filled = record {
+  id = run.range.id;
+  start = run.range.layout.start;
+  len = run.len;
+  birth = run.range.birth;
+  digest = filled.digest;
+}
+
+-- A put ends: its block stands in the table, its hold has ended, and the sectors of the block that it replaces,
+-- if there is one, are held back until the open group is answered.
+pub record StoresBlock (old new : Core) (run : PutRun) : Type 0 where
+  pub few : HasTooManyOut old → ⊥
+  pub filled : Filled
+  pub filled_is : run.filled ≡ Some filled
+  pub rest : new ≡ record old { pool = record old.pool { blocks = new.pool.blocks }; holds = new.holds }
+  pub ends : EndsHold old.holds new.holds run.hold
+  pub parity : new.pool.blocks.parity ≡ old.pool.blocks.parity
+  pub births : new.pool.blocks.births ≡ old.pool.blocks.births
+  pub change : ChangesOnly old.pool.blocks.table.entries new.pool.blocks.table.entries run.range.id
+      (Some (entry_for run filled))
+  pub reserved : new.pool.blocks.table.reserved ≡ without_one run.range.id old.pool.blocks.table.reserved
+  pub held : HoldsBack old.pool.blocks.parity old.pool.blocks.births old.pool.blocks.space
+      new.pool.blocks.space (old.begun + 1) (entry_of old.pool.blocks.table.entries run.range.id)
+  pub under : (left ranges : List PutRange) → Gains left ranges run.range
+      → AreUnderWay old.pool.blocks ranges → AreUnderWay new.pool.blocks left
+  pub kept : (past : ℕ) (kept : List IndexEntry) → past < old.begun + 1
+      → NoneFree old.pool.blocks past kept → NoneFree new.pool.blocks past kept
+
+-- what the last turn of a put comes to
+abbrev pub EndsPut : Core → PutRun → Core → Turn PutRun → Type 0
+EndsPut old run new (Done answer.Stored) = StoresBlock old new run
+EndsPut old run new (Done (answer.TooManyFailed out)) = IsStoppedPut old new run (answer.TooManyFailed out)
+EndsPut old run new other = ⊥
+
+-- what a turn that gives up comes to: memory was wanting to fill the block in
+abbrev pub GivesUpTurn : Core → PutRun → Core → Turn PutRun → Type 0
+GivesUpTurn old run new (Done answer.NoMemory) = (HasTooManyOut old → ⊥) × GivesUp old new run
+GivesUpTurn old run new (Done (answer.TooManyFailed out)) = IsStoppedPut old new run (answer.TooManyFailed out)
+GivesUpTurn old run new other = ⊥
+
+-- A put is one of these bytes, and what it has written of them so far stands on the devices in use.
+pub record HoldsPut (content : List ℕ) (state : CoreState) (run : PutRun) : Type 0 where
+  pub len_is : length content ≡ run.len
+  pub are_bytes : AreBytes content
+  pub so_far : (filled : Filled) → run.filled ≡ Some filled
+      → (filled.digest ≡ sha256 content)
+      × IsWrittenSoFar run.range.layout content state.core.pool.uber.reflow
+      (front_after_stop state.core.pool.uber.reflow) state.disk.reads state.core.pool.out filled.write

@@ -1,0 +1,125 @@
+-- What stands between two turns, beside the calls that are under way.
+use Rattle.std.specs.Prelude.{◌≡◌, ◌≢◌, ℕ, ◌≤◌, List, [], ◌∷◌, Option, Some, None, AllPairs, Contains, ⊤}
+use Rattle.std.specs.List.{filter_map}
+use Rattle.bank_trait.specs.Disk.{Later}
+use Rattle.bank_trait.specs.Regions.{Tells, TouchesOnly}
+use Rattle.range_locks.specs.declared.hold.Hold.{Hold}
+use Rattle.row_layout.specs.Layout.{Layout}
+use Rattle.reflow_mark.specs.declared.reflow.Reflow.{Reflow}
+use Rattle.uberblock_ring.specs.Devices.{count_of}
+use Rattle.uberblock_ring.specs.Valid.{AreAlike}
+use Rattle.core_state.specs.Map.{Map}
+use Rattle.core_state.specs.Index.{layout_of}
+use Rattle.core_state.specs.Keeps.{Kept, Setting}
+use Rattle.core_state.specs.Certain.{Knows}
+use Rattle.core_state.specs.Committing.{Point}
+use Rattle.core_blocks.specs.declared.range.PutRange.{PutRange}
+use Rattle.core_blocks.specs.Blocks.{AreUnderWay, layout_run, put_run}
+use Rattle.core_blocks.specs.Kept.{NoneFree, SparesAll}
+use Rattle.core_blocks.specs.Runs.{AreClear}
+use Rattle.core_client.specs.Outs.{point_of, OnlyFailedGoOut}
+use Rattle.core_client.specs.Pool.{IsInPool}
+use Rattle.core_commit.specs.CommitTurns.{CommitRun, IsCommitting}
+use Rattle.core_commit.specs.Spared.{IsOnInUse}
+use Rattle.core_open.specs.Holds.{shape_of}
+use Rattle.core_serial.specs.Pool.{HasBank, HoldsMap}
+use Rattle.core_turns.specs.declared.getting.GetRun.{GetRun}
+use Rattle.core_turns.specs.declared.putting.PutRun.{PutRun}
+use Rattle.core_turns.specs.Core.{CoreState, pool_at}
+use Rattle.core_turns.specs.Getting.{IsRead, IsGetOf, HoldsGet}
+use Rattle.core_turns.specs.Putting.{IsPutOf, HoldsPut}
+use Rattle.core_turns.specs.Committing.{IsCommitOf}
+
+-- a call under way that holds sectors, and the bytes of its block: those that a put is handed, those that a read
+-- is to find
+pub data Call : Type 0 where
+  Putting : (run : PutRun) (content : List ℕ) → Call
+  Reading : (run : GetRun) (content : List ℕ) → Call
+
+abbrev pub hold_of_call : Call → Hold
+hold_of_call (Putting run content) = run.hold
+hold_of_call (Reading run content) = run.hold
+
+abbrev pub layout_of_call : Call → Layout
+layout_of_call (Putting run content) = run.range.layout
+layout_of_call (Reading run content) = run.read.layout
+
+-- the range of a put
+abbrev pub range_in : Call → Option PutRange
+range_in (Putting run content) = Some run.range
+range_in (Reading run content) = None
+
+abbrev pub ranges_of : List Call → List PutRange
+ranges_of calls = filter_map range_in calls
+
+-- The call goes on as it should.
+abbrev pub CallStands : CoreState → Call → Type 0
+CallStands state (Putting run content) = IsPutOf state.core run × HoldsPut content state run
+CallStands state (Reading run content) =
+    IsRead run.kind × IsGetOf state.core run × HoldsGet content state run
+
+-- Two reads may be of one block; a put has no sector in common with another call.
+abbrev pub HaveNoneInCommon : Call → Call → Type 0
+HaveNoneInCommon (Reading run content) (Reading other held) = ⊤
+HaveNoneInCommon one other = AreClear (layout_run (layout_of_call one)) (layout_run (layout_of_call other))
+
+-- Two calls are of two actors.
+pub record AreBeside (one other : Call) : Type 0 where
+  pub actors : (hold_of_call one).actor ≢ (hold_of_call other).actor
+  pub apart : HaveNoneInCommon one other
+
+-- No put has a sector of these blocks.
+abbrev pub PutsSpare : CoreState → List Call → Kept → Type 0
+PutsSpare state calls kept = (run : PutRun) (content : List ℕ) → Contains calls (Putting run content)
+    → SparesAll state.core.pool.blocks.parity state.core.pool.blocks.births kept.entries (put_run run.range)
+
+-- The group after the last answered one is under way: it has come so far, and no sector of its blocks is free or
+-- a put's.
+pub record CommitStands (setting : Setting) (last : Kept) (begun : List Kept) (calls : List Call) (run : CommitRun)
+    (state : CoreState) : Type 0 where
+  pub next : Kept
+  pub begun_is : begun ≡ next ∷ []
+  pub of : IsCommitOf state.core run
+  pub come : IsCommitting setting last next run (point_of state.core.pool.out state.disk)
+  pub kept : NoneFree state.core.pool.blocks state.core.begun next.entries
+  pub spared : PutsSpare state calls next
+
+-- No commit is under way. One that was cut short was so because too many devices are out, and images may show
+-- its group.
+pub record NoCommitStands (setting : Setting) (last : Kept) (begun : List Kept) (state : CoreState) : Type 0 where
+  pub knows : Knows setting last begun state.disk
+  pub whole : count_of state.core.pool.out ≤ state.core.pool.uber.parity
+      → (begun ≡ []) × (state.core.committing ≡ None)
+
+abbrev pub GroupsStand : Setting → Kept → List Kept → List Call → Option CommitRun → CoreState → Type 0
+GroupsStand setting last begun calls None state = NoCommitStands setting last begun state
+GroupsStand setting last begun calls (Some run) state = CommitStands setting last begun calls run state
+
+-- Between two turns: the last answered group is certain on the devices, and what is known of one that was begun
+-- after it; the map is held; each call under way goes on as it should, and they are beside each other. No sector
+-- of the last group's blocks is free or a put's.
+pub record Stands (setting : Setting) (last : Kept) (begun : List Kept) (map : Map) (calls : List Call)
+    (commit : Option CommitRun) (state : CoreState) : Type 0 where
+  pub groups : GroupsStand setting last begun calls commit state
+  pub alike : AreAlike state.core.pool.uber last.uber
+  pub kept : NoneFree state.core.pool.blocks state.core.pool.uber.group last.entries
+  pub spared : PutsSpare state calls last
+  pub odd : setting.odd ≡ []
+  pub shape : setting.shape ≡ shape_of state.disk
+  pub tells : Tells state.disk
+  pub bank : HasBank state.core.pool.uber state.core.pool.out state.disk
+  pub holds : HoldsMap map (pool_at state)
+  pub under : AreUnderWay state.core.pool.blocks (ranges_of calls)
+  pub each : (call : Call) → Contains calls call → CallStands state call
+  pub beside : AllPairs AreBeside calls
+
+-- What each turn does: the bank goes on, devices go out where they failed, and none is touched but those of the
+-- pool that were in use. The pool's widths stay.
+pub record TurnGoesOn (before after : CoreState) : Type 0 where
+  pub parity : after.core.pool.uber.parity ≡ before.core.pool.uber.parity
+  pub widths : after.core.pool.uber.reflow ≡ before.core.pool.uber.reflow
+  pub births : after.core.pool.uber.births ≡ before.core.pool.uber.births
+  pub later : Later before.disk after.disk
+  pub out : OnlyFailedGoOut (point_of before.core.pool.out before.disk)
+      (point_of after.core.pool.out after.disk)
+  pub only : TouchesOnly (IsOnInUse before.core.pool.uber.reflow.to before.core.pool.out) before.disk after.disk
