@@ -25,7 +25,7 @@ use Rattle.core_open.specs.Holds.{shape_of}
 use Rattle.core_serial.specs.Pool.{HasBank, HoldsMap}
 use Rattle.core_turns.specs.declared.getting.GetRun.{GetRun}
 use Rattle.core_turns.specs.declared.putting.PutRun.{PutRun}
-use Rattle.core_turns.specs.Core.{CoreState, pool_at}
+use Rattle.core_turns.specs.Core.{Core, CoreState, pool_at}
 use Rattle.core_turns.specs.Getting.{IsRead, IsGetOf, HoldsGet}
 use Rattle.core_turns.specs.Putting.{IsPutOf, HoldsPut}
 use Rattle.core_turns.specs.Committing.{IsCommitOf}
@@ -52,11 +52,15 @@ range_in (Reading run content) = None
 abbrev pub ranges_of : List Call → List PutRange
 ranges_of calls = filter_map range_in calls
 
--- The call goes on as it should.
-abbrev pub CallStands : CoreState → Call → Type 0
-CallStands state (Putting run content) = IsPutOf state.core run × HoldsPut content state run
-CallStands state (Reading run content) =
-    IsRead run.kind × IsGetOf state.core run × HoldsGet content state run
+-- The call is one of this core.
+abbrev pub IsCallOf : Core → Call → Type 0
+IsCallOf core (Putting run content) = IsPutOf core run
+IsCallOf core (Reading run content) = IsRead run.kind × IsGetOf core run
+
+-- What a call has written or read so far is its block's.
+abbrev pub HoldsCall : CoreState → Call → Type 0
+HoldsCall state (Putting run content) = HoldsPut content state run
+HoldsCall state (Reading run content) = HoldsGet content state run
 
 -- Two reads may be of one block; a put has no sector in common with another call.
 abbrev pub HaveNoneInCommon : Call → Call → Type 0
@@ -67,6 +71,13 @@ HaveNoneInCommon one other = AreClear (layout_run (layout_of_call one)) (layout_
 pub record AreBeside (one other : Call) : Type 0 where
   pub actors : (hold_of_call one).actor ≢ (hold_of_call other).actor
   pub apart : HaveNoneInCommon one other
+
+-- The calls under way that hold sectors are these, whatever their blocks' bytes: each is one of this core, the
+-- puts among them have all ranges that are taken and no block's, and they are beside each other.
+pub record AreCallsOf (core : Core) (calls : List Call) : Type 0 where
+  pub each : (call : Call) → Contains calls call → IsCallOf core call
+  pub under : AreUnderWay core.pool.blocks (ranges_of calls)
+  pub beside : AllPairs AreBeside calls
 
 -- No put has a sector of these blocks.
 abbrev pub PutsSpare : CoreState → List Call → Kept → Type 0
@@ -109,9 +120,8 @@ pub record Stands (setting : Setting) (last : Kept) (begun : List Kept) (map : M
   pub tells : Tells state.disk
   pub bank : HasBank state.core.pool.uber state.core.pool.out state.disk
   pub holds : HoldsMap map (pool_at state)
-  pub under : AreUnderWay state.core.pool.blocks (ranges_of calls)
-  pub each : (call : Call) → Contains calls call → CallStands state call
-  pub beside : AllPairs AreBeside calls
+  pub are : AreCallsOf state.core calls
+  pub each : (call : Call) → Contains calls call → HoldsCall state call
 
 -- What each turn does: the bank goes on, devices go out where they failed, and none is touched but those of the
 -- pool that were in use. The pool's widths stay.
