@@ -1,5 +1,5 @@
 -- A put's writes leave the reads that are under way beside it, and a commit.
-use Rattle.std.proofs.Common.{◌≡◌, ℕ, List, sym, ◌∙◌, subst, refl}
+use Rattle.std.proofs.Common.{◌≡◌, ℕ, List, sym, ◌∙◌, ap, subst, refl}
 use Rattle.std.specs.Prelude.{Contains}
 use Rattle.bank_trait.specs.Regions.{TouchesOnly}
 use Rattle.reflow_mark.specs.declared.reflow.Reflow.{Reflow}
@@ -11,6 +11,7 @@ use Rattle.shadow_write.proofs.Whole.{are_required}
 use Rattle.reconstruct.specs.Columns.{column_bytes}
 use Rattle.block_record.specs.declared.entry.IndexEntry.{IndexEntry}
 use Rattle.uberblock_ring.specs.Devices.{IsWithin}
+use Rattle.uberblock_ring.specs.Uberblock.{Uber}
 use Rattle.core_state.specs.Index.{layout_of}
 use Rattle.core_state.specs.Keeps.{Kept, Setting}
 use Rattle.core_state.specs.Certain.{Asks}
@@ -62,7 +63,7 @@ pub get_beside_put : (content : List ℕ) (before after : CoreState) (run : GetR
     → TouchesOnly (IsWrittenTo layout before.core.pool.uber.reflow before.core.pool.out) before.disk after.disk
     → HoldsGet content before run → HoldsGet content after run
 get_beside_put content before after run layout uber within few pool of clear touched holds = get_stays content before after run
-    uber within few
+    (ap (λ (u : Uber). u.reflow) uber) within few
     (λ cell device device_sector cell_is required used read. touched.reads device device_sector
     (λ written. never_both before.core.pool.uber.reflow layout run.read.layout before.core.pool.out device device_sector cell content
     pool of.pool clear cell_is required written) ∙ read)
@@ -111,7 +112,7 @@ put_beside_commit setting first next reflow layout out inside_first inside_next 
 -- ---- what has been written of a put
 
 -- A place that a write of a plan goes to is required by a cell of its block.
-written_cell : (layout : Layout) (bytes : List ℕ) (reflow : Reflow) (done : ℕ) (run : BlockWrite) (write : Write)
+pub written_cell : (layout : Layout) (bytes : List ℕ) (reflow : Reflow) (done : ℕ) (run : BlockWrite) (write : Write)
     → IsPlanOf layout reflow done bytes run.rows run.writes → Contains run.writes write
     → (cell : Cell) × IsCell layout bytes cell
     × IsRequiredPlace reflow done cell.row_end cell.sector write.device write.device_sector
@@ -161,7 +162,8 @@ pub get_beside_step : (content : List ℕ) (before after : CoreState) (run : Get
     → ((HasTooManyOut after.core → ⊥) → HasTooManyOut before.core → ⊥)
     → Spares (point_of before.core.pool.out before.disk) (point_of after.core.pool.out after.disk)
     → HoldsGet content before run → HoldsGet content after run
-get_beside_step content before after run uber within few spares holds = get_stays content before after run uber within few
+get_beside_step content before after run uber within few spares holds = get_stays content before after run
+    (ap (λ (u : Uber). u.reflow) uber) within few
     (λ cell device device_sector cell_is required used read. spares.reads device device_sector used
     (required_sector before.core.pool.uber.reflow cell.row_end cell.sector device device_sector required) ∙ read)
     holds

@@ -3,13 +3,13 @@ use Rattle.std.proofs.Common.{◌≡◌, ⊎_elim, ℕ, ◌<◌, List, false, Op
 use Rattle.std.specs.Prelude.{OnOk}
 use Rattle.std.proofs.lemmas.Bool.{cases_lt}
 use Rattle.bank_trait.specs.Disk.{Disk, Unchanged}
+use Rattle.reflow_mark.specs.declared.reflow.Reflow.{Reflow}
 use Rattle.row_layout.specs.Layout.{Layout, rows_of}
 use Rattle.shadow_write.specs.Required.{front_after_stop, IsRequiredPlace}
 use Rattle.block_record.specs.declared.entry.IndexEntry.{IndexEntry}
 use Rattle.block_table.specs.Table.{entry_of}
 use Rattle.reconstruct.specs.Lost.{IsLeftOver}
 use Rattle.uberblock_ring.specs.Devices.{has_device, count_of, IsWithin}
-use Rattle.uberblock_ring.specs.Uberblock.{Uber}
 use Rattle.core_state.specs.declared.answer.Answer.{Answer}
 use Rattle.core_state.specs.declared.answer.Kind.{Kind}
 use Rattle.core_state.specs.declared.answer.Kind.TheVariants as kind
@@ -151,7 +151,7 @@ get_tells content old new disk run (Done given) asked holds ends = ⊎_elim
 -- A read stays with its block while others' turns leave what is read at the block's places, on devices that
 -- are in use still.
 pub get_stays : (content : List ℕ) (before after : CoreState) (run : GetRun)
-    → after.core.pool.uber ≡ before.core.pool.uber → IsWithin before.core.pool.out after.core.pool.out
+    → after.core.pool.uber.reflow ≡ before.core.pool.uber.reflow → IsWithin before.core.pool.out after.core.pool.out
     → ((HasTooManyOut after.core → ⊥) → HasTooManyOut before.core → ⊥)
     → ((cell : Cell) (device device_sector : ℕ) → IsCell run.read.layout content cell
     → IsRequiredPlace before.core.pool.uber.reflow (front_after_stop before.core.pool.uber.reflow) cell.row_end cell.sector device
@@ -159,18 +159,18 @@ pub get_stays : (content : List ℕ) (before after : CoreState) (run : GetRun)
     → has_device after.core.pool.out device ≡ false → before.disk.reads device device_sector ≡ Some cell.bytes
     → after.disk.reads device device_sector ≡ Some cell.bytes)
     → HoldsGet content before run → HoldsGet content after run
-get_stays content before after run uber within few same holds =
+get_stays content before after run widths within few same holds =
     let reflow = before.core.pool.uber.reflow in
     let done = front_after_stop reflow in
     record {
-      right = subst (λ (u : Uber). IsRightBlock run.read.layout content u.reflow (front_after_stop u.reflow) after.disk.reads
-          after.core.pool.out) (sym uber)
+      right = subst (λ (r : Reflow). IsRightBlock run.read.layout content r (front_after_stop r) after.disk.reads
+          after.core.pool.out) (sym widths)
           (block_stays run.read.layout content reflow done before.disk.reads after.disk.reads before.core.pool.out after.core.pool.out
           within same holds.right);
       len_is = holds.len_is;
       are_bytes = holds.are_bytes;
       digest_is = holds.digest_is;
-      so_far = subst (λ (u : Uber). IsReadSoFar content u.reflow after.core.pool.out run.read) (sym uber)
+      so_far = subst (λ (r : Reflow). IsReadSoFar content r after.core.pool.out run.read) (sym widths)
           (read_stays content reflow before.core.pool.out after.core.pool.out run.read within holds.so_far);
       solved = λ few_after. holds.solved (few few_after);
     }

@@ -2,3 +2,4 @@ pub mod Cores
 pub mod GetTurns
 pub mod GetLaws
 pub mod Beside
+pub mod Frames

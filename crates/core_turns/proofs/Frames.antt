@@ -1,0 +1,354 @@
+-- What a turn leaves of the calls that are under way beside it, and of the map.
+use Rattle.std.proofs.Common.{◌≡◌, ◌≢◌, ⊎_elim, ℕ, ◌+◌, ◌≤◌, List, false, Option, Some, sym, ◌∙◌, ap, subst, arith}
+use Rattle.std.specs.Prelude.{Contains}
+use Rattle.bank_trait.specs.Disk.{Later, Unchanged}
+use Rattle.bank_trait.specs.Regions.{TouchesOnly}
+use Rattle.bank_trait.proofs.Touches.{tells_later}
+use Rattle.range_locks.specs.declared.hold.Hold.{Hold}
+use Rattle.range_locks.specs.declared.hold.HoldKind.TheVariants.{Shared}
+use Rattle.range_locks.specs.Holds.{EndsHold}
+use Rattle.reflow_mark.specs.declared.reflow.Reflow.{Reflow}
+use Rattle.row_layout.specs.Layout.{Layout, allocated_of}
+use Rattle.shadow_write.specs.Required.{IsRequiredPlace, front_after_stop}
+use Rattle.shadow_write.specs.Writes.{writes_of}
+use Rattle.block_record.specs.declared.entry.IndexEntry.{IndexEntry}
+use Rattle.uberblock_ring.specs.Devices.{has_device, IsWithin}
+use Rattle.uberblock_ring.specs.Uberblock.{Uber}
+use Rattle.core_state.specs.Map.{Map}
+use Rattle.core_state.specs.Index.{layout_of}
+use Rattle.core_state.specs.Keeps.{Kept, Setting}
+use Rattle.core_state.specs.Whole.{Cell, IsCell}
+use Rattle.core_state.proofs.Frames.{Nowhere}
+use Rattle.core_state.proofs.Places.{IsDataSector, required_sector}
+use Rattle.core_blocks.specs.Blocks.{AreUnderWay, IsListed, layout_run, put_run}
+use Rattle.core_blocks.specs.Kept.{NoneFree, SparesAll}
+use Rattle.core_blocks.specs.Puts.{layout_at}
+use Rattle.core_blocks.specs.Runs.{AreClear}
+use Rattle.core_blocks.proofs.Lists.{gains_cases}
+use Rattle.core_client.specs.Outs.{point_of}
+use Rattle.core_client.specs.Pool.{IsInPool, IsRightBlock}
+use Rattle.core_client.specs.Writing.{IsPlanOf}
+use Rattle.core_client.specs.BlockTurns.{IsWrittenSoFar}
+use Rattle.core_client.proofs.BlockTurns.{written_stays}
+use Rattle.core_commit.specs.CommitTurns.{CommitRun}
+use Rattle.core_commit.specs.Spared.{Spares}
+use Rattle.core_serial.specs.Pool.{HasBank, HoldsMap, IsTableOf}
+use Rattle.core_serial.proofs.Going.{bank_later, count_grows}
+use Rattle.core_serial.proofs.Holding.{block_stays}
+use Rattle.core_turns.specs.declared.getting.GetRun.{GetRun}
+use Rattle.core_turns.specs.declared.putting.PutRun.{PutRun}
+use Rattle.core_turns.specs.Core.{Core, CoreState, pool_at}
+use Rattle.core_turns.specs.Getting.{IsGetOf, HoldsGet}
+use Rattle.core_turns.specs.Putting.{IsPutOf, HoldsPut}
+use Rattle.core_turns.specs.UnderWay.{Call, Putting, Reading, hold_of_call, layout_of_call, ranges_of, IsCallOf, HoldsCall, AreCallsOf, PutsSpare, GroupsStand, Stands}
+use Rattle.core_turns.proofs.Beside.{IsWrittenTo, never_both, written_cell}
+use Rattle.core_turns.proofs.GetLaws.{get_stays}
+
+-- What a turn leaves: the pool's widths stay, no device comes back, and on those in use each data sector that is
+-- none of these reads what it read.
+pub record Leaves (P : ℕ → ℕ → Type 0) (before after : CoreState) : Type 0 where
+  pub parity : after.core.pool.uber.parity ≡ before.core.pool.uber.parity
+  pub births : after.core.pool.uber.births ≡ before.core.pool.uber.births
+  pub reflow : after.core.pool.uber.reflow ≡ before.core.pool.uber.reflow
+  pub within : IsWithin before.core.pool.out after.core.pool.out
+  pub reads : (device device_sector : ℕ) → has_device after.core.pool.out device ≡ false → IsDataSector device_sector
+      → (P device device_sector → ⊥) → after.disk.reads device device_sector ≡ before.disk.reads device device_sector
+
+-- No place that a block requires is one of these.
+abbrev pub IsOff : (ℕ → ℕ → Type 0) → Reflow → Layout → Type 0
+IsOff P reflow layout = (content : List ℕ) (cell : Cell) (device device_sector : ℕ) → IsCell layout content cell
+    → IsRequiredPlace reflow (front_after_stop reflow) cell.row_end cell.sector device device_sector
+    → P device device_sector → ⊥
+
+-- Where nothing is written, each block is off that;
+pub off_nowhere : (reflow : Reflow) (layout : Layout) → IsOff Nowhere reflow layout
+off_nowhere reflow layout = λ content cell device device_sector is place nowhere. nowhere
+
+-- and off another's writes is each that has no sector in common with it.
+pub off_written : (reflow : Reflow) (layout other : Layout) (out : ℕ) → IsInPool layout reflow → IsInPool other reflow
+    → AreClear (layout_run layout) (layout_run other) → IsOff (IsWrittenTo layout reflow out) reflow other
+off_written reflow layout other out pool other_pool clear = λ content cell device device_sector is place written.
+    never_both reflow layout other out device device_sector cell content pool other_pool clear is place written
+
+-- ---- what turns leave
+
+-- Only devices went out in this core.
+abbrev pub OnlyOut : Core → Core → Type 0
+OnlyOut old new = new ≡ record old { pool = record old.pool { out = new.pool.out } }
+
+-- A turn that reads leaves all,
+pub leaves_read : (before after : CoreState) → OnlyOut before.core after.core
+    → IsWithin before.core.pool.out after.core.pool.out → Unchanged before.disk after.disk → Leaves Nowhere before after
+leaves_read before after core within same = record {
+  parity = ap (λ (c : Core). c.pool.uber.parity) core;
+  births = ap (λ (c : Core). c.pool.uber.births) core;
+  reflow = ap (λ (c : Core). c.pool.uber.reflow) core;
+  within = within;
+  reads = λ device device_sector used in_data away. same.reads device device_sector;
+}
+
+-- one that writes leaves what it does not touch,
+pub leaves_touched : (P : ℕ → ℕ → Type 0) (before after : CoreState) → OnlyOut before.core after.core
+    → IsWithin before.core.pool.out after.core.pool.out → TouchesOnly P before.disk after.disk → Leaves P before after
+leaves_touched P before after core within touched = record {
+  parity = ap (λ (c : Core). c.pool.uber.parity) core;
+  births = ap (λ (c : Core). c.pool.uber.births) core;
+  reflow = ap (λ (c : Core). c.pool.uber.reflow) core;
+  within = within;
+  reads = λ device device_sector used in_data away. touched.reads device device_sector away;
+}
+
+-- and a step of a commit leaves all data sectors.
+pub leaves_spared : (before after : CoreState) → OnlyOut before.core after.core
+    → IsWithin before.core.pool.out after.core.pool.out
+    → Spares (point_of before.core.pool.out before.disk) (point_of after.core.pool.out after.disk)
+    → Leaves Nowhere before after
+leaves_spared before after core within spares = record {
+  parity = ap (λ (c : Core). c.pool.uber.parity) core;
+  births = ap (λ (c : Core). c.pool.uber.births) core;
+  reflow = ap (λ (c : Core). c.pool.uber.reflow) core;
+  within = within;
+  reads = λ device device_sector used in_data away. spares.reads device device_sector used in_data;
+}
+
+-- ---- calls beside a turn
+
+-- What has been written of a put stays.
+pub put_stays : (P : ℕ → ℕ → Type 0) (content : List ℕ) (before after : CoreState) (run : PutRun)
+    → Leaves P before after
+    → IsOff P before.core.pool.uber.reflow run.range.layout → HoldsPut content before run → HoldsPut content after run
+put_stays P content before after run leaves off holds =
+    let layout = run.range.layout in
+    let reflow = before.core.pool.uber.reflow in
+    record {
+      len_is = holds.len_is;
+      are_bytes = holds.are_bytes;
+      so_far = λ filled is. let was = holds.so_far filled is in (
+        was.0,
+        subst (λ (r : Reflow). IsWrittenSoFar layout content r (front_after_stop r) after.disk.reads
+            after.core.pool.out filled.write)
+            (sym leaves.reflow)
+            (written_stays layout content reflow (front_after_stop reflow) before.disk.reads after.disk.reads
+            before.core.pool.out
+            after.core.pool.out filled.write leaves.within
+            (λ write has used.
+            let cell = written_cell layout content reflow (front_after_stop reflow) filled.write write was.1.plan has in
+            leaves.reads write.device write.device_sector used
+            (required_sector reflow cell.0.row_end cell.0.sector write.device write.device_sector cell.2)
+            (off content cell.0 write.device write.device_sector cell.1 cell.2))
+            was.1),
+      );
+    }
+
+-- A read stays with its block.
+pub get_block_stays : (P : ℕ → ℕ → Type 0) (content : List ℕ) (before after : CoreState) (run : GetRun)
+    → Leaves P before after
+    → IsOff P before.core.pool.uber.reflow run.read.layout → HoldsGet content before run → HoldsGet content after run
+get_block_stays P content before after run leaves off holds = get_stays content before after run leaves.reflow
+    leaves.within
+    (λ few many. few (
+    let more = count_grows before.core.pool.out after.core.pool.out leaves.within in
+    let parity = leaves.parity in
+    omega (arith, many, more, parity)))
+    (λ cell device device_sector is place used read. leaves.reads device device_sector used
+    (required_sector before.core.pool.uber.reflow cell.row_end cell.sector device device_sector place)
+    (off content cell device device_sector is place) ∙ read)
+    holds
+
+pub call_stays : (P : ℕ → ℕ → Type 0) (before after : CoreState) (call : Call) → Leaves P before after
+    → IsOff P before.core.pool.uber.reflow (layout_of_call call) → HoldsCall before call → HoldsCall after call
+call_stays P before after (Putting run content) leaves off holds = put_stays P content before after run leaves off holds
+call_stays P before after (Reading run content) leaves off holds = get_block_stays P content before after run leaves
+    off holds
+
+-- The widths of a core and of its blocks stay, and the group begun last is no earlier one.
+pub record KeepsWidths (old new : Core) : Type 0 where
+  pub parity : new.pool.uber.parity ≡ old.pool.uber.parity
+  pub births : new.pool.uber.births ≡ old.pool.uber.births
+  pub reflow : new.pool.uber.reflow ≡ old.pool.uber.reflow
+  pub block_parity : new.pool.blocks.parity ≡ old.pool.blocks.parity
+  pub block_births : new.pool.blocks.births ≡ old.pool.blocks.births
+  pub begun : old.begun ≤ new.begun
+
+-- So they do where only devices went out.
+pub widths_out : (old new : Core) → OnlyOut old new → KeepsWidths old new
+widths_out old new core = record {
+  parity = ap (λ (c : Core). c.pool.uber.parity) core;
+  births = ap (λ (c : Core). c.pool.uber.births) core;
+  reflow = ap (λ (c : Core). c.pool.uber.reflow) core;
+  block_parity = ap (λ (c : Core). c.pool.blocks.parity) core;
+  block_births = ap (λ (c : Core). c.pool.blocks.births) core;
+  begun = (let begun : new.begun ≡ old.begun = ap (λ (c : Core). c.begun) core in omega (arith, begun));
+}
+
+-- A put is one of the pool still where its hold is there.
+pub put_of_stays : (old new : Core) (run : PutRun) → KeepsWidths old new → Contains new.holds run.hold → IsPutOf old run
+    → IsPutOf new run
+put_of_stays old new run widths listed of = record {
+  pool = subst (λ (r : Reflow). IsInPool run.range.layout r) (sym widths.reflow) of.pool;
+  reflow_is = of.reflow_is ∙ sym widths.reflow;
+  range = record {
+    id_is = of.range.id_is;
+    birth_is = of.range.birth_is;
+    layout_is = of.range.layout_is
+        ∙ (λ i. layout_at (sym widths.block_parity i) (sym widths.block_births i) run.range.layout.start run.len
+        run.range.birth);
+  };
+  born = (of.born.0, (let born = of.born.1 in let begun = widths.begun in omega (arith, born, begun)));
+  len = of.len;
+  holds = listed;
+  hold_is = of.hold_is;
+  filled = λ filled is. let was = of.filled filled is in (
+    was.0,
+    record {
+      plan = subst (λ (r : Reflow). IsPlanOf run.range.layout r (front_after_stop r) was.0 filled.write.rows
+          filled.write.writes)
+          (sym widths.reflow) was.1.plan;
+      writes = was.1.writes ∙ ap (λ (r : Reflow). writes_of run.range.layout r (front_after_stop r))
+          (sym widths.reflow);
+      len_is = was.1.len_is;
+      digest_is = was.1.digest_is;
+    },
+  );
+}
+
+-- So is a read.
+pub get_of_stays : (old new : Core) (run : GetRun) → KeepsWidths old new → Contains new.holds run.hold → IsGetOf old run
+    → IsGetOf new run
+get_of_stays old new run widths listed of = record {
+  layout_is = of.layout_is ∙ (λ i. layout_of (sym widths.parity i) (sym widths.births i) run.entry);
+  pool = subst (λ (r : Reflow). IsInPool run.read.layout r) (sym widths.reflow) of.pool;
+  holds = listed;
+  actor = of.actor;
+  hold_is = of.hold_is ∙ (λ i. record {
+    lo = run.entry.start;
+    hi = run.entry.start + allocated_of (layout_of (sym widths.parity i) (sym widths.births i) run.entry);
+    actor = of.actor;
+    kind = Shared;
+  });
+}
+
+pub call_of_stays : (old new : Core) (call : Call) → KeepsWidths old new → Contains new.holds (hold_of_call call)
+    → IsCallOf old call → IsCallOf new call
+call_of_stays old new (Putting run content) widths listed of = put_of_stays old new run widths listed of
+call_of_stays old new (Reading run content) widths listed of = (of.0, get_of_stays old new run widths listed of.1)
+
+-- The hold of a call is there,
+pub hold_listed : (core : Core) (call : Call) → IsCallOf core call → Contains core.holds (hold_of_call call)
+hold_listed core (Putting run content) of = of.holds
+hold_listed core (Reading run content) of = of.1.holds
+
+-- also once that of another actor has ended.
+pub ends_other : (old new : List Hold) (gone hold : Hold) → EndsHold old new gone → Contains old hold
+    → hold.actor ≢ gone.actor → Contains new hold
+ends_other old new gone hold ends listed apart = ⊎_elim
+    (λ (same : gone ≡ hold). absurd (apart (ap (λ (h : Hold). h.actor) (sym same))))
+    (λ left. left)
+    (gains_cases new old gone hold
+    (record { before = ends.before; after = ends.after; was = ends.is; is = ends.was }) listed)
+
+-- The calls under way stay so while the widths, their holds and the puts' ranges do,
+pub calls_keep : (old new : Core) (calls : List Call) → KeepsWidths old new
+    → ((hold : Hold) → Contains old.holds hold → Contains new.holds hold)
+    → AreUnderWay new.pool.blocks (ranges_of calls)
+    → AreCallsOf old calls → AreCallsOf new calls
+calls_keep old new calls widths kept under are = record {
+  each = λ call listed. let of = are.each call listed in
+      call_of_stays old new call widths (kept (hold_of_call call) (hold_listed old call of)) of;
+  under = under;
+  beside = are.beside;
+}
+
+-- and so where only devices went out.
+pub calls_stay : (old new : Core) (calls : List Call) → OnlyOut old new → AreCallsOf old calls → AreCallsOf new calls
+calls_stay old new calls core are = calls_keep old new calls (widths_out old new core)
+    (λ hold listed. subst (λ (c : Core). Contains c.holds hold) (sym core) listed)
+    (subst (λ (c : Core). AreUnderWay c.pool.blocks (ranges_of calls)) (sym core) are.under) are
+
+-- ---- the map, and all that stands
+
+-- The map is held still where its blocks are off what was written.
+pub map_stays : (P : ℕ → ℕ → Type 0) (map : Map) (before after : CoreState) → Leaves P before after
+    → after.core.pool.blocks.table.entries ≡ before.core.pool.blocks.table.entries
+    → ((entry : IndexEntry) → IsListed before.core.pool.blocks.table.entries entry
+    → IsOff P before.core.pool.uber.reflow (layout_of before.core.pool.uber.parity before.core.pool.uber.births entry))
+    → HoldsMap map (pool_at before) → HoldsMap map (pool_at after)
+map_stays P map before after leaves table off holds = record {
+  table = subst (λ (l : List IndexEntry). IsTableOf l map) (sym table) holds.table;
+  bytes = holds.bytes;
+  right = λ entry content listed has. right entry content (subst (λ (l : List IndexEntry). IsListed l entry) table
+      listed) has;
+}
+  where
+    right : (entry : IndexEntry) (content : List ℕ) → IsListed before.core.pool.blocks.table.entries entry
+        → map entry.id ≡ Some content
+        → IsRightBlock (layout_of after.core.pool.uber.parity after.core.pool.uber.births entry) content
+        after.core.pool.uber.reflow (front_after_stop after.core.pool.uber.reflow) after.disk.reads after.core.pool.out
+    right entry content listed has =
+        let reflow = before.core.pool.uber.reflow in
+        let layout = layout_of before.core.pool.uber.parity before.core.pool.uber.births entry in
+        subst (λ (r : Reflow). IsRightBlock (layout_of after.core.pool.uber.parity after.core.pool.uber.births entry)
+        content r
+        (front_after_stop r) after.disk.reads after.core.pool.out) (sym leaves.reflow)
+        (subst (λ (l : Layout). IsRightBlock l content reflow (front_after_stop reflow) after.disk.reads
+        after.core.pool.out)
+        (λ i. layout_of (sym leaves.parity i) (sym leaves.births i) entry)
+        (block_stays layout content reflow (front_after_stop reflow) before.disk.reads after.disk.reads
+        before.core.pool.out
+        after.core.pool.out leaves.within
+        (λ cell device device_sector is place used read. leaves.reads device device_sector used
+        (required_sector reflow cell.row_end cell.sector device device_sector place)
+        (off entry listed content cell device device_sector is place) ∙ read)
+        (holds.right entry content listed has)))
+
+-- What a turn has to leave of the blocks that stand in the table.
+abbrev pub AreOff : (ℕ → ℕ → Type 0) → Core → Type 0
+AreOff P core = (entry : IndexEntry) → IsListed core.pool.blocks.table.entries entry
+    → IsOff P core.pool.uber.reflow (layout_of core.pool.uber.parity core.pool.uber.births entry)
+
+-- All stands that stood, also where a turn makes other calls, or another commit, of those under way: what is told
+-- anew is the groups and the calls.
+pub stands_anew : (P : ℕ → ℕ → Type 0) (setting : Setting) (last : Kept) (begun : List Kept) (map : Map)
+    (calls nexts : List Call)
+    (commit next : Option CommitRun) (before after : CoreState) → Leaves P before after → AreOff P before.core
+    → OnlyOut before.core after.core → Later before.disk after.disk → GroupsStand setting last begun nexts next after
+    → PutsSpare after nexts last → AreCallsOf after.core nexts
+    → ((call : Call) → Contains nexts call → HoldsCall after call)
+    → Stands setting last begun map calls commit before → Stands setting last begun map nexts next after
+stands_anew P setting last begun map calls nexts commit next before after leaves off core later groups spared are each
+    stands =
+    let uber : after.core.pool.uber ≡ before.core.pool.uber = ap (λ (c : Core). c.pool.uber) core in
+    record {
+      groups = groups;
+      alike = ap (λ (u : Uber). record u { out = 0 }) uber ∙ stands.alike;
+      kept = subst (λ (c : Core). NoneFree c.pool.blocks c.pool.uber.group last.entries) (sym core) stands.kept;
+      spared = spared;
+      odd = stands.odd;
+      shape = stands.shape ∙ (λ i. record { devices = sym later.devices i; sectors = sym later.sectors i });
+      tells = tells_later later stands.tells;
+      bank = subst (λ (u : Uber). HasBank u after.core.pool.out after.disk) (sym uber)
+          (bank_later before.core.pool.uber before.disk after.disk before.core.pool.out after.core.pool.out later
+          leaves.within
+          stands.bank);
+      holds = map_stays P map before after leaves
+          (ap (λ (c : Core). c.pool.blocks.table.entries) core) off stands.holds;
+      are = are;
+      each = each;
+    }
+
+-- All stands that stood beside a turn that is none of a read or a put under way.
+pub stands_frame : (P : ℕ → ℕ → Type 0) (setting : Setting) (last : Kept) (begun : List Kept) (map : Map)
+    (calls : List Call)
+    (commit next : Option CommitRun) (before after : CoreState) → Leaves P before after
+    → ((call : Call) → Contains calls call → IsOff P before.core.pool.uber.reflow (layout_of_call call))
+    → AreOff P before.core → OnlyOut before.core after.core → Later before.disk after.disk
+    → GroupsStand setting last begun calls next after
+    → Stands setting last begun map calls commit before → Stands setting last begun map calls next after
+stands_frame P setting last begun map calls commit next before after leaves calls_off off core later groups stands =
+    stands_anew P setting last begun map calls calls commit next before after leaves off core later groups
+    (λ run content listed. subst (λ (c : Core). SparesAll c.pool.blocks.parity c.pool.blocks.births last.entries
+    (put_run run.range))
+    (sym core) (stands.spared run content listed))
+    (calls_stay before.core after.core calls core stands.are)
+    (λ call listed. call_stays P before after call leaves (calls_off call listed) (stands.each call listed))
+    stands
