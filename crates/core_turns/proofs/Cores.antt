@@ -1,13 +1,24 @@
 -- A core of which devices went out, and its bank.
-use Rattle.std.proofs.Common.{List, arith, ◌≡◌, ℕ, None, ◌^◌, ◌<◌, sym, subst}
+use Rattle.std.proofs.Common.{List, arith, ◌≡◌, ℕ, Option, None, ◌+◌, ◌^◌, ◌<◌, ◌≤◌, sym, ◌∙◌, subst}
 use Rattle.bank_trait.specs.Disk.{Disk}
 use Rattle.reflow_mark.specs.declared.reflow.Reflow.{Reflow}
 use Rattle.range_locks.specs.declared.hold.Hold.{Hold}
 use Rattle.uberblock_ring.specs.Devices.{IsWithin}
 use Rattle.uberblock_ring.specs.Uberblock.{Uber}
+use Rattle.block_record.specs.declared.entry.IndexEntry.{IndexEntry}
+use Rattle.core_blocks.specs.Blocks.{Blocks, IsListed}
 use Rattle.core_client.specs.Pool.{HasPool}
 use Rattle.core_serial.specs.Pool.{Pool, IsPool, HasBank}
 use Rattle.core_turns.specs.Core.{Core, IsCore, as_begun}
+
+-- a core of these parts
+abbrev pub core_with : Uber → Blocks → ℕ → List Hold → ℕ → Option ℕ → Core
+core_with uber blocks out holds begun committing = record {
+  pool = record { uber = uber; blocks = blocks; out = out };
+  holds = holds;
+  begun = begun;
+  committing = committing;
+}
 
 -- More devices may be out.
 pub pool_out : (pool : Pool) (out : ℕ) → IsPool pool → out < 2 ^ pool.uber.reflow.to → IsWithin pool.out out
@@ -38,3 +49,23 @@ bank_has uber reflow out disk same bank = subst (λ (r : Reflow). HasPool r out 
   devices = bank.devices;
   sectors = bank.room;
 })
+
+-- One whose blocks are others is a core still where they have the same widths and as many sectors, and no block is born
+-- after the open group.
+pub core_blocks : (core : Core) (blocks : Blocks) (holds : List Hold) → IsCore core → blocks.parity ≡ core.pool.blocks.parity
+    → blocks.births ≡ core.pool.blocks.births → blocks.space.capacity ≡ core.pool.blocks.space.capacity
+    → ((entry : IndexEntry) → IsListed blocks.table.entries entry → entry.birth ≤ core.begun + 1)
+    → IsCore (record core { pool = record core.pool { blocks = blocks }; holds = holds })
+core_blocks core blocks holds is parity births capacity born = record {
+  is = record {
+    right = is.is.right;
+    parity = parity ∙ is.is.parity;
+    births = births ∙ is.is.births;
+    capacity = capacity ∙ is.is.capacity;
+    born = born;
+    below = is.is.below;
+    lists = is.is.lists;
+  };
+  begun = is.begun;
+  few = is.few;
+}

@@ -3,3 +3,4 @@ pub mod GetTurns
 pub mod GetLaws
 pub mod Beside
 pub mod Frames
+pub mod PutTurns

@@ -1,5 +1,5 @@
 -- Puts, turn by turn.
-use Rattle.std.specs.Prelude.{◌≡◌, ℕ, ◌+◌, ◌<◌, ◌≤◌, List, ◌∷◌, [], ◌++◌, length, slice_get, Some, None, Contains}
+use Rattle.std.specs.Prelude.{◌≡◌, ℕ, ◌+◌, ◌<◌, ◌≤◌, List, ◌∷◌, [], ◌++◌, length, slice_get, Option, Some, None, Contains, ⊤}
 use Rattle.sha2.specs.Sha256.{sha256}
 use Rattle.range_locks.specs.declared.hold.Hold.{Hold}
 use Rattle.range_locks.specs.declared.hold.HoldKind.TheVariants.{Shared}
@@ -15,6 +15,8 @@ use Rattle.reconstruct.specs.Lost.{AreBytes}
 use Rattle.core_state.specs.declared.answer.Answer.{Answer}
 use Rattle.core_state.specs.declared.answer.Answer.TheVariants as answer
 use Rattle.core_blocks.specs.declared.range.PutRange.{PutRange}
+use Rattle.core_blocks.specs.declared.refused.PutRefused.{PutRefused}
+use Rattle.core_blocks.specs.declared.refused.PutRefused.TheVariants as refused
 use Rattle.core_blocks.specs.Blocks.{AreUnderWay, IsUnderWay, put_run}
 use Rattle.core_blocks.specs.Kept.{NoneFree, SparesAll}
 use Rattle.core_blocks.specs.Puts.{BeginsPut, HoldsBack, IsRangeFor, sectors_taken}
@@ -39,12 +41,18 @@ hold_on range actor = record {
   kind = Shared;
 }
 
--- What was filled in is a block of these bytes.
+-- A put holds its sectors from now on, or memory was wanting for that.
+abbrev pub HoldsRange : List Hold → List Hold → PutRange → ℕ → Option Hold → Type 0
+HoldsRange old new range actor (Some hold) = (hold ≡ hold_on range actor) × (new ≡ old ++ hold ∷ [])
+HoldsRange old new range actor None = new ≡ old
+
+-- What was filled in is a block of these bytes, of which no more was written than there is.
 pub record IsFilledWith (core : Core) (run : PutRun) (filled : Filled) (content : List ℕ) : Type 0 where
   pub plan : IsPlanOf run.range.layout core.pool.uber.reflow (front_after_stop core.pool.uber.reflow) content
       filled.write.rows filled.write.writes
   pub writes : filled.write.writes
       ≡ writes_of run.range.layout core.pool.uber.reflow (front_after_stop core.pool.uber.reflow)
+  pub so_far : filled.write.next ≤ length filled.write.writes
   pub len_is : length content ≡ run.len
   pub digest_is : filled.digest ≡ sha256 content
 
@@ -94,6 +102,13 @@ pub record BeginsPutSo (old new : Core) (actor id len : ℕ) (run : PutRun) : Ty
       → NoneFree new.pool.blocks past kept
   pub spares : (past : ℕ) (kept : List IndexEntry) → NoneFree old.pool.blocks past kept
       → SparesAll old.pool.blocks.parity old.pool.blocks.births kept (put_run run.range)
+
+-- the turn of a put that is refused so
+abbrev pub refused_turn : PutRefused → Turn PutRun
+refused_turn refused.Full = Done answer.Full
+refused_turn (refused.NoSpace sectors) = Done (answer.NoSpace sectors)
+refused_turn (refused.Busy by) = Busy by
+refused_turn refused.NoMemory = Done answer.NoMemory
 
 -- Why a put of so many bytes ends in its first turn.
 abbrev pub IsPutRefused : Core → Core → ℕ → ℕ → Answer → Type 0
@@ -167,6 +182,11 @@ WritesTurn before run after (More next) = WritesOne before run after next
 WritesTurn before run after (Busy by) = ⊥
 WritesTurn before run after (Done given) = IsStoppedPut before.core after.core run given
     × (after.disk ≡ before.disk)
+
+-- A put that goes on is one of this pool still, and under way.
+abbrev pub IsMorePut : Core → Turn PutRun → Type 0
+IsMorePut core (More run) = IsPutOf core run × IsUnderWay core.pool.blocks run.range
+IsMorePut core other = ⊤
 
 -- the entry of a put's block
 abbrev pub entry_for : PutRun → Filled → IndexEntry

@@ -1,14 +1,19 @@
 // Puts, turn by turn.
-ghost use Rattle.std.specs.Prelude.{◌≡◌, ◌+◌, ◌<◌, ◌≤◌, ◌↔◌, IsTrue, OnErr, OnOk, Some, length};
+ghost use Rattle.std.specs.Prelude.{◌≡◌, false, ◌+◌, ◌<◌, ◌≤◌, ◌^◌, ◌↔◌, IsTrue, OnErr, OnOk, Some, length};
+ghost use Rattle.row_layout.specs.Layout.{allocated_of};
+ghost use Rattle.range_locks.specs.Holds.{IsClear};
 ghost use Rattle.shadow_write.specs.Required.{front_after_stop};
+ghost use Rattle.reconstruct.specs.Rows.{sectors_for};
 ghost use Rattle.bank_trait.specs.Disk.{Disk};
 ghost use Rattle.core_blocks.specs.Blocks.{IsUnderWay};
 ghost use Rattle.core_client.specs.Outs.{point_of, OnlyFailedGoOut};
 ghost use Rattle.core_client.specs.Pool.{IsInPool};
 ghost use Rattle.core_serial.specs.Pool.{HasBank};
 ghost use Rattle.core_turns.specs.declared.putting.Filled.{Filled as FilledOf};
-ghost use Rattle.core_turns.specs.Core.{at_disk};
-ghost use Rattle.core_turns.specs.Putting.{BeginsPutTurn, EndsPut, FillsPut, GivesUpTurn, IsPutOf, WritesTurn};
+ghost use Rattle.core_turns.specs.Core.{Core as CoreOf, IsCore, at_disk};
+ghost use Rattle.core_turns.specs.Getting.{HasTooManyOut};
+ghost use Rattle.core_turns.specs.Putting.{BeginsPutTurn, EndsPut, FillsPut, GivesUp, GivesUpTurn, HoldsRange, IsMorePut, IsPutOf, IsStoppedPut, WritesTurn, refused_turn};
+ghost use Rattle.core_turns.specs.UnderWay.{TurnGoesOn};
 
 use crate::getting::OutOfMemory;
 use crate::turn::too_many;
@@ -17,7 +22,7 @@ use bank_trait::Bank;
 use core_blocks::{PutRange, PutRefused};
 use core_client::BlockWrite;
 use core_state::Answer;
-use range_locks::{Hold, LockRefused};
+use range_locks::{Hold, HoldKind, LockRefused, Locks};
 use reflow_mark::{Reflow, State};
 use sha2::{Digest, Sha256};
 use std::alloc::Global;
@@ -50,6 +55,35 @@ fn front(reflow: &Reflow) -> u64
     }
 }
 
+/// The turn of a put that is refused.
+fn refusal(refused: PutRefused) -> Turn<PutRun>
+    ensures { result ≡ refused_turn refused }
+{
+    match refused {
+        PutRefused::Full => Turn::Done(Answer::Full),
+        PutRefused::NoSpace { sectors } => Turn::Done(Answer::NoSpace { sectors }),
+        PutRefused::Busy { by } => Turn::Busy { by },
+        PutRefused::NoMemory => Turn::Done(Answer::NoMemory),
+    }
+}
+
+/// Holds the sectors that a put has taken, unless memory is wanting.
+fn hold_range(locks: &mut Locks, range: &PutRange, actor: u8) -> Option<Hold>
+    requires some { 0 < allocated_of range.now.layout }
+    requires end { range.now.layout.start + allocated_of range.now.layout < 2 ^ 64 }
+    requires clear { IsClear locks.old range.now.layout.start
+        (range.now.layout.start + allocated_of range.now.layout) HoldKind.Shared }
+    ensures { HoldsRange locks.old locks.new range.now actor result }
+{
+    let start = range.layout.start();
+    let end = start + range.layout.alloc_size();
+    match locks.try_shared(start, end, actor) {
+        Ok(hold) => Some(hold),
+        Err(LockRefused::Busy { by: _ }) => unreachable!(),
+        Err(LockRefused::NoMemory) => None,
+    }
+}
+
 impl PutRun {
     /// How many bytes the block has.
     pub fn len_bytes(&self) -> u32
@@ -67,8 +101,11 @@ impl PutRun {
 
     /// Whether the block was filled in and all its writes were made or passed over. The put is ended then.
     pub fn is_written(&self) -> bool
-        ensures { IsTrue result ↔ (filled : FilledOf) × (self.now.filled ≡ Some filled)
+        ensures value { IsTrue result ↔ (filled : FilledOf) × (self.now.filled ≡ Some filled)
             × (filled.write.next ≡ length filled.write.writes) }
+        ensures left { (core : CoreOf) (filled : FilledOf) → IsPutOf core self.now
+            → self.now.filled ≡ Some filled → result ≡ false
+            → filled.write.next < length filled.write.writes }
     {
         match &self.filled {
             Some(filled) => filled.write.is_done(),
@@ -79,9 +116,19 @@ impl PutRun {
     /// Fills in the block's bytes: makes its columns up, and its digest. Calls no device, and is no turn.
     pub fn fill(&mut self, alloc: Global, bytes: &[u8]) -> Result<(), OutOfMemory>
         requires pool { IsInPool self.old.range.layout self.old.reflow }
+        requires sectors { sectors_for self.old.len ≡ self.old.range.layout.sectors }
         requires len { length bytes.now ≡ self.old.len }
-        requires some { 1 ≤ self.old.len }
-        requires few { self.old.len ≤ 65536 }
+        ensures ok { OnOk result (FillsPut self.old self.new bytes.now) }
+        ensures of { (core : CoreOf) → IsPutOf core self.old → IsPutOf core self.new }
+        ensures err { OnErr result (self.new ≡ self.old) }
+    {
+        self.fill_in(alloc, bytes)
+    }
+
+    fn fill_in(&mut self, alloc: Global, bytes: &[u8]) -> Result<(), OutOfMemory>
+        requires pool { IsInPool self.old.range.layout self.old.reflow }
+        requires sectors { sectors_for self.old.len ≡ self.old.range.layout.sectors }
+        requires len { length bytes.now ≡ self.old.len }
         ensures ok { OnOk result (FillsPut self.old self.new bytes.now) }
         ensures err { OnErr result (self.new ≡ self.old) }
     {
@@ -100,7 +147,7 @@ impl PutRun {
 impl Core {
     /// The first turn of a put of so many bytes under an id: takes the lowest run of free sectors that
     /// fits, and holds it. The block is born in the open group.
-    pub fn put_begin(&mut self, alloc: Global, actor: u8, id: u64, len: u32) -> Turn<PutRun>
+    pub fn put_begin(&mut self, actor: u8, id: u64, len: u32) -> Turn<PutRun>
         requires some { 1 ≤ len }
         requires few { len ≤ 65536 }
         ensures begins { BeginsPutTurn self.old self.new actor id len result }
@@ -111,14 +158,19 @@ impl Core {
         let group = self.begun + 1;
         let range = match self.blocks.begin_put(id, len, group, &self.locks) {
             Ok(range) => range,
-            Err(PutRefused::Busy { by }) => return Turn::Busy { by },
-            Err(PutRefused::Full) => return Turn::Done(Answer::Full),
-            Err(PutRefused::NoSpace { sectors }) => {
-                return Turn::Done(Answer::NoSpace { sectors });
-            }
-            Err(PutRefused::NoMemory) => return Turn::Done(Answer::NoMemory),
+            Err(refused) => return refusal(refused),
         };
-        self.hold_put(actor, range, len)
+        let Some(hold) = hold_range(&mut self.locks, &range, actor) else {
+            self.blocks.give_up(range);
+            return Turn::Done(Answer::NoMemory);
+        };
+        Turn::More(PutRun {
+            hold,
+            range,
+            len,
+            reflow: self.uber.reflow(),
+            filled: None,
+        })
     }
 
     /// The next write of a put's block, or past it where its device is out.
@@ -130,19 +182,14 @@ impl Core {
         requires bank { HasBank self.old.pool.uber self.old.pool.out (B.disk bank.old) }
         ensures writes { WritesTurn (at_disk self.old (B.disk bank.old)) run
             (at_disk self.new (B.disk bank.new)) result }
+        ensures of { IsMorePut self.new result }
+        ensures goes_on { TurnGoesOn (at_disk self.old (B.disk bank.old))
+            (at_disk self.new (B.disk bank.new)) }
         ensures bank { HasBank self.new.pool.uber self.new.pool.out (B.disk bank.new) }
         ensures out { OnlyFailedGoOut (point_of self.old.pool.out (B.disk bank.old))
             (point_of self.new.pool.out (B.disk bank.new)) }
     {
-        let mut run = run;
-        if self.has_too_many_out() {
-            return Turn::Done(self.stop_put(run));
-        }
-        match &mut run.filled {
-            Some(filled) => filled.write.step(bank, &mut self.out),
-            None => unreachable!(),
-        }
-        Turn::More(run)
+        self.write_put(bank, run)
     }
 
     /// The last turn of a put, all of whose writes were made or passed over: its block stands in the map
@@ -170,7 +217,7 @@ impl Core {
         };
         self.locks.end(hold);
         let group = self.begun + 1;
-        let _ = self.blocks.end_put(range.into_entry(len, digest), group);
+        self.blocks.end_put(range.into_entry(len, digest), group);
         Turn::Done(Answer::Stored)
     }
 
@@ -187,37 +234,45 @@ impl Core {
         Turn::Done(Answer::NoMemory)
     }
 
-    /// Holds the sectors that a put has taken. Where memory is wanting for that, they are free again.
-    fn hold_put(&mut self, actor: u8, range: PutRange, len: u32) -> Turn<PutRun> {
-        let start = range.layout.start();
-        let end = start + range.layout.alloc_size();
-        match self.locks.try_shared(start, end, actor) {
-            Ok(hold) => {
-                Turn::More(PutRun {
-                    hold,
-                    range,
-                    len,
-                    reflow: self.uber.reflow(),
-                    filled: None,
-                })
-            }
-            Err(LockRefused::Busy { by: _ }) => unreachable!(),
-            Err(LockRefused::NoMemory) => {
-                self.blocks.give_up(range);
-                Turn::Done(Answer::NoMemory)
-            }
+    fn write_put<B: Bank>(&mut self, bank: &mut B, run: PutRun) -> Turn<PutRun>
+        requires of { IsPutOf self.old run }
+        requires under_way { IsUnderWay self.old.pool.blocks run.range }
+        requires left { (filled : FilledOf) × (run.filled ≡ Some filled)
+            × (filled.write.next < length filled.write.writes) }
+        requires bank { HasBank self.old.pool.uber self.old.pool.out (B.disk bank.old) }
+        ensures { WritesTurn (at_disk self.old (B.disk bank.old)) run
+            (at_disk self.new (B.disk bank.new)) result }
+    {
+        let mut run = run;
+        if self.has_too_many_out() {
+            return Turn::Done(self.stop_put(run));
         }
+        match &mut run.filled {
+            Some(filled) => filled.write.step(bank, &mut self.out),
+            None => unreachable!(),
+        }
+        Turn::More(run)
     }
 
-    /// Ends a put without a block: its hold has ended, and its sectors are free.
-    fn give_up(&mut self, run: PutRun) {
-        self.locks.end(run.hold);
-        self.blocks.give_up(run.range);
-    }
-
-    fn stop_put(&mut self, run: PutRun) -> Answer {
+    /// Ends a put because too many devices are out.
+    fn stop_put(&mut self, run: PutRun) -> Answer
+        requires many { HasTooManyOut self.old }
+        requires of { IsPutOf self.old run }
+        requires under_way { IsUnderWay self.old.pool.blocks run.range }
+        ensures { IsStoppedPut self.old self.new run result }
+    {
         let out = self.out;
         self.give_up(run);
         too_many(out)
+    }
+
+    /// Ends a put without a block: its hold has ended, and its sectors are free.
+    fn give_up(&mut self, run: PutRun)
+        requires of { IsPutOf self.old run }
+        requires under_way { IsUnderWay self.old.pool.blocks run.range }
+        ensures { GivesUp self.old self.new run }
+    {
+        self.locks.end(run.hold);
+        self.blocks.give_up(run.range);
     }
 }

@@ -1,0 +1,10 @@
+use Rattle.std.proofs.Common.{◌≡◌, length, sym, ◌∙◌, subst}
+use Rattle.std.proofs.lemmas.Bool.{true≢false}
+use Rattle.core_turns.specs.declared.putting.Filled.{Filled}
+use Rattle.core_turns.proofs.PutTurns.{put_left, same_filled}
+use Rattle.core_turns.proofs.putting.PutRun.is_written.Goals as goal
+
+pub returns-in-Some-clause-left : goal.returns-in-Some-clause-left
+returns-in-Some-clause-left c = λ core filled of is unwritten. put_left core c.args.self.now filled of is
+    (λ all. true≢false (sym (c.is_done.ensures.1
+    (subst (λ (f : Filled). f.write.next ≡ length f.write.writes) (same_filled (sym is ∙ c.in-Some.is)) all)) ∙ unwritten))
