@@ -4,3 +4,4 @@ pub mod GetLaws
 pub mod Beside
 pub mod Frames
 pub mod PutTurns
+pub mod PutRanges

@@ -1,0 +1,97 @@
+-- The ranges of the puts under way: it does not matter which comes first.
+use Rattle.std.proofs.Common.{◌≡◌, ℕ, ◌+◌, List, [], ◌∷◌, ◌++◌, cond, refl, sym, ◌∙◌, ap, subst, arith, inl, inr, ⊎_elim, append-nil}
+use Rattle.std.specs.Prelude.{Contains, ◌==◌, sum_by}
+use Rattle.std.proofs.lemmas.List.Elements.{filter_map-append}
+use Rattle.std.proofs.lemmas.List.Sums.{sum_by-append}
+use Rattle.space_alloc.specs.Space.{Gains}
+use Rattle.core_blocks.specs.declared.range.PutRange.{PutRange}
+use Rattle.core_blocks.specs.Blocks.{Blocks, AreUnderWay, put_run}
+use Rattle.core_blocks.specs.Runs.{AreClear}
+use Rattle.core_blocks.proofs.Lists.{first_listed, rest_listed, listed_cases, none_listed, gains_item, gains_old, gains_cases, pairs_gain, pairs_lose, pairs_beside}
+use Rattle.core_blocks.proofs.Runs.{clear_turned}
+use Rattle.core_turns.specs.declared.putting.PutRun.{PutRun}
+use Rattle.core_turns.specs.UnderWay.{Call, Putting, Reading, range_in, ranges_of}
+
+module _ {T : Type 0} (left one other : List T) (x : T) (there : Gains left one x) (here : Gains left other x) where
+  -- Two lists that gained the same item contain the same,
+  pub gains_moved : (y : T) → Contains one y → Contains other y
+  gains_moved y listed = ⊎_elim (λ same. subst (Contains other) same (gains_item left other x here))
+      (λ old. gains_old left other x y here old) (gains_cases left one x y there listed)
+
+  -- and their sums are the same.
+  gains_sum : (weight : T → ℕ) → sum_by weight one ≡ sum_by weight other
+  gains_sum weight =
+      let one_is : sum_by weight one ≡ sum_by weight there.before + sum_by weight (x ∷ there.after) =
+      ap (sum_by weight) there.is ∙ sum_by-append weight there.before (x ∷ there.after) in
+      let other_is : sum_by weight other ≡ sum_by weight here.before + sum_by weight (x ∷ here.after) =
+      ap (sum_by weight) here.is ∙ sum_by-append weight here.before (x ∷ here.after) in
+      let left_one : sum_by weight left ≡ sum_by weight there.before + sum_by weight there.after =
+      ap (sum_by weight) there.was ∙ sum_by-append weight there.before there.after in
+      let left_other : sum_by weight left ≡ sum_by weight here.before + sum_by weight here.after =
+      ap (sum_by weight) here.was ∙ sum_by-append weight here.before here.after in
+      omega (
+        arith,
+        one_is,
+        other_is,
+        left_one,
+        left_other,
+        sum_by-append weight (x ∷ []) there.after,
+        sum_by-append weight (x ∷ []) here.after,
+      )
+
+-- Two puts have no sector in common,
+abbrev AreApart : PutRange → PutRange → Type 0
+AreApart one other = AreClear (put_run one) (put_run other)
+
+-- in either order.
+apart_turned : (one other : PutRange) → AreApart one other → AreApart other one
+apart_turned one other clear = clear_turned (put_run one) (put_run other) clear
+
+-- A range may stand anywhere among those of the puts under way.
+pub under_moved : (blocks : Blocks) (left ranges moved : List PutRange) (range : PutRange) → Gains left ranges range
+    → Gains left moved range → AreUnderWay blocks ranges → AreUnderWay blocks moved
+under_moved blocks left ranges moved range there here under = record {
+  each = λ one listed. under.each one (gains_moved left moved ranges range here there one listed);
+  apart = pairs_gain AreApart apart_turned left moved range here
+      (λ one listed. pairs_beside AreApart apart_turned ranges left range one there under.apart listed)
+      (pairs_lose AreApart apart_turned ranges left range there under.apart);
+  every = λ run listed. ⊎_elim (λ block. inl block)
+      (λ put. inr (put.0, gains_moved left ranges moved range there here put.0 put.1, put.2))
+      (under.every run listed);
+  reserved = λ id. under.reserved id
+      ∙ gains_sum left ranges moved range there here (λ (one : PutRange). cond (id == one.id) 1 0);
+}
+
+-- A list with an item at its end.
+pub at_end : {T : Type 0} (left : List T) (x : T) → Gains left (left ++ x ∷ []) x
+at_end left x = record { before = left; after = []; was = sym (append-nil left); is = refl }
+
+-- A list of calls that gains a put gains its range.
+pub ranges_gain : (left calls : List Call) (run : PutRun) (content : List ℕ) → Gains left calls (Putting run content)
+    → Gains (ranges_of left) (ranges_of calls) run.range
+ranges_gain left calls run content gains = record {
+  before = ranges_of gains.before;
+  after = ranges_of gains.after;
+  was = ap ranges_of gains.was ∙ filter_map-append range_in gains.before gains.after;
+  is = ap ranges_of gains.is ∙ filter_map-append range_in gains.before (Putting run content ∷ gains.after);
+}
+
+-- Two calls that are the same are of the same put.
+pub same_put : (one other : PutRun) (bytes content : List ℕ) → Putting one bytes ≡ Putting other content → one ≡ other
+same_put one other bytes content same = cc
+
+-- Each put under way has its range there.
+pub range_listed : (calls : List Call) (run : PutRun) (content : List ℕ) → Contains calls (Putting run content)
+    → Contains (ranges_of calls) run.range
+range_listed [] run content listed = absurd (none_listed (Putting run content) listed)
+range_listed (Putting first bytes ∷ calls) run content listed = ⊎_elim
+    (λ same. subst (λ (one : PutRun). Contains (first.range ∷ ranges_of calls) one.range)
+    (same_put first run bytes content same) (first_listed first.range (ranges_of calls)))
+    (λ rest. rest_listed first.range run.range (ranges_of calls) (range_listed calls run content rest))
+    (listed_cases (Putting first bytes) (Putting run content) calls listed)
+range_listed (Reading first bytes ∷ calls) run content listed = ⊎_elim (λ same. absurd (clash same))
+    (λ rest. range_listed calls run content rest)
+    (listed_cases (Reading first bytes) (Putting run content) calls listed)
+  where
+    clash : Reading first bytes ≡ Putting run content → ⊥
+    clash same = cc
