@@ -5,3 +5,4 @@ pub mod Beside
 pub mod Frames
 pub mod PutTurns
 pub mod PutRanges
+pub mod PutCalls
