@@ -6,3 +6,4 @@ pub mod Frames
 pub mod PutTurns
 pub mod PutRanges
 pub mod PutCalls
+pub mod PutStands

@@ -1,0 +1,361 @@
+-- What stands between two turns stands over each turn of a put that calls no device.
+use Rattle.std.proofs.Common.{◌≡◌, ◌≢◌, ◌⊎◌, inl, inr, ⊎_elim, ℕ, ◌+◌, ◌<◌, List, length, Option, Some, None, refl, sym, ◌∙◌, subst, arith}
+use Rattle.std.specs.Prelude.{Contains}
+use Rattle.sha2.specs.Sha256.{sha256}
+use Rattle.bank_trait.specs.Disk.{Disk}
+use Rattle.bank_trait.proofs.Touches.{touches_none}
+use Rattle.width_map.specs.declared.birth.Birth.{Birth}
+use Rattle.space_alloc.specs.Space.{Gains}
+use Rattle.row_layout.specs.Layout.{Layout}
+use Rattle.reflow_mark.specs.declared.reflow.Reflow.{Reflow}
+use Rattle.shadow_write.specs.Required.{front_after_stop}
+use Rattle.block_record.specs.declared.entry.IndexEntry.{IndexEntry}
+use Rattle.reconstruct.specs.Lost.{AreBytes}
+use Rattle.core_state.specs.Map.{Map, with_block}
+use Rattle.core_state.specs.Index.{layout_of}
+use Rattle.core_state.specs.Keeps.{Kept, Setting}
+use Rattle.core_blocks.specs.declared.range.PutRange.{PutRange}
+use Rattle.core_blocks.specs.Blocks.{AreInStep, IsListed, IsUnderWay, layout_run, put_run, run_of}
+use Rattle.core_blocks.specs.Kept.{NoneFree, SparesAll}
+use Rattle.core_blocks.specs.Runs.{AreClear}
+use Rattle.core_blocks.proofs.Lists.{gains_item, gains_old, gains_cases}
+use Rattle.core_client.specs.Pool.{IsRightBlock}
+use Rattle.core_client.specs.Writing.{IsPlanOf}
+use Rattle.core_client.specs.BlockTurns.{IsWrittenSoFar}
+use Rattle.core_client.proofs.BlockTurns.{written_all, written_none}
+use Rattle.core_commit.specs.CommitTurns.{CommitRun}
+use Rattle.core_serial.specs.Pool.{HoldsMap, IsTableOf, IsRead, state_of}
+use Rattle.core_serial.proofs.Holding.{put_holds}
+use Rattle.core_serial.proofs.Puts.{entry_layout}
+use Rattle.core_turns.specs.declared.putting.Filled.{Filled}
+use Rattle.core_turns.specs.declared.putting.PutRun.{PutRun}
+use Rattle.core_turns.specs.Core.{Core, CoreState, IsCore, as_begun, at_disk, pool_at}
+use Rattle.core_turns.specs.Putting.{BeginsPutSo, FillsPut, GivesUp, HoldsPut, IsPutOf, LeavesBlocks, StoresBlock, entry_for}
+use Rattle.core_turns.specs.UnderWay.{Call, Putting, Reading, AreCallsOf, GroupsStand, HoldsCall, PutsSpare, Stands, hold_of_call}
+use Rattle.core_turns.proofs.Beside.{IsWrittenTo}
+use Rattle.core_turns.proofs.PutRanges.{range_listed, same_put}
+use Rattle.core_turns.proofs.PutCalls.{Rearranges, begins_rearranges, ends_rearranges, gives_up_rearranges, leaves_rearranges, put_begins_calls, put_ends_calls, put_fills_calls, put_gives_up_calls, put_refused_calls}
+
+-- The groups whose blocks are kept: the last answered one, and the last one begun.
+abbrev IsKeptPast : Core → ℕ → Type 0
+IsKeptPast core past = (past ≡ core.pool.uber.group) ⊎ (past ≡ core.begun)
+
+-- Both were begun before the open one.
+past_below : (core : Core) (past : ℕ) → IsCore core → IsKeptPast core past → past < core.begun + 1
+past_below core past is kept = let begun = is.begun in
+    ⊎_elim (λ same. omega (arith, same, begun)) (λ same. omega (arith, same)) kept
+
+-- The map is held where the table lists the same.
+map_on : (map : Map) (old new : Core) (disk : Disk) → Rearranges old new
+    → new.pool.blocks.table.entries ≡ old.pool.blocks.table.entries → HoldsMap map (pool_at (at_disk old disk))
+    → HoldsMap map (pool_at (at_disk new disk))
+map_on map old new disk change entries held =
+    subst (λ (core : Core). HoldsMap map (pool_at (at_disk core disk))) (sym change.rest) (record {
+      table = subst (λ (l : List IndexEntry). IsTableOf l map) (sym entries) held.table;
+      bytes = held.bytes;
+      right = λ entry content listed has. held.right entry content
+          (subst (λ (l : List IndexEntry). IsListed l entry) entries listed) has;
+    })
+
+-- Blocks and holds are others, and no device was called.
+module _ (setting : Setting) (last : Kept) (begun : List Kept) (calls nexts : List Call) (old new : Core)
+    (disk : Disk) (change : Rearranges old new)
+    (kept : (past : ℕ) (group : Kept) → IsKeptPast old past → PutsSpare (at_disk old disk) calls group
+    → NoneFree old.pool.blocks past group.entries → NoneFree new.pool.blocks past group.entries)
+    (spared : (past : ℕ) (group : Kept) → NoneFree old.pool.blocks past group.entries
+    → PutsSpare (at_disk old disk) calls group → PutsSpare (at_disk old disk) nexts group) where
+  abbrev on : Core
+  on = record old { pool = record old.pool { blocks = new.pool.blocks }; holds = new.holds }
+
+  -- No put has a sector of a group's blocks,
+  spares_on : (past : ℕ) (group : Kept) → NoneFree old.pool.blocks past group.entries
+      → PutsSpare (at_disk old disk) calls group → PutsSpare (at_disk on disk) nexts group
+  spares_on past group none spares run content listed =
+      subst (λ (p : ℕ). SparesAll p new.pool.blocks.births group.entries (put_run run.range)) (sym change.parity)
+      (subst (λ (b : List Birth). SparesAll old.pool.blocks.parity b group.entries (put_run run.range))
+      (sym change.births) (spared past group none spares run content listed))
+
+  -- what a call has written or read is its block's,
+  holds_on : (call : Call) → HoldsCall (at_disk old disk) call → HoldsCall (at_disk on disk) call
+  holds_on (Putting run content) held = record {
+    len_is = held.len_is;
+    are_bytes = held.are_bytes;
+    so_far = held.so_far;
+  }
+  holds_on (Reading run content) held = record {
+    right = held.right;
+    len_is = held.len_is;
+    are_bytes = held.are_bytes;
+    digest_is = held.digest_is;
+    so_far = held.so_far;
+    solved = held.solved;
+  }
+
+  -- the groups stand,
+  groups_on : (commit : Option CommitRun) → GroupsStand setting last begun calls commit (at_disk old disk)
+      → GroupsStand setting last begun nexts commit (at_disk on disk)
+  groups_on None groups = record { knows = groups.knows; whole = groups.whole }
+  groups_on (Some run) groups = record {
+    next = groups.next;
+    begun_is = groups.begun_is;
+    of = record {
+      actor = groups.of.actor;
+      under_way = groups.of.under_way;
+      number = groups.of.number;
+      uber_is = groups.of.uber_is;
+      lists = groups.of.lists;
+    };
+    come = groups.come;
+    kept = kept old.begun groups.next (inr refl) groups.spared groups.kept;
+    spared = spares_on old.begun groups.next groups.kept groups.spared;
+  }
+
+  -- and so all does that stood.
+  stands_on : (commit : Option CommitRun) (map other : Map) → HoldsMap other (pool_at (at_disk new disk))
+      → AreCallsOf new nexts → ((call : Call) → Contains nexts call → HoldsCall (at_disk old disk) call)
+      → Stands setting last begun map calls commit (at_disk old disk)
+      → Stands setting last begun other nexts commit (at_disk new disk)
+  stands_on commit map other held are each stands =
+      subst (λ (core : Core). HoldsMap other (pool_at (at_disk core disk)) → AreCallsOf core nexts
+      → Stands setting last begun other nexts commit (at_disk core disk)) (sym change.rest)
+      (λ held are. record {
+        groups = groups_on commit stands.groups;
+        alike = stands.alike;
+        kept = kept old.pool.uber.group last (inl refl) stands.spared stands.kept;
+        spared = spares_on old.pool.uber.group last stands.kept stands.spared;
+        odd = stands.odd;
+        shape = stands.shape;
+        tells = stands.tells;
+        bank = stands.bank;
+        holds = held;
+        are = are;
+        each = λ call listed. holds_on call (each call listed);
+      })
+      held are
+
+-- A put begins, beside all others, with its bytes.
+pub put_begins_stands : (setting : Setting) (last : Kept) (begun : List Kept) (map : Map) (left calls : List Call)
+    (commit : Option CommitRun) (old new : Core) (disk : Disk) (actor id len : ℕ) (run : PutRun) (content : List ℕ)
+    → Stands setting last begun map left commit (at_disk old disk) → BeginsPutSo old new actor id len run
+    → length content ≡ len → AreBytes content
+    → ((call : Call) → Contains left call → (hold_of_call call).actor ≢ actor)
+    → Gains left calls (Putting run content)
+    → Stands setting last begun map calls commit (at_disk new disk)
+put_begins_stands setting last begun map left calls commit old new disk actor id len run content stands begins len_is
+    bytes differs gains =
+    let change = begins_rearranges old new actor id len run begins in
+    stands_on setting last begun left calls old new disk change
+    (λ past group is spared none. begins.kept past group.entries none)
+    (λ past group none spared one given listed. ⊎_elim
+    (λ same. subst
+    (λ (r : PutRun). SparesAll old.pool.blocks.parity old.pool.blocks.births group.entries (put_run r.range))
+    (same_put run one content given same) (begins.spares past group.entries none))
+    (λ there. spared one given there)
+    (gains_cases left calls (Putting run content) (Putting one given) gains listed))
+    commit map map (map_on map old new disk change begins.begins.entries stands.holds)
+    (put_begins_calls left calls old new actor id len run content stands.are begins differs gains)
+    (λ call listed. ⊎_elim
+    (λ same. subst (HoldsCall (at_disk old disk)) same (record {
+      len_is = len_is ∙ sym begins.len_is;
+      are_bytes = bytes;
+      so_far = λ filled is. absurd (unfilled filled (sym begins.unfilled ∙ is));
+    }))
+    (λ there. stands.each call there)
+    (gains_cases left calls (Putting run content) call gains listed))
+    stands
+  where
+    unfilled : (filled : Filled) → None ≡ Some filled → ⊥
+    unfilled filled same = cc
+
+-- A refusal leaves all calls.
+pub put_refused_stands : (setting : Setting) (last : Kept) (begun : List Kept) (map : Map) (calls : List Call)
+    (commit : Option CommitRun) (old new : Core) (disk : Disk) → LeavesBlocks old new
+    → Stands setting last begun map calls commit (at_disk old disk)
+    → Stands setting last begun map calls commit (at_disk new disk)
+put_refused_stands setting last begun map calls commit old new disk leaves stands =
+    let change = leaves_rearranges old new leaves in
+    stands_on setting last begun calls calls old new disk change
+    (λ past group is spared none. leaves.kept past group.entries none)
+    (λ past group none spared. spared)
+    commit map map (map_on map old new disk change leaves.entries stands.holds)
+    (put_refused_calls calls old new leaves stands.are) stands.each stands
+
+-- A put that is given up leaves the others.
+pub put_gives_up_stands : (setting : Setting) (last : Kept) (begun : List Kept) (map : Map) (left calls : List Call)
+    (commit : Option CommitRun) (old new : Core) (disk : Disk) (run : PutRun) (content : List ℕ)
+    → GivesUp old new run → Stands setting last begun map calls commit (at_disk old disk)
+    → Gains left calls (Putting run content)
+    → Stands setting last begun map left commit (at_disk new disk)
+put_gives_up_stands setting last begun map left calls commit old new disk run content gives_up stands gains =
+    let change = gives_up_rearranges old new run gives_up in
+    stands_on setting last begun calls left old new disk change
+    (λ past group is spared none. gives_up.kept past group.entries
+    (spared run content (gains_item left calls (Putting run content) gains)) none)
+    (λ past group none spared one given listed.
+    spared one given (gains_old left calls (Putting run content) (Putting one given) gains listed))
+    commit map map (map_on map old new disk change gives_up.entries stands.holds)
+    (put_gives_up_calls left calls old new run content gives_up stands.are gains)
+    (λ call listed. stands.each call (gains_old left calls (Putting run content) call gains listed))
+    stands
+
+-- A put has no sector in common with a block that the table lists.
+pub listed_clear : (core : Core) (range : PutRange) (entry : IndexEntry) → IsCore core
+    → IsUnderWay core.pool.blocks range → IsListed core.pool.blocks.table.entries entry
+    → AreClear (put_run range) (layout_run (layout_of core.pool.uber.parity core.pool.uber.births entry))
+listed_clear core range entry is under listed =
+    subst (λ (p : ℕ). AreClear (put_run range) (run_of p core.pool.uber.births entry)) is.is.parity
+    (subst (λ (b : List Birth). AreClear (put_run range) (run_of core.pool.blocks.parity b entry)) is.is.births
+    (under.clear entry listed))
+
+-- A put that ends brings its block into the map; a read of the block that it replaces goes on.
+pub put_ends_stands : (setting : Setting) (last : Kept) (begun : List Kept) (map : Map) (left calls : List Call)
+    (commit : Option CommitRun) (old new : Core) (disk : Disk) (run : PutRun) (content : List ℕ) → IsCore old
+    → AreInStep old.pool.blocks → StoresBlock old new run
+    → (filled : Filled) × (run.filled ≡ Some filled) × (filled.write.next ≡ length filled.write.writes)
+    → Stands setting last begun map calls commit (at_disk old disk) → Gains left calls (Putting run content)
+    → Stands setting last begun (with_block map (Some run.range.id) (Some content)) left commit (at_disk new disk)
+put_ends_stands setting last begun map left calls commit old new disk run content is step ends whole stands gains =
+    stands_on setting last begun calls left old new disk (ends_rearranges old new run ends)
+    (λ past group kept spared none. ends.kept past group.entries (past_below old past is kept) none)
+    (λ past group none spared one given listed.
+    spared one given (gains_old left calls (Putting run content) (Putting one given) gains listed))
+    commit map (with_block map (Some run.range.id) (Some content)) held
+    (put_ends_calls left calls old new run content ends stands.are gains)
+    (λ call listed. stands.each call (gains_old left calls (Putting run content) call gains listed))
+    stands
+  where
+    its_calls : Contains calls (Putting run content)
+    its_calls = gains_item left calls (Putting run content) gains
+
+    of : IsPutOf old run
+    of = stands.are.each (Putting run content) its_calls
+
+    holds : HoldsPut content (at_disk old disk) run
+    holds = stands.each (Putting run content) its_calls
+
+    so_far : (ends.filled.digest ≡ sha256 content)
+        × IsWrittenSoFar run.range.layout content old.pool.uber.reflow (front_after_stop old.pool.uber.reflow)
+        disk.reads old.pool.out ends.filled.write
+    so_far = holds.so_far ends.filled ends.filled_is
+
+    all_written : ends.filled.write.next ≡ length ends.filled.write.writes
+    all_written = subst (λ (filled : Filled). filled.write.next ≡ length filled.write.writes)
+        (same_filled (sym whole.1 ∙ ends.filled_is)) whole.2
+      where
+        same_filled : {one other : Filled} → Some one ≡ Some other → one ≡ other
+        same_filled same = cc
+
+    read : IsRead (as_begun old).uber (entry_for run ends.filled) content disk.reads old.pool.out
+    read =
+        let reflow = old.pool.uber.reflow in
+        let done = front_after_stop reflow in
+        subst (λ (l : Layout). IsRightBlock l content reflow done disk.reads old.pool.out)
+        (sym (entry_layout old.pool.uber.parity old.pool.uber.births old.pool.blocks run.range
+        (entry_for run ends.filled) run.len run.range.birth is.is.parity is.is.births of.range refl refl refl))
+        (written_all run.range.layout content reflow done disk.reads old.pool.out ends.filled.write all_written
+        so_far.1)
+
+    held : HoldsMap (with_block map (Some run.range.id) (Some content)) (pool_at (at_disk new disk))
+    held =
+        let was : HoldsMap map (state_of (as_begun old) disk) = record {
+          table = stands.holds.table;
+          bytes = stands.holds.bytes;
+          right = stands.holds.right;
+        } in
+        let now = put_holds (state_of (as_begun old) disk)
+        (state_of (record (as_begun old) { blocks = new.pool.blocks }) disk) is.is step run.range.layout refl
+        (λ device out. out) of.pool
+        (λ other listed. listed_clear old run.range other is
+        (stands.are.under.each run.range (range_listed calls run content its_calls)) listed)
+        (touches_none (IsWrittenTo run.range.layout old.pool.uber.reflow old.pool.out) disk) map
+        (entry_for run ends.filled) content ends.change (record { len = sym holds.len_is; digest = so_far.0 })
+        holds.are_bytes read was in
+        subst (λ (core : Core). HoldsMap (with_block map (Some run.range.id) (Some content))
+        (pool_at (at_disk core disk))) (sym ends.rest)
+        (record { table = now.table; bytes = now.bytes; right = now.right })
+
+-- A put of which more is filled in or written has no more sectors of blocks.
+pub next_spares : (left calls nexts : List Call) (run : PutRun) (filled : Option Filled) (content : List ℕ)
+    (state : CoreState) (group : Kept) → Gains left calls (Putting run content)
+    → Gains left nexts (Putting (record run { filled = filled }) content)
+    → PutsSpare state calls group → PutsSpare state nexts group
+next_spares left calls nexts run filled content state group gains gains_next spared one bytes listed = ⊎_elim
+    (λ same. subst (λ (r : PutRun). SparesAll state.core.pool.blocks.parity state.core.pool.blocks.births group.entries
+    (put_run r.range)) (same_put (record run { filled = filled }) one content bytes same)
+    (spared run content (gains_item left calls (Putting run content) gains)))
+    (λ there. spared one bytes (gains_old left calls (Putting run content) (Putting one bytes) gains there))
+    (gains_cases left nexts (Putting (record run { filled = filled }) content) (Putting one bytes) gains_next listed)
+
+-- A group that stands stands with other calls where their puts have no more sectors of its blocks.
+pub groups_with : (setting : Setting) (last : Kept) (begun : List Kept) (calls nexts : List Call)
+    (commit : Option CommitRun) (state : CoreState)
+    → ((group : Kept) → PutsSpare state calls group → PutsSpare state nexts group)
+    → GroupsStand setting last begun calls commit state → GroupsStand setting last begun nexts commit state
+groups_with setting last begun calls nexts None state spared groups = groups
+groups_with setting last begun calls nexts (Some commit) state spared groups = record {
+  next = groups.next;
+  begun_is = groups.begun_is;
+  of = groups.of;
+  come = groups.come;
+  kept = groups.kept;
+  spared = spared groups.next groups.spared;
+}
+
+-- A put whose bytes are filled in holds them, none of them written yet.
+pub put_fills_stands : (setting : Setting) (last : Kept) (begun : List Kept) (map : Map) (left calls nexts : List Call)
+    (commit : Option CommitRun) (state : CoreState) (run next : PutRun) (content : List ℕ) → FillsPut run next content
+    → Stands setting last begun map calls commit state → Gains left calls (Putting run content)
+    → Gains left nexts (Putting next content)
+    → Stands setting last begun map nexts commit state
+put_fills_stands setting last begun map left calls nexts commit state run next content fills stands gains
+    gains_next = record {
+      groups = groups_with setting last begun calls nexts commit state spared stands.groups;
+      alike = stands.alike;
+      kept = stands.kept;
+      spared = spared last stands.spared;
+      odd = stands.odd;
+      shape = stands.shape;
+      tells = stands.tells;
+      bank = stands.bank;
+      holds = stands.holds;
+      are = put_fills_calls left calls nexts state.core run next content content fills was.len_is stands.are gains
+          gains_next;
+      each = λ call listed. ⊎_elim
+          (λ same. subst (HoldsCall state) same (subst (HoldsPut content state) (sym fills.rest) filled))
+          (λ there. stands.each call (gains_old left calls (Putting run content) call gains there))
+          (gains_cases left nexts (Putting next content) call gains_next listed);
+    }
+  where
+    its_calls : Contains calls (Putting run content)
+    its_calls = gains_item left calls (Putting run content) gains
+
+    of : IsPutOf state.core run
+    of = stands.are.each (Putting run content) its_calls
+
+    was : HoldsPut content state run
+    was = stands.each (Putting run content) its_calls
+
+    spared : (group : Kept) → PutsSpare state calls group → PutsSpare state nexts group
+    spared group = next_spares left calls nexts run (Some fills.filled) content state group gains
+        (subst (λ (r : PutRun). Gains left nexts (Putting r content)) fills.rest gains_next)
+
+    filled : HoldsPut content state (record run { filled = Some fills.filled })
+    filled = record {
+      len_is = was.len_is;
+      are_bytes = was.are_bytes;
+      so_far = λ other same. subst (λ (f : Filled). (f.digest ≡ sha256 content)
+          × IsWrittenSoFar run.range.layout content state.core.pool.uber.reflow
+          (front_after_stop state.core.pool.uber.reflow) state.disk.reads state.core.pool.out f.write)
+          (same_filled other same) (
+            fills.digest_is,
+            written_none run.range.layout content state.core.pool.uber.reflow
+                (front_after_stop state.core.pool.uber.reflow) state.disk.reads state.core.pool.out fills.filled.write
+                (subst (λ (r : Reflow). IsPlanOf run.range.layout r (front_after_stop r) content fills.filled.write.rows
+                fills.filled.write.writes)
+                of.reflow_is fills.plan)
+                fills.next,
+          );
+    }
+      where
+        same_filled : (other : Filled) → Some fills.filled ≡ Some other → fills.filled ≡ other
+        same_filled other same = cc
