@@ -7,3 +7,4 @@ pub mod PutTurns
 pub mod PutRanges
 pub mod PutCalls
 pub mod PutStands
+pub mod PutWrites

@@ -1,0 +1,389 @@
+-- What stands between two turns stands over each write of a put, and so does what images keep.
+use Rattle.std.proofs.Common.{◌≡◌, ⊎_elim, ℕ, ◌+◌, ◌≤◌, List, [], ◌∷◌, Option, Some, None, true, refl, sym, ◌∙◌, ap, subst, arith, append_assoc}
+use Rattle.std.specs.Prelude.{Contains}
+use Rattle.std.proofs.lemmas.Bool.{cases_lt}
+use Rattle.std.proofs.lemmas.List.Elements.{All-contains}
+use Rattle.sha2.specs.Sha256.{sha256}
+use Rattle.bank_trait.specs.Disk.{Lawful}
+use Rattle.bank_trait.specs.Regions.{Tells, TouchesOnly}
+use Rattle.bank_trait.proofs.Touches.{touches_none, wrote_touches}
+use Rattle.width_map.specs.declared.birth.Birth.{Birth}
+use Rattle.reflow_mark.specs.declared.reflow.Reflow.{Reflow}
+use Rattle.reflow_mark.specs.Reflow.{sectors_of}
+use Rattle.row_layout.specs.Layout.{Layout, sector_of, end_of}
+use Rattle.shadow_write.specs.Required.{front_after_stop}
+use Rattle.shadow_write.specs.declared.write.Write.{Write}
+use Rattle.shadow_write.specs.Writes.{writes_of}
+use Rattle.shadow_write.proofs.Whole.{are_required}
+use Rattle.space_alloc.specs.Space.{Gains}
+use Rattle.block_record.specs.declared.entry.IndexEntry.{IndexEntry}
+use Rattle.block_record.specs.Page.{IsRightEntry}
+use Rattle.reconstruct.specs.Rows.{Rows}
+use Rattle.uberblock_ring.specs.Devices.{has_device, count_of}
+use Rattle.uberblock_ring.specs.Uberblock.{Uber}
+use Rattle.uberblock_ring.specs.Valid.{AreAlike}
+use Rattle.core_state.specs.Map.{Map}
+use Rattle.core_state.specs.Index.{layout_of, block_end}
+use Rattle.core_state.specs.Keeps.{Kept, Setting}
+use Rattle.core_state.specs.Certain.{IsSound}
+use Rattle.core_state.specs.Committing.{Point}
+use Rattle.core_state.specs.Free.{IsSpare}
+use Rattle.core_state.specs.Moment.{IsRowOf, KeepsSince}
+use Rattle.core_state.proofs.Listed.{contains_cases, contains_none}
+use Rattle.core_state.proofs.Places.{IsDataSector, required_sector, data_is_no_page, page_place}
+use Rattle.core_state.proofs.Touched.{touched_knows, touched_since}
+use Rattle.core_blocks.specs.Blocks.{AreInStep, IsUnderWay, layout_run, put_run}
+use Rattle.core_blocks.specs.Kept.{SparesAll}
+use Rattle.core_blocks.proofs.Lists.{gains_item, gains_old, gains_cases, pairs_beside}
+use Rattle.core_client.specs.Outs.{point_of, OnlyFailedGoOut}
+use Rattle.core_client.specs.Pool.{IsInPool}
+use Rattle.core_client.specs.Writing.{IsMade, IsPassedOrMade, IsPlaceOf}
+use Rattle.core_client.specs.BlockTurns.{IsWrittenSoFar}
+use Rattle.core_client.proofs.BlockTurns.{listed_at, written_more}
+use Rattle.core_client.proofs.Outs.{outs_none, outs_called}
+use Rattle.core_commit.specs.declared.commit_run.Stage.{Stage}
+use Rattle.core_commit.specs.declared.commit_run.Stage.TheVariants.{Lays, Signs}
+use Rattle.core_commit.specs.CommitTurns.{CommitRun, shown_at, shown_by}
+use Rattle.core_commit.proofs.Beside.{committing_knows, committing_touched}
+use Rattle.core_commit.proofs.Halves.{sound_paged}
+use Rattle.core_serial.specs.Pool.{HasBank}
+use Rattle.core_serial.proofs.Holding.{listed_in_pool}
+use Rattle.core_serial.proofs.Layouts.{entry_in_pool}
+use Rattle.core_serial.proofs.Puts.{tells_at}
+use Rattle.core_turns.specs.declared.putting.Filled.{Filled}
+use Rattle.core_turns.specs.declared.putting.PutRun.{PutRun}
+use Rattle.core_turns.specs.Core.{Core, CoreState, IsCore, as_begun, at_disk}
+use Rattle.core_turns.specs.Putting.{IsPutOf, HoldsPut, WritesOne}
+use Rattle.core_turns.specs.Committing.{IsCommitOf}
+use Rattle.core_turns.specs.UnderWay.{Call, Putting, Reading, AreBeside, AreCallsOf, CommitStands, GroupsStand, HoldsCall, IsCallOf, NoCommitStands, PutsSpare, Stands, layout_of_call}
+use Rattle.core_turns.proofs.Beside.{IsWrittenTo, AreInPool, never_asked, put_beside_commit}
+use Rattle.core_turns.proofs.Frames.{AreOff, IsOff, Leaves, call_stays, leaves_touched, off_written, stands_anew}
+use Rattle.core_turns.proofs.PutRanges.{range_listed}
+use Rattle.core_turns.proofs.PutCalls.{beside_turned, put_writes_calls}
+use Rattle.core_turns.proofs.PutStands.{groups_with, listed_clear, next_spares}
+
+-- ---- where a put writes
+
+-- A put writes to data sectors alone.
+written_data : (reflow : Reflow) (layout : Layout) (out device device_sector : ℕ)
+    → IsWrittenTo layout reflow out device device_sector → IsDataSector device_sector
+written_data reflow layout out device device_sector (write, has, used, device_is, sector_is) =
+    let required = (are_required layout reflow (front_after_stop reflow)).only write has in
+    subst IsDataSector (sym sector_is)
+    (required_sector reflow (end_of layout write.row) (sector_of layout write.row write.column) write.device
+    write.device_sector required.1)
+
+-- A group's blocks lie in the pool whose widths are the group's.
+sound_in_pool : (setting : Setting) (kept : Kept) (reflow : Reflow) → IsSound setting kept → reflow ≡ kept.uber.reflow
+    → AreInPool kept reflow
+sound_in_pool setting kept reflow sound same = record {
+  widths = sym same;
+  each = λ entry listed.
+      let right : IsRightEntry entry = All-contains IsRightEntry kept.entries entry sound.index.each listed in
+      let below : block_end kept.uber.parity kept.uber.births entry ≤ sectors_of kept.uber.reflow =
+      All-contains
+      (λ (e : IndexEntry). block_end kept.uber.parity kept.uber.births e ≤ sectors_of kept.uber.reflow)
+      kept.entries entry sound.fitting.below listed in
+      subst (IsInPool (layout_of kept.uber.parity kept.uber.births entry)) (sym same)
+      (subst (λ (u : Uber). IsInPool (layout_of u.parity u.births entry) u.reflow) sound.alike
+      (entry_in_pool sound.uber entry sound.right right
+      (subst (λ (u : Uber). block_end u.parity u.births entry ≤ sectors_of u.reflow) (sym sound.alike) below)));
+}
+
+-- A put has no sector in common with a block of this group, whose blocks lie in the pool.
+record IsClearOf (layout : Layout) (reflow : Reflow) (kept : Kept) : Type 0 where
+  inside : AreInPool kept reflow
+  spares : SparesAll kept.uber.parity kept.uber.births kept.entries (layout_run layout)
+
+-- Where it writes is spare beside such groups.
+written_spare : (setting : Setting) (first : Kept) (later : List Kept) (reflow : Reflow) (layout : Layout) (out : ℕ)
+    → IsSound setting first → IsInPool layout reflow
+    → ((kept : Kept) → Contains (first ∷ later) kept → IsClearOf layout reflow kept)
+    → (device device_sector : ℕ) → IsWrittenTo layout reflow out device device_sector
+    → IsSpare setting first later device device_sector
+written_spare setting first later reflow layout out sound pool clear device device_sector written =
+    let data_sector = written_data reflow layout out device device_sector written in
+    record {
+      ring = ⊎_elim (λ scratch. scratch.0) (λ rows. omega (arith, rows)) data_sector;
+      page = λ below works part low same.
+          let paged = sound_paged setting first sound in
+          let place = page_place first.uber part paged.area paged.count low in
+          data_is_no_page device_sector data_sector (omega (arith, place.0, same)) (omega (arith, place.2, same));
+      cells = λ kept bytes listed asks. absurd (never_asked kept reflow layout out device device_sector bytes
+          (clear kept listed).inside pool (clear kept listed).spares written asks);
+    }
+
+-- One write touches no more than such a place,
+one_touched : (rows : Rows) (writes : List Write) (write : Write) (before after : Point) → Contains writes write
+    → IsPassedOrMade rows write before after → TouchesOnly (IsPlaceOf writes before.out) before.disk after.disk
+one_touched rows writes write before after listed step = ⊎_elim
+    (λ (passed : (has_device before.out write.device ≡ true) × (after ≡ before)).
+    subst (λ (p : Point). TouchesOnly (IsPlaceOf writes before.out) before.disk p.disk) (sym passed.1)
+    (touches_none (IsPlaceOf writes before.out) before.disk))
+    (λ (made : IsMade rows write before after).
+    wrote_touches (IsPlaceOf writes before.out) (write, listed, made.called.in_use, refl, refl) made.wrote)
+    step
+
+-- and at most its device goes out.
+one_out : (rows : Rows) (write : Write) (before after : Point) → IsPassedOrMade rows write before after
+    → OnlyFailedGoOut before after
+one_out rows write before after step = ⊎_elim
+    (λ (passed : (has_device before.out write.device ≡ true) × (after ≡ before)).
+    subst (OnlyFailedGoOut before) (sym passed.1) (outs_none before))
+    (λ (made : IsMade rows write before after).
+    outs_called write.device made.result before after made.called made.wrote.failed)
+    step
+
+-- A commit's group has the widths of the pool.
+next_widths : (core : Core) (run : CommitRun) (next : Kept) → IsCommitOf core run → AreAlike run.uber next.uber
+    → (core.pool.uber.parity ≡ next.uber.parity) × (core.pool.uber.births ≡ next.uber.births)
+    × (core.pool.uber.reflow ≡ next.uber.reflow)
+next_widths core run next of alike = (
+  sym (ap (λ (u : Uber). u.parity) of.uber_is) ∙ ap (λ (u : Uber). u.parity) alike,
+  sym (ap (λ (u : Uber). u.births) of.uber_is) ∙ ap (λ (u : Uber). u.births) alike,
+  sym (ap (λ (u : Uber). u.reflow) of.uber_is) ∙ ap (λ (u : Uber). u.reflow) alike,
+)
+
+-- Groups that stand in a row do so without the one that images can't show yet.
+row_shown : (groups : List Kept) (last next : Kept) (stage : Stage) → IsRowOf groups last (next ∷ [])
+    → IsRowOf groups last (shown_at next stage)
+row_shown groups last next Signs row = row
+row_shown groups last next Lays row = record {
+  before = row.before;
+  after = next ∷ row.after;
+  row = row.row ∙ append_assoc row.before (last ∷ next ∷ []) row.after
+      ∙ sym (append_assoc row.before (last ∷ []) (next ∷ row.after));
+}
+
+-- ---- one write
+
+module _ (setting : Setting) (last : Kept) (begun : List Kept) (map : Map) (left calls : List Call)
+    (before after : CoreState) (run next : PutRun) (content : List ℕ) (is : IsCore before.core)
+    (lawful : Lawful before.disk) (writes : WritesOne before run after next)
+    (gains : Gains left calls (Putting run content)) where
+  abbrev reflow : Reflow
+  reflow = before.core.pool.uber.reflow
+
+  abbrev layout : Layout
+  layout = run.range.layout
+
+  abbrev places : ℕ → ℕ → Type 0
+  places = IsWrittenTo layout reflow before.core.pool.out
+
+  abbrev here : Point
+  here = point_of before.core.pool.out before.disk
+
+  abbrev there : Point
+  there = point_of after.core.pool.out after.disk
+
+  -- the state after it, as the turn says
+  abbrev written : CoreState
+  written = at_disk (record before.core { pool = record before.core.pool { out = after.core.pool.out } }) after.disk
+
+  -- what is filled in, one write further
+  abbrev further : Filled
+  further = record writes.filled { write = record writes.filled.write { next = writes.filled.write.next + 1 } }
+
+  -- At most the write's device goes out.
+  outs : OnlyFailedGoOut here there
+  outs = one_out writes.filled.write.rows writes.write here there writes.made
+
+  -- Not too many devices were out.
+  few : count_of before.core.pool.out ≤ before.core.pool.uber.parity
+  few = ⊎_elim (λ many. absurd (writes.few many)) (λ low. low)
+      (cases_lt before.core.pool.uber.parity (count_of before.core.pool.out))
+
+  module _ (of : IsPutOf before.core run) where
+    -- The write is one of the block's,
+    write_listed : Contains (writes_of layout reflow (front_after_stop reflow)) writes.write
+    write_listed = subst (λ (l : List Write). Contains l writes.write)
+        (of.filled writes.filled writes.filled_is).1.writes
+        (listed_at writes.filled.write.writes writes.filled.write.next writes.write writes.write_is)
+
+    -- so nothing is touched but the block's places.
+    touched : TouchesOnly places before.disk after.disk
+    touched = one_touched writes.filled.write.rows (writes_of layout reflow (front_after_stop reflow)) writes.write
+        here there write_listed writes.made
+
+    leaves : Leaves places before written
+    leaves = leaves_touched places before written refl outs.still touched
+
+    -- Blocks that have no sector of the put are off it: those of other calls,
+    calls_off : (call : Call) → AreBeside (Putting run content) call → IsCallOf before.core call
+        → IsOff places reflow (layout_of_call call)
+    calls_off (Putting other bytes) beside other_of =
+        off_written reflow layout other.range.layout before.core.pool.out of.pool other_of.pool beside.apart
+    calls_off (Reading other bytes) beside other_of =
+        off_written reflow layout other.read.layout before.core.pool.out of.pool other_of.1.pool beside.apart
+
+    -- and those of the table.
+    table_off : AreInStep before.core.pool.blocks → IsUnderWay before.core.pool.blocks run.range
+        → AreOff places before.core
+    table_off step under entry listed = off_written reflow layout
+        (layout_of before.core.pool.uber.parity before.core.pool.uber.births entry) before.core.pool.out of.pool
+        (listed_in_pool (as_begun before.core) entry is.is step listed)
+        (listed_clear before.core run.range entry is under listed)
+
+    -- One write more of the put's block stands there.
+    holds_further : Tells before.disk → HasBank before.core.pool.uber before.core.pool.out before.disk
+        → HoldsPut content before run → HoldsPut content written next
+    holds_further tells bank holds = subst (HoldsPut content written) (sym writes.next_is) (record {
+      len_is = holds.len_is;
+      are_bytes = holds.are_bytes;
+      so_far = λ filled same. subst (λ (f : Filled). (f.digest ≡ sha256 content)
+          × IsWrittenSoFar layout content reflow (front_after_stop reflow) after.disk.reads after.core.pool.out f.write)
+          (same_filled filled same) (
+            so_far.0,
+            written_more layout content reflow (front_after_stop reflow) writes.filled.write writes.write here there
+                writes.write_is so_far.1 writes.made
+                (λ used. tells_at layout before.core.pool.uber before.core.pool.out before.disk of.pool bank tells
+                writes.write write_listed used),
+          );
+    })
+      where
+        so_far : (writes.filled.digest ≡ sha256 content)
+            × IsWrittenSoFar layout content reflow (front_after_stop reflow) before.disk.reads before.core.pool.out
+            writes.filled.write
+        so_far = holds.so_far writes.filled writes.filled_is
+
+        same_filled : (filled : Filled) → Some further ≡ Some filled → further ≡ filled
+        same_filled filled same = cc
+
+    -- The put is clear of a group where it has no sector of its blocks:
+    clear_of : (group : Kept) → IsSound setting group
+        → (before.core.pool.uber.parity ≡ group.uber.parity) × (before.core.pool.uber.births ≡ group.uber.births)
+        × (reflow ≡ group.uber.reflow)
+        → PutsSpare before calls group → IsClearOf layout reflow group
+    clear_of group sound widths spared = record {
+      inside = sound_in_pool setting group reflow sound widths.2;
+      spares = subst (λ (p : ℕ). SparesAll p group.uber.births group.entries (put_run run.range))
+          (is.is.parity ∙ widths.0)
+          (subst (λ (b : List Birth). SparesAll before.core.pool.blocks.parity b group.entries (put_run run.range))
+          (is.is.births ∙ widths.1) (spared run content (gains_item left calls (Putting run content) gains)));
+    }
+
+    module _ (alike : AreAlike before.core.pool.uber last.uber) (spared : PutsSpare before calls last) where
+      -- of the last one,
+      last_clear : IsSound setting last → IsClearOf layout reflow last
+      last_clear sound = clear_of last sound
+          (ap (λ (u : Uber). u.parity) alike, ap (λ (u : Uber). u.births) alike, ap (λ (u : Uber). u.reflow) alike)
+          spared
+
+      -- and of the one that a commit makes.
+      next_clear : (commit : CommitRun) (groups : CommitStands setting last begun calls commit before)
+          → IsClearOf layout reflow groups.next
+      next_clear commit groups = clear_of groups.next groups.come.sound
+          (next_widths before.core commit groups.next groups.of groups.come.alike) groups.spared
+
+      -- So it writes to spare sectors without a commit
+      spare_alone : NoCommitStands setting last begun before → (device device_sector : ℕ) → places device device_sector
+          → IsSpare setting last begun device device_sector
+      spare_alone groups device device_sector place =
+          subst (λ (later : List Kept). IsSpare setting last later device device_sector) (sym (groups.whole few).0)
+          (written_spare setting last [] reflow layout before.core.pool.out groups.knows.sound of.pool
+          (λ kept listed. ⊎_elim
+          (λ same. subst (IsClearOf layout reflow) (sym same) (last_clear groups.knows.sound))
+          (λ none. absurd (contains_none kept none))
+          (contains_cases last [] kept listed))
+          device device_sector place)
+
+      -- and beside one.
+      spare_beside : (commit : CommitRun) (groups : CommitStands setting last begun calls commit before)
+          → (device device_sector : ℕ) → places device device_sector
+          → IsSpare setting last (shown_by groups.next commit) device device_sector
+      spare_beside commit groups = written_spare setting last (shown_by groups.next commit) reflow layout
+          before.core.pool.out groups.come.sound_first of.pool
+          (λ kept listed. ⊎_elim
+          (λ same. subst (IsClearOf layout reflow) (sym same) (last_clear groups.come.sound_first))
+          (λ later. subst (IsClearOf layout reflow) (sym (shown_next commit.stage kept later))
+          (next_clear commit groups))
+          (contains_cases last (shown_by groups.next commit) kept listed))
+        where
+          shown_next : (stage : Stage) (kept : Kept) → Contains (shown_at groups.next stage) kept → kept ≡ groups.next
+          shown_next Lays kept listed = absurd (contains_none kept listed)
+          shown_next Signs kept listed = ⊎_elim (λ same. same) (λ none. absurd (contains_none kept none))
+              (contains_cases groups.next [] kept listed)
+
+      -- What is known of the groups stays,
+      groups_on : (commit : Option CommitRun) → Lawful after.disk → GroupsStand setting last begun calls commit before
+          → GroupsStand setting last begun calls commit written
+      groups_on None still_lawful groups = record {
+        knows = touched_knows places touched setting last begun lawful (spare_alone groups) groups.knows;
+        whole = λ few_after. groups.whole few;
+      }
+      groups_on (Some commit) still_lawful groups =
+          let first = last_clear groups.come.sound_first in
+          let next = next_clear commit groups in
+          record {
+            next = groups.next;
+            begun_is = groups.begun_is;
+            of = record {
+              actor = groups.of.actor;
+              under_way = groups.of.under_way;
+              number = groups.of.number;
+              uber_is = groups.of.uber_is;
+              lists = λ device listed. outs.still device (groups.of.lists device listed);
+            };
+            come = committing_touched setting last groups.next places commit here there
+                (put_beside_commit setting last groups.next reflow layout before.core.pool.out first.inside next.inside
+                of.pool first.spares next.spares)
+                touched outs.still still_lawful groups.come;
+            kept = groups.kept;
+            spared = groups.spared;
+          }
+
+      -- and what each image keeps.
+      since_on : (commit : Option CommitRun) (groups : List Kept) (time : ℕ) → IsRowOf groups last begun
+          → GroupsStand setting last begun calls commit before → KeepsSince setting groups time before.disk
+          → KeepsSince setting groups time after.disk
+      since_on None groups time row stands kept =
+          touched_since places touched setting last begun lawful (spare_alone stands) stands.knows groups time row kept
+      since_on (Some commit) groups time row stands kept =
+          touched_since places touched setting last (shown_by stands.next commit) lawful (spare_beside commit stands)
+          (committing_knows setting last stands.next commit here stands.come) groups time
+          (row_shown groups last stands.next commit.stage
+          (subst (λ (later : List Kept). IsRowOf groups last later) stands.begun_is row)) kept
+
+  module _ (commit : Option CommitRun) (stands : Stands setting last begun map calls commit before) where
+    its_calls : Contains calls (Putting run content)
+    its_calls = gains_item left calls (Putting run content) gains
+
+    its_of : IsPutOf before.core run
+    its_of = stands.are.each (Putting run content) its_calls
+
+    -- A write of a put leaves what stands, and is one more of its block.
+    pub put_writes_stands : (nexts : List Call) → AreInStep before.core.pool.blocks → Lawful after.disk
+        → Gains left nexts (Putting next content)
+        → Stands setting last begun map nexts commit after
+    put_writes_stands nexts step still_lawful gains_next =
+        subst (λ (core : Core). Stands setting last begun map nexts commit (at_disk core after.disk)) (sym writes.rest)
+        (stands_anew places setting last begun map calls nexts commit commit before written (leaves its_of)
+        (table_off its_of step (stands.are.under.each run.range (range_listed calls run content its_calls)))
+        refl (touched its_of).later
+        (groups_with setting last begun calls nexts commit written spared
+        (groups_on its_of stands.alike stands.spared commit still_lawful stands.groups))
+        (spared last stands.spared)
+        (subst (λ (core : Core). AreCallsOf core nexts) writes.rest
+        (put_writes_calls left calls nexts before after run next content writes stands.are gains gains_next))
+        (λ call listed. ⊎_elim
+        (λ same. subst (HoldsCall written) same
+        (holds_further its_of stands.tells stands.bank (stands.each (Putting run content) its_calls)))
+        (λ other.
+        let was = gains_old left calls (Putting run content) call gains other in
+        let beside =
+        pairs_beside AreBeside beside_turned calls left (Putting run content) call gains stands.are.beside other in
+        call_stays places before written call (leaves its_of)
+        (calls_off its_of call beside (stands.are.each call was)) (stands.each call was))
+        (gains_cases left nexts (Putting next content) call gains_next listed))
+        stands)
+      where
+        spared : (group : Kept) → PutsSpare written calls group → PutsSpare written nexts group
+        spared group = next_spares left calls nexts run (Some further) content written group gains
+            (subst (λ (r : PutRun). Gains left nexts (Putting r content)) writes.next_is gains_next)
+
+    -- Each image keeps what it kept, at each moment of it.
+    pub put_writes_since : (groups : List Kept) (time : ℕ) → IsRowOf groups last begun
+        → KeepsSince setting groups time before.disk
+        → KeepsSince setting groups time after.disk
+    put_writes_since groups time row kept =
+        since_on its_of stands.alike stands.spared commit groups time row stands.groups kept
