@@ -8,3 +8,4 @@ pub mod PutRanges
 pub mod PutCalls
 pub mod PutStands
 pub mod PutWrites
+pub mod Commits

@@ -4,6 +4,7 @@ ghost use Rattle.core_client.specs.Outs.{point_of, OnlyFailedGoOut};
 ghost use Rattle.core_serial.specs.Pool.{HasBank};
 ghost use Rattle.core_turns.specs.Core.{at_disk};
 ghost use Rattle.core_turns.specs.Committing.{BeginsCommit, IsCommitOf, StepsCommit};
+ghost use Rattle.core_turns.specs.UnderWay.{TurnGoesOn};
 
 use crate::turn::too_many;
 use crate::{Core, Turn};
@@ -54,6 +55,17 @@ impl Core {
         ensures bank { HasBank self.new.pool.uber self.new.pool.out (B.disk bank.new) }
         ensures out { OnlyFailedGoOut (point_of self.old.pool.out (B.disk bank.old))
             (point_of self.new.pool.out (B.disk bank.new)) }
+        ensures goes_on { TurnGoesOn (at_disk self.old (B.disk bank.old))
+            (at_disk self.new (B.disk bank.new)) }
+    {
+        self.step_commit(bank, run)
+    }
+
+    fn step_commit<B: Bank>(&mut self, bank: &mut B, run: CommitRun) -> Turn<CommitRun>
+        requires of { IsCommitOf self.old run }
+        requires bank { HasBank self.old.pool.uber self.old.pool.out (B.disk bank.old) }
+        ensures { StepsCommit (at_disk self.old (B.disk bank.old)) run
+            (at_disk self.new (B.disk bank.new)) result }
     {
         let mut run = run;
         if self.has_too_many_out() {
