@@ -21,9 +21,9 @@ use Rattle.core_client.specs.Outs.{point_of, OnlyFailedGoOut}
 use Rattle.core_client.proofs.Outs.{outs_none}
 use Rattle.core_commit.specs.declared.commit_run.CommitStep.{CommitStep}
 use Rattle.core_commit.specs.declared.commit_run.CommitStep.TheVariants.{Called, Ended}
-use Rattle.core_commit.specs.CommitTurns.{CommitRun, IsCommitRun, IsReady, HasCalled, HasEnded, Steps}
+use Rattle.core_commit.specs.CommitTurns.{CommitRun, IsReady, HasEnded, Steps}
 use Rattle.core_commit.specs.Ran.{FitsBank}
-use Rattle.core_commit.specs.Spared.{HaveGoneOut, Spares, IsOnInUse}
+use Rattle.core_commit.specs.Spared.{IsOnInUse}
 use Rattle.core_commit.proofs.Stepping.{ready_keeps, steps_same, steps_went}
 use Rattle.core_commit.proofs.Touching.{touched_none, touched_more}
 use Rattle.core_open.proofs.Renewing.{none_above_more}
@@ -32,7 +32,7 @@ use Rattle.core_serial.specs.Syncing.{next_uber}
 use Rattle.core_serial.proofs.Committing.{right_next}
 use Rattle.core_serial.proofs.Going.{bank_later}
 use Rattle.core_serial.proofs.Syncs.{few_below}
-use Rattle.core_turns.specs.Core.{Core, CoreState, IsCore, as_begun, groups_begun, at_disk}
+use Rattle.core_turns.specs.Core.{Core, CoreState, IsCore, groups_begun}
 use Rattle.core_turns.specs.Getting.{HasTooManyOut}
 use Rattle.core_state.specs.declared.answer.Answer.{Answer}
 use Rattle.core_state.specs.declared.answer.Answer.TheVariants as answer
@@ -159,7 +159,7 @@ step_lists core run stepped out old new Ended lists still did =
     λ device has. still device (listed_still core run stepped lists did.is_ready device has)
 
 -- What the group of a commit has of the last one, but for what it lists as out.
-step_uber : (core : Core) (run stepped : CommitRun) → IsCommitOf core run
+pub step_uber : (core : Core) (run stepped : CommitRun) → IsCommitOf core run
     → stepped.uber ≡ record run.uber { out = stepped.uber.out }
     → stepped.uber ≡ record core.pool.uber {
       group = stepped.uber.group;

@@ -9,3 +9,4 @@ pub mod PutCalls
 pub mod PutStands
 pub mod PutWrites
 pub mod Commits
+pub mod CommitStands

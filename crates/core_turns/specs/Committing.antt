@@ -1,5 +1,5 @@
 -- Commits, turn by turn.
-use Rattle.std.specs.Prelude.{◌≡◌, ℕ, ◌+◌, ◌≤◌, ◌<◌, List, length, Option, Some, None}
+use Rattle.std.specs.Prelude.{◌≡◌, ℕ, ◌+◌, ◌≤◌, ◌<◌, List, length, Some, None}
 use Rattle.sha2.specs.Sha256.{sha256}
 use Rattle.space_alloc.specs.Space.{after_group}
 use Rattle.block_record.specs.declared.entry.IndexEntry.{IndexEntry}
