@@ -1,7 +1,7 @@
 -- What a turn leaves of the calls that are under way beside it, and of the map.
-use Rattle.std.proofs.Common.{◌≡◌, ◌≢◌, ⊎_elim, ℕ, ◌+◌, ◌≤◌, List, false, Option, Some, sym, ◌∙◌, ap, subst, arith}
+use Rattle.std.proofs.Common.{◌≡◌, ◌≢◌, ⊎_elim, ℕ, ◌+◌, ◌≤◌, List, false, Option, Some, None, sym, ◌∙◌, ap, subst, arith}
 use Rattle.std.specs.Prelude.{Contains}
-use Rattle.bank_trait.specs.Disk.{Later, Unchanged}
+use Rattle.bank_trait.specs.Disk.{Disk, Lawful, Later, Unchanged}
 use Rattle.bank_trait.specs.Regions.{TouchesOnly}
 use Rattle.bank_trait.proofs.Touches.{tells_later}
 use Rattle.range_locks.specs.declared.hold.Hold.{Hold}
@@ -18,20 +18,24 @@ use Rattle.core_state.specs.Map.{Map}
 use Rattle.core_state.specs.Index.{layout_of}
 use Rattle.core_state.specs.Keeps.{Kept, Setting}
 use Rattle.core_state.specs.Whole.{Cell, IsCell}
-use Rattle.core_state.proofs.Frames.{Nowhere}
+use Rattle.core_state.specs.Moment.{KeepsSince}
+use Rattle.core_state.proofs.Frames.{Nowhere, none_lost, unchanged_frames}
+use Rattle.core_state.proofs.Knowing.{knows_frame}
+use Rattle.core_state.proofs.Since.{might_at}
 use Rattle.core_state.proofs.Places.{IsDataSector, required_sector}
-use Rattle.core_blocks.specs.Blocks.{AreUnderWay, IsListed, layout_run, put_run}
+use Rattle.core_blocks.specs.Blocks.{Blocks, AreUnderWay, IsListed, layout_run, put_run}
 use Rattle.core_blocks.specs.Kept.{NoneFree, SparesAll}
 use Rattle.core_blocks.specs.Puts.{layout_at}
 use Rattle.core_blocks.specs.Runs.{AreClear}
 use Rattle.core_blocks.proofs.Lists.{gains_cases}
-use Rattle.core_client.specs.Outs.{point_of}
+use Rattle.core_client.specs.Outs.{point_of, OnlyFailedGoOut}
 use Rattle.core_client.specs.Pool.{IsInPool, IsRightBlock}
 use Rattle.core_client.specs.Writing.{IsPlanOf}
 use Rattle.core_client.specs.BlockTurns.{IsWrittenSoFar}
 use Rattle.core_client.proofs.BlockTurns.{written_stays}
 use Rattle.core_commit.specs.CommitTurns.{CommitRun}
 use Rattle.core_commit.specs.Spared.{Spares}
+use Rattle.core_commit.proofs.Beside.{committing_unchanged}
 use Rattle.core_serial.specs.Pool.{HasBank, HoldsMap, IsTableOf}
 use Rattle.core_serial.proofs.Going.{bank_later, count_grows}
 use Rattle.core_serial.proofs.Holding.{block_stays}
@@ -40,6 +44,7 @@ use Rattle.core_turns.specs.declared.putting.PutRun.{PutRun}
 use Rattle.core_turns.specs.Core.{Core, CoreState, pool_at}
 use Rattle.core_turns.specs.Getting.{IsGetOf, HoldsGet}
 use Rattle.core_turns.specs.Putting.{IsPutOf, HoldsPut}
+use Rattle.core_turns.specs.Committing.{IsCommitOf}
 use Rattle.core_turns.specs.UnderWay.{Call, Putting, Reading, hold_of_call, layout_of_call, ranges_of, IsCallOf, HoldsCall, AreCallsOf, PutsSpare, GroupsStand, Stands}
 use Rattle.core_turns.proofs.Beside.{IsWrittenTo, never_both, written_cell}
 use Rattle.core_turns.proofs.GetLaws.{get_stays}
@@ -59,6 +64,11 @@ abbrev pub IsOff : (ℕ → ℕ → Type 0) → Reflow → Layout → Type 0
 IsOff P reflow layout = (content : List ℕ) (cell : Cell) (device device_sector : ℕ) → IsCell layout content cell
     → IsRequiredPlace reflow (front_after_stop reflow) cell.row_end cell.sector device device_sector
     → P device device_sector → ⊥
+
+-- No place of a block that stands in the table is one of these.
+abbrev pub AreOff : (ℕ → ℕ → Type 0) → Core → Type 0
+AreOff P core = (entry : IndexEntry) → IsListed core.pool.blocks.table.entries entry
+    → IsOff P core.pool.uber.reflow (layout_of core.pool.uber.parity core.pool.uber.births entry)
 
 -- Where nothing is written, each block is off that;
 pub off_nowhere : (reflow : Reflow) (layout : Layout) → IsOff Nowhere reflow layout
@@ -269,9 +279,7 @@ calls_stay old new calls core are = calls_keep old new calls (widths_out old new
 
 -- The map is held still where its blocks are off what was written.
 pub map_stays : (P : ℕ → ℕ → Type 0) (map : Map) (before after : CoreState) → Leaves P before after
-    → after.core.pool.blocks.table.entries ≡ before.core.pool.blocks.table.entries
-    → ((entry : IndexEntry) → IsListed before.core.pool.blocks.table.entries entry
-    → IsOff P before.core.pool.uber.reflow (layout_of before.core.pool.uber.parity before.core.pool.uber.births entry))
+    → after.core.pool.blocks.table.entries ≡ before.core.pool.blocks.table.entries → AreOff P before.core
     → HoldsMap map (pool_at before) → HoldsMap map (pool_at after)
 map_stays P map before after leaves table off holds = record {
   table = subst (λ (l : List IndexEntry). IsTableOf l map) (sym table) holds.table;
@@ -301,54 +309,115 @@ map_stays P map before after leaves table off holds = record {
         (off entry listed content cell device device_sector is place) ∙ read)
         (holds.right entry content listed has)))
 
--- What a turn has to leave of the blocks that stand in the table.
-abbrev pub AreOff : (ℕ → ℕ → Type 0) → Core → Type 0
-AreOff P core = (entry : IndexEntry) → IsListed core.pool.blocks.table.entries entry
-    → IsOff P core.pool.uber.reflow (layout_of core.pool.uber.parity core.pool.uber.births entry)
+-- ---- the groups
 
--- All stands that stood, also where a turn makes other calls, or another commit, of those under way: what is told
--- anew is the groups and the calls.
-pub stands_anew : (P : ℕ → ℕ → Type 0) (setting : Setting) (last : Kept) (begun : List Kept) (map : Map)
-    (calls nexts : List Call)
-    (commit next : Option CommitRun) (before after : CoreState) → Leaves P before after → AreOff P before.core
-    → OnlyOut before.core after.core → Later before.disk after.disk → GroupsStand setting last begun nexts next after
-    → PutsSpare after nexts last → AreCallsOf after.core nexts
+-- A commit is one of the core still where only devices went out.
+pub commit_of_out : (core : Core) (out : ℕ) (run : CommitRun) → IsWithin core.pool.out out → IsCommitOf core run
+    → IsCommitOf (record core { pool = record core.pool { out = out } }) run
+commit_of_out core out run within of = record {
+  actor = of.actor;
+  under_way = of.under_way;
+  number = of.number;
+  uber_is = of.uber_is;
+  lists = λ device has. within device (of.lists device has);
+}
+
+-- The laws of a disk held before where they hold after nothing was changed.
+lawful_before : {old new : Disk} → Unchanged old new → Lawful new → Lawful old
+lawful_before {old = old} {new = new} same lawful = record {
+  stays_read = λ d x bytes is. sym (same.reads d x) ∙ lawful.stays_read d x bytes (leaves d x ∙ is);
+  reads_could = λ d x bytes is. subst (λ (l : List (List ℕ)). Contains l bytes) (could d x)
+      (lawful.reads_could d x bytes (same.reads d x ∙ is));
+  stays_could = λ d x bytes other is has. lawful.stays_could d x bytes other (leaves d x ∙ is)
+      (subst (λ (l : List (List ℕ)). Contains l other) (sym (could d x)) has);
+}
+  where
+    leaves : (d x : ℕ) → new.leaves new.clock d x ≡ old.leaves old.clock d x
+    leaves d x = ap (λ (t : ℕ). new.leaves t d x) same.clock ∙ (same.goes_on.later.past old.clock (omega arith) d x).0
+
+    could : (d x : ℕ) → new.could new.clock d x ≡ old.could old.clock d x
+    could d x = ap (λ (t : ℕ). new.could t d x) same.clock ∙ (same.goes_on.later.past old.clock (omega arith) d x).1
+
+-- The groups stand still where devices were read,
+pub groups_read : (setting : Setting) (last : Kept) (begun : List Kept) (calls : List Call) (commit : Option CommitRun)
+    (before after : CoreState) → OnlyOut before.core after.core → Unchanged before.disk after.disk
+    → OnlyFailedGoOut (point_of before.core.pool.out before.disk) (point_of after.core.pool.out after.disk)
+    → Lawful after.disk → GroupsStand setting last begun calls commit before
+    → GroupsStand setting last begun calls commit after
+groups_read setting last begun calls None before after core same outs lawful groups = record {
+  knows = knows_frame Nowhere none_lost setting last begun before.disk after.disk (lawful_before same lawful)
+      (unchanged_frames same) (λ d x nowhere. absurd nowhere) groups.knows;
+  whole = λ few. let was = groups.whole (
+      let more = count_grows before.core.pool.out after.core.pool.out outs.still in
+      let parity : after.core.pool.uber.parity ≡ before.core.pool.uber.parity = ap (λ (c : Core). c.pool.uber.parity)
+      core in
+      omega (arith, few, more, parity)) in
+      (was.0, ap (λ (c : Core). c.committing) core ∙ was.1);
+}
+groups_read setting last begun calls (Some run) before after core same outs lawful groups = record {
+  next = groups.next;
+  begun_is = groups.begun_is;
+  of = subst (λ (c : Core). IsCommitOf c run) (sym core)
+      (commit_of_out before.core after.core.pool.out run outs.still groups.of);
+  come = committing_unchanged setting last groups.next run (point_of before.core.pool.out before.disk)
+      (point_of after.core.pool.out after.disk) same outs.still lawful groups.come;
+  kept = subst (λ (c : Core). NoneFree c.pool.blocks c.begun groups.next.entries) (sym core) groups.kept;
+  spared = λ run content listed. subst (λ (c : Core). SparesAll c.pool.blocks.parity c.pool.blocks.births
+      groups.next.entries
+      (put_run run.range)) (sym core) (groups.spared run content listed);
+}
+
+-- and each image since a moment keeps what it kept: no moment is new.
+pub since_read : (setting : Setting) (groups : List Kept) (time : ℕ) (old new : Disk) → Unchanged old new
+    → KeepsSince setting groups time old → KeepsSince setting groups time new
+since_read setting groups time old new same since = record {
+  each = λ moment image from until might.
+      let clock = same.clock in
+      let early : moment ≤ old.clock = omega (arith, until, clock) in
+      since.each moment image from early
+      (might_at setting.shape new old moment moment image (λ d x. same.goes_on.later.past moment early d x) might);
+}
+
+-- ---- all that stands
+
+-- What stands, where the groups and the calls are told anew.
+pub stands_anew : (P : ℕ → ℕ → Type 0) (setting : Setting) (last : Kept) (begun begins : List Kept) (map : Map)
+    (calls nexts : List Call) (commit next : Option CommitRun) (before after : CoreState)
+    → Leaves P before after → AreOff P before.core → after.core.pool.uber ≡ before.core.pool.uber
+    → after.core.pool.blocks ≡ before.core.pool.blocks → Later before.disk after.disk
+    → GroupsStand setting last begins nexts next after → PutsSpare after nexts last → AreCallsOf after.core nexts
     → ((call : Call) → Contains nexts call → HoldsCall after call)
-    → Stands setting last begun map calls commit before → Stands setting last begun map nexts next after
-stands_anew P setting last begun map calls nexts commit next before after leaves off core later groups spared are each
-    stands =
-    let uber : after.core.pool.uber ≡ before.core.pool.uber = ap (λ (c : Core). c.pool.uber) core in
-    record {
+    → Stands setting last begun map calls commit before → Stands setting last begins map nexts next after
+stands_anew P setting last begun begins map calls nexts commit next before after leaves off uber blocks later groups
+    spared are each stands = record {
       groups = groups;
       alike = ap (λ (u : Uber). record u { out = 0 }) uber ∙ stands.alike;
-      kept = subst (λ (c : Core). NoneFree c.pool.blocks c.pool.uber.group last.entries) (sym core) stands.kept;
+      kept = subst (λ (u : Uber). NoneFree after.core.pool.blocks u.group last.entries) (sym uber)
+          (subst (λ (b : Blocks). NoneFree b before.core.pool.uber.group last.entries) (sym blocks) stands.kept);
       spared = spared;
       odd = stands.odd;
       shape = stands.shape ∙ (λ i. record { devices = sym later.devices i; sectors = sym later.sectors i });
       tells = tells_later later stands.tells;
       bank = subst (λ (u : Uber). HasBank u after.core.pool.out after.disk) (sym uber)
           (bank_later before.core.pool.uber before.disk after.disk before.core.pool.out after.core.pool.out later
-          leaves.within
-          stands.bank);
-      holds = map_stays P map before after leaves
-          (ap (λ (c : Core). c.pool.blocks.table.entries) core) off stands.holds;
+          leaves.within stands.bank);
+      holds = map_stays P map before after leaves (ap (λ (b : Blocks). b.table.entries) blocks) off stands.holds;
       are = are;
       each = each;
     }
 
--- All stands that stood beside a turn that is none of a read or a put under way.
+-- What stands, beside a turn of a commit or of none of the calls.
 pub stands_frame : (P : ℕ → ℕ → Type 0) (setting : Setting) (last : Kept) (begun : List Kept) (map : Map)
-    (calls : List Call)
-    (commit next : Option CommitRun) (before after : CoreState) → Leaves P before after
+    (calls : List Call) (commit next : Option CommitRun) (before after : CoreState) → Leaves P before after
     → ((call : Call) → Contains calls call → IsOff P before.core.pool.uber.reflow (layout_of_call call))
     → AreOff P before.core → OnlyOut before.core after.core → Later before.disk after.disk
     → GroupsStand setting last begun calls next after
     → Stands setting last begun map calls commit before → Stands setting last begun map calls next after
 stands_frame P setting last begun map calls commit next before after leaves calls_off off core later groups stands =
-    stands_anew P setting last begun map calls calls commit next before after leaves off core later groups
+    stands_anew P setting last begun begun map calls calls commit next before after leaves off
+    (ap (λ (c : Core). c.pool.uber) core) (ap (λ (c : Core). c.pool.blocks) core) later groups
     (λ run content listed. subst (λ (c : Core). SparesAll c.pool.blocks.parity c.pool.blocks.births last.entries
-    (put_run run.range))
-    (sym core) (stands.spared run content listed))
+    (put_run run.range)) (sym core) (stands.spared run content listed))
     (calls_stay before.core after.core calls core stands.are)
     (λ call listed. call_stays P before after call leaves (calls_off call listed) (stands.each call listed))
     stands

@@ -12,6 +12,8 @@ use Rattle.core_turns.specs.Getting.{HasTooManyOut}
 -- it was.
 pub record TakesAway (old new : Core) (id : ℕ) (entry : IndexEntry) : Type 0 where
   pub was : entry_of old.pool.blocks.table.entries id ≡ Some entry
+  pub parity : new.pool.blocks.parity ≡ old.pool.blocks.parity
+  pub births : new.pool.blocks.births ≡ old.pool.blocks.births
   pub change : ChangesOnly old.pool.blocks.table.entries new.pool.blocks.table.entries id None
   pub held : HoldsBack old.pool.blocks.parity old.pool.blocks.births old.pool.blocks.space
       new.pool.blocks.space (old.begun + 1) (Some entry)
@@ -20,6 +22,8 @@ pub record TakesAway (old new : Core) (id : ℕ) (entry : IndexEntry) : Type 0 w
 -- There was no block of this id, and all is as it was.
 pub record HadNone (old new : Core) (id : ℕ) : Type 0 where
   pub none : entry_of old.pool.blocks.table.entries id ≡ None
+  pub parity : new.pool.blocks.parity ≡ old.pool.blocks.parity
+  pub births : new.pool.blocks.births ≡ old.pool.blocks.births
   pub change : ChangesOnly old.pool.blocks.table.entries new.pool.blocks.table.entries id None
   pub space : new.pool.blocks.space ≡ old.pool.blocks.space
   pub rest : new ≡ record old { pool = record old.pool { blocks = new.pool.blocks } }
