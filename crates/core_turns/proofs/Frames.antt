@@ -216,6 +216,7 @@ put_of_stays old new run widths listed of = record {
           (sym widths.reflow) was.1.plan;
       writes = was.1.writes ∙ ap (λ (r : Reflow). writes_of run.range.layout r (front_after_stop r))
           (sym widths.reflow);
+      so_far = was.1.so_far;
       len_is = was.1.len_is;
       digest_is = was.1.digest_is;
     },

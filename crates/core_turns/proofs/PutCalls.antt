@@ -2,6 +2,7 @@
 use Rattle.std.proofs.Common.{◌≡◌, ◌≢◌, ⊎_elim, ℕ, ◌+◌, List, [], ◌∷◌, ◌++◌, length, Option, Some, refl, sym, ◌∙◌, ap, subst, arith}
 use Rattle.std.specs.Prelude.{Contains}
 use Rattle.std.proofs.lemmas.List.Elements.{Contains-append_left}
+use Rattle.std.proofs.lemmas.Option.{slice_get_within}
 use Rattle.range_locks.specs.declared.hold.Hold.{Hold}
 use Rattle.range_locks.specs.declared.hold.HoldKind.TheVariants.{Shared}
 use Rattle.range_locks.specs.Holds.{EndsHold, Overlaps}
@@ -216,7 +217,13 @@ filled_of core run filled content with of = record {
     content,
     subst (λ (f : Filled). IsFilledWith core (record run { filled = Some filled }) f content)
         (same_filled other same)
-        (record { plan = with.plan; writes = with.writes; len_is = with.len_is; digest_is = with.digest_is }),
+        (record {
+          plan = with.plan;
+          writes = with.writes;
+          so_far = with.so_far;
+          len_is = with.len_is;
+          digest_is = with.digest_is;
+        }),
   );
 }
   where
@@ -236,6 +243,7 @@ put_fills_calls left calls nexts core run next bytes content fills len_is are ga
           fills.filled.write.writes) of.reflow_is fills.plan;
       writes = subst (λ (r : Reflow). fills.filled.write.writes ≡ writes_of run.range.layout r (front_after_stop r))
           of.reflow_is fills.writes;
+      so_far = (let first = fills.next in omega (arith, first));
       len_is = len_is;
       digest_is = fills.digest_is;
     }) of)
@@ -257,6 +265,8 @@ put_writes_calls left calls nexts before after run next content writes are gains
     (filled_of before.core run more with.0 (record {
       plan = with.1.plan;
       writes = with.1.writes;
+      so_far = (let low = slice_get_within writes.filled.write.writes writes.filled.write.next writes.write
+          writes.write_is in omega (arith, low));
       len_is = with.1.len_is;
       digest_is = with.1.digest_is;
     }) of)
