@@ -148,6 +148,7 @@ impl Blocks {
         ensures cause { IfErr result (IsPutCause self.old locks.now id
             (sectors_taken self.old.parity self.old.births len_bytes group)) }
         ensures err { OnErr result (IsAsBefore self.old self.new) }
+        ensures stays { AreInStep self.new }
         ensures under { IfOk result (λ range. (ranges : List PutRange) → AreUnderWay self.old ranges
             → AreUnderWay self.new (ranges ++ range ∷ [])) }
         ensures under_err { OnErr result ((ranges : List PutRange) → AreUnderWay self.old ranges
@@ -187,6 +188,7 @@ impl Blocks {
         requires right { IsRightEntry entry }
         requires under_way { IsUnderWay self.old (range_of self.old.parity self.old.births entry) }
         ensures was { result ≡ entry_of self.old.table.entries entry.id }
+        ensures stays { AreInStep self.new }
         ensures change { ChangesOnly self.old.table.entries self.new.table.entries entry.id
             (Some entry) }
         ensures reserved { self.new.table.reserved
@@ -209,6 +211,7 @@ impl Blocks {
     /// Ends a put without a block: its sectors are free at once.
     pub fn give_up(&mut self, range: PutRange)
         requires under_way { IsUnderWay self.old range }
+        ensures stays { AreInStep self.new }
         ensures entries { self.new.table.entries ≡ self.old.table.entries }
         ensures reserved { self.new.table.reserved
             ≡ without_one range.id self.old.table.reserved }
@@ -231,6 +234,7 @@ impl Blocks {
     /// answered.
     pub fn remove(&mut self, id: u64, group: u64) -> Option<IndexEntry>
         ensures was { result ≡ entry_of self.old.table.entries id }
+        ensures stays { AreInStep self.new }
         ensures change { ChangesOnly self.old.table.entries self.new.table.entries id None }
         ensures reserved { self.new.table.reserved ≡ self.old.table.reserved }
         ensures held { HoldsBack self.old.parity self.old.births self.old.space self.new.space
@@ -250,6 +254,7 @@ impl Blocks {
     /// Frees what was held back until this group, which is answered, or an earlier one.
     pub fn synced(&mut self, group: u64)
         ensures value { self.new ≡ record self.old { space = after_group self.old.space group } }
+        ensures stays { AreInStep self.new }
         ensures under { (ranges : List PutRange) → AreUnderWay self.old ranges
             → AreUnderWay self.new ranges }
         ensures kept { (past : ℕ) (kept : List IndexEntry) → group ≤ past

@@ -157,3 +157,9 @@ returns-in-Err-clause-under_err c ranges under =
     (made_and_ended c.args.id c.self.inside.table.reserved))
     c.in-Err.ensures.err
     (subst (λ (b : Blocks). AreUnderWay b ranges) (sym c.self.view_is) under)
+
+pub returns-in-Ok-clause-stays : goal.returns-in-Ok-clause-stays
+returns-in-Ok-clause-stays c = invariant_of-self-in-Ok c
+
+pub returns-in-Err-clause-stays : goal.returns-in-Err-clause-stays
+returns-in-Err-clause-stays c = invariant_of-self-in-Err c

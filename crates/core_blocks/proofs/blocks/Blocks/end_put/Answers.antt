@@ -43,3 +43,6 @@ returns-clause-under c left ranges gains under =
     (subst (λ (b : Blocks). Gains left ranges (range_of b.parity b.births c.args.entry))
     (sym c.self.view_is) gains)
     (subst (λ (b : Blocks). AreUnderWay b ranges) (sym c.self.view_is) under)
+
+pub returns-clause-stays : goal.returns-clause-stays
+returns-clause-stays c = invariant_of-self c

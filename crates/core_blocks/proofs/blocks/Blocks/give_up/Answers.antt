@@ -44,3 +44,6 @@ returns-clause-under c left ranges gains under =
     (ap (λ (t : Table). t.entries) c.release_id.ensures.value)
     (ap (λ (t : Table). t.reserved) c.release_id.ensures.value) (dropped c) gains
     (subst (λ (b : Blocks). AreUnderWay b ranges) (sym c.self.view_is) under)
+
+pub returns-clause-stays : goal.returns-clause-stays
+returns-clause-stays c = invariant_of-self c

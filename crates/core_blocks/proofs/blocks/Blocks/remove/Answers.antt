@@ -34,3 +34,6 @@ returns-clause-under c ranges under =
     c.remove-gone.result ranges c.self.invariant c.remove-gone.ensures.was
     c.remove-gone.ensures.change c.remove-gone.ensures.reserved c.hold_back.ensures.value
     (subst (λ (b : Blocks). AreUnderWay b ranges) (sym c.self.view_is) under)
+
+pub returns-clause-stays : goal.returns-clause-stays
+returns-clause-stays c = invariant_of-self c

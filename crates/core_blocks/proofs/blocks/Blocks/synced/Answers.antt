@@ -30,3 +30,6 @@ returns-clause-under c ranges under =
     (answered_under c.self.inside.parity c.self.inside.births c.self.inside.table
     c.self.inside.space c.args.group ranges
     (subst (λ (b : Blocks). AreUnderWay b ranges) (sym c.self.view_is) under))
+
+pub returns-clause-stays : goal.returns-clause-stays
+returns-clause-stays c = invariant_of-self c
