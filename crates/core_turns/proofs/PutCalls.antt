@@ -203,8 +203,9 @@ next_calls left calls nexts core run filled content gains gains_next of are = re
     same_beside (Reading other bytes) beside = record { actors = beside.actors; apart = beside.apart }
 
 -- A put with these columns is one of its pool still, if they are of some bytes.
-filled_of : (core : Core) (run : PutRun) (filled : Filled) (content : List ℕ) → IsFilledWith core run filled content
-    → IsPutOf core run → IsPutOf core (record run { filled = Some filled })
+filled_of : (core : Core) (run : PutRun) (filled : Filled) (content : List ℕ)
+    → IsFilledWith core (record run { filled = Some filled }) filled content → IsPutOf core run
+    → IsPutOf core (record run { filled = Some filled })
 filled_of core run filled content with of = record {
   pool = of.pool;
   reflow_is = of.reflow_is;
@@ -216,14 +217,7 @@ filled_of core run filled content with of = record {
   filled = λ other same. (
     content,
     subst (λ (f : Filled). IsFilledWith core (record run { filled = Some filled }) f content)
-        (same_filled other same)
-        (record {
-          plan = with.plan;
-          writes = with.writes;
-          so_far = with.so_far;
-          len_is = with.len_is;
-          digest_is = with.digest_is;
-        }),
+        (same_filled other same) with,
   );
 }
   where
