@@ -31,7 +31,7 @@ use Rattle.core_turns.specs.declared.getting.Solved.{Solved}
 use Rattle.core_turns.specs.declared.getting.Solved.TheVariants.{NotYet, Bytes, Damaged}
 use Rattle.core_turns.specs.declared.turn.Turn.{Turn}
 use Rattle.core_turns.specs.declared.turn.Turn.TheVariants.{More, Busy, Done}
-use Rattle.core_turns.specs.Core.{Core, IsCore, CoreState, at_disk, pool_at}
+use Rattle.core_turns.specs.Core.{Core, CoreState, at_disk, pool_at}
 use Rattle.core_turns.specs.Getting.{IsRead, HasTooManyOut, IsGetOf, BeginsGet, ReadsTurn, IsSolved, IsLeftOf, SolvesGet, AnswersSolved, EndsGet, IsSolvedAs, HoldsGet, FindsGet, KeepsGet, TellsGet, answer_of}
 
 -- A read that begins holds the block that the map has at its id.
@@ -68,12 +68,12 @@ get_finds map old new disk actor id asked (Done given) holds begins = λ absent.
         clash same = cc
 
 -- A read that has one column more is of its block still.
-pub get_reads : (content : List ℕ) (before after : CoreState) (run : GetRun) (result : Turn GetRun) → IsCore before.core
+pub get_reads : (content : List ℕ) (before after : CoreState) (run : GetRun) (result : Turn GetRun)
     → IsGetOf before.core run → IsPlace run.read → run.read.row < rows_of run.read.layout
     → Unchanged before.disk after.disk
     → OnlyFailedGoOut (point_of before.core.pool.out before.disk) (point_of after.core.pool.out after.disk)
     → HoldsGet content before run → ReadsTurn before run after result → KeepsGet content after result
-get_reads content before after run (More next) is of place left unchanged outs holds reads =
+get_reads content before after run (More next) of place left unchanged outs holds reads =
     let reflow = before.core.pool.uber.reflow in
     let done = front_after_stop reflow in
     subst (λ (core : Core). HoldsGet content (at_disk core after.disk) next) (sym reads.2)
@@ -88,12 +88,12 @@ get_reads content before after run (More next) is of place left unchanged outs h
       are_bytes = holds.are_bytes;
       digest_is = holds.digest_is;
       so_far = read_more content reflow done run.read next.read (point_of before.core.pool.out before.disk)
-          (point_of after.core.pool.out after.disk) place left of.pool (front_is_right reflow is.is.right.reflow).front holds.right
+          (point_of after.core.pool.out after.disk) place left of.pool (front_is_right reflow of.pool.right).front holds.right
           reads.3 holds.so_far;
       solved = λ few. holds.solved reads.0;
     }))
-get_reads content before after run (Busy by) is of place left unchanged outs holds reads = tt
-get_reads content before after run (Done given) is of place left unchanged outs holds reads = tt
+get_reads content before after run (Busy by) of place left unchanged outs holds reads = tt
+get_reads content before after run (Done given) of place left unchanged outs holds reads = tt
 
 -- What is solved of a block that was read whole is the block.
 pub get_solves : (content : List ℕ) (state : CoreState) (run next : GetRun) → run.read.row ≡ rows_of run.read.layout

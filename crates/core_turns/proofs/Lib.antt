@@ -10,3 +10,5 @@ pub mod PutStands
 pub mod PutWrites
 pub mod Commits
 pub mod CommitStands
+pub mod Calls
+pub mod GetStands

@@ -10,7 +10,7 @@ ghost use Rattle.core_client.specs.BlockTurns.{IsPlace};
 ghost use Rattle.core_client.specs.Outs.{point_of, OnlyFailedGoOut};
 ghost use Rattle.core_serial.specs.Pool.{HasBank, HoldsMap};
 ghost use Rattle.core_turns.specs.declared.getting.GetRun.{GetRun as GetRunOf};
-ghost use Rattle.core_turns.specs.Core.{Core as CoreOf, CoreState, IsCore, at_disk, pool_at};
+ghost use Rattle.core_turns.specs.Core.{Core as CoreOf, CoreState, at_disk, pool_at};
 ghost use Rattle.core_turns.specs.Getting.{HasLayout, HoldsGet, FindsGet, KeepsGet, TellsGet, IsGetOf, IsMoreOf, IsRead, BeginsGet, ReadsTurn, SolvesGet, EndsGet, answer_of};
 
 use crate::turn::too_many;
@@ -186,7 +186,6 @@ impl Core {
         requires bank { HasBank self.old.pool.uber self.old.pool.out (B.disk bank.old) }
         ensures reads { ReadsTurn (at_disk self.old (B.disk bank.old)) run
             (at_disk self.new (B.disk bank.new)) result }
-        ensures was { IsCore self.old }
         ensures place { IsPlace run.read }
         ensures unchanged { Unchanged (B.disk bank.old) (B.disk bank.new) }
         ensures out { OnlyFailedGoOut (point_of self.old.pool.out (B.disk bank.old))
