@@ -15,7 +15,7 @@ use Rattle.uberblock_ring.specs.Devices.{count_of, IsWithin}
 use Rattle.uberblock_ring.specs.Uberblock.{Uber}
 use Rattle.uberblock_ring.specs.Valid.{IsRightUber}
 use Rattle.uberblock_ring.proofs.Digest.{sha256_is_digest}
-use Rattle.core_blocks.specs.Blocks.{Blocks}
+use Rattle.core_blocks.specs.Blocks.{Blocks, AreInStep}
 use Rattle.core_state.specs.Committing.{Point}
 use Rattle.core_client.specs.Outs.{point_of, OnlyFailedGoOut}
 use Rattle.core_client.proofs.Outs.{outs_none}
@@ -88,6 +88,7 @@ begun_core core actor is none limit = record {
   };
   begun = (let same = rests core is none in omega (arith, same));
   few = limit;
+  step = is.step;
 }
   where
     right : IsRightUber (record core.pool.uber { group = core.begun })
@@ -203,8 +204,9 @@ commit_stays core run stepped out old new of did still =
 -- The group of a commit is answered.
 pub answered_core : (core : Core) (run ended : CommitRun) (old new : Disk) (out : ℕ) → IsCore core → IsCommitOf core run
     → HasEnded run (point_of core.pool.out old) ended (point_of out new)
+    → AreInStep (answered_by ended.uber core.pool).blocks
     → IsCore (record core { pool = answered_by ended.uber core.pool; committing = None })
-answered_core core run ended old new out is of did = record {
+answered_core core run ended old new out is of did step = record {
   is = record {
     right = subst (λ (group : ℕ). IsRightUber (record ended.uber { group = group })) number did.right;
     parity = is.is.parity ∙ sym (ap (λ (u : Uber). u.parity) uber_is);
@@ -217,6 +219,7 @@ answered_core core run ended old new out is of did = record {
   };
   begun = (let same = number in omega (arith, same));
   few = is.few;
+  step = step;
 }
   where
     same : ended.uber ≡ record run.uber { out = ended.uber.out }

@@ -6,7 +6,7 @@ use Rattle.range_locks.specs.declared.hold.Hold.{Hold}
 use Rattle.uberblock_ring.specs.Devices.{IsWithin}
 use Rattle.uberblock_ring.specs.Uberblock.{Uber}
 use Rattle.block_record.specs.declared.entry.IndexEntry.{IndexEntry}
-use Rattle.core_blocks.specs.Blocks.{Blocks, IsListed}
+use Rattle.core_blocks.specs.Blocks.{Blocks, AreInStep, IsListed}
 use Rattle.core_client.specs.Pool.{HasPool}
 use Rattle.core_serial.specs.Pool.{Pool, IsPool, HasBank}
 use Rattle.core_turns.specs.Core.{Core, IsCore, as_begun}
@@ -35,12 +35,17 @@ pool_out pool out is below within = record {
 
 pub core_out : (core : Core) (out : ℕ) → IsCore core → out < 2 ^ core.pool.uber.reflow.to → IsWithin core.pool.out out
     → IsCore (record core { pool = record core.pool { out = out } })
-core_out core out is below within = record { is = pool_out (as_begun core) out is.is below within; begun = is.begun; few = is.few }
+core_out core out is below within = record {
+  is = pool_out (as_begun core) out is.is below within;
+  begun = is.begun;
+  few = is.few;
+  step = is.step;
+}
 
 -- A pool at rest is a core: its last answered group is the last one begun.
-pub core_of : (pool : Pool) (holds : List Hold) → IsPool pool
+pub core_of : (pool : Pool) (holds : List Hold) → IsPool pool → AreInStep pool.blocks
     → IsCore (record { pool = pool; holds = holds; begun = pool.uber.group; committing = None })
-core_of pool holds is = record { is = is; begun = omega arith; few = is.right.group.1 }
+core_of pool holds is step = record { is = is; begun = omega arith; few = is.right.group.1; step = step }
 
 -- The bank of a pool has what a block's calls ask for.
 pub bank_has : (uber : Uber) (reflow : Reflow) (out : ℕ) (disk : Disk) → reflow ≡ uber.reflow → HasBank uber out disk
@@ -54,9 +59,9 @@ bank_has uber reflow out disk same bank = subst (λ (r : Reflow). HasPool r out 
 -- after the open group.
 pub core_blocks : (core : Core) (blocks : Blocks) (holds : List Hold) → IsCore core → blocks.parity ≡ core.pool.blocks.parity
     → blocks.births ≡ core.pool.blocks.births → blocks.space.capacity ≡ core.pool.blocks.space.capacity
-    → ((entry : IndexEntry) → IsListed blocks.table.entries entry → entry.birth ≤ core.begun + 1)
+    → ((entry : IndexEntry) → IsListed blocks.table.entries entry → entry.birth ≤ core.begun + 1) → AreInStep blocks
     → IsCore (record core { pool = record core.pool { blocks = blocks }; holds = holds })
-core_blocks core blocks holds is parity births capacity born = record {
+core_blocks core blocks holds is parity births capacity born step = record {
   is = record {
     right = is.is.right;
     parity = parity ∙ is.is.parity;
@@ -68,4 +73,5 @@ core_blocks core blocks holds is parity births capacity born = record {
   };
   begun = is.begun;
   few = is.few;
+  step = step;
 }

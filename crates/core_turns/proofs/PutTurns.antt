@@ -27,7 +27,7 @@ use Rattle.core_state.proofs.Listed.{contains_head}
 use Rattle.core_blocks.specs.declared.range.PutRange.{PutRange}
 use Rattle.core_blocks.specs.declared.refused.PutRefused.{PutRefused}
 use Rattle.core_blocks.specs.declared.refused.PutRefused.TheVariants as refused
-use Rattle.core_blocks.specs.Blocks.{Blocks, AreUnderWay, IsUnderWay, put_run, range_of}
+use Rattle.core_blocks.specs.Blocks.{Blocks, AreInStep, AreUnderWay, IsUnderWay, put_run, range_of}
 use Rattle.core_blocks.specs.Kept.{NoneFree, SparesAll}
 use Rattle.core_blocks.specs.Puts.{BeginsPut, HoldsBack, IsAsBefore, IsPutCause, IsRangeFor, layout_at, sectors_taken}
 use Rattle.core_blocks.proofs.Listed.{put_cases}
@@ -456,12 +456,13 @@ pub put_end_core : (core : Core) (run : PutRun) (entry : IndexEntry) (after : Bl
     (gone : Option IndexEntry) → IsCore core → IsPutOf core run → entry.birth ≡ run.range.birth
     → ChangesOnly core.pool.blocks.table.entries after.table.entries entry.id (Some entry)
     → HoldsBack core.pool.blocks.parity core.pool.blocks.births core.pool.blocks.space after.space (core.begun + 1) gone
-    → after.parity ≡ core.pool.blocks.parity → after.births ≡ core.pool.blocks.births
+    → after.parity ≡ core.pool.blocks.parity → after.births ≡ core.pool.blocks.births → AreInStep after
     → IsCore (record core { pool = record core.pool { blocks = after }; holds = holds })
-put_end_core core run entry after holds gone is of birth change held parity births = core_blocks core after holds is parity births
+put_end_core core run entry after holds gone is of birth change held parity births step = core_blocks core after holds is parity births
     (adds_held_back core.pool.blocks.parity core.pool.blocks.births core.pool.blocks.space after.space (core.begun + 1) gone held).capacity
     (λ other listed. ⊎_elim
     (λ same. let born = of.born.1 in let other_birth : other.birth ≡ entry.birth = ap (λ (e : IndexEntry). e.birth) same in
     omega (arith, born, birth, other_birth))
     (λ old. is.is.born other old.0)
     (put_cases core.pool.blocks.table.entries after.table.entries entry other change listed))
+    step

@@ -2,6 +2,7 @@
 use Rattle.std.specs.Prelude.{◌≡◌, ℕ, ◌+◌, ◌≤◌, ◌^◌, List, Option, Some, None}
 use Rattle.bank_trait.specs.Disk.{Disk}
 use Rattle.range_locks.specs.declared.hold.Hold.{Hold}
+use Rattle.core_blocks.specs.Blocks.{AreInStep}
 use Rattle.core_serial.specs.Pool.{Pool, State, IsPool}
 
 -- the pool, the holds of the calls under way, the group that was begun last, and who makes it where it isn't
@@ -21,11 +22,13 @@ groups_begun (Some actor) = 1
 abbrev pub as_begun : Core → Pool
 as_begun core = record core.pool { uber = record core.pool.uber { group = core.begun } }
 
--- The pool is one, and the last group begun is the last answered one, or the one after it, which is under way.
+-- The pool is one, its table and its space are in step, and the last group begun is the last answered one, or the
+-- one after it, which is under way.
 pub record IsCore (core : Core) : Type 0 where
   pub is : IsPool (as_begun core)
   pub begun : core.begun ≡ core.pool.uber.group + groups_begun core.committing
   pub few : core.begun ≤ 2 ^ 62
+  pub step : AreInStep core.pool.blocks
 
 -- an open pool while calls are under way, and what its devices hold
 pub record CoreState : Type 0 where

@@ -1,6 +1,8 @@
-use Rattle.std.proofs.Common.{sym, ◌∙◌, ap, subst, refl}
+use Rattle.std.proofs.Common.{ℕ, sym, ◌∙◌, ap, subst, refl}
 use Rattle.std.proofs.lemmas.Bool.{true≢false}
+use Rattle.space_alloc.specs.Space.{after_group}
 use Rattle.uberblock_ring.specs.Uberblock.{Uber}
+use Rattle.core_blocks.specs.Blocks.{AreInStep}
 use Rattle.core_state.specs.Committing.{Point}
 use Rattle.core_turns.specs.declared.turn.Turn.TheVariants.{More}
 use Rattle.core_turns.specs.Core.{Core, IsCore, at_disk}
@@ -34,7 +36,11 @@ invariant_of-self-in-Ended-1 g c =
     c.group-group.result c.uber-in-Ended.ensures.value (c.group-group.ensures.value ∙ ap (λ (u : Uber). u.group) c.uber.ensures.value)
     c.synced.ensures.value (ap (λ (p : Point). p.out) did.same)))
     (answered_core core c.args.run c.step.new.self (g.B.Bank.disk c.args.bank.now) (g.B.Bank.disk c.step.new.bank) c.step.new.out
-    c.self.invariant (subst (λ (core : Core). IsCommitOf core c.args.run) (sym c.self.view_is) c.requires.of) did)
+    c.self.invariant (subst (λ (core : Core). IsCommitOf core c.args.run) (sym c.self.view_is) c.requires.of) did
+    (subst AreInStep (c.synced.ensures.value
+    ∙ ap (λ (number : ℕ). record core.pool.blocks { space = after_group core.pool.blocks.space number })
+    (c.group-group.ensures.value ∙ ap (λ (u : Uber). u.group) c.uber.ensures.value))
+    c.synced.ensures.stays))
 
 pub returns-in-Called : goal.returns-in-Called
 returns-in-Called g c =
