@@ -1,7 +1,6 @@
--- A put's writes leave the reads that are under way beside it, and a commit.
-use Rattle.std.proofs.Common.{◌≡◌, ℕ, List, sym, ◌∙◌, ap, subst, refl}
+-- Where a put writes: to no place that another block requires, nor one that a commit's groups ask for.
+use Rattle.std.proofs.Common.{◌≡◌, ℕ, List, sym, subst, refl}
 use Rattle.std.specs.Prelude.{Contains}
-use Rattle.bank_trait.specs.Regions.{TouchesOnly}
 use Rattle.reflow_mark.specs.declared.reflow.Reflow.{Reflow}
 use Rattle.row_layout.specs.Layout.{Layout, sector_of, end_of}
 use Rattle.shadow_write.specs.Required.{IsRequiredPlace, front_after_stop}
@@ -10,64 +9,43 @@ use Rattle.shadow_write.specs.declared.write.Write.{Write}
 use Rattle.shadow_write.proofs.Whole.{are_required}
 use Rattle.reconstruct.specs.Columns.{column_bytes}
 use Rattle.block_record.specs.declared.entry.IndexEntry.{IndexEntry}
-use Rattle.uberblock_ring.specs.Devices.{IsWithin}
-use Rattle.uberblock_ring.specs.Uberblock.{Uber}
 use Rattle.core_state.specs.Index.{layout_of}
 use Rattle.core_state.specs.Keeps.{Kept, Setting}
 use Rattle.core_state.specs.Certain.{Asks}
-use Rattle.core_state.specs.Committing.{Point}
 use Rattle.core_state.specs.Whole.{Cell, IsCell}
 use Rattle.core_state.proofs.Places.{IsDataSector, required_sector}
 use Rattle.core_blocks.specs.Blocks.{layout_run}
 use Rattle.core_blocks.specs.Kept.{SparesAll}
 use Rattle.core_blocks.specs.Runs.{AreClear}
 use Rattle.core_client.specs.Pool.{IsInPool}
-use Rattle.core_client.specs.Outs.{point_of}
 use Rattle.core_client.specs.Writing.{IsPlaceOf, IsPlanOf}
-use Rattle.core_client.specs.BlockTurns.{BlockWrite, IsWrittenSoFar}
-use Rattle.core_client.proofs.BlockTurns.{written_stays}
-use Rattle.core_commit.specs.Spared.{Spares}
+use Rattle.core_client.specs.BlockTurns.{BlockWrite}
 use Rattle.core_commit.specs.CommitTurns.{IsBeside}
 use Rattle.core_serial.proofs.Layouts.{blocks_apart}
-use Rattle.core_turns.specs.declared.getting.GetRun.{GetRun}
-use Rattle.core_turns.specs.Core.{CoreState}
-use Rattle.core_turns.specs.Getting.{HasTooManyOut, IsGetOf, HoldsGet}
-use Rattle.core_turns.proofs.GetLaws.{get_stays}
 
 -- the places that the writes of a block go to, while nothing is copied
 abbrev pub IsWrittenTo : Layout → Reflow → ℕ → ℕ → ℕ → Type 0
 IsWrittenTo layout reflow out = IsPlaceOf (writes_of layout reflow (front_after_stop reflow)) out
 
 -- No place of a block is required by one that has no sector in common with it.
-pub never_both : (reflow : Reflow) (layout other : Layout) (out device device_sector : ℕ) (cell : Cell) (given : List ℕ)
-    → IsInPool layout reflow → IsInPool other reflow → AreClear (layout_run layout) (layout_run other)
-    → IsCell other given cell
+pub never_both : (reflow : Reflow) (layout other : Layout) (out device device_sector : ℕ) (cell : Cell)
+    (given : List ℕ) → IsInPool layout reflow → IsInPool other reflow
+    → AreClear (layout_run layout) (layout_run other) → IsCell other given cell
     → IsRequiredPlace reflow (front_after_stop reflow) cell.row_end cell.sector device device_sector
     → IsWrittenTo layout reflow out device device_sector → ⊥
 never_both reflow layout other out device device_sector cell given pool other_pool clear cell_is place
     (write, has, used, device_is, sector_is) =
     let required = (are_required layout reflow (front_after_stop reflow)).only write has in
+    let done = front_after_stop reflow in
+    let row_end = end_of layout write.row in
+    let sector = sector_of layout write.row write.column in
+    let other_sector = sector_of other cell_is.row cell_is.column in
     blocks_apart reflow layout other write.row write.column cell_is.row cell_is.column device device_sector
     pool other_pool clear required.0 cell_is.there
-    (subst (λ (d : ℕ). IsRequiredPlace reflow (front_after_stop reflow) (end_of layout write.row) (sector_of layout write.row write.column) d device_sector) (sym device_is)
-    (subst (λ (x : ℕ). IsRequiredPlace reflow (front_after_stop reflow) (end_of layout write.row) (sector_of layout write.row write.column) write.device x) (sym sector_is) required.1))
-    (subst (λ (e : ℕ). IsRequiredPlace reflow (front_after_stop reflow) e (sector_of other cell_is.row cell_is.column) device device_sector) cell_is.row_end
-    (subst (λ (x : ℕ). IsRequiredPlace reflow (front_after_stop reflow) cell.row_end x device device_sector) cell_is.sector place))
-
--- A read stays with its block over the writes of one that has no sector in common with it.
-pub get_beside_put : (content : List ℕ) (before after : CoreState) (run : GetRun) (layout : Layout)
-    → after.core.pool.uber ≡ before.core.pool.uber → IsWithin before.core.pool.out after.core.pool.out
-    → ((HasTooManyOut after.core → ⊥) → HasTooManyOut before.core → ⊥)
-    → IsInPool layout before.core.pool.uber.reflow → IsGetOf before.core run
-    → AreClear (layout_run layout) (layout_run run.read.layout)
-    → TouchesOnly (IsWrittenTo layout before.core.pool.uber.reflow before.core.pool.out) before.disk after.disk
-    → HoldsGet content before run → HoldsGet content after run
-get_beside_put content before after run layout uber within few pool of clear touched holds = get_stays content before after run
-    (ap (λ (u : Uber). u.reflow) uber) within few
-    (λ cell device device_sector cell_is required used read. touched.reads device device_sector
-    (λ written. never_both before.core.pool.uber.reflow layout run.read.layout before.core.pool.out device device_sector cell content
-    pool of.pool clear cell_is required written) ∙ read)
-    holds
+    (subst (λ (d : ℕ). IsRequiredPlace reflow done row_end sector d device_sector) (sym device_is)
+    (subst (λ (x : ℕ). IsRequiredPlace reflow done row_end sector write.device x) (sym sector_is) required.1))
+    (subst (λ (e : ℕ). IsRequiredPlace reflow done e other_sector device device_sector) cell_is.row_end
+    (subst (λ (x : ℕ). IsRequiredPlace reflow done cell.row_end x device device_sector) cell_is.sector place))
 
 -- The blocks of a group lie in the pool.
 pub record AreInPool (kept : Kept) (reflow : Reflow) : Type 0 where
@@ -82,10 +60,10 @@ pub never_asked : (kept : Kept) (reflow : Reflow) (layout : Layout) (out device 
     → IsWrittenTo layout reflow out device device_sector → Asks kept device device_sector bytes → ⊥
 never_asked kept reflow layout out device device_sector bytes inside pool spares written asks =
     let of = asks.cell_is in
-    never_both reflow layout (layout_of kept.uber.parity kept.uber.births of.entry) out device device_sector asks.cell of.content
-    pool (inside.each of.entry of.listed) (spares of.entry of.listed) of.cell_is
-    (subst (λ (r : Reflow). IsRequiredPlace r (front_after_stop r) asks.cell.row_end asks.cell.sector device device_sector)
-    inside.widths asks.place)
+    never_both reflow layout (layout_of kept.uber.parity kept.uber.births of.entry) out device device_sector asks.cell
+    of.content pool (inside.each of.entry of.listed) (spares of.entry of.listed) of.cell_is
+    (subst (λ (r : Reflow). IsRequiredPlace r (front_after_stop r) asks.cell.row_end asks.cell.sector device
+    device_sector) inside.widths asks.place)
     written
 
 -- A put's writes go on beside a commit, of whose group and the one before none has a sector of the put.
@@ -97,19 +75,19 @@ pub put_beside_commit : (setting : Setting) (first next : Kept) (reflow : Reflow
 put_beside_commit setting first next reflow layout out inside_first inside_next pool spares_first spares_next = record {
   region = λ device device_sector written. data_sector device_sector written;
   not_first = λ device device_sector bytes written asks.
-      absurd (never_asked first reflow layout out device device_sector bytes inside_first pool spares_first written asks);
+      absurd (never_asked first reflow layout out device device_sector bytes inside_first pool spares_first written
+      asks);
   not_next = λ device device_sector bytes written asks.
       absurd (never_asked next reflow layout out device device_sector bytes inside_next pool spares_next written asks);
 }
   where
-    data_sector : {device : ℕ} (device_sector : ℕ) → IsWrittenTo layout reflow out device device_sector → IsDataSector device_sector
+    data_sector : {device : ℕ} (device_sector : ℕ) → IsWrittenTo layout reflow out device device_sector
+        → IsDataSector device_sector
     data_sector device_sector (write, has, used, device_is, sector_is) =
         let required = (are_required layout reflow (front_after_stop reflow)).only write has in
         subst IsDataSector (sym sector_is)
-        (required_sector reflow (end_of layout write.row) (sector_of layout write.row write.column) write.device write.device_sector
-        required.1)
-
--- ---- what has been written of a put
+        (required_sector reflow (end_of layout write.row) (sector_of layout write.row write.column) write.device
+        write.device_sector required.1)
 
 -- A place that a write of a plan goes to is required by a cell of its block.
 pub written_cell : (layout : Layout) (bytes : List ℕ) (reflow : Reflow) (done : ℕ) (run : BlockWrite) (write : Write)
@@ -123,47 +101,13 @@ written_cell layout bytes reflow done run write plan has =
         row_end = end_of layout write.row;
         bytes = column_bytes layout bytes write.row write.column;
       },
-      record { row = write.row; column = write.column; there = required.0; sector = refl; row_end = refl; bytes = refl },
+      record {
+        row = write.row;
+        column = write.column;
+        there = required.0;
+        sector = refl;
+        row_end = refl;
+        bytes = refl;
+      },
       required.1,
     )
-
--- What has been written of a put stays over the writes of another that has no sector in common with it,
-pub put_beside_put : (layout other : Layout) (bytes : List ℕ) (reflow : Reflow) (before after : Point) (run : BlockWrite)
-    → IsInPool layout reflow → IsInPool other reflow → AreClear (layout_run other) (layout_run layout)
-    → IsWithin before.out after.out
-    → TouchesOnly (IsWrittenTo other reflow before.out) before.disk after.disk
-    → IsWrittenSoFar layout bytes reflow (front_after_stop reflow) before.disk.reads before.out run
-    → IsWrittenSoFar layout bytes reflow (front_after_stop reflow) after.disk.reads after.out run
-put_beside_put layout other bytes reflow before after run pool other_pool clear within touched so_far =
-    written_stays layout bytes reflow (front_after_stop reflow) before.disk.reads after.disk.reads before.out after.out run within
-    (λ write has used.
-    let cell = written_cell layout bytes reflow (front_after_stop reflow) run write so_far.plan has in
-    touched.reads write.device write.device_sector
-    (λ written. never_both reflow other layout before.out write.device write.device_sector cell.0 bytes other_pool pool clear
-    cell.1 cell.2 written))
-    so_far
-
--- and over a step of a commit.
-pub put_beside_step : (layout : Layout) (bytes : List ℕ) (reflow : Reflow) (before after : Point) (run : BlockWrite)
-    → IsWithin before.out after.out → Spares before after
-    → IsWrittenSoFar layout bytes reflow (front_after_stop reflow) before.disk.reads before.out run
-    → IsWrittenSoFar layout bytes reflow (front_after_stop reflow) after.disk.reads after.out run
-put_beside_step layout bytes reflow before after run within spares so_far =
-    written_stays layout bytes reflow (front_after_stop reflow) before.disk.reads after.disk.reads before.out after.out run within
-    (λ write has used.
-    let cell = written_cell layout bytes reflow (front_after_stop reflow) run write so_far.plan has in
-    spares.reads write.device write.device_sector used
-    (required_sector reflow cell.0.row_end cell.0.sector write.device write.device_sector cell.2))
-    so_far
-
--- A read stays with its block over a step of a commit.
-pub get_beside_step : (content : List ℕ) (before after : CoreState) (run : GetRun)
-    → after.core.pool.uber ≡ before.core.pool.uber → IsWithin before.core.pool.out after.core.pool.out
-    → ((HasTooManyOut after.core → ⊥) → HasTooManyOut before.core → ⊥)
-    → Spares (point_of before.core.pool.out before.disk) (point_of after.core.pool.out after.disk)
-    → HoldsGet content before run → HoldsGet content after run
-get_beside_step content before after run uber within few spares holds = get_stays content before after run
-    (ap (λ (u : Uber). u.reflow) uber) within few
-    (λ cell device device_sector cell_is required used read. spares.reads device device_sector used
-    (required_sector before.core.pool.uber.reflow cell.row_end cell.sector device device_sector required) ∙ read)
-    holds

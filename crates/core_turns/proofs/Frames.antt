@@ -381,16 +381,16 @@ since_read setting groups time old new same since = record {
 
 -- ---- all that stands
 
--- What stands, where the groups and the calls are told anew.
-pub stands_anew : (P : ℕ → ℕ → Type 0) (setting : Setting) (last : Kept) (begun begins : List Kept) (map : Map)
+-- What stands, where uberblock and blocks are as they were: the groups and the calls are told anew.
+pub stands_still : (P : ℕ → ℕ → Type 0) (setting : Setting) (last : Kept) (begun : List Kept) (map : Map)
     (calls nexts : List Call) (commit next : Option CommitRun) (before after : CoreState)
     → Leaves P before after → AreOff P before.core → after.core.pool.uber ≡ before.core.pool.uber
     → after.core.pool.blocks ≡ before.core.pool.blocks → Later before.disk after.disk
-    → GroupsStand setting last begins nexts next after → PutsSpare after nexts last → AreCallsOf after.core nexts
+    → GroupsStand setting last begun nexts next after → PutsSpare after nexts last → AreCallsOf after.core nexts
     → ((call : Call) → Contains nexts call → HoldsCall after call)
-    → Stands setting last begun map calls commit before → Stands setting last begins map nexts next after
-stands_anew P setting last begun begins map calls nexts commit next before after leaves off uber blocks later groups
-    spared are each stands = record {
+    → Stands setting last begun map calls commit before → Stands setting last begun map nexts next after
+stands_still P setting last begun map calls nexts commit next before after leaves off uber blocks later groups spared
+    are each stands = record {
       groups = groups;
       alike = ap (λ (u : Uber). record u { out = 0 }) uber ∙ stands.alike;
       kept = subst (λ (u : Uber). NoneFree after.core.pool.blocks u.group last.entries) (sym uber)
@@ -407,7 +407,18 @@ stands_anew P setting last begun begins map calls nexts commit next before after
       each = each;
     }
 
--- What stands, beside a turn of a commit or of none of the calls.
+-- So it is where only devices went out.
+pub stands_anew : (P : ℕ → ℕ → Type 0) (setting : Setting) (last : Kept) (begun : List Kept) (map : Map)
+    (calls nexts : List Call) (commit next : Option CommitRun) (before after : CoreState)
+    → Leaves P before after → AreOff P before.core → OnlyOut before.core after.core → Later before.disk after.disk
+    → GroupsStand setting last begun nexts next after → PutsSpare after nexts last → AreCallsOf after.core nexts
+    → ((call : Call) → Contains nexts call → HoldsCall after call)
+    → Stands setting last begun map calls commit before → Stands setting last begun map nexts next after
+stands_anew P setting last begun map calls nexts commit next before after leaves off core = stands_still P setting last
+    begun map calls nexts commit next before after leaves off (ap (λ (c : Core). c.pool.uber) core)
+    (ap (λ (c : Core). c.pool.blocks) core)
+
+-- What stands, over a turn that is none of these calls', as a step of a commit.
 pub stands_frame : (P : ℕ → ℕ → Type 0) (setting : Setting) (last : Kept) (begun : List Kept) (map : Map)
     (calls : List Call) (commit next : Option CommitRun) (before after : CoreState) → Leaves P before after
     → ((call : Call) → Contains calls call → IsOff P before.core.pool.uber.reflow (layout_of_call call))
@@ -415,8 +426,7 @@ pub stands_frame : (P : ℕ → ℕ → Type 0) (setting : Setting) (last : Kept
     → GroupsStand setting last begun calls next after
     → Stands setting last begun map calls commit before → Stands setting last begun map calls next after
 stands_frame P setting last begun map calls commit next before after leaves calls_off off core later groups stands =
-    stands_anew P setting last begun begun map calls calls commit next before after leaves off
-    (ap (λ (c : Core). c.pool.uber) core) (ap (λ (c : Core). c.pool.blocks) core) later groups
+    stands_anew P setting last begun map calls calls commit next before after leaves off core later groups
     (λ run content listed. subst (λ (c : Core). SparesAll c.pool.blocks.parity c.pool.blocks.births last.entries
     (put_run run.range)) (sym core) (stands.spared run content listed))
     (calls_stay before.core after.core calls core stands.are)

@@ -39,7 +39,7 @@ use Rattle.core_turns.specs.Getting.{IsRead, BeginsGet, ReadsTurn, SolvesGet, En
 use Rattle.core_turns.specs.Committing.{IsCommitOf}
 use Rattle.core_turns.specs.UnderWay.{Call, Putting, Reading, hold_of_call, layout_of_call, ranges_of, HoldsCall, HaveNoneInCommon, AreCallsOf, PutsSpare, CommitStands, NoCommitStands, GroupsStand, Stands}
 use Rattle.core_turns.proofs.Calls.{range_listed, ranges_read, calls_gain, calls_lose, calls_swap}
-use Rattle.core_turns.proofs.Frames.{Leaves, KeepsWidths, off_nowhere, leaves_read, call_stays, calls_keep, calls_stay, groups_read, stands_anew}
+use Rattle.core_turns.proofs.Frames.{Leaves, KeepsWidths, off_nowhere, leaves_read, call_stays, calls_keep, calls_stay, groups_read, stands_still, stands_anew}
 use Rattle.core_turns.proofs.GetLaws.{get_finds, get_reads, get_solves, get_tells}
 use Rattle.core_turns.proofs.GetTurns.{get_of_more, begins_holds, solved_of}
 
@@ -291,7 +291,7 @@ module _ (setting : Setting) (last : Kept) (begun : List Kept) (map : Map) (comm
         within = λ device has. subst (λ (c : Core). has_device c.pool.out device ≡ true) (sym core) has;
         reads = λ device device_sector used in_data away. refl;
       } in
-      stands_anew Nowhere setting last begun begun map calls nexts commit commit (at_disk old disk) (at_disk new disk)
+      stands_still Nowhere setting last begun map calls nexts commit commit (at_disk old disk) (at_disk new disk)
       leaves
       (λ entry listed. off_nowhere old.pool.uber.reflow (layout_of old.pool.uber.parity old.pool.uber.births entry))
       (ap (λ (c : Core). c.pool.uber) core) (ap (λ (c : Core). c.pool.blocks) core) (later_refl disk)
@@ -339,10 +339,10 @@ module _ (setting : Setting) (last : Kept) (begun : List Kept) (map : Map) (comm
       stands =
       let listed = gains_item left calls (Reading run content) gains in
       let leaves = leaves_read before after reads.2 outs.still unchanged in
-      stands_anew Nowhere setting last begun begun map calls nexts commit commit before after leaves
+      stands_anew Nowhere setting last begun map calls nexts commit commit before after leaves
       (λ entry has. off_nowhere before.core.pool.uber.reflow
       (layout_of before.core.pool.uber.parity before.core.pool.uber.births entry))
-      (ap (λ (c : Core). c.pool.uber) reads.2) (ap (λ (c : Core). c.pool.blocks) reads.2) unchanged.goes_on.later
+      reads.2 unchanged.goes_on.later
       (groups_held setting last begun calls nexts commit after.core after.core after.disk refl adds
       (groups_read setting last begun calls commit before after reads.2 unchanged outs lawful stands.groups))
       (λ put held has. subst (λ (c : Core). SparesAll c.pool.blocks.parity c.pool.blocks.births last.entries
