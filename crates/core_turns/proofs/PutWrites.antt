@@ -357,9 +357,9 @@ module _ (setting : Setting) (last : Kept) (begun : List Kept) (map : Map) (left
         → Stands setting last begun map nexts commit after
     put_writes_stands nexts step still_lawful gains_next =
         subst (λ (core : Core). Stands setting last begun map nexts commit (at_disk core after.disk)) (sym writes.rest)
-        (stands_anew places setting last begun begun map calls nexts commit commit before written (leaves its_of)
+        (stands_anew places setting last begun map calls nexts commit commit before written (leaves its_of)
         (table_off its_of step (stands.are.under.each run.range (range_listed calls run content its_calls)))
-        refl refl (touched its_of).later
+        refl (touched its_of).later
         (groups_with setting last begun calls nexts commit written spared
         (groups_on its_of stands.alike stands.spared commit still_lawful stands.groups))
         (spared last stands.spared)
