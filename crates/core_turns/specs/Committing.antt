@@ -1,9 +1,10 @@
 -- Commits, turn by turn.
-use Rattle.std.specs.Prelude.{◌≡◌, ℕ, ◌+◌, ◌≤◌, ◌<◌, List, length, Some, None}
+use Rattle.std.specs.Prelude.{◌≡◌, ℕ, ◌+◌, ◌≤◌, ◌<◌, List, length, Some, None, ⊤}
 use Rattle.sha2.specs.Sha256.{sha256}
 use Rattle.space_alloc.specs.Space.{after_group}
 use Rattle.block_record.specs.declared.entry.IndexEntry.{IndexEntry}
 use Rattle.block_record.specs.Page.{index_page}
+use Rattle.block_table.specs.Table.{IsTable}
 use Rattle.uberblock_ring.specs.Devices.{IsWithin}
 use Rattle.uberblock_ring.specs.Uberblock.{Uber}
 use Rattle.commit_job.specs.Stages.{plan_of}
@@ -63,6 +64,11 @@ BeginsCommit old new actor (More run) = (HasTooManyOut old → ⊥) × (old.comm
     × (new ≡ record old { begun = old.begun + 1; committing = Some actor }) × IsCommitOf new run
 BeginsCommit old new actor (Busy by) = (HasTooManyOut old → ⊥) × (old.committing ≡ Some by) × (new ≡ old)
 BeginsCommit old new actor (Done given) = IsSyncRefused old given × (new ≡ old)
+
+-- The blocks of a commit that begins are those of a table.
+abbrev pub HasTable : Core → Turn CommitRun → Type 0
+HasTable core (More run) = IsTable core.pool.blocks.table
+HasTable core other = ⊤
 
 -- a pool whose last answered group is this one: the sectors that were held back until it are free
 abbrev pub answered_by : Uber → Pool → Pool

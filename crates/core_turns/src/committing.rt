@@ -3,7 +3,7 @@ ghost use Rattle.std.specs.Prelude.{◌≡◌};
 ghost use Rattle.core_client.specs.Outs.{point_of, OnlyFailedGoOut};
 ghost use Rattle.core_serial.specs.Pool.{HasBank};
 ghost use Rattle.core_turns.specs.Core.{at_disk};
-ghost use Rattle.core_turns.specs.Committing.{BeginsCommit, IsCommitOf, StepsCommit};
+ghost use Rattle.core_turns.specs.Committing.{BeginsCommit, HasTable, IsCommitOf, StepsCommit};
 ghost use Rattle.core_turns.specs.UnderWay.{TurnGoesOn};
 
 use crate::turn::too_many;
@@ -21,6 +21,7 @@ impl Core {
     /// The first turn of a sync: the map as it is becomes the open group's, and the next group is open.
     pub fn commit_begin(&mut self, alloc: Global, actor: u8) -> Turn<CommitRun>
         ensures begins { BeginsCommit self.old self.new actor result }
+        ensures table { HasTable self.old result }
     {
         if self.has_too_many_out() {
             return Turn::Done(too_many(self.out));

@@ -1,10 +1,12 @@
 // An open pool while calls are under way.
 ghost use Rattle.std.specs.Prelude.{◌≡◌, ◌+◌, ◌<◌, ◌↔◌, [], None, IsTrue};
 ghost use Rattle.uberblock_ring.specs.Devices.{count_of};
+ghost use Rattle.core_turns.specs.Core.{IsCore};
 
 use core_blocks::Blocks;
 use core_serial::Pool;
 use range_locks::Locks;
+use reflow_mark::Reflow;
 use std::alloc::Global;
 use std::marker::Model;
 use uberblock_ring::{DeviceSet, Uber};
@@ -69,6 +71,14 @@ impl Core {
         ensures { result ≡ self.now.pool.out }
     {
         self.out
+    }
+
+    /// The widths of the pool.
+    pub fn reflow(&self) -> Reflow
+        ensures value { result ≡ self.now.pool.uber.reflow }
+        ensures is { IsCore self.now }
+    {
+        self.uber.reflow()
     }
 
     /// The group that the next commit makes.
