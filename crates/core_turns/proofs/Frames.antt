@@ -125,8 +125,8 @@ leaves_spared before after core within spares = record {
 
 -- What has been written of a put stays.
 pub put_stays : (P : ℕ → ℕ → Type 0) (content : List ℕ) (before after : CoreState) (run : PutRun)
-    → Leaves P before after
-    → IsOff P before.core.pool.uber.reflow run.range.layout → HoldsPut content before run → HoldsPut content after run
+    → Leaves P before after → IsOff P before.core.pool.uber.reflow run.range.layout
+    → HoldsPut content before run → HoldsPut content after run
 put_stays P content before after run leaves off holds =
     let layout = run.range.layout in
     let reflow = before.core.pool.uber.reflow in
@@ -136,11 +136,9 @@ put_stays P content before after run leaves off holds =
       so_far = λ filled is. let was = holds.so_far filled is in (
         was.0,
         subst (λ (r : Reflow). IsWrittenSoFar layout content r (front_after_stop r) after.disk.reads
-            after.core.pool.out filled.write)
-            (sym leaves.reflow)
+            after.core.pool.out filled.write) (sym leaves.reflow)
             (written_stays layout content reflow (front_after_stop reflow) before.disk.reads after.disk.reads
-            before.core.pool.out
-            after.core.pool.out filled.write leaves.within
+            before.core.pool.out after.core.pool.out filled.write leaves.within
             (λ write has used.
             let cell = written_cell layout content reflow (front_after_stop reflow) filled.write write was.1.plan has in
             leaves.reads write.device write.device_sector used
@@ -152,8 +150,8 @@ put_stays P content before after run leaves off holds =
 
 -- A read stays with its block.
 pub get_block_stays : (P : ℕ → ℕ → Type 0) (content : List ℕ) (before after : CoreState) (run : GetRun)
-    → Leaves P before after
-    → IsOff P before.core.pool.uber.reflow run.read.layout → HoldsGet content before run → HoldsGet content after run
+    → Leaves P before after → IsOff P before.core.pool.uber.reflow run.read.layout
+    → HoldsGet content before run → HoldsGet content after run
 get_block_stays P content before after run leaves off holds = get_stays content before after run leaves.reflow
     leaves.within
     (λ few many. few (
@@ -261,8 +259,7 @@ ends_other old new gone hold ends listed apart = ⊎_elim
 -- The calls under way stay so while the widths, their holds and the puts' ranges do,
 pub calls_keep : (old new : Core) (calls : List Call) → KeepsWidths old new
     → ((hold : Hold) → Contains old.holds hold → Contains new.holds hold)
-    → AreUnderWay new.pool.blocks (ranges_of calls)
-    → AreCallsOf old calls → AreCallsOf new calls
+    → AreUnderWay new.pool.blocks (ranges_of calls) → AreCallsOf old calls → AreCallsOf new calls
 calls_keep old new calls widths kept under are = record {
   each = λ call listed. let of = are.each call listed in
       call_of_stays old new call widths (kept (hold_of_call call) (hold_listed old call of)) of;
@@ -297,14 +294,12 @@ map_stays P map before after leaves table off holds = record {
         let reflow = before.core.pool.uber.reflow in
         let layout = layout_of before.core.pool.uber.parity before.core.pool.uber.births entry in
         subst (λ (r : Reflow). IsRightBlock (layout_of after.core.pool.uber.parity after.core.pool.uber.births entry)
-        content r
-        (front_after_stop r) after.disk.reads after.core.pool.out) (sym leaves.reflow)
+        content r (front_after_stop r) after.disk.reads after.core.pool.out) (sym leaves.reflow)
         (subst (λ (l : Layout). IsRightBlock l content reflow (front_after_stop reflow) after.disk.reads
         after.core.pool.out)
         (λ i. layout_of (sym leaves.parity i) (sym leaves.births i) entry)
         (block_stays layout content reflow (front_after_stop reflow) before.disk.reads after.disk.reads
-        before.core.pool.out
-        after.core.pool.out leaves.within
+        before.core.pool.out after.core.pool.out leaves.within
         (λ cell device device_sector is place used read. leaves.reads device device_sector used
         (required_sector reflow cell.row_end cell.sector device device_sector place)
         (off entry listed content cell device device_sector is place) ∙ read)
@@ -350,8 +345,7 @@ groups_read setting last begun calls None before after core same outs lawful gro
       (unchanged_frames same) (λ d x nowhere. absurd nowhere) groups.knows;
   whole = λ few. let was = groups.whole (
       let more = count_grows before.core.pool.out after.core.pool.out outs.still in
-      let parity : after.core.pool.uber.parity ≡ before.core.pool.uber.parity = ap (λ (c : Core). c.pool.uber.parity)
-      core in
+      let parity = ap (λ (c : Core). c.pool.uber.parity) core in
       omega (arith, few, more, parity)) in
       (was.0, ap (λ (c : Core). c.committing) core ∙ was.1);
 }
@@ -364,8 +358,7 @@ groups_read setting last begun calls (Some run) before after core same outs lawf
       (point_of after.core.pool.out after.disk) same outs.still lawful groups.come;
   kept = subst (λ (c : Core). NoneFree c.pool.blocks c.begun groups.next.entries) (sym core) groups.kept;
   spared = λ run content listed. subst (λ (c : Core). SparesAll c.pool.blocks.parity c.pool.blocks.births
-      groups.next.entries
-      (put_run run.range)) (sym core) (groups.spared run content listed);
+      groups.next.entries (put_run run.range)) (sym core) (groups.spared run content listed);
 }
 
 -- and each image since a moment keeps what it kept: no moment is new.

@@ -46,8 +46,12 @@ use Rattle.core_turns.proofs.GetTurns.{get_of_more, begins_holds, solved_of}
 -- ---- the calls
 
 -- Only holds came or went in this core.
-abbrev pub OnlyHolds : Core → Core → Type 0
+abbrev OnlyHolds : Core → Core → Type 0
 OnlyHolds old new = new ≡ record old { holds = new.holds }
+
+-- So it is where these are its holds now.
+begins_held : (old new : Core) (holds : List Hold) → new ≡ record old { holds = holds } → OnlyHolds old new
+begins_held old new holds core = core ∙ (λ i. record old { holds = sym (ap (λ (c : Core). c.holds) core) i })
 
 widths_held : (old new : Core) → OnlyHolds old new → KeepsWidths old new
 widths_held old new core = record {
@@ -61,8 +65,7 @@ widths_held old new core = record {
 
 -- The ranges of the puts beside a read are those of all.
 under_read : (old new : Core) (left calls : List Call) (run : GetRun) (content : List ℕ)
-    → new.pool.blocks ≡ old.pool.blocks
-    → Gains left calls (Reading run content)
+    → new.pool.blocks ≡ old.pool.blocks → Gains left calls (Reading run content)
     → (AreUnderWay old.pool.blocks (ranges_of left) → AreUnderWay new.pool.blocks (ranges_of calls))
     × (AreUnderWay old.pool.blocks (ranges_of calls) → AreUnderWay new.pool.blocks (ranges_of left))
 under_read old new left calls run content blocks gains =
@@ -72,9 +75,6 @@ under_read old new left calls run content blocks gains =
       (λ under. subst (λ (b : Blocks). AreUnderWay b (ranges_of left)) (sym blocks)
           (subst (λ (l : List PutRange). AreUnderWay old.pool.blocks l) same under)),
     )
-
-begins_held : (old new : Core) (holds : List Hold) → new ≡ record old { holds = holds } → OnlyHolds old new
-begins_held old new holds core = core ∙ (λ i. record old { holds = sym (ap (λ (c : Core). c.holds) core) i })
 
 -- A read begins: no put has a sector of its block, which stands in the table.
 pub get_begins_calls : (old new : Core) (actor id : ℕ) (asked : Kind) (run : GetRun) (content : List ℕ)
@@ -230,7 +230,7 @@ frees_calls old new id given calls frees under are =
 -- ---- all that stands
 
 -- No put is among these calls that was not among those.
-abbrev pub AddsNoPut : List Call → List Call → Type 0
+abbrev AddsNoPut : List Call → List Call → Type 0
 AddsNoPut calls nexts =
     (run : PutRun) (content : List ℕ) → Contains nexts (Putting run content) → Contains calls (Putting run content)
 
@@ -253,8 +253,7 @@ read_loses left calls run content gains put held listed =
 
 -- The groups stand beside other calls where no put is added and only holds came or went.
 groups_held : (setting : Setting) (last : Kept) (begun : List Kept) (calls nexts : List Call)
-    (commit : Option CommitRun)
-    (old new : Core) (disk : Disk) → OnlyHolds old new → AddsNoPut calls nexts
+    (commit : Option CommitRun) (old new : Core) (disk : Disk) → OnlyHolds old new → AddsNoPut calls nexts
     → GroupsStand setting last begun calls commit (at_disk old disk)
     → GroupsStand setting last begun nexts commit (at_disk new disk)
 groups_held setting last begun calls nexts None old new disk core adds groups =
@@ -291,8 +290,7 @@ module _ (setting : Setting) (last : Kept) (begun : List Kept) (map : Map) (comm
         within = λ device has. subst (λ (c : Core). has_device c.pool.out device ≡ true) (sym core) has;
         reads = λ device device_sector used in_data away. refl;
       } in
-      stands_still Nowhere setting last begun map calls nexts commit commit (at_disk old disk) (at_disk new disk)
-      leaves
+      stands_still Nowhere setting last begun map calls nexts commit commit (at_disk old disk) (at_disk new disk) leaves
       (λ entry listed. off_nowhere old.pool.uber.reflow (layout_of old.pool.uber.parity old.pool.uber.births entry))
       (ap (λ (c : Core). c.pool.uber) core) (ap (λ (c : Core). c.pool.blocks) core) (later_refl disk)
       (groups_held setting last begun calls nexts commit old new disk core adds stands.groups)
@@ -329,9 +327,8 @@ module _ (setting : Setting) (last : Kept) (begun : List Kept) (map : Map) (comm
 
   -- It reads a column more,
   pub get_reads_stands : (before after : CoreState) (run next : GetRun) (content : List ℕ)
-      (left calls nexts : List Call)
-      → IsPlace run.read → run.read.row < rows_of run.read.layout → ReadsTurn before run after (More next)
-      → Unchanged before.disk after.disk
+      (left calls nexts : List Call) → IsPlace run.read → run.read.row < rows_of run.read.layout
+      → ReadsTurn before run after (More next) → Unchanged before.disk after.disk
       → OnlyFailedGoOut (point_of before.core.pool.out before.disk) (point_of after.core.pool.out after.disk)
       → Lawful after.disk → Gains left calls (Reading run content) → Gains left nexts (Reading next content)
       → Stands setting last begun map calls commit before → Stands setting last begun map nexts commit after
@@ -351,10 +348,9 @@ module _ (setting : Setting) (last : Kept) (begun : List Kept) (map : Map) (comm
       (λ call has. ⊎_elim
       (λ (same : Reading next content ≡ call). subst (HoldsCall after) same
       (get_reads content before after run (More next) (stands.are.each (Reading run content) listed).1 place low
-      unchanged outs
-      (stands.each (Reading run content) listed) reads))
-      (λ was. call_stays Nowhere before after call leaves (off_nowhere before.core.pool.uber.reflow
-      (layout_of_call call))
+      unchanged outs (stands.each (Reading run content) listed) reads))
+      (λ was. call_stays Nowhere before after call leaves
+      (off_nowhere before.core.pool.uber.reflow (layout_of_call call))
       (stands.each call (gains_old left calls (Reading run content) call gains was)))
       (gains_cases left nexts (Reading next content) call again has))
       stands
@@ -364,20 +360,19 @@ module _ (setting : Setting) (last : Kept) (begun : List Kept) (map : Map) (comm
           (read_adds left nexts next content again put held has)
 
   -- and is solved.
-  pub get_solves_stands : (core : Core) (disk : Disk) (run next : GetRun) (content : List ℕ)
-      (left calls nexts : List Call)
+  pub get_solves_stands : (state : CoreState) (run next : GetRun) (content : List ℕ) (left calls nexts : List Call)
       → SolvesGet run next → run.read.row ≡ rows_of run.read.layout → Gains left calls (Reading run content)
-      → Gains left nexts (Reading next content) → Stands setting last begun map calls commit (at_disk core disk)
-      → Stands setting last begun map nexts commit (at_disk core disk)
-  get_solves_stands core disk run next content left calls nexts solves whole gains again stands =
+      → Gains left nexts (Reading next content) → Stands setting last begun map calls commit state
+      → Stands setting last begun map nexts commit state
+  get_solves_stands state run next content left calls nexts solves whole gains again stands =
       let listed = gains_item left calls (Reading run content) gains in
-      stands_held calls nexts core core disk refl
+      stands_held calls nexts state.core state.core state.disk refl
       (λ put held has. read_loses left calls run content gains put held
       (read_adds left nexts next content again put held has))
-      (get_solves_calls core run next content left calls nexts solves gains again stands.are)
+      (get_solves_calls state.core run next content left calls nexts solves gains again stands.are)
       (λ call has. ⊎_elim
-      (λ (same : Reading next content ≡ call). inl (subst (HoldsCall (at_disk core disk)) same
-      (get_solves content (at_disk core disk) run next whole (stands.are.each (Reading run content) listed).1
+      (λ (same : Reading next content ≡ call). inl (subst (HoldsCall state) same
+      (get_solves content state run next whole (stands.are.each (Reading run content) listed).1
       (stands.each (Reading run content) listed) solves)))
       (λ was. inr (gains_old left calls (Reading run content) call gains was))
       (gains_cases left nexts (Reading next content) call again has))
