@@ -1,10 +1,11 @@
 //! An open pool, turn by turn: several calls go on side by side, and a turn makes at most one device
 //! call.
 //!
-//! A call under way is a value that its caller keeps, a `PutRun` or a `GetRun`; each turn takes it and
-//! gives it back, until the call is answered. A hold on its block's sectors keeps others away. Read
-//! `specs/Core.antt`, then `specs/Getting.antt` and `specs/Putting.antt`. Stands on `core_blocks`,
-//! `core_client` and `range_locks`, and on the definitions of `core_serial`.
+//! A call under way is a value that its caller keeps, a `PutRun`, a `GetRun` or a `CommitRun`; each turn
+//! takes it and gives it back, until the call is answered. A hold on its block's sectors keeps others away.
+//! Read `specs/Core.antt` and `specs/UnderWay.antt`, then `specs/Getting.antt`, `specs/Putting.antt` and
+//! `specs/Committing.antt`. Stands on `core_blocks`, `core_client`, `core_commit` and `range_locks`, and on
+//! the definitions of `core_serial`.
 #![tactic(auto)]
 
 mod committing;
