@@ -18,6 +18,8 @@ use Rattle.core_state.specs.Committing.{Point}
 use Rattle.core_state.specs.Moment.{IsRowOf, KeepsSince}
 use Rattle.core_state.proofs.Frames.{Nowhere}
 use Rattle.core_state.proofs.Listed.{contains_head, contains_tail, contains_cases, contains_none}
+use Rattle.core_state.specs.declared.answer.Answer.{Answer}
+use Rattle.core_state.specs.declared.answer.Answer.TheVariants as answer
 use Rattle.core_blocks.specs.Blocks.{Blocks, AreInStep, put_run}
 use Rattle.core_blocks.specs.Kept.{NoneFree, SparesAll}
 use Rattle.core_blocks.proofs.Fitting.{fits}
@@ -34,13 +36,15 @@ use Rattle.core_serial.specs.Standing.{Stands as StandsSo}
 use Rattle.core_serial.proofs.Syncs.{IsReady, ready}
 use Rattle.core_serial.proofs.Committing.{may_commit}
 use Rattle.core_turns.specs.declared.putting.PutRun.{PutRun}
-use Rattle.core_turns.specs.declared.turn.Turn.TheVariants.{More}
+use Rattle.core_turns.specs.declared.getting.GetRun.{GetRun}
+use Rattle.core_turns.specs.declared.turn.Turn.{Turn}
+use Rattle.core_turns.specs.declared.turn.Turn.TheVariants.{More, Busy, Done}
 use Rattle.core_turns.specs.Core.{Core, IsCore, CoreState, at_disk, pool_at}
-use Rattle.core_turns.specs.Getting.{HasTooManyOut}
+use Rattle.core_turns.specs.Getting.{HasTooManyOut, IsGetOf}
 use Rattle.core_turns.specs.Committing.{IsCommitOf, commit_of, uber_for, BeginsCommit, StepsCommit, AnswersGroup, answered_by}
 use Rattle.core_turns.specs.UnderWay.{Call, Putting, Reading, layout_of_call, ranges_of, PutsSpare, Stands, AreCallsOf}
 use Rattle.core_turns.proofs.Commits.{few_out, rests, rests_pool, begun_commit, step_uber}
-use Rattle.core_turns.proofs.Frames.{Leaves, KeepsWidths, off_nowhere, leaves_spared, call_stays, calls_keep, calls_stay, map_stays, stands_frame}
+use Rattle.core_turns.proofs.Frames.{Leaves, KeepsWidths, widths_out, get_of_stays, off_nowhere, leaves_spared, call_stays, calls_keep, calls_stay, map_stays, stands_frame}
 
 -- The range of a put that is under way is one of those of all.
 put_listed : (calls : List Call) (run : PutRun) (content : List ℕ) → Contains calls (Putting run content)
@@ -363,3 +367,21 @@ commit_is_cut setting last begun map calls state run many stands = record {
   are = stands.are;
   each = stands.each;
 }
+
+-- A read that is under way stays one of the core over any turn of a commit.
+pub commit_gets : (before after : CoreState) (run : CommitRun) (result : Turn CommitRun) (read : GetRun)
+    → IsCommitOf before.core run → StepsCommit before run after result → IsGetOf before.core read
+    → IsGetOf after.core read
+commit_gets before after run (More next) read of steps get =
+    get_of_stays before.core after.core read (widths_out before.core after.core steps.2)
+    (subst (λ (core : Core). Contains core.holds read.hold) (sym steps.2) get.holds) get
+commit_gets before after run (Busy by) read of steps get = absurd steps
+commit_gets before after run (Done given) read of steps get = by given steps
+  where
+    by : (given : Answer) → StepsCommit before run after (Done given) → IsGetOf after.core read
+    by (answer.Synced group) answers =
+        let core = answered before.core run answers.ended after.core.pool.out before.disk after.disk of answers.ends in
+        subst (λ (c : Core). IsGetOf c read) (sym answers.rest) (get_of_stays before.core core read
+        (answered_widths before.core run answers.ended after.core.pool.out before.disk after.disk of answers.ends) get.holds get)
+    by (answer.TooManyFailed out) many = subst (λ (state : CoreState). IsGetOf state.core read) (sym many.2) get
+    by other none = absurd none

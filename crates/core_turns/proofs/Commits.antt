@@ -1,5 +1,5 @@
 -- Commits, turn by turn: that a pool stays one, and what each turn comes to.
-use Rattle.std.proofs.Common.{◌≡◌, ◌⊎◌, inl, inr, ⊎_elim, ℕ, ◌+◌, ◌^◌, ◌<◌, ◌≤◌, List, length, None, Some, Option, refl, sym, ◌∙◌, ap, subst, arith}
+use Rattle.std.proofs.Common.{◌≡◌, ◌⊎◌, inl, inr, ⊎_elim, ℕ, ◌+◌, ◌^◌, ◌<◌, ◌≤◌, List, [], ◌∷◌, ◌++◌, length, None, Some, Option, refl, sym, ◌∙◌, ap, subst, arith}
 use Rattle.std.proofs.lemmas.Bool.{true≢false, cases_lt}
 use Rattle.sha2.specs.Sha256.{sha256}
 use Rattle.bank_trait.specs.Disk.{Disk, Lawful}
@@ -33,12 +33,15 @@ use Rattle.core_serial.proofs.Committing.{right_next}
 use Rattle.core_serial.proofs.Going.{bank_later}
 use Rattle.core_serial.proofs.Syncs.{few_below}
 use Rattle.core_turns.specs.Core.{Core, CoreState, IsCore, groups_begun}
-use Rattle.core_turns.specs.Getting.{HasTooManyOut}
+use Rattle.core_turns.specs.Getting.{HasTooManyOut, BeginsGet, ReadsTurn}
 use Rattle.core_state.specs.declared.answer.Answer.{Answer}
 use Rattle.core_state.specs.declared.answer.Answer.TheVariants as answer
 use Rattle.core_turns.specs.declared.turn.Turn.{Turn}
 use Rattle.core_turns.specs.declared.turn.Turn.TheVariants.{More, Busy, Done}
-use Rattle.core_turns.specs.Committing.{IsCommitOf, StepsCommit, commit_of, answered_by}
+use Rattle.core_turns.specs.Committing.{IsCommitOf, BeginsCommit, StepsCommit, commit_of, answered_by}
+use Rattle.core_turns.specs.Freeing.{FreesBlock}
+use Rattle.core_turns.specs.declared.getting.GetRun.{GetRun}
+use Rattle.core_state.specs.declared.answer.Kind.{Kind}
 use Rattle.core_turns.specs.UnderWay.{TurnGoesOn}
 use Rattle.core_turns.proofs.Cores.{core_out}
 
@@ -353,3 +356,67 @@ turn_bank before after goes bank =
       room = subst (λ (r : Reflow). 192 + r.rows ≤ after.disk.sectors) (sym goes.widths) now.room;
       devices = λ device inside used. now.devices device (subst (λ (r : Reflow). device < r.to) goes.widths inside) used;
     }
+
+-- ---- a commit beside other turns
+
+-- A commit that has begun, or made a step, is one of the core.
+pub begun_of : (old new : Core) (actor : ℕ) (result : Turn CommitRun) (run : CommitRun)
+    → BeginsCommit old new actor result → result ≡ More run → IsCommitOf new run
+begun_of old new actor result run begins is = (subst (BeginsCommit old new actor) is begins).5
+
+pub stepped_of : (before after : CoreState) (run next : CommitRun) (result : Turn CommitRun)
+    → StepsCommit before run after result → result ≡ More next → IsCommitOf after.core next
+stepped_of before after run next result steps is = (subst (StepsCommit before run after) is steps).3
+
+-- A commit is one of the core still where the group begun last, who makes it, and the last one's uberblock stay.
+pub commit_of_stays : (old new : Core) (run : CommitRun) → new.committing ≡ old.committing → new.begun ≡ old.begun
+    → new.pool.uber ≡ old.pool.uber → IsWithin old.pool.out new.pool.out → IsCommitOf old run → IsCommitOf new run
+commit_of_stays old new run by begun uber within of = record {
+  actor = of.actor;
+  under_way = by ∙ of.under_way;
+  number = of.number ∙ sym begun;
+  uber_is = subst (λ (u : Uber). run.uber ≡ record u {
+    group = run.uber.group;
+    area = run.uber.area;
+    count = run.uber.count;
+    digest = run.uber.digest;
+    out = run.uber.out;
+  }) (sym uber) of.uber_is;
+  lists = λ device has. within device (of.lists device has);
+}
+
+-- So it is over a read that begins or goes on,
+pub get_begins_beside : (old new : Core) (actor id : ℕ) (asked : Kind) (result : Turn GetRun) (run : CommitRun)
+    → BeginsGet old new actor asked id result → IsCommitOf old run → IsCommitOf new run
+get_begins_beside old new actor id asked (More read) run begins of = subst (λ (core : Core). IsCommitOf core run)
+    (sym begins.6)
+    (commit_of_stays old (record old { holds = old.holds ++ read.hold ∷ [] }) run refl refl refl (λ device has. has) of)
+get_begins_beside old new actor id asked (Busy by) run begins of =
+    subst (λ (core : Core). IsCommitOf core run) (sym begins.1) of
+get_begins_beside old new actor id asked (Done given) run begins of =
+    subst (λ (core : Core). IsCommitOf core run) (sym begins.0) of
+
+pub get_reads_beside : (before after : CoreState) (read : GetRun) (result : Turn GetRun) (run : CommitRun)
+    → IsWithin before.core.pool.out after.core.pool.out → ReadsTurn before read after result → IsCommitOf before.core run
+    → IsCommitOf after.core run
+get_reads_beside before after read (More next) run within reads of = subst (λ (core : Core). IsCommitOf core run)
+    (sym reads.2)
+    (commit_of_stays before.core (record before.core { pool = record before.core.pool { out = after.core.pool.out } }) run
+    refl refl refl within of)
+get_reads_beside before after read (Busy by) run within reads of = absurd reads
+get_reads_beside before after read (Done given) run within reads of = subst (λ (core : Core). IsCommitOf core run)
+    (sym reads.0.rest)
+    (commit_of_stays before.core (record before.core { holds = after.core.holds }) run refl refl refl (λ device has. has) of)
+
+-- and over a free.
+pub frees_beside : (old new : Core) (id : ℕ) (given : Answer) (run : CommitRun) → FreesBlock old new id given
+    → IsCommitOf old run → IsCommitOf new run
+frees_beside old new id answer.Freed run frees of = subst (λ (core : Core). IsCommitOf core run) (sym frees.2.rest)
+    (commit_of_stays old (record old { pool = record old.pool { blocks = new.pool.blocks } }) run refl refl refl
+    (λ device has. has) of)
+frees_beside old new id answer.Absent run frees of = subst (λ (core : Core). IsCommitOf core run) (sym frees.1.rest)
+    (commit_of_stays old (record old { pool = record old.pool { blocks = new.pool.blocks } }) run refl refl refl
+    (λ device has. has) of)
+frees_beside old new id (answer.TooManyFailed out) run frees of =
+    subst (λ (core : Core). IsCommitOf core run) (sym frees.2) of
+frees_beside old new id other run frees of = absurd frees

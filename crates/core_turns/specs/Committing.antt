@@ -55,6 +55,7 @@ IsSyncRefused core (answer.TooManyFailed out) = HasTooManyOut core × (out ≡ c
 IsSyncRefused core (answer.Limit reached) = (HasTooManyOut core → ⊥) × (core.committing ≡ None)
     × (reached ≡ most_groups) × (most_groups ≤ core.begun + 1)
 IsSyncRefused core answer.NoMemory = (HasTooManyOut core → ⊥) × (core.committing ≡ None)
+    × (core.begun + 1 < most_groups)
 IsSyncRefused core other = ⊥
 
 -- what the first turn of a sync comes to
