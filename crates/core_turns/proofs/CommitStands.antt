@@ -1,6 +1,6 @@
 -- A commit beside the calls that are under way: how it begins, goes on, and ends.
-use Rattle.std.proofs.Common.{◌≡◌, ⊎_elim, ℕ, ◌+◌, ◌^◌, ◌<◌, ◌≤◌, List, [], ◌∷◌, length, Some, None, refl, sym, ◌∙◌, ap, subst, arith}
 use Rattle.std.specs.Prelude.{Contains}
+use Rattle.std.proofs.Common.{◌≡◌, ⊎_elim, ℕ, ◌+◌, ◌^◌, ◌<◌, ◌≤◌, List, [], ◌∷◌, length, Some, None, refl, sym, ◌∙◌, ap, subst, arith}
 use Rattle.sha2.specs.Sha256.{sha256}
 use Rattle.bank_trait.specs.Disk.{Disk, Lawful}
 use Rattle.reflow_mark.specs.declared.reflow.Reflow.{Reflow}
@@ -10,6 +10,8 @@ use Rattle.block_record.specs.Page.{index_page, IsIndex}
 use Rattle.block_table.specs.Table.{IsTable}
 use Rattle.uberblock_ring.specs.Devices.{IsWithin}
 use Rattle.uberblock_ring.specs.Uberblock.{Uber}
+use Rattle.core_state.specs.declared.answer.Answer.{Answer}
+use Rattle.core_state.specs.declared.answer.Answer.TheVariants as answer
 use Rattle.core_state.specs.Map.{Map}
 use Rattle.core_state.specs.Index.{layout_of}
 use Rattle.core_state.specs.Keeps.{Kept, Setting}
@@ -18,8 +20,6 @@ use Rattle.core_state.specs.Committing.{Point}
 use Rattle.core_state.specs.Moment.{IsRowOf, KeepsSince}
 use Rattle.core_state.proofs.Frames.{Nowhere}
 use Rattle.core_state.proofs.Listed.{contains_head, contains_tail, contains_cases, contains_none}
-use Rattle.core_state.specs.declared.answer.Answer.{Answer}
-use Rattle.core_state.specs.declared.answer.Answer.TheVariants as answer
 use Rattle.core_blocks.specs.Blocks.{Blocks, AreInStep, put_run}
 use Rattle.core_blocks.specs.Kept.{NoneFree, SparesAll}
 use Rattle.core_blocks.proofs.Fitting.{fits}
@@ -51,7 +51,8 @@ put_listed : (calls : List Call) (run : PutRun) (content : List ℕ) → Contain
     → Contains (ranges_of calls) run.range
 put_listed [] run content has = absurd (contains_none (Putting run content) has)
 put_listed (call ∷ calls) run content has = ⊎_elim
-    (λ same. subst (λ (c : Call). Contains (ranges_of (c ∷ calls)) run.range) same (contains_head run.range (ranges_of calls)))
+    (λ same. subst (λ (c : Call). Contains (ranges_of (c ∷ calls)) run.range) same
+        (contains_head run.range (ranges_of calls)))
     (λ later. more call (put_listed calls run content later))
     (contains_cases call calls (Putting run content) has)
   where
@@ -114,7 +115,8 @@ module _ (setting : Setting) (last : Kept) (map : Map) (calls : List Call) (old 
   come : IsCommitting setting last begun_group (commit_of old.pool) (point_of old.pool.out disk)
   come = committing_begins setting [] last begun_group (point_of old.pool.out disk) is_ready.right lawful
       (may_commit setting last map (pool_at (at_disk old disk)) (rests_pool old is none) stands.bank serial stands.holds
-      entries refl is_ready.index (length entries) (sha256 (index_page entries)) refl refl is_ready.fitting is_ready.right [])
+      entries refl is_ready.index (length entries) (sha256 (index_page entries)) refl refl
+      is_ready.fitting is_ready.right [])
 
   -- The commit has begun, and the rest stands as it did.
   begun_stands : AreCallsOf (begun_by old actor) calls
@@ -158,7 +160,9 @@ pub commit_begins_stands : (setting : Setting) (last : Kept) (begun : List Kept)
 commit_begins_stands setting last begun map calls old new disk actor run lawful is table step begins stands = (
   next,
   refl,
-  (let same = rests old is begins.1 in let later = ap (λ (core : Core). core.begun) begins.4 in omega (arith, same, later)),
+  (let same = rests old is begins.1 in
+      let later = ap (λ (core : Core). core.begun) begins.4 in
+      omega (arith, same, later)),
   refl,
   refl,
   subst (λ (core : Core). Stands setting last (next ∷ []) map calls (Some run) (at_disk core disk)) (sym begins.4)
@@ -166,7 +170,8 @@ commit_begins_stands setting last begun map calls old new disk actor run lawful 
       (sym begins.3)
       (begun_stands setting last map calls old disk actor lawful is table step begins.0 begins.1
       (let low = begins.2 in omega (arith, low)) alone
-      (subst (λ (core : Core). AreCallsOf core calls) begins.4 (commit_begins_calls old new calls actor run begins stands.are)))),
+      (subst (λ (core : Core). AreCallsOf core calls) begins.4
+      (commit_begins_calls old new calls actor run begins stands.are)))),
 )
   where
     next : Kept
@@ -217,7 +222,8 @@ commit_steps_stands setting last begun map calls before after run next steps wit
 -- What images keep since a moment they keep over a step.
 pub commit_steps_since : (setting : Setting) (last : Kept) (begun : List Kept) (map : Map) (calls : List Call)
     (before after : CoreState) (run next : CommitRun) (groups : List Kept) (time : ℕ)
-    → IsRowOf groups last begun → StepsCommit before run after (More next) → IsWithin before.core.pool.out setting.failed
+    → IsRowOf groups last begun → StepsCommit before run after (More next)
+    → IsWithin before.core.pool.out setting.failed
     → Stands setting last begun map calls (Some run) before
     → KeepsSince setting groups time before.disk → KeepsSince setting groups time after.disk
 commit_steps_since setting last begun map calls before after run next groups time row steps within stands kept =
@@ -305,7 +311,8 @@ module _ (core : Core) (run ended : CommitRun) (out : ℕ) (old new : Disk) (of 
           (subst (λ (r : Reflow). device < r.to) answered_widths.reflow inside) used;
     };
     holds = map_stays Nowhere map (at_disk core old) (at_disk answered old) (answered_leaves old) refl
-        (λ entry listed. off_nowhere core.pool.uber.reflow (layout_of core.pool.uber.parity core.pool.uber.births entry))
+        (λ entry listed. off_nowhere core.pool.uber.reflow
+        (layout_of core.pool.uber.parity core.pool.uber.births entry))
         stands.holds;
     are = answered_calls calls stands.are;
     each = λ call listed. call_stays Nowhere (at_disk core old) (at_disk answered old) call (answered_leaves old)
@@ -330,16 +337,19 @@ commit_ends_stands setting last next map calls before after run group answers wi
     let same : next ≡ was.next = cc in
     subst (λ (core : Core). Stands setting next [] map calls None (at_disk core after.disk)) (sym answers.rest)
     (subst (λ (p : Point). Stands setting next [] map calls None
-    (at_disk (answered before.core run answers.ended after.core.pool.out before.disk after.disk was.of answers.ends) p.disk))
+    (at_disk (answered before.core run answers.ended after.core.pool.out before.disk after.disk was.of answers.ends)
+    p.disk))
     (sym answers.ends.same)
-    (ended_stands before.core run answers.ended after.core.pool.out before.disk after.disk was.of answers.ends setting last next
-    map calls within
-    (subst (λ (k : Kept). IsCommitting setting last k run (point_of before.core.pool.out before.disk)) (sym same) was.come)
+    (ended_stands before.core run answers.ended after.core.pool.out before.disk after.disk was.of answers.ends
+    setting last next map calls within
+    (subst (λ (k : Kept). IsCommitting setting last k run (point_of before.core.pool.out before.disk)) (sym same)
+    was.come)
     (subst (λ (k : Kept). NoneFree before.core.pool.blocks before.core.begun k.entries) (sym same) was.kept)
     (subst (λ (k : Kept). PutsSpare before calls k) (sym same) was.spared) stands))
 
 -- Its last turn calls no device.
-pub commit_ends_since : (setting : Setting) (before after : CoreState) (run : CommitRun) (group : ℕ) (groups : List Kept)
+pub commit_ends_since : (setting : Setting) (before after : CoreState) (run : CommitRun) (group : ℕ)
+    (groups : List Kept)
     (time : ℕ) → AnswersGroup before run after group → KeepsSince setting groups time before.disk
     → KeepsSince setting groups time after.disk
 commit_ends_since setting before after run group groups time answers kept =
@@ -353,7 +363,8 @@ pub commit_is_cut : (setting : Setting) (last : Kept) (begun : List Kept) (map :
 commit_is_cut setting last begun map calls state run many stands = record {
   groups = record {
     knows = subst (λ (l : List Kept). Knows setting last l state.disk) (sym stands.groups.begun_is)
-        (committing_cut setting last stands.groups.next run (point_of state.core.pool.out state.disk) stands.groups.come);
+        (committing_cut setting last stands.groups.next run (point_of state.core.pool.out state.disk)
+            stands.groups.come);
     whole = λ few. absurd (omega (arith, many, few));
   };
   alike = stands.alike;
@@ -382,6 +393,7 @@ commit_gets before after run (Done given) read of steps get = by given steps
     by (answer.Synced group) answers =
         let core = answered before.core run answers.ended after.core.pool.out before.disk after.disk of answers.ends in
         subst (λ (c : Core). IsGetOf c read) (sym answers.rest) (get_of_stays before.core core read
-        (answered_widths before.core run answers.ended after.core.pool.out before.disk after.disk of answers.ends) get.holds get)
+        (answered_widths before.core run answers.ended after.core.pool.out before.disk after.disk of answers.ends)
+            get.holds get)
     by (answer.TooManyFailed out) many = subst (λ (state : CoreState). IsGetOf state.core read) (sym many.2) get
     by other none = absurd none

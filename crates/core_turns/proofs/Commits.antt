@@ -15,38 +15,38 @@ use Rattle.uberblock_ring.specs.Devices.{count_of, IsWithin}
 use Rattle.uberblock_ring.specs.Uberblock.{Uber}
 use Rattle.uberblock_ring.specs.Valid.{IsRightUber}
 use Rattle.uberblock_ring.proofs.Digest.{sha256_is_digest}
-use Rattle.core_blocks.specs.Blocks.{Blocks, AreInStep}
+use Rattle.core_state.specs.declared.answer.Answer.{Answer}
+use Rattle.core_state.specs.declared.answer.Answer.TheVariants as answer
+use Rattle.core_state.specs.declared.answer.Kind.{Kind}
 use Rattle.core_state.specs.Committing.{Point}
+use Rattle.core_blocks.specs.Blocks.{Blocks, AreInStep}
 use Rattle.core_client.specs.Outs.{point_of, OnlyFailedGoOut}
 use Rattle.core_client.proofs.Outs.{outs_none}
 use Rattle.core_commit.specs.declared.commit_run.CommitStep.{CommitStep}
 use Rattle.core_commit.specs.declared.commit_run.CommitStep.TheVariants.{Called, Ended}
 use Rattle.core_commit.specs.CommitTurns.{CommitRun, IsReady, HasEnded, Steps}
-use Rattle.core_commit.specs.Ran.{FitsBank}
 use Rattle.core_commit.specs.Spared.{IsOnInUse}
 use Rattle.core_commit.proofs.Stepping.{ready_keeps, steps_same, steps_went}
 use Rattle.core_commit.proofs.Touching.{touched_none, touched_more}
-use Rattle.core_open.proofs.Renewing.{none_above_more}
 use Rattle.core_serial.specs.Pool.{IsPool, HasBank}
 use Rattle.core_serial.specs.Syncing.{next_uber}
 use Rattle.core_serial.proofs.Committing.{right_next}
 use Rattle.core_serial.proofs.Going.{bank_later}
 use Rattle.core_serial.proofs.Syncs.{few_below}
-use Rattle.core_turns.specs.Core.{Core, CoreState, IsCore, groups_begun}
-use Rattle.core_turns.specs.Getting.{HasTooManyOut, BeginsGet, ReadsTurn}
-use Rattle.core_state.specs.declared.answer.Answer.{Answer}
-use Rattle.core_state.specs.declared.answer.Answer.TheVariants as answer
 use Rattle.core_turns.specs.declared.turn.Turn.{Turn}
 use Rattle.core_turns.specs.declared.turn.Turn.TheVariants.{More, Busy, Done}
+use Rattle.core_turns.specs.declared.getting.GetRun.{GetRun}
+use Rattle.core_turns.specs.Core.{Core, CoreState, IsCore, groups_begun}
+use Rattle.core_turns.specs.Getting.{HasTooManyOut, BeginsGet, ReadsTurn}
 use Rattle.core_turns.specs.Committing.{IsCommitOf, BeginsCommit, StepsCommit, commit_of, answered_by}
 use Rattle.core_turns.specs.Freeing.{FreesBlock}
-use Rattle.core_turns.specs.declared.getting.GetRun.{GetRun}
-use Rattle.core_state.specs.declared.answer.Kind.{Kind}
 use Rattle.core_turns.specs.UnderWay.{TurnGoesOn}
 use Rattle.core_turns.proofs.Cores.{core_out}
 
+-- Few devices are out.
 pub few_out : (core : Core) → (HasTooManyOut core → ⊥) → count_of core.pool.out ≤ core.pool.uber.parity
-few_out core few = ⊎_elim (λ many. absurd (few many)) (λ low. low) (cases_lt core.pool.uber.parity (count_of core.pool.out))
+few_out core few = ⊎_elim (λ many. absurd (few many)) (λ low. low)
+    (cases_lt core.pool.uber.parity (count_of core.pool.out))
 
 -- Where no commit is under way, the group begun last is the last answered one.
 pub rests : (core : Core) → IsCore core → core.committing ≡ None → core.begun ≡ core.pool.uber.group
@@ -56,48 +56,10 @@ rests core is none =
 -- So the pool is one with its own uberblock.
 pub rests_pool : (core : Core) → IsCore core → core.committing ≡ None → IsPool core.pool
 rests_pool core is none =
-    subst (λ (group : ℕ). IsPool (record core.pool { uber = record core.pool.uber { group = group } })) (rests core is none) is.is
+    subst (λ (group : ℕ). IsPool (record core.pool { uber = record core.pool.uber { group = group } }))
+    (rests core is none) is.is
 
--- One more group is begun.
-pub begun_core : (core : Core) (actor : ℕ) → IsCore core → core.committing ≡ None → core.begun + 1 ≤ 2 ^ 62
-    → IsCore (record core { begun = core.begun + 1; committing = Some actor })
-begun_core core actor is none limit = record {
-  is = record {
-    right = record {
-      pool = right.pool;
-      group = (omega arith, limit);
-      parity = right.parity;
-      widths = right.widths;
-      rows = right.rows;
-      reflow = right.reflow;
-      area = right.area;
-      out = right.out;
-      count = right.count;
-      digest = right.digest;
-      births = record {
-        growing = right.births.growing;
-        few = right.births.few;
-        wide = right.births.wide;
-        last = right.births.last;
-        begun = none_above_more (core.begun + 2) (core.begun + 1 + 2) core.pool.uber.births (omega arith) right.births.begun;
-      };
-    };
-    parity = is.is.parity;
-    births = is.is.births;
-    capacity = is.is.capacity;
-    born = λ entry listed. let young = is.is.born entry listed in omega (arith, young);
-    below = is.is.below;
-    lists = is.is.lists;
-  };
-  begun = (let same = rests core is none in omega (arith, same));
-  few = limit;
-  step = is.step;
-}
-  where
-    right : IsRightUber (record core.pool.uber { group = core.begun })
-    right = is.is.right
-
--- Its uberblock is right.
+-- The next group's uberblock is right.
 pub begins_right : (core : Core) (entries : List IndexEntry) (next : Uber) → IsCore core → core.committing ≡ None
     → (HasTooManyOut core → ⊥) → core.begun + 1 ≤ 2 ^ 62 → length entries ≤ 512
     → next ≡ next_uber core.pool.uber (length entries) (sha256 (index_page entries)) core.pool.out
@@ -121,28 +83,14 @@ begun_commit core actor is none = record {
   lists = λ device has. has;
 }
 
--- A commit of the core can be written on its bank.
-pub commit_fits : (core : Core) (run : CommitRun) (disk : Disk) → IsCommitOf core run → IsRightUber run.uber
-    → length run.entries ≡ run.uber.count → HasBank core.pool.uber core.pool.out disk
-    → FitsBank run.uber run.entries core.pool.out disk
-commit_fits core run disk of right counted bank = record {
-  devices = λ device inside used. bank.devices device (subst (λ (r : Reflow). device < r.to) widths inside) used;
-  few = right.widths.1;
-  sectors = (let room = bank.room in omega (arith, room));
-  area = right.area;
-  counted = counted;
-  count = right.count;
-}
-  where
-    widths : run.uber.reflow ≡ core.pool.uber.reflow
-    widths = ap (λ (u : Uber). u.reflow) of.uber_is
-
 -- The devices that go out in a step failed.
-pub step_outs : (before after : Point) (run stepped : CommitRun) (result : CommitStep) → Steps run before stepped after result
+pub step_outs : (before after : Point) (run stepped : CommitRun) (result : CommitStep)
+    → Steps run before stepped after result
     → OnlyFailedGoOut before after
 step_outs before after run stepped result did = let went = steps_went result run stepped before after did in record {
   still = went.stay;
-  failed = λ device used has. ⊎_elim (λ was. absurd (true≢false (sym was ∙ used))) (λ rose. rose) (went.each device has);
+  failed = λ device used has. ⊎_elim (λ was. absurd (true≢false (sym was ∙ used))) (λ rose. rose)
+      (went.each device has);
 }
 
 -- What the uberblock lists as out is out still: it lists what was listed, or what is out by now.
@@ -172,7 +120,8 @@ pub step_uber : (core : Core) (run stepped : CommitRun) → IsCommitOf core run
       digest = stepped.uber.digest;
       out = stepped.uber.out;
     }
-step_uber core run stepped of same = same ∙ ap (λ (u : Uber). record u { out = stepped.uber.out }) of.uber_is ∙ (λ i. record core.pool.uber {
+step_uber core run stepped of same = same ∙ ap (λ (u : Uber). record u { out = stepped.uber.out }) of.uber_is
+    ∙ (λ i. record core.pool.uber {
   group = (ap (λ (u : Uber). u.group) (sym same)) i;
   area = (ap (λ (u : Uber). u.area) (sym same)) i;
   count = (ap (λ (u : Uber). u.count) (sym same)) i;
@@ -241,7 +190,8 @@ answered_core core run ended old new out is of did step = record {
     number = ap (λ (u : Uber). u.group) same ∙ of.number
 
 -- the core that the end leaves, in its parts
-pub answered_is : (core : Core) (ended uber : Uber) (blocks : Blocks) (out group : ℕ) → uber ≡ ended → group ≡ ended.group
+pub answered_is : (core : Core) (ended uber : Uber) (blocks : Blocks) (out group : ℕ) → uber ≡ ended
+    → group ≡ ended.group
     → blocks ≡ record core.pool.blocks { space = after_group core.pool.blocks.space group } → out ≡ core.pool.out
     → record core { pool = record { uber = uber; blocks = blocks; out = out }; committing = None }
     ≡ record core { pool = answered_by ended core.pool; committing = None }
@@ -249,7 +199,8 @@ answered_is core ended uber blocks out group uber_is group_is blocks_are out_is 
   pool = record {
     uber = uber_is i;
     blocks = (blocks_are
-        ∙ ap (λ (number : ℕ). record core.pool.blocks { space = after_group core.pool.blocks.space number }) group_is) i;
+        ∙ ap (λ (number : ℕ). record core.pool.blocks { space = after_group core.pool.blocks.space number })
+        group_is) i;
     out = out_is i;
   };
   committing = None;
@@ -261,7 +212,8 @@ pub step_touches : (core : Core) (run stepped : CommitRun) (out : ℕ) (old new 
     → TouchesOnly (IsOnInUse core.pool.uber.reflow.to core.pool.out) old new
 step_touches core run stepped out old new Called lawful of did =
     let widths : did.ready.uber.reflow ≡ core.pool.uber.reflow =
-    ap (λ (u : Uber). u.reflow) (ready_keeps core.pool.out run did.ready did.is_ready).uber ∙ ap (λ (u : Uber). u.reflow) of.uber_is in
+    ap (λ (u : Uber). u.reflow) (ready_keeps core.pool.out run did.ready did.is_ready).uber
+        ∙ ap (λ (u : Uber). u.reflow) of.uber_is in
     subst (λ (r : Reflow). TouchesOnly (IsOnInUse r.to core.pool.out) old new) widths
     (touched_more did.ready.uber did.ready.entries did.call (point_of core.pool.out old) (point_of core.pool.out old)
     (point_of out new) lawful did.inside (touched_none did.ready.uber (point_of core.pool.out old)) did.made).only
@@ -295,7 +247,8 @@ turn_steps before after run stepped result lawful of did uber = record {
       (λ group. ap (λ (u : Uber). u.births) group ∙ ap (λ (u : Uber). u.births) made) uber;
   later = (steps_went result run stepped (point_of before.core.pool.out before.disk)
       (point_of after.core.pool.out after.disk) did).spares.later;
-  out = step_outs (point_of before.core.pool.out before.disk) (point_of after.core.pool.out after.disk) run stepped result did;
+  out = step_outs (point_of before.core.pool.out before.disk) (point_of after.core.pool.out after.disk)
+      run stepped result did;
   only = step_touches before.core run stepped after.core.pool.out before.disk after.disk result lawful of did;
 }
   where
@@ -317,7 +270,8 @@ pub record IsStepped (before : CoreState) (run : CommitRun) (after : CoreState) 
   pub did : Steps run (point_of before.core.pool.out before.disk) stepped (point_of after.core.pool.out after.disk) kind
   pub uber : (after.core.pool.uber ≡ before.core.pool.uber) ⊎ (after.core.pool.uber ≡ stepped.uber)
 
-pub commit_turn : (before after : CoreState) (run : CommitRun) (result : Turn CommitRun) → StepsCommit before run after result
+pub commit_turn : (before after : CoreState) (run : CommitRun) (result : Turn CommitRun)
+    → StepsCommit before run after result
     → (after ≡ before) ⊎ IsStepped before run after
 commit_turn before after run (More next) steps = inr (record {
   stepped = next;
@@ -351,10 +305,11 @@ pub turn_bank : (before after : CoreState) → TurnGoesOn before after
     → HasBank before.core.pool.uber before.core.pool.out before.disk
     → HasBank after.core.pool.uber after.core.pool.out after.disk
 turn_bank before after goes bank =
-    let now = bank_later before.core.pool.uber before.disk after.disk before.core.pool.out after.core.pool.out goes.later
-    goes.out.still bank in record {
+    let now = bank_later before.core.pool.uber before.disk after.disk before.core.pool.out after.core.pool.out
+    goes.later goes.out.still bank in record {
       room = subst (λ (r : Reflow). 192 + r.rows ≤ after.disk.sectors) (sym goes.widths) now.room;
-      devices = λ device inside used. now.devices device (subst (λ (r : Reflow). device < r.to) goes.widths inside) used;
+      devices = λ device inside used. now.devices device
+          (subst (λ (r : Reflow). device < r.to) goes.widths inside) used;
     }
 
 -- ---- a commit beside other turns
@@ -397,16 +352,17 @@ get_begins_beside old new actor id asked (Done given) run begins of =
     subst (λ (core : Core). IsCommitOf core run) (sym begins.0) of
 
 pub get_reads_beside : (before after : CoreState) (read : GetRun) (result : Turn GetRun) (run : CommitRun)
-    → IsWithin before.core.pool.out after.core.pool.out → ReadsTurn before read after result → IsCommitOf before.core run
-    → IsCommitOf after.core run
+    → IsWithin before.core.pool.out after.core.pool.out → ReadsTurn before read after result
+    → IsCommitOf before.core run → IsCommitOf after.core run
 get_reads_beside before after read (More next) run within reads of = subst (λ (core : Core). IsCommitOf core run)
     (sym reads.2)
-    (commit_of_stays before.core (record before.core { pool = record before.core.pool { out = after.core.pool.out } }) run
-    refl refl refl within of)
+    (commit_of_stays before.core (record before.core { pool = record before.core.pool { out = after.core.pool.out } })
+    run refl refl refl within of)
 get_reads_beside before after read (Busy by) run within reads of = absurd reads
 get_reads_beside before after read (Done given) run within reads of = subst (λ (core : Core). IsCommitOf core run)
     (sym reads.0.rest)
-    (commit_of_stays before.core (record before.core { holds = after.core.holds }) run refl refl refl (λ device has. has) of)
+    (commit_of_stays before.core (record before.core { holds = after.core.holds }) run refl refl refl
+    (λ device has. has) of)
 
 -- and over a free.
 pub frees_beside : (old new : Core) (id : ℕ) (given : Answer) (run : CommitRun) → FreesBlock old new id given

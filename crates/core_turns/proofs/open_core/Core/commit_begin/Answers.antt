@@ -26,5 +26,6 @@ new-requires-clause-right c =
     begins_right core c.entries-entries.result.now c.in-Ok.next c.self.invariant c.in_default.is few
     (let low = c.if-self.false in omega (arith, low))
     (subst (λ (l : List IndexEntry). length l ≤ 512) (sym c.entries-entries.ensures.value)
-    (few_entries c.self.inside.blocks.table.entries c.self.inside.blocks.table.reserved c.entries-entries.ensures.table))
+    (few_entries c.self.inside.blocks.table.entries c.self.inside.blocks.table.reserved
+        c.entries-entries.ensures.table))
     c.in-Ok.ensures

@@ -2,13 +2,15 @@ use Rattle.core_turns.proofs.Commits.{commit_goes, turn_bank}
 use Rattle.core_turns.proofs.open_core.Core.commit_step.Goals as goal
 
 pub returns-clause-goes_on : goal.returns-clause-goes_on
-returns-clause-goes_on g c = commit_goes _ _ c.args.run c.step_commit.result (g.met.B.Bank.lawful c.args.bank.now) c.requires.of
-    c.step_commit.ensures
+returns-clause-goes_on g c = commit_goes _ _ c.args.run c.step_commit.result
+    (g.met.B.Bank.lawful c.args.bank.now) c.requires.of c.step_commit.ensures
 
 pub returns-clause-out : goal.returns-clause-out
-returns-clause-out g c = (commit_goes _ _ c.args.run c.step_commit.result (g.met.B.Bank.lawful c.args.bank.now) c.requires.of
-    c.step_commit.ensures).out
+returns-clause-out g c = (commit_goes _ _ c.args.run c.step_commit.result
+    (g.met.B.Bank.lawful c.args.bank.now) c.requires.of c.step_commit.ensures).out
 
 pub returns-clause-bank : goal.returns-clause-bank
-returns-clause-bank g c = turn_bank _ _ (commit_goes _ _ c.args.run c.step_commit.result (g.met.B.Bank.lawful c.args.bank.now)
-    c.requires.of c.step_commit.ensures) c.requires.bank
+returns-clause-bank g c = turn_bank _ _
+    (commit_goes _ _ c.args.run c.step_commit.result (g.met.B.Bank.lawful c.args.bank.now) c.requires.of
+    c.step_commit.ensures)
+    c.requires.bank
