@@ -2,7 +2,7 @@
 use Rattle.std.proofs.Common.{◌≡◌, ◌≢◌, ⊎_elim, ℕ, ◌+◌, ◌<◌, ◌≤◌, ◌^◌, List, ◌∷◌, [], ◌++◌, length, true, Option, Some, None, Result, Ok, Err, append-nil, refl, sym, ◌∙◌, ap, subst, arith}
 use Rattle.std.specs.Prelude.{All, Contains, OnOk, OnErr, slice_get, slice_index_or}
 use Rattle.std.proofs.lemmas.Option.{slice_get-get_or}
-use Rattle.std.proofs.lemmas.List.Elements.{Contains-append_right}
+use Rattle.std.proofs.lemmas.List.Elements.{Contains-append_left, Contains-append_right}
 use Rattle.bank_trait.specs.Disk.{Disk}
 use Rattle.bank_trait.specs.Regions.{TouchesOnly}
 use Rattle.bank_trait.proofs.Moments.{later_refl}
@@ -10,12 +10,13 @@ use Rattle.bank_trait.proofs.Touches.{touches_none, wrote_touches}
 use Rattle.width_map.specs.declared.birth.Birth.{Birth}
 use Rattle.range_locks.specs.declared.hold.Hold.{Hold}
 use Rattle.range_locks.specs.Holds.{EndsHold}
-use Rattle.row_layout.specs.Layout.{allocated_of}
+use Rattle.row_layout.specs.Layout.{Layout, allocated_of}
 use Rattle.reflow_mark.specs.declared.reflow.Reflow.{Reflow}
 use Rattle.shadow_write.specs.declared.write.Write.{Write}
 use Rattle.shadow_write.specs.Required.{front_after_stop}
 use Rattle.shadow_write.specs.Writes.{writes_of}
 use Rattle.space_alloc.specs.Space.{Space, Gains, IsDropping, IsBusySpace, IsFull as HasNoRun}
+use Rattle.reconstruct.specs.Rows.{sectors_for}
 use Rattle.block_record.specs.Bytes.{IsDigest}
 use Rattle.block_record.specs.declared.entry.IndexEntry.{IndexEntry}
 use Rattle.block_table.specs.Table.{ChangesOnly, entry_of, without_one}
@@ -33,6 +34,7 @@ use Rattle.core_blocks.specs.Puts.{BeginsPut, HoldsBack, IsAsBefore, IsPutCause,
 use Rattle.core_blocks.proofs.Listed.{put_cases}
 use Rattle.core_blocks.proofs.Usage.{adds_held_back, adds_none, adds_taken_back}
 use Rattle.core_client.specs.Outs.{point_of, OnlyFailedGoOut}
+use Rattle.core_client.specs.Pool.{IsInPool}
 use Rattle.core_client.specs.BlockTurns.{BlockWrite}
 use Rattle.core_client.specs.Writing.{IsInside, IsMade, IsPassedOrMade, IsPlanOf}
 use Rattle.core_client.proofs.BlockTurns.{listed_at, numbered}
@@ -43,16 +45,18 @@ use Rattle.core_commit.specs.Spared.{IsOnInUse}
 use Rattle.core_serial.specs.Pool.{HasBank}
 use Rattle.core_serial.proofs.Going.{bank_later}
 use Rattle.core_serial.proofs.Puts.{entry_range, range_in_pool}
+use Rattle.core_turns.specs.declared.getting.GetRun.{GetRun}
 use Rattle.core_turns.specs.declared.getting.OutOfMemory.{OutOfMemory}
 use Rattle.core_turns.specs.declared.putting.Filled.{Filled}
 use Rattle.core_turns.specs.declared.putting.PutRun.{PutRun}
 use Rattle.core_turns.specs.declared.turn.Turn.{Turn}
 use Rattle.core_turns.specs.declared.turn.Turn.TheVariants.{More, Busy, Done}
 use Rattle.core_turns.specs.Core.{Core, CoreState, IsCore, as_begun, at_disk}
-use Rattle.core_turns.specs.Getting.{HasTooManyOut}
-use Rattle.core_turns.specs.Putting.{BeginsPutTurn, FillsPut, IsFilledWith, IsMorePut, IsPutOf, LeavesBlocks, StoresBlock, WritesOne, WritesTurn, entry_for, hold_on, refused_turn}
+use Rattle.core_turns.specs.Getting.{HasTooManyOut, IsGetOf}
+use Rattle.core_turns.specs.Putting.{BeginsPutSo, BeginsPutTurn, FillsPut, IsFilledWith, IsMorePut, IsPutOf, LeavesBlocks, StoresBlock, WritesOne, WritesTurn, entry_for, hold_on, refused_turn}
 use Rattle.core_turns.specs.UnderWay.{TurnGoesOn}
 use Rattle.core_turns.proofs.Cores.{bank_has, core_blocks}
+use Rattle.core_turns.proofs.GetTurns.{get_of}
 
 -- What is filled in is one.
 pub same_filled : {one two : Filled} → Some one ≡ Some two → one ≡ two
@@ -82,31 +86,32 @@ pub put_begins : (core : Core) (actor id len : ℕ) (begun : Blocks) (range : Pu
     → hold ≡ hold_on range actor → holds ≡ core.holds ++ hold ∷ [] → reflow ≡ core.pool.uber.reflow
     → BeginsPutTurn core (record core { pool = record core.pool { blocks = begun }; holds = holds }) actor id len
     (More (record { hold = hold; range = range; len = len; reflow = reflow; filled = None }))
-put_begins core actor id len begun range hold holds reflow is few some short of begins under_way under kept spares hold_is held same = record {
-  few = few;
-  len_is = refl;
-  unfilled = refl;
-  range = of;
-  begins = begins;
-  under_way = under_way;
-  hold_is = hold_is;
-  rest = λ i. record core { pool = record core.pool { blocks = begun }; holds = held i };
-  of = record {
-    pool = range_in_pool (as_begun core) begun range id len (core.begun + 1) core.holds is.is begins.parity begins.births of
-        begins.first some short;
-    reflow_is = same;
-    range = layout_born begun range id len (core.begun + 1) of;
-    born = (let birth = of.birth_is in omega (arith, birth), let birth = of.birth_is in omega (arith, birth));
-    len = (some, short);
-    holds = subst (λ (l : List Hold). Contains l hold) (sym held)
-        (Contains-append_right core.holds (hold ∷ []) hold (contains_head hold []));
-    hold_is = hold_is ∙ ap (hold_on range) (sym (ap (λ (h : Hold). h.actor) hold_is));
-    filled = λ filled is_filled. absurd (clash is_filled);
-  };
-  under = under;
-  kept = kept;
-  spares = spares;
-}
+put_begins core actor id len begun range hold holds reflow is few some short of begins way under kept spares hold_is
+    held same = record {
+      few = few;
+      len_is = refl;
+      unfilled = refl;
+      range = of;
+      begins = begins;
+      under_way = way;
+      hold_is = hold_is;
+      rest = λ i. record core { pool = record core.pool { blocks = begun }; holds = held i };
+      of = record {
+        pool = range_in_pool (as_begun core) begun range id len (core.begun + 1) core.holds is.is begins.parity
+            begins.births of begins.first some short;
+        reflow_is = same;
+        range = layout_born begun range id len (core.begun + 1) of;
+        born = (let birth = of.birth_is in omega (arith, birth), let birth = of.birth_is in omega (arith, birth));
+        len = (some, short);
+        holds = subst (λ (l : List Hold). Contains l hold) (sym held)
+            (Contains-append_right core.holds (hold ∷ []) hold (contains_head hold []));
+        hold_is = hold_is ∙ ap (hold_on range) (sym (ap (λ (h : Hold). h.actor) hold_is));
+        filled = λ filled is_filled. absurd (clash is_filled);
+      };
+      under = under;
+      kept = kept;
+      spares = spares;
+    }
   where
     clash : {filled : Filled} → None ≡ Some filled → ⊥
     clash is_filled = cc
@@ -128,8 +133,8 @@ leaves core after same under kept = record {
 }
 
 -- A put is refused.
-pub put_refused : (core : Core) (actor id len : ℕ) (after : Blocks) (why : PutRefused) (turn : Turn PutRun) → IsCore core
-    → (HasTooManyOut core → ⊥) → IsAsBefore core.pool.blocks after
+pub put_refused : (core : Core) (actor id len : ℕ) (after : Blocks) (why : PutRefused) (turn : Turn PutRun)
+    → IsCore core → (HasTooManyOut core → ⊥) → IsAsBefore core.pool.blocks after
     → ((ranges : List PutRange) → AreUnderWay core.pool.blocks ranges → AreUnderWay after ranges)
     → ((past : ℕ) (kept : List IndexEntry) → NoneFree core.pool.blocks past kept → NoneFree after past kept)
     → IsPutCause core.pool.blocks core.holds id
@@ -147,7 +152,8 @@ put_refused core actor id len after why turn is few same under kept cause turn_i
     by : (why : PutRefused)
         → IsPutCause core.pool.blocks core.holds id
         (sectors_taken core.pool.blocks.parity core.pool.blocks.births len (core.begun + 1)) why
-        → BeginsPutTurn core (record core { pool = record core.pool { blocks = after } }) actor id len (refused_turn why)
+        → BeginsPutTurn core (record core { pool = record core.pool { blocks = after } }) actor id len
+        (refused_turn why)
     by refused.Full cause = (few, cause, leaves core after same under kept)
     by (refused.NoSpace sectors) cause = (
       few,
@@ -175,22 +181,23 @@ pub put_dropped : (core : Core) (begun after : Blocks) (range : PutRange) (holds
     → ((past : ℕ) (kept : List IndexEntry) → SparesAll begun.parity begun.births kept (put_run range)
     → NoneFree begun past kept → NoneFree after past kept)
     → LeavesBlocks core (record core { pool = record core.pool { blocks = after }; holds = holds })
-put_dropped core begun after range holds same begins under kept spares parity births entries dropped under_after kept_after = record {
-  rest = λ i. record core { pool = record core.pool { blocks = after }; holds = same i };
-  parity = parity ∙ begins.parity;
-  births = births ∙ begins.births;
-  entries = entries ∙ begins.entries;
-  capacity = dropped.capacity ∙ begins.taken.capacity;
-  adds = adds_taken_back core.pool.blocks.space begun.space after.space range.layout.start (allocated_of range.layout)
-      begins.taken dropped;
-  under = λ ranges all. under_after ranges (ranges ++ range ∷ [])
-      (record { before = ranges; after = []; was = sym (append-nil ranges); is = refl }) (under ranges all);
-  kept = λ past listed none. kept_after past listed
-      (subst (λ (p : ℕ). SparesAll p begun.births listed (put_run range)) (sym begins.parity)
-      (subst (λ (b : List Birth). SparesAll core.pool.blocks.parity b listed (put_run range)) (sym begins.births)
-      (spares past listed none)))
-      (kept past listed none);
-}
+put_dropped core begun after range holds same begins under kept spares parity births entries dropped under_after
+    kept_after = record {
+      rest = λ i. record core { pool = record core.pool { blocks = after }; holds = same i };
+      parity = parity ∙ begins.parity;
+      births = births ∙ begins.births;
+      entries = entries ∙ begins.entries;
+      capacity = dropped.capacity ∙ begins.taken.capacity;
+      adds = adds_taken_back core.pool.blocks.space begun.space after.space range.layout.start (allocated_of range.layout)
+          begins.taken dropped;
+      under = λ ranges all. under_after ranges (ranges ++ range ∷ [])
+          (record { before = ranges; after = []; was = sym (append-nil ranges); is = refl }) (under ranges all);
+      kept = λ past listed none. kept_after past listed
+          (subst (λ (p : ℕ). SparesAll p begun.births listed (put_run range)) (sym begins.parity)
+          (subst (λ (b : List Birth). SparesAll core.pool.blocks.parity b listed (put_run range)) (sym begins.births)
+          (spares past listed none)))
+          (kept past listed none);
+    }
 
 -- ---- filling in
 
@@ -205,16 +212,20 @@ fills_of core old new content fills len of = subst (IsPutOf core) (sym fills.res
   len = of.len;
   holds = of.holds;
   hold_is = of.hold_is;
-  filled = λ filled is. subst (λ (f : Filled). (content : List ℕ) × IsFilledWith core (record old { filled = Some fills.filled }) f content)
-      (same_filled is) (content, record {
-        plan = subst (λ (r : Reflow). IsPlanOf old.range.layout r (front_after_stop r) content fills.filled.write.rows fills.filled.write.writes)
-            of.reflow_is fills.plan;
-        writes = subst (λ (r : Reflow). fills.filled.write.writes ≡ writes_of old.range.layout r (front_after_stop r))
-            of.reflow_is fills.writes;
-        so_far = (let first = fills.next in omega (arith, first));
-        len_is = len;
-        digest_is = fills.digest_is;
-      });
+  filled = λ filled is. subst
+      (λ (f : Filled). (content : List ℕ) × IsFilledWith core (record old { filled = Some fills.filled }) f content)
+      (same_filled is) (
+        content,
+        record {
+          plan = subst (λ (r : Reflow). IsPlanOf old.range.layout r (front_after_stop r) content
+              fills.filled.write.rows fills.filled.write.writes) of.reflow_is fills.plan;
+          writes = subst (λ (r : Reflow). fills.filled.write.writes ≡ writes_of old.range.layout r (front_after_stop r))
+              of.reflow_is fills.writes;
+          so_far = (let first = fills.next in omega (arith, first));
+          len_is = len;
+          digest_is = fills.digest_is;
+        },
+      );
 })
 
 -- So it is whether memory was wanting or not.
@@ -227,8 +238,9 @@ went_filled old new content (Err why) fills same len core of = subst (IsPutOf co
 -- ---- a turn that writes
 
 -- The writes of a put can be made,
-pub put_inside : (core : Core) (run : PutRun) (filled : Filled) (disk : Disk) → IsPutOf core run → run.filled ≡ Some filled
-    → HasBank core.pool.uber core.pool.out disk → All (IsInside filled.write.rows core.pool.out disk) filled.write.writes
+pub put_inside : (core : Core) (run : PutRun) (filled : Filled) (disk : Disk) → IsPutOf core run
+    → run.filled ≡ Some filled → HasBank core.pool.uber core.pool.out disk
+    → All (IsInside filled.write.rows core.pool.out disk) filled.write.writes
 put_inside core run filled disk of is bank =
     let plan = (of.filled filled is).1.plan in
     plan_inside run.range.layout core.pool.uber.reflow (front_after_stop core.pool.uber.reflow) filled.write.rows
@@ -236,13 +248,13 @@ put_inside core run filled disk of is bank =
     (bank_has core.pool.uber core.pool.uber.reflow core.pool.out disk refl bank) plan.encoded.shape plan.required
 
 -- and go to devices of the pool.
-write_below : (core : Core) (run : PutRun) (filled : Filled) (write : Write) → IsPutOf core run → run.filled ≡ Some filled
-    → Contains filled.write.writes write → write.device < core.pool.uber.reflow.to
+write_below : (core : Core) (run : PutRun) (filled : Filled) (write : Write) → IsPutOf core run
+    → run.filled ≡ Some filled → Contains filled.write.writes write → write.device < core.pool.uber.reflow.to
 write_below core run filled write of is (number, low, there) =
     let plan = (of.filled filled is).1.plan in
     subst (λ (w : Write). w.device < core.pool.uber.reflow.to) there
-    (plan_below run.range.layout core.pool.uber.reflow (front_after_stop core.pool.uber.reflow) filled.write.writes of.pool
-    plan.required number write low)
+    (plan_below run.range.layout core.pool.uber.reflow (front_after_stop core.pool.uber.reflow) filled.write.writes
+    of.pool plan.required number write low)
 
 -- The write that comes next.
 next_write : (writes : List Write) (next : ℕ) → next < length writes
@@ -293,8 +305,8 @@ put_below core run filled out old new of is low step below =
     (write_below core run filled next.0 of is (listed_at filled.write.writes filled.write.next next.0 next.1)) below
 
 -- One write puts out no device but its own, where it failed.
-pub outs_by_write : (before after : Point) (filled : Filled) (write : Write) → IsPassedOrMade filled.write.rows write before after
-    → OnlyFailedGoOut before after
+pub outs_by_write : (before after : Point) (filled : Filled) (write : Write)
+    → IsPassedOrMade filled.write.rows write before after → OnlyFailedGoOut before after
 outs_by_write before after filled write step = ⊎_elim
     (λ (passed : (has_device before.out write.device ≡ true) × (after ≡ before)).
     subst (OnlyFailedGoOut before) (sym passed.1) (outs_none before))
@@ -302,7 +314,8 @@ outs_by_write before after filled write step = ⊎_elim
     outs_called write.device made.result before after made.called made.wrote.failed)
     step
 
-pub put_still : (core : Core) (filled : Filled) (out : ℕ) (old new : Disk) → filled.write.next < length filled.write.writes
+pub put_still : (core : Core) (filled : Filled) (out : ℕ) (old new : Disk)
+    → filled.write.next < length filled.write.writes
     → ((next : Write) → slice_get filled.write.writes filled.write.next ≡ Some next
     → IsPassedOrMade filled.write.rows next (point_of core.pool.out old) (point_of out new))
     → IsWithin core.pool.out out
@@ -326,18 +339,19 @@ touches_by_write before after filled write width below step = ⊎_elim
 pub put_goes_on : (before after : CoreState) (run : PutRun) (result : Turn PutRun) → IsPutOf before.core run
     → WritesTurn before run after result → TurnGoesOn before after
 put_goes_on before after run (More next) of writes =
+    let here = point_of before.core.pool.out before.disk in
+    let there = point_of after.core.pool.out after.disk in
     let uber : after.core.pool.uber ≡ before.core.pool.uber = ap (λ (c : Core). c.pool.uber) writes.rest in
     let listed = listed_at writes.filled.write.writes writes.filled.write.next writes.write writes.write_is in
-    let only = touches_by_write (point_of before.core.pool.out before.disk) (point_of after.core.pool.out after.disk) writes.filled
-    writes.write before.core.pool.uber.reflow.to (write_below before.core run writes.filled writes.write of writes.filled_is listed)
-    writes.made in
+    let width = before.core.pool.uber.reflow.to in
+    let below = write_below before.core run writes.filled writes.write of writes.filled_is listed in
+    let only = touches_by_write here there writes.filled writes.write width below writes.made in
     record {
       parity = ap (λ (u : Uber). u.parity) uber;
       widths = ap (λ (u : Uber). u.reflow) uber;
       births = ap (λ (u : Uber). u.births) uber;
       later = only.later;
-      out = outs_by_write (point_of before.core.pool.out before.disk) (point_of after.core.pool.out after.disk) writes.filled
-          writes.write writes.made;
+      out = outs_by_write here there writes.filled writes.write writes.made;
       only = only;
     }
 put_goes_on before after run (Busy by) of writes = absurd writes
@@ -360,9 +374,11 @@ pub put_bank : (before after : CoreState) (run : PutRun) (result : Turn PutRun) 
 put_bank before after run result of writes bank =
     let goes = put_goes_on before after run result of writes in
     subst (λ (u : Uber). HasBank u after.core.pool.out after.disk) (sym (writes_uber result writes))
-    (bank_later before.core.pool.uber before.disk after.disk before.core.pool.out after.core.pool.out goes.later goes.out.still bank)
+    (bank_later before.core.pool.uber before.disk after.disk before.core.pool.out after.core.pool.out goes.later
+    goes.out.still bank)
   where
-    writes_uber : (result : Turn PutRun) → WritesTurn before run after result → after.core.pool.uber ≡ before.core.pool.uber
+    writes_uber : (result : Turn PutRun) → WritesTurn before run after result
+        → after.core.pool.uber ≡ before.core.pool.uber
     writes_uber (More next) writes = ap (λ (c : Core). c.pool.uber) writes.rest
     writes_uber (Busy by) writes = absurd writes
     writes_uber (Done given) writes = ap (λ (c : Core). c.pool.uber) writes.0.gives_up.rest
@@ -375,29 +391,34 @@ written filled = record filled { write = record filled.write { next = filled.wri
 pub put_more : (before after : CoreState) (run : PutRun) (result : Turn PutRun) → IsPutOf before.core run
     → IsUnderWay before.core.pool.blocks run.range → WritesTurn before run after result → IsMorePut after.core result
 put_more before after run (More next) of under_way writes =
+    let core = record before.core { pool = record before.core.pool { out = after.core.pool.out } } in
     subst (λ (c : Core). IsMorePut c (More next)) (sym writes.rest)
-    (subst (λ (r : PutRun). IsMorePut (record before.core { pool = record before.core.pool { out = after.core.pool.out } }) (More r))
-    (sym writes.next_is) (record {
-      pool = of.pool;
-      reflow_is = of.reflow_is;
-      range = of.range;
-      born = of.born;
-      len = of.len;
-      holds = of.holds;
-      hold_is = of.hold_is;
-      filled = λ filled is.
-          let was = of.filled writes.filled writes.filled_is in
-          let found = numbered writes.filled.write.writes writes.filled.write.next writes.write writes.write_is in
-          subst (λ (f : Filled). (content : List ℕ) × IsFilledWith
-          (record before.core { pool = record before.core.pool { out = after.core.pool.out } })
-          (record run { filled = Some (written writes.filled) }) f content) (same_filled is) (was.0, record {
-            plan = was.1.plan;
-            writes = was.1.writes;
-            so_far = omega (arith, found.0);
-            len_is = was.1.len_is;
-            digest_is = was.1.digest_is;
-          });
-    }, under_way))
+    (subst (λ (r : PutRun). IsMorePut core (More r)) (sym writes.next_is) (
+      record {
+        pool = of.pool;
+        reflow_is = of.reflow_is;
+        range = of.range;
+        born = of.born;
+        len = of.len;
+        holds = of.holds;
+        hold_is = of.hold_is;
+        filled = λ filled is.
+            let was = of.filled writes.filled writes.filled_is in
+            let found = numbered writes.filled.write.writes writes.filled.write.next writes.write writes.write_is in
+            let more = record run { filled = Some (written writes.filled) } in
+            subst (λ (f : Filled). (content : List ℕ) × IsFilledWith core more f content) (same_filled is) (
+              was.0,
+              record {
+                plan = was.1.plan;
+                writes = was.1.writes;
+                so_far = omega (arith, found.0);
+                len_is = was.1.len_is;
+                digest_is = was.1.digest_is;
+              },
+            );
+      },
+      under_way,
+    ))
 put_more before after run (Busy by) of under_way writes = tt
 put_more before after run (Done given) of under_way writes = tt
 
@@ -416,15 +437,16 @@ put_digest core run filled of is =
     subst IsDigest (sym was.1.digest_is) (sha256_is_digest was.0)
 
 -- The block of a put that ends stands in the table.
-pub put_stores : (core : Core) (run : PutRun) (filled : Filled) (entry : IndexEntry) (after : Blocks) (holds : List Hold)
-    → IsPutOf core run → (HasTooManyOut core → ⊥) → run.filled ≡ Some filled → entry ≡ entry_for run filled
-    → EndsHold core.holds holds run.hold
+pub put_stores : (core : Core) (run : PutRun) (filled : Filled) (entry : IndexEntry) (after : Blocks)
+    (holds : List Hold) → IsPutOf core run → (HasTooManyOut core → ⊥) → run.filled ≡ Some filled
+    → entry ≡ entry_for run filled → EndsHold core.holds holds run.hold
     → ChangesOnly core.pool.blocks.table.entries after.table.entries entry.id (Some entry)
     → after.table.reserved ≡ without_one entry.id core.pool.blocks.table.reserved
     → HoldsBack core.pool.blocks.parity core.pool.blocks.births core.pool.blocks.space after.space (core.begun + 1)
     (entry_of core.pool.blocks.table.entries entry.id)
     → after.parity ≡ core.pool.blocks.parity → after.births ≡ core.pool.blocks.births
-    → ((left ranges : List PutRange) → Gains left ranges (range_of core.pool.blocks.parity core.pool.blocks.births entry)
+    → ((left ranges : List PutRange)
+    → Gains left ranges (range_of core.pool.blocks.parity core.pool.blocks.births entry)
     → AreUnderWay core.pool.blocks ranges → AreUnderWay after left)
     → ((past : ℕ) (kept : List IndexEntry) → past < core.begun + 1 → NoneFree core.pool.blocks past kept
     → NoneFree after past kept)
@@ -439,10 +461,11 @@ put_stores core run filled entry after holds of few is entry_is ends change rese
       ends = ends;
       parity = parity;
       births = births;
-      change = subst (λ (e : IndexEntry). ChangesOnly core.pool.blocks.table.entries after.table.entries e.id (Some e)) entry_is change;
+      change = subst (λ (e : IndexEntry). ChangesOnly core.pool.blocks.table.entries after.table.entries e.id (Some e))
+          entry_is change;
       reserved = reserved ∙ ap (λ (n : ℕ). without_one n core.pool.blocks.table.reserved) id;
-      held = subst (λ (n : ℕ). HoldsBack core.pool.blocks.parity core.pool.blocks.births core.pool.blocks.space after.space
-          (core.begun + 1) (entry_of core.pool.blocks.table.entries n)) id held;
+      held = subst (λ (n : ℕ). HoldsBack core.pool.blocks.parity core.pool.blocks.births core.pool.blocks.space
+          after.space (core.begun + 1) (entry_of core.pool.blocks.table.entries n)) id held;
       under = λ left ranges gains all. under left ranges
           (subst (λ (r : PutRange). Gains left ranges r)
           (sym (entry_range core.pool.blocks run.range entry run.len run.range.birth of.range id
@@ -458,11 +481,38 @@ pub put_end_core : (core : Core) (run : PutRun) (entry : IndexEntry) (after : Bl
     → HoldsBack core.pool.blocks.parity core.pool.blocks.births core.pool.blocks.space after.space (core.begun + 1) gone
     → after.parity ≡ core.pool.blocks.parity → after.births ≡ core.pool.blocks.births → AreInStep after
     → IsCore (record core { pool = record core.pool { blocks = after }; holds = holds })
-put_end_core core run entry after holds gone is of birth change held parity births step = core_blocks core after holds is parity births
-    (adds_held_back core.pool.blocks.parity core.pool.blocks.births core.pool.blocks.space after.space (core.begun + 1) gone held).capacity
+put_end_core core run entry after holds gone is of birth change held parity births step =
+    let adds = adds_held_back core.pool.blocks.parity core.pool.blocks.births core.pool.blocks.space after.space
+    (core.begun + 1) gone held in
+    core_blocks core after holds is parity births adds.capacity
     (λ other listed. ⊎_elim
-    (λ same. let born = of.born.1 in let other_birth : other.birth ≡ entry.birth = ap (λ (e : IndexEntry). e.birth) same in
-    omega (arith, born, birth, other_birth))
+    (λ same. let born = of.born.1 in
+    let same_birth : other.birth ≡ entry.birth = ap (λ (e : IndexEntry). e.birth) same in
+    omega (arith, born, birth, same_birth))
     (λ old. is.is.born other old.0)
     (put_cases core.pool.blocks.table.entries after.table.entries entry other change listed))
     step
+
+-- ---- what turns leave of the others
+
+-- The block's bytes can be filled in: it is in the pool,
+pub put_in_pool : (core : Core) (run : PutRun) → IsPutOf core run → IsInPool run.range.layout run.reflow
+put_in_pool core run of = subst (IsInPool run.range.layout) (sym of.reflow_is) of.pool
+
+-- and has as many sectors as they fill.
+pub put_sectors : (core : Core) (run : PutRun) → IsPutOf core run → sectors_for run.len ≡ run.range.layout.sectors
+put_sectors core run of = sym (ap (λ (l : Layout). l.sectors) of.range.layout_is)
+
+-- A read stays one of its pool over the turns of a put: over the first,
+pub begins_gets : (old new : Core) (actor id len : ℕ) (put : PutRun) (run : GetRun)
+    → BeginsPutSo old new actor id len put → IsGetOf old run → IsGetOf new run
+begins_gets old new actor id len put run begins of = get_of old new run (ap (λ (c : Core). c.pool.uber) begins.rest)
+    (subst (λ (c : Core). Contains c.holds run.hold) (sym begins.rest)
+    (Contains-append_left old.holds (put.hold ∷ []) run.hold of.holds)) of
+
+-- and over one that writes.
+pub writes_gets : (before after : CoreState) (put next : PutRun) (run : GetRun) → WritesOne before put after next
+    → IsGetOf before.core run → IsGetOf after.core run
+writes_gets before after put next run writes of =
+    get_of before.core after.core run (ap (λ (c : Core). c.pool.uber) writes.rest)
+    (subst (λ (c : Core). Contains c.holds run.hold) (sym writes.rest) of.holds) of

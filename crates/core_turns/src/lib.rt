@@ -12,6 +12,8 @@ mod committing;
 mod freeing;
 mod getting;
 mod open_core;
+#[cfg(test)]
+mod put_tests;
 mod putting;
 #[cfg(test)]
 mod tests;

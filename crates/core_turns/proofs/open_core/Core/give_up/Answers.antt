@@ -8,7 +8,8 @@ pub returns : goal.returns
 returns c =
     let at = c.self.inside in
     subst (λ (old : Core). GivesUp old
-    (core_with at.uber c.give_up.new.self at.out c.end.new.self at.begun at.committing) c.args.run) c.self.view_is (record {
+    (core_with at.uber c.give_up.new.self at.out c.end.new.self at.begun at.committing) c.args.run) c.self.view_is
+    (record {
       rest = refl;
       ends = c.end.ensures.ends;
       parity = c.give_up.ensures.parity;

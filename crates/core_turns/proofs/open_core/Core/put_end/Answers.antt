@@ -17,11 +17,13 @@ pub end_put-requires-clause-under_way : goal.end_put-requires-clause-under_way
 end_put-requires-clause-under_way c =
     let of = subst (λ (core : Core). IsPutOf core c.args.run) (sym c.self.view_is) c.requires.of in
     c.into_entry.ensures.under_way c.self.inside.blocks
-    (subst (λ (core : Core). IsUnderWay core.pool.blocks c.args.run.range) (sym c.self.view_is) c.requires.under_way) of.range
+    (subst (λ (core : Core). IsUnderWay core.pool.blocks c.args.run.range) (sym c.self.view_is) c.requires.under_way)
+    of.range
 
 pub invariant_of-self : goal.invariant_of-self
 invariant_of-self c = put_end_core
-    (core_with c.self.inside.uber c.self.inside.blocks c.self.inside.out c.self.inside.locks c.self.inside.begun c.self.inside.committing)
+    (core_with c.self.inside.uber c.self.inside.blocks c.self.inside.out c.self.inside.locks c.self.inside.begun
+    c.self.inside.committing)
     c.args.run c.into_entry.result c.end_put.new.self c.end.new.self c.end_put.result c.self.invariant
     (subst (λ (core : Core). IsPutOf core c.args.run) (sym c.self.view_is) c.requires.of)
     (ap (λ (e : IndexEntry). e.birth) c.into_entry.ensures.value)
@@ -30,8 +32,8 @@ invariant_of-self c = put_end_core
 
 pub returns : goal.returns
 returns c =
-    let core = core_with c.self.inside.uber c.self.inside.blocks c.self.inside.out c.self.inside.locks c.self.inside.begun
-    c.self.inside.committing in
+    let core = core_with c.self.inside.uber c.self.inside.blocks c.self.inside.out c.self.inside.locks
+    c.self.inside.begun c.self.inside.committing in
     let few : HasTooManyOut core → ⊥ = subst (λ (core : Core). HasTooManyOut core → ⊥) (sym c.self.view_is)
     (λ many. true≢false (sym (c.has_too_many_out.ensures.1 many) ∙ c.if-has_too_many_out.false)) in
     record {

@@ -2,7 +2,8 @@ use Rattle.core_turns.proofs.PutTurns.{put_bank, put_goes_on, put_more}
 use Rattle.core_turns.proofs.open_core.Core.put_write.Goals as goal
 
 pub returns-clause-of : goal.returns-clause-of
-returns-clause-of g c = put_more _ _ c.args.run c.write_put.result c.requires.of c.requires.under_way c.write_put.ensures
+returns-clause-of g c = put_more _ _ c.args.run c.write_put.result c.requires.of c.requires.under_way
+    c.write_put.ensures
 
 pub returns-clause-goes_on : goal.returns-clause-goes_on
 returns-clause-goes_on g c = put_goes_on _ _ c.args.run c.write_put.result c.requires.of c.write_put.ensures

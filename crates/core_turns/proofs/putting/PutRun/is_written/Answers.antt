@@ -7,4 +7,5 @@ use Rattle.core_turns.proofs.putting.PutRun.is_written.Goals as goal
 pub returns-in-Some-clause-left : goal.returns-in-Some-clause-left
 returns-in-Some-clause-left c = λ core filled of is unwritten. put_left core c.args.self.now filled of is
     (λ all. true≢false (sym (c.is_done.ensures.1
-    (subst (λ (f : Filled). f.write.next ≡ length f.write.writes) (same_filled (sym is ∙ c.in-Some.is)) all)) ∙ unwritten))
+    (subst (λ (f : Filled). f.write.next ≡ length f.write.writes) (same_filled (sym is ∙ c.in-Some.is)) all))
+    ∙ unwritten))
