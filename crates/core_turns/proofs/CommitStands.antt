@@ -52,7 +52,7 @@ put_listed : (calls : List Call) (run : PutRun) (content : List ℕ) → Contain
 put_listed [] run content has = absurd (contains_none (Putting run content) has)
 put_listed (call ∷ calls) run content has = ⊎_elim
     (λ same. subst (λ (c : Call). Contains (ranges_of (c ∷ calls)) run.range) same
-        (contains_head run.range (ranges_of calls)))
+    (contains_head run.range (ranges_of calls)))
     (λ later. more call (put_listed calls run content later))
     (contains_cases call calls (Putting run content) has)
   where
@@ -364,7 +364,7 @@ commit_is_cut setting last begun map calls state run many stands = record {
   groups = record {
     knows = subst (λ (l : List Kept). Knows setting last l state.disk) (sym stands.groups.begun_is)
         (committing_cut setting last stands.groups.next run (point_of state.core.pool.out state.disk)
-            stands.groups.come);
+        stands.groups.come);
     whole = λ few. absurd (omega (arith, many, few));
   };
   alike = stands.alike;
@@ -394,6 +394,6 @@ commit_gets before after run (Done given) read of steps get = by given steps
         let core = answered before.core run answers.ended after.core.pool.out before.disk after.disk of answers.ends in
         subst (λ (c : Core). IsGetOf c read) (sym answers.rest) (get_of_stays before.core core read
         (answered_widths before.core run answers.ended after.core.pool.out before.disk after.disk of answers.ends)
-            get.holds get)
+        get.holds get)
     by (answer.TooManyFailed out) many = subst (λ (state : CoreState). IsGetOf state.core read) (sym many.2) get
     by other none = absurd none

@@ -122,12 +122,12 @@ pub step_uber : (core : Core) (run stepped : CommitRun) → IsCommitOf core run
     }
 step_uber core run stepped of same = same ∙ ap (λ (u : Uber). record u { out = stepped.uber.out }) of.uber_is
     ∙ (λ i. record core.pool.uber {
-  group = (ap (λ (u : Uber). u.group) (sym same)) i;
-  area = (ap (λ (u : Uber). u.area) (sym same)) i;
-  count = (ap (λ (u : Uber). u.count) (sym same)) i;
-  digest = (ap (λ (u : Uber). u.digest) (sym same)) i;
-  out = stepped.uber.out;
-})
+      group = (ap (λ (u : Uber). u.group) (sym same)) i;
+      area = (ap (λ (u : Uber). u.area) (sym same)) i;
+      count = (ap (λ (u : Uber). u.count) (sym same)) i;
+      digest = (ap (λ (u : Uber). u.digest) (sym same)) i;
+      out = stepped.uber.out;
+    })
 
 -- The devices that are out stay those of the pool over a call.
 pub step_core : (core : Core) (run stepped : CommitRun) (old new : Disk) (out : ℕ) (result : CommitStep) → IsCore core
@@ -213,7 +213,7 @@ pub step_touches : (core : Core) (run stepped : CommitRun) (out : ℕ) (old new 
 step_touches core run stepped out old new Called lawful of did =
     let widths : did.ready.uber.reflow ≡ core.pool.uber.reflow =
     ap (λ (u : Uber). u.reflow) (ready_keeps core.pool.out run did.ready did.is_ready).uber
-        ∙ ap (λ (u : Uber). u.reflow) of.uber_is in
+    ∙ ap (λ (u : Uber). u.reflow) of.uber_is in
     subst (λ (r : Reflow). TouchesOnly (IsOnInUse r.to core.pool.out) old new) widths
     (touched_more did.ready.uber did.ready.entries did.call (point_of core.pool.out old) (point_of core.pool.out old)
     (point_of out new) lawful did.inside (touched_none did.ready.uber (point_of core.pool.out old)) did.made).only

@@ -25,7 +25,7 @@ get_read-requires-clause-of g c = commit_gets _ _ c.more-commit.result c.commit_
     (begun_of _ _ _ c.commit_begin.result c.more-commit.result c.commit_begin.ensures.begins c.more-commit.ensures))
     c.commit_step.ensures.steps
     (get_of_begun c.commit_begin.new.self c.get_begin.new.self 1 1 kind.Get c.get_begin.result c.more-run.result
-        c.get_begin.ensures.begins c.more-run.ensures)
+    c.get_begin.ensures.begins c.more-run.ensures)
 
 pub end_commit-answered-requires-clause-of : goal.end_commit-answered-requires-clause-of
 end_commit-answered-requires-clause-of g c = frees_beside _ _ _ c.free-freed.result c.more-commit-2.result

@@ -27,5 +27,5 @@ new-requires-clause-right c =
     (let low = c.if-self.false in omega (arith, low))
     (subst (λ (l : List IndexEntry). length l ≤ 512) (sym c.entries-entries.ensures.value)
     (few_entries c.self.inside.blocks.table.entries c.self.inside.blocks.table.reserved
-        c.entries-entries.ensures.table))
+    c.entries-entries.ensures.table))
     c.in-Ok.ensures
