@@ -1,0 +1,123 @@
+-- Where a run begins, and where it ends with all calls answered.
+use Rattle.std.proofs.Common.{◌≡◌, ◌≢◌, ⊎_elim, ℕ, ◌+◌, ◌<◌, ◌≤◌, List, [], ◌∷◌, length, Some, zero, suc, sym, ◌∙◌, ap, subst, arith, ne_eqb, slice_index_or}
+use Rattle.std.specs.Prelude.{All, Err, Ok, OnOk, Result, filter, slice_get, ◌==◌}
+use Rattle.std.proofs.lemmas.Bool.{cases_eq}
+use Rattle.std.proofs.lemmas.List.{length-map, take_all}
+use Rattle.std.proofs.lemmas.Option.{slice_get-get_or}
+use Rattle.bank_trait.specs.Disk.{Disk}
+use Rattle.core_blocks.proofs.Lists.{none_listed}
+use Rattle.core_state.specs.declared.item.Entry.{Entry}
+use Rattle.core_state.specs.declared.item.Item.{Item}
+use Rattle.core_state.specs.Legal.{CallAt}
+use Rattle.core_state.specs.Journal.{Asked, IsComplete}
+use Rattle.client_script.specs.declared.call.ScriptCall.{ScriptCall}
+use Rattle.client_script.specs.Script.{Placed, Script, asked_by, calls_of}
+use Rattle.core_serial.specs.Pool.{HasBank}
+use Rattle.core_turns.specs.Core.{Core, at_disk}
+use Rattle.schedule.specs.declared.client.Client.{Client}
+use Rattle.schedule.specs.declared.client.UnderWay.{UnderWay}
+use Rattle.schedule.specs.Clients.{AreAnswered, answered_of}
+use Rattle.schedule.specs.Coming.{IsSchedule, turns_of}
+use Rattle.schedule.specs.Replaying.{AreIdle, HaveBegun, IsAtRest, OnlyShared, blank_client, blank_clients}
+use Rattle.schedule.specs.Running.{IsGoing}
+use Rattle.schedule.proofs.Theirs.{none_some, some_is}
+
+-- Each blank client is.
+blank_at : (count index : ℕ) (client : Client) → slice_get (blank_clients count) index ≡ Some client
+    → client ≡ blank_client
+blank_at zero index client is = absurd (none_some is)
+blank_at (suc count) zero client is = sym (some_is is)
+blank_at (suc count) (suc index) client is = blank_at count index client is
+
+none_going : (count index : ℕ) (client : Client) (under : UnderWay) → IsGoing (blank_clients count) index client under
+    → ⊥
+none_going count index client under going =
+    none_some (ap (λ (c : Client). c.under_way) (sym (blank_at count index client going.there)) ∙ going.under_way)
+
+-- A core at rest, clients that have begun no call, and a journal that answers none are a schedule.
+pub schedule_at_rest : (script : Script) (core : Core) (disk : Disk) (items : List Item) (count : ℕ) → IsAtRest core
+    → HasBank core.pool.uber core.pool.out disk
+    → ((index : ℕ) (entry : Entry) → CallAt items index entry → ⊥)
+    → IsSchedule script (turns_of (at_disk core disk) items (blank_clients count))
+schedule_at_rest script core disk items count rest bank none = record {
+  going = record {
+    calls = [];
+    are = record {
+      each = λ call listed. absurd (none_listed call listed);
+      under = rest.blocks;
+      beside = λ i j d before within. absurd (omega (arith, within));
+    };
+    theirs = record {
+      of = λ call listed. absurd (none_listed call listed);
+      every = λ index client under going no_sync. absurd (none_going count index client under going);
+    };
+    asked = λ index client under going. absurd (none_going count index client under going);
+    syncs = λ index client under run going is. absurd (none_going count index client under going);
+    one = λ actor is. absurd (none_some (sym rest.committing ∙ is));
+  };
+  answered = record {
+    right = record {
+      each = λ index entry there. absurd (none index entry there);
+      order = λ index later one other before first second. absurd (none index one first);
+    };
+    few = λ caller client there.
+        let blank = ap (λ (c : Client). c.begun) (blank_at count caller client there) in omega (arith, blank);
+    some = λ caller client under there going.
+        absurd (none_going count caller client under (record { there = there; under_way = going }));
+    each = λ index entry there. absurd (none index entry there);
+    every = λ caller number client there low. absurd (none_begun caller number client there low);
+  };
+  bank = bank;
+}
+  where
+    none_begun : (caller number : ℕ) (client : Client) → slice_get (blank_clients count) caller ≡ Some client
+        → number < answered_of client.begun client.under_way → ⊥
+    none_begun caller number client there low =
+        let blank = blank_at count caller client there in
+        let few = subst (λ (c : Client). number < answered_of c.begun c.under_way) blank low in
+        omega (arith, few)
+
+pub shared_at_rest : (core : Core) → IsAtRest core → OnlyShared core.holds
+shared_at_rest core rest = subst OnlyShared (sym rest.holds)
+    (record { each = λ hold listed. absurd (none_listed hold listed) })
+
+-- A client that has calls is one of the script's.
+callers_few : (calls : List Placed) (caller clients : ℕ) → All (λ placed. placed.actor < clients) calls
+    → 1 ≤ length (filter (λ placed. placed.actor == caller) calls) → caller < clients
+callers_few [] caller clients all some = absurd (omega (arith, some))
+callers_few (first ∷ calls) caller clients all some = ⊎_elim
+    (λ (same : first.actor ≡ caller). let low = all 0 first (omega arith) in omega (arith, low, same))
+    (λ (apart : first.actor ≢ caller).
+    callers_few calls caller clients (λ k d within. all (suc k) d (omega (arith, within)))
+    (rw (ne_eqb first.actor caller apart) at some))
+    (cases_eq first.actor caller)
+
+-- Where each client has begun all its calls, and none is under way, no answer is missing.
+pub complete_at_rest : (script : Script) (items : List Item) (clients : List Client)
+    → All (λ placed. placed.actor < script.clients) script.calls → length clients ≡ script.clients
+    → AreAnswered script clients items → HaveBegun script (length script.calls) clients → AreIdle clients
+    → IsComplete (asked_by script) items
+complete_at_rest script items clients actors counted answered begun idle = record { each = each }
+  where
+    each : (caller number : ℕ) → number < length (asked_by script caller)
+        → (index : ℕ) × (entry : Entry) × CallAt items index entry × (entry.caller ≡ caller)
+        × (entry.call ≡ number + 1)
+    each caller number low =
+        let its = filter (λ (placed : Placed). placed.actor == caller) script.calls in
+        let asked = length-map {B = Asked} (calls_of script caller) (λ (call : ScriptCall). record { kind = call.kind; id = call.id }) in
+        let of = length-map its (λ (placed : Placed). placed.call) in
+        let few = callers_few script.calls caller script.clients actors (omega (arith, low, asked, of)) in
+        let last : Client = blank_client in
+        let there = slice_get-get_or clients caller last (omega (arith, few, counted)) in
+        let client = slice_index_or clients caller last in
+        let enough = begun.each caller client there in
+        let all = ap (λ (calls : List Placed). length (filter (λ (placed : Placed). placed.actor == caller) calls))
+        (take_all (length script.calls) script.calls (omega arith)) in
+        let count = ap (answered_of client.begun) (idle.each caller client there) in
+        answered.every caller number client there (omega (arith, low, asked, of, enough, all, count))
+
+-- What follows from two facts of an answer follows where it is `Ok`.
+pub ok_both : {V E : Type 0} (A B C : Type 0) (result : Result V E) → OnOk result A → OnOk result B → (A → B → C)
+    → OnOk result C
+ok_both A B C (Ok value) one other both = both one other
+ok_both A B C (Err error) one other both = tt

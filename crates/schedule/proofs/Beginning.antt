@@ -1,0 +1,94 @@
+-- A journal as an opening leaves it: its group alone.
+use Rattle.std.proofs.Common.{◌≡◌, inl, inr, ℕ, List, [], ◌∷◌, ◌++◌, refl, sym, ◌∙◌, ap, subst, arith}
+use Rattle.std.proofs.lemmas.List.{append-nil}
+use Rattle.bank_trait.specs.Disk.{Disk, Later}
+use Rattle.uberblock_ring.specs.Uberblock.{Uber}
+use Rattle.core_state.specs.declared.item.Entry.{Entry}
+use Rattle.core_state.specs.declared.item.Group.{Group as GroupItem}
+use Rattle.core_state.specs.declared.item.Item.TheVariants.{Group, Call}
+use Rattle.core_state.specs.Map.{Handed}
+use Rattle.core_state.specs.Legal.{CallAt}
+use Rattle.core_state.specs.Keeps.{Kept, Setting}
+use Rattle.core_state.specs.Moment.{IsGroupOf, KeepsSince}
+use Rattle.core_state.proofs.Listed.{contains_none}
+use Rattle.core_open.specs.Opens.{MayOpen}
+use Rattle.core_serial.specs.Opening.{Begins}
+use Rattle.core_serial.specs.Pool.{Pool}
+use Rattle.serial_run.specs.Widths.{HaveWidthOf}
+use Rattle.serial_run.specs.WholeRun.{first_item}
+use Rattle.serial_run.proofs.Grown.{new_or_before}
+use Rattle.serial_run.proofs.GrownAnswers.{answers_alone}
+use Rattle.serial_run.proofs.GrownGroups.{group_alone, latest_alone}
+use Rattle.serial_run.proofs.GrownRun.{groups_one}
+use Rattle.serial_run.proofs.Widths.{widths_opened}
+use Rattle.schedule.specs.Recorded.{Recorded}
+use Rattle.schedule.proofs.Moments.{AreLatest, turns_first}
+
+-- A journal of a group alone has no entries.
+pub no_call : (group : GroupItem) (index : ℕ) (entry : Entry) → CallAt (Group group ∷ []) index entry → ⊥
+no_call group index entry there = elim (new_or_before [] (Group group) index (Call entry) there) [
+  | inl last ↦ apart last.1
+  | inr earlier ↦ omega (arith, earlier.0)
+]
+  where
+    apart : Group group ≡ Call entry → ⊥
+    apart is = cc
+
+module _ {setting : Setting} {first : Kept} {later : List Kept} {pool : Pool} {old mid : Disk} (handed : Handed)
+    (may : MayOpen setting first later old) (begins : Begins setting first later pool old mid) where
+  abbrev item : GroupItem
+  item = first_item pool
+
+  abbrev next : Kept
+  next = begins.opened.next
+
+  next_is : IsGroupOf handed begins.opened.chosen.map (Group item ∷ []) item next
+  next_is = record {
+    number = ap (λ (u : Uber). u.group) (sym begins.opened.alike);
+    widths = (
+      ap (λ (u : Uber). u.reflow.from) (sym begins.opened.alike),
+      ap (λ (u : Uber). u.reflow.to) (sym begins.opened.alike),
+    );
+    map = begins.opened.renews.map;
+  }
+
+  next_latest : AreLatest handed begins.opened.chosen.map (Group item ∷ []) item next []
+  next_latest = record {
+    latest = latest_alone item;
+    last_is = next_is;
+    one = omega arith;
+    begun_is = λ kept has. absurd (contains_none kept has);
+  }
+
+  row : (known answered begun : List Kept) → answered ≡ next ∷ [] → begun ≡ []
+      → known ++ next ∷ [] ≡ known ++ answered ++ begun
+  row known answered begun answered_are none =
+      sym (append-nil (known ++ next ∷ [])) ∙ (λ i. known ++ sym answered_are i ++ sym none i)
+
+  -- The groups known before, and that of the opening, which holds the map of the group that it renews.
+  pub recorded_first : Later old mid
+      → Recorded
+      (record { setting = setting; known = first ∷ later; opening = begins.opened.chosen.map; handed = handed })
+      old (Group (first_item pool) ∷ []) begins.opened.next [] pool.uber mid
+  recorded_first opened_later =
+      let one = groups_one handed begins.opened.chosen.map (first ∷ later) item next next_is in
+      let groups_are = row (first ∷ later) one.0.answered one.0.begun one.1 one.2 in
+      let since = subst (λ (l : List Kept). KeepsSince setting l old.clock mid) groups_are begins.opened.since in
+      let by = turns_first opened_later (record { groups = one.0; since = since }) next_latest begins.opened.knows in
+      record {
+        groups = one.0;
+        earlier = [];
+        answered_are = one.1;
+        begun_are = one.2;
+        item = item;
+        latest = latest_alone item;
+        item_is = next_is;
+        in_order = group_alone item refl;
+        right = answers_alone handed begins.opened.chosen.map item;
+        sound = λ index entry there. absurd (no_call item index entry there);
+        counted = record { each = λ index reached entry there limit. absurd (no_call item index entry there) };
+        since = since;
+        widths = subst (λ (l : List Kept). HaveWidthOf pool.uber l) groups_are (widths_opened may begins.opened);
+        no_older = by.0;
+        kept_on = by.1;
+      }

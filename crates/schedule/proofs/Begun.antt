@@ -1,0 +1,70 @@
+-- A commit that is under way stays begun where it was, as the journal goes on.
+use Rattle.std.proofs.Common.{◌≡◌, ⊎_elim, ℕ, ◌+◌, ◌<◌, ◌≤◌, List, [], ◌∷◌, ◌++◌, length, Some, sym, ◌∙◌, ap, subst, arith, length-append}
+use Rattle.std.proofs.lemmas.Bool.{cases_lt}
+use Rattle.bank_trait.specs.Disk.{Disk}
+use Rattle.uberblock_ring.specs.Uberblock.{Uber}
+use Rattle.core_state.specs.declared.item.Entry.{Entry}
+use Rattle.core_state.specs.declared.item.Group.{Group as GroupItem}
+use Rattle.core_state.specs.declared.item.Item.{Item}
+use Rattle.core_state.specs.declared.item.Item.TheVariants.{Group, Call}
+use Rattle.core_state.specs.Map.{Map, SameMap, map_of}
+use Rattle.core_state.specs.Legal.{GroupAt, IsGroupBefore}
+use Rattle.core_state.specs.Keeps.{Kept}
+use Rattle.core_state.specs.CoreState.{World}
+use Rattle.serial_run.proofs.Grown.{map_before, map_at_end}
+use Rattle.serial_run.proofs.GrownGroups.{latest_grown_call}
+use Rattle.schedule.specs.Recorded.{Recorded, IsBegunAt}
+use Rattle.schedule.proofs.Recording.{after_few}
+
+-- The last group before an index is one alone.
+pub one_latest : {items : List Item} {index : ℕ} {one other : GroupItem} → IsGroupBefore items index one
+    → IsGroupBefore items index other
+    → one ≡ other
+one_latest {items = items} {one = one} {other = other} first second = ⊎_elim
+    (λ (less : first.place < second.place). absurd (first.latest second.place other less second.before second.there))
+    (λ (not_less : second.place ≤ first.place). ⊎_elim
+    (λ (more : second.place < first.place). absurd (second.latest first.place one more first.before first.there))
+    (λ (not_more : first.place ≤ second.place).
+    let at : first.place ≡ second.place = omega (arith, not_less, not_more) in
+    same (sym (subst (λ (k : ℕ). GroupAt items k one) at first.there) ∙ second.there))
+    (cases_lt second.place first.place)) (cases_lt first.place second.place)
+  where
+    same : Some (Group one) ≡ Some (Group other) → one ≡ other
+    same is = cc
+
+module _ {world : World} {origin : Disk} {items : List Item} {last next : Kept} {begun : List Kept} {uber : Uber}
+    {now : Disk} {point : ℕ} (before : Recorded world origin items last begun uber now)
+    (is : IsBegunAt world items before.item point next) where
+  -- While the journal is the same,
+  pub begun_same : {newer : Kept} {left : List Kept} {other : Uber} {later : Disk}
+      → (after : Recorded world origin items newer left other later)
+      → IsBegunAt world items after.item point next
+  begun_same after = subst (λ (item : GroupItem). IsBegunAt world items item point next)
+      (one_latest before.latest after.latest) is
+
+  -- and when a call is answered.
+  pub begun_answers : {newer : Kept} {left : List Kept} {other : Uber} {later : Disk} (entry : Entry)
+      → (after : Recorded world origin (items ++ Call entry ∷ []) newer left other later)
+      → IsBegunAt world (items ++ Call entry ∷ []) after.item point next
+  begun_answers entry after =
+      subst (λ (item : GroupItem). IsBegunAt world (items ++ Call entry ∷ []) item point next)
+      (one_latest (latest_grown_call items entry before.item before.latest) after.latest) (record {
+        number = is.number;
+        listed = (is.listed.0, (let few = is.listed.1 in omega (arith, few, length-append items (Call entry ∷ []))));
+        map = λ id. is.map id ∙ ap (λ (map : Map). map id)
+            (sym (map_before world.handed world.opening items (Call entry ∷ []) point is.listed.1));
+        widths = is.widths;
+      })
+
+-- A commit begins now: the group after the last one, with its widths and the map of all items.
+pub begun_now : {world : World} {origin : Disk} {items : List Item} {last next : Kept} {begun : List Kept} {uber : Uber}
+    {now : Disk} (so_far : Recorded world origin items last begun uber now) → next.uber.group ≡ last.uber.group + 1
+    → (next.uber.reflow.from ≡ last.uber.reflow.from) × (next.uber.reflow.to ≡ last.uber.reflow.to)
+    → SameMap next.map (map_of world.handed world.opening items)
+    → IsBegunAt world items so_far.item (length items) next
+begun_now {world = world} {items = items} so_far number widths same = record {
+  number = number ∙ ap (λ (n : ℕ). n + 1) so_far.item_is.number;
+  listed = (after_few so_far, omega arith);
+  map = λ id. same id ∙ ap (λ (map : Map). map id) (sym (map_at_end world.handed world.opening items));
+  widths = (widths.0 ∙ so_far.item_is.widths.0, widths.1 ∙ so_far.item_is.widths.1);
+}

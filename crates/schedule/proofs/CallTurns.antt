@@ -1,0 +1,188 @@
+-- The turns of calls.
+use Rattle.std.proofs.Common.{◌≡◌, ◌⊎◌, inl, inr, ⊎_elim, ℕ, zero, suc, ◌+◌, length, Option, Some, None, Result, Ok, Err, refl, sym, ap, subst, arith}
+use Rattle.std.specs.Prelude.{OnOk, OnErr}
+use Rattle.bank_trait.specs.Disk.{Disk, Unchanged}
+use Rattle.row_layout.specs.Layout.{rows_of}
+use Rattle.uberblock_ring.specs.Uberblock.{Uber}
+use Rattle.core_state.specs.declared.answer.Answer.{Answer}
+use Rattle.core_state.specs.declared.answer.Answer.TheVariants as answer
+use Rattle.core_state.specs.declared.answer.Kind.{Kind}
+use Rattle.core_state.specs.declared.answer.Kind.TheVariants as kind
+use Rattle.core_client.specs.Outs.{point_of, OnlyFailedGoOut}
+use Rattle.core_commit.specs.Spared.{IsOnInUse}
+use Rattle.core_open.proofs.Others.{read_touches}
+use Rattle.client_script.specs.declared.call.ScriptCall.{ScriptCall}
+use Rattle.client_script.specs.Lines.{fill_bytes, pattern_from}
+use Rattle.core_turns.specs.declared.getting.GetRun.{GetRun}
+use Rattle.core_turns.specs.declared.getting.OutOfMemory.{OutOfMemory}
+use Rattle.core_turns.specs.declared.putting.PutRun.{PutRun}
+use Rattle.core_turns.specs.declared.turn.Turn.{Turn}
+use Rattle.core_turns.specs.declared.turn.Turn.TheVariants.{More, Busy, Done}
+use Rattle.core_turns.specs.Core.{Core, CoreState, at_disk}
+use Rattle.core_turns.specs.Getting.{IsRead, BeginsGet, ReadsTurn, SolvesGet, EndsGet}
+use Rattle.core_turns.specs.Putting.{IsPutOf, FillsPut, EndsPut, GivesUpTurn}
+use Rattle.core_turns.specs.UnderWay.{TurnGoesOn}
+use Rattle.core_turns.proofs.Commits.{turn_nowhere}
+use Rattle.core_turns.proofs.GetTurns.{reads_uber}
+use Rattle.core_turns.proofs.PutTurns.{fills_of}
+use Rattle.schedule.specs.declared.client.Work.{Work}
+use Rattle.schedule.specs.Turned.{AnswersAtOnce, Waits, Begins, BeginsCall, IsFilledIn, PutGoesOn, ReadGoesOn, read_turn}
+
+-- ---- first turns
+
+-- A pattern has as many bytes as it says.
+pub pattern_length : (seed from len : ℕ) → length (pattern_from seed from len) ≡ len
+pattern_length seed from zero = refl
+pattern_length seed from (suc len) = omega (arith, pattern_length seed (from + 1) len)
+
+-- what a call comes to that was of this kind and id
+abbrev BeginsAs : Core → Core → ℕ → ScriptCall → Kind → Option ℕ → Turn Work → Type 0
+BeginsAs old new actor call asked id (More does) = Begins old new actor call asked id does
+BeginsAs old new actor call asked id (Busy by) = Waits old new actor call asked id by
+BeginsAs old new actor call asked id (Done given) = AnswersAtOnce old new actor call asked id given
+
+read_begun : (old new : Core) (actor id : ℕ) (call : ScriptCall) (asked : Kind) (turn : Turn GetRun) → IsRead asked
+    → BeginsGet old new actor asked id turn → BeginsAs old new actor call asked (Some id) (read_turn turn)
+read_begun old new actor id call kind.Get (More run) is begins = begins
+read_begun old new actor id call kind.Get (Busy by) is begins = begins
+read_begun old new actor id call kind.Get (Done given) is begins = begins
+read_begun old new actor id call kind.Sum (More run) is begins = begins
+read_begun old new actor id call kind.Sum (Busy by) is begins = begins
+read_begun old new actor id call kind.Sum (Done given) is begins = begins
+read_begun old new actor id call other turn is begins = absurd is
+
+begins_as : (old new : Core) (actor : ℕ) (call : ScriptCall) (turn : Turn Work)
+    → BeginsAs old new actor call call.kind call.id turn → BeginsCall old new actor call turn
+begins_as old new actor call (More does) begins = begins
+begins_as old new actor call (Busy by) begins = begins
+begins_as old new actor call (Done given) begins = begins
+
+-- The first turn of a read is that of its call.
+pub read_begins : (old new : Core) (actor id : ℕ) (call : ScriptCall) (turn : Turn GetRun) (result : Turn Work)
+    → IsRead call.kind → call.id ≡ Some id → result ≡ read_turn turn → BeginsGet old new actor call.kind id turn
+    → BeginsCall old new actor call result
+read_begins old new actor id call turn result is id_is same begins =
+    subst (BeginsCall old new actor call) (sym same) (begins_as old new actor call (read_turn turn)
+    (subst (λ (i : Option ℕ). BeginsAs old new actor call call.kind i (read_turn turn)) (sym id_is)
+    (read_begun old new actor id call call.kind turn is begins)))
+
+-- ---- turns without a device call
+
+-- The uberblock and the devices that are out stay as they are.
+record KeepsUber (old new : Core) : Type 0 where
+  uber : new.pool.uber ≡ old.pool.uber
+  out : new.pool.out ≡ old.pool.out
+
+-- A turn that leaves these goes on: the bank is as it was.
+goes_without : (old new : Core) (disk : Disk) → KeepsUber old new → TurnGoesOn (at_disk old disk) (at_disk new disk)
+goes_without old new disk keeps =
+    let here = turn_nowhere (at_disk old disk) in record {
+      parity = ap (λ (u : Uber). u.parity) keeps.uber;
+      widths = ap (λ (u : Uber). u.reflow) keeps.uber;
+      births = ap (λ (u : Uber). u.births) keeps.uber;
+      later = here.later;
+      out = subst (λ (out : ℕ). OnlyFailedGoOut (point_of old.pool.out disk) (point_of out disk)) (sym keeps.out) here.out;
+      only = here.only;
+    }
+
+ends_keeps : (old new : Core) (run : PutRun) (given : Answer) → EndsPut old run new (Done given) → KeepsUber old new
+ends_keeps old new run answer.Stored ends = record {
+  uber = ap (λ (c : Core). c.pool.uber) ends.rest;
+  out = ap (λ (c : Core). c.pool.out) ends.rest;
+}
+ends_keeps old new run (answer.TooManyFailed out) ends = record {
+  uber = ap (λ (c : Core). c.pool.uber) ends.gives_up.rest;
+  out = ap (λ (c : Core). c.pool.out) ends.gives_up.rest;
+}
+ends_keeps old new run other ends = absurd ends
+
+-- So does the last turn of a put,
+pub put_end_goes : (old new : Core) (disk : Disk) (run : PutRun) (turn : Turn PutRun) → EndsPut old run new turn
+    → TurnGoesOn (at_disk old disk) (at_disk new disk)
+put_end_goes old new disk run (Done given) ends = goes_without old new disk (ends_keeps old new run given ends)
+put_end_goes old new disk run (More next) ends = absurd ends
+put_end_goes old new disk run (Busy by) ends = absurd ends
+
+gives_keeps : (old new : Core) (run : PutRun) (given : Answer) → GivesUpTurn old run new (Done given) → KeepsUber old new
+gives_keeps old new run answer.NoMemory gives = record {
+  uber = ap (λ (c : Core). c.pool.uber) gives.1.rest;
+  out = ap (λ (c : Core). c.pool.out) gives.1.rest;
+}
+gives_keeps old new run (answer.TooManyFailed out) gives = record {
+  uber = ap (λ (c : Core). c.pool.uber) gives.gives_up.rest;
+  out = ap (λ (c : Core). c.pool.out) gives.gives_up.rest;
+}
+gives_keeps old new run other gives = absurd gives
+
+-- one that gives up,
+pub put_gives_goes : (old new : Core) (disk : Disk) (run : PutRun) (turn : Turn PutRun) → GivesUpTurn old run new turn
+    → TurnGoesOn (at_disk old disk) (at_disk new disk)
+put_gives_goes old new disk run (Done given) gives = goes_without old new disk (gives_keeps old new run given gives)
+put_gives_goes old new disk run (More next) gives = absurd gives
+put_gives_goes old new disk run (Busy by) gives = absurd gives
+
+-- and the last one of a read.
+pub read_end_goes : (old new : Core) (disk : Disk) (run : GetRun) (turn : Turn GetRun) → EndsGet old run new turn
+    → TurnGoesOn (at_disk old disk) (at_disk new disk)
+read_end_goes old new disk run (Done given) ends = goes_without old new disk (record {
+  uber = ap (λ (c : Core). c.pool.uber) ends.rest;
+  out = ap (λ (c : Core). c.pool.out) ends.rest;
+})
+read_end_goes old new disk run (More next) ends = absurd ends
+read_end_goes old new disk run (Busy by) ends = absurd ends
+
+-- ---- puts
+
+-- What is filled in is the core's put still.
+pub filled_of : (core : Core) (call : ScriptCall) (run filled : PutRun) → IsFilledIn call run filled
+    → length (fill_bytes call.fill) ≡ run.len → IsPutOf core run → IsPutOf core filled
+filled_of core call run filled fills len of = ⊎_elim
+    (λ (same : filled ≡ run). subst (IsPutOf core) (sym same) of)
+    (λ (now : (run.filled ≡ None) × FillsPut run filled (fill_bytes call.fill)).
+    fills_of core run filled (fill_bytes call.fill) now.1 len of)
+    fills
+
+-- A put for which memory was wanting is given up.
+pub put_gives : (old new : Core) (disk : Disk) (call : ScriptCall) (run given_up : PutRun) (turn : Turn PutRun)
+    → run.filled ≡ None → given_up ≡ run → GivesUpTurn old given_up new turn
+    → PutGoesOn (at_disk old disk) (at_disk new disk) call run turn
+put_gives old new disk call run given_up (Done given) none same gives = record {
+  filled = run;
+  fills = inl refl;
+  disk = refl;
+  ends = inr (inr (none, refl, subst (λ (r : PutRun). GivesUpTurn old r new (Done given)) same gives));
+}
+put_gives old new disk call run given_up (More next) none same gives = absurd gives
+put_gives old new disk call run given_up (Busy by) none same gives = absurd gives
+
+-- ---- reads
+
+-- A turn that reads a column touches nothing.
+pub read_goes_on : (before after : CoreState) (run : GetRun) (turn : Turn GetRun) → ReadsTurn before run after turn
+    → Unchanged before.disk after.disk
+    → OnlyFailedGoOut (point_of before.core.pool.out before.disk) (point_of after.core.pool.out after.disk)
+    → TurnGoesOn before after
+read_goes_on before after run turn reads unchanged out =
+    let uber = reads_uber before after run turn reads in record {
+      parity = ap (λ (u : Uber). u.parity) uber;
+      widths = ap (λ (u : Uber). u.reflow) uber;
+      births = ap (λ (u : Uber). u.births) uber;
+      later = unchanged.goes_on.later;
+      out = out;
+      only = read_touches (IsOnInUse before.core.pool.uber.reflow.to before.core.pool.out) unchanged;
+    }
+
+solved_now : (old new : GetRun) (result : Result (Unit {0}) OutOfMemory) → OnOk result (SolvesGet old new)
+    → OnErr result (new ≡ old) → (new ≡ old) ⊎ SolvesGet old new
+solved_now old new (Ok value) solves same = inr solves
+solved_now old new (Err why) solves same = inl same
+
+-- A read of which all columns were read ends, its block solved where memory was there.
+pub read_ends : (old new : Core) (disk : Disk) (run solved : GetRun) (result : Result (Unit {0}) OutOfMemory)
+    (turn : Turn GetRun) → OnOk result (SolvesGet run solved) → OnErr result (solved ≡ run)
+    → run.read.row ≡ rows_of run.read.layout → EndsGet old solved new turn
+    → ReadGoesOn (at_disk old disk) (at_disk new disk) run turn
+read_ends old new disk run solved result (Done given) ok err done ends =
+    record { disk = refl; ends = inr (solved, solved_now run solved result ok err, done, ends) }
+read_ends old new disk run solved result (More next) ok err done ends = absurd ends
+read_ends old new disk run solved result (Busy by) ok err done ends = absurd ends

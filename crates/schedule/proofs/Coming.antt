@@ -1,0 +1,236 @@
+-- Turns that go on from where others came to.
+use Rattle.std.proofs.Common.{◌≡◌, ◌⊎◌, inl, inr, ⊎_elim, ℕ, ◌≤◌, ◌<◌, List, [], ◌∷◌, ◌++◌, Some, true, refl, sym, ◌∙◌, ap, subst, arith}
+use Rattle.std.specs.Prelude.{slice_get}
+use Rattle.std.proofs.lemmas.Bool.{cases_lt, true≢false}
+use Rattle.bank_trait.specs.Disk.{Disk}
+use Rattle.bank_trait.specs.Regions.{TouchesOnly}
+use Rattle.bank_trait.proofs.Moments.{later_refl, later_trans}
+use Rattle.bank_trait.proofs.Touches.{touches_none, touches_then}
+use Rattle.reflow_mark.specs.declared.reflow.Reflow.{Reflow}
+use Rattle.uberblock_ring.specs.Devices.{count_of, has_device, IsWithin}
+use Rattle.uberblock_ring.proofs.DeviceSets.{none_in}
+use Rattle.core_state.specs.declared.answer.Answer.TheVariants as answer
+use Rattle.core_state.specs.declared.item.Entry.{Entry}
+use Rattle.core_state.specs.declared.item.Item.{Item}
+use Rattle.core_state.specs.declared.item.Item.TheVariants.{Call as CallItem}
+use Rattle.core_state.specs.Legal.{CallAt}
+use Rattle.core_state.specs.CoreState.{World}
+use Rattle.core_client.specs.Outs.{point_of}
+use Rattle.core_client.proofs.Outs.{outs_none, outs_then}
+use Rattle.core_commit.specs.Spared.{IsOnInUse}
+use Rattle.core_commit.proofs.Going.{in_use_before}
+use Rattle.core_open.proofs.Written.{none_listed}
+use Rattle.core_serial.proofs.Going.{count_grows}
+use Rattle.client_script.specs.Script.{Script, handed_by}
+use Rattle.serial_run.proofs.Grown.{grown_has, new_or_before}
+use Rattle.core_turns.specs.Getting.{HasTooManyOut}
+use Rattle.core_turns.specs.UnderWay.{TurnGoesOn}
+use Rattle.schedule.specs.Coming.{Turns, HasCome}
+use Rattle.schedule.specs.Running.{Runs}
+
+-- how far the devices' failure has to be borne where nothing was done: those that are out, unless they are too many
+borne_by : (out parity : ℕ) → (count_of out ≤ parity) ⊎ (parity < count_of out) → ℕ
+borne_by out parity (inl few) = out
+borne_by out parity (inr many) = 0
+
+few_or_many : (out parity : ℕ) → (count_of out ≤ parity) ⊎ (parity < count_of out)
+few_or_many out parity = ⊎_elim (λ many. inr many) (λ few. inl few) (cases_lt parity (count_of out))
+
+none_out : (device : ℕ) → has_device 0 device ≡ true → ⊥
+none_out device out = true≢false (sym out ∙ none_in device)
+
+-- Nothing was done.
+pub came_nowhere : (script : Script) (turns : Turns) → HasCome script turns turns
+came_nowhere script turns = by (few_or_many turns.state.core.pool.out turns.state.core.pool.uber.parity)
+  where
+    by : (count_of turns.state.core.pool.out ≤ turns.state.core.pool.uber.parity)
+        ⊎ (turns.state.core.pool.uber.parity < count_of turns.state.core.pool.out) → HasCome script turns turns
+    by (inl few) = record {
+      later = later_refl turns.state.disk;
+      parity = refl;
+      widths = refl;
+      only = touches_none (IsOnInUse turns.state.core.pool.uber.reflow.to turns.state.core.pool.out) turns.state.disk;
+      out = outs_none (point_of turns.state.core.pool.out turns.state.disk);
+      listed = λ index item there. there;
+      too_many = λ index listed entry there is. inl there;
+      borne = turns.state.core.pool.out;
+      few = few;
+      from_start = λ still device out. out;
+      stopped = λ many. absurd (omega (arith, few, many));
+      within = λ device out. out;
+      runs = λ world origin same runs within. runs;
+    }
+    by (inr many) = record {
+      later = later_refl turns.state.disk;
+      parity = refl;
+      widths = refl;
+      only = touches_none (IsOnInUse turns.state.core.pool.uber.reflow.to turns.state.core.pool.out) turns.state.disk;
+      out = outs_none (point_of turns.state.core.pool.out turns.state.disk);
+      listed = λ index item there. there;
+      too_many = λ index listed entry there is. inl there;
+      borne = 0;
+      few = none_listed turns.state.core.pool.uber.parity;
+      from_start = λ few. absurd (omega (arith, few, many));
+      stopped = λ still device out. out;
+      within = λ device out. absurd (none_out device out);
+      runs = λ world origin same runs within. runs;
+    }
+
+-- Turns after turns.
+module _ (script : Script) (start middle now : Turns) (first : HasCome script start middle)
+    (second : HasCome script middle now) where
+  parity_is : now.state.core.pool.uber.parity ≡ start.state.core.pool.uber.parity
+  parity_is = second.parity ∙ first.parity
+
+  only_then : TouchesOnly (IsOnInUse start.state.core.pool.uber.reflow.to start.state.core.pool.out) start.state.disk
+      now.state.disk
+  only_then = touches_then (IsOnInUse start.state.core.pool.uber.reflow.to start.state.core.pool.out)
+      (IsOnInUse middle.state.core.pool.uber.reflow.to middle.state.core.pool.out)
+      (IsOnInUse start.state.core.pool.uber.reflow.to start.state.core.pool.out)
+      (λ d x here. here)
+      (λ d x here. (
+        subst (λ (r : Reflow). d < r.to) first.widths here.0,
+        in_use_before (point_of start.state.core.pool.out start.state.disk)
+            (point_of middle.state.core.pool.out middle.state.disk) d first.out.still here.1,
+      ))
+      first.only second.only
+
+  told : (index listed : ℕ) (entry : Entry) → CallAt now.items index entry → entry.answer ≡ answer.TooManyFailed listed
+      → CallAt start.items index entry
+      ⊎ ((start.state.core.pool.uber.parity < count_of listed) × IsWithin listed now.state.core.pool.out)
+  told index listed entry there is = ⊎_elim
+      (λ (was : CallAt middle.items index entry). ⊎_elim (λ at. inl at)
+      (λ many. inr (many.0, λ device out. second.out.still device (many.1 device out)))
+      (first.too_many index listed entry was is))
+      (λ many. inr ((let more = many.0 in let same = first.parity in omega (arith, more, same)), many.1))
+      (second.too_many index listed entry there is)
+
+  -- the devices that have to be borne in both
+  by : (count_of middle.state.core.pool.out ≤ middle.state.core.pool.uber.parity)
+      ⊎ (middle.state.core.pool.uber.parity < count_of middle.state.core.pool.out) → HasCome script start now
+  by (inl few) = record {
+    later = later_trans first.later second.later;
+    parity = parity_is;
+    widths = second.widths ∙ first.widths;
+    only = only_then;
+    out = outs_then (point_of start.state.core.pool.out start.state.disk)
+        (point_of middle.state.core.pool.out middle.state.disk) (point_of now.state.core.pool.out now.state.disk)
+        first.later.faults second.later.faults first.out second.out;
+    listed = λ index item there. second.listed index item (first.listed index item there);
+    too_many = told;
+    borne = second.borne;
+    few = (let low = second.few in let same = first.parity in omega (arith, low, same));
+    from_start = λ still device out. second.from_start few device (first.out.still device out);
+    stopped = λ many. absurd (let more = count_grows start.state.core.pool.out middle.state.core.pool.out first.out.still in
+        let same = first.parity in omega (arith, more, few, many, same));
+    within = second.within;
+    runs = λ world origin same runs within. second.runs world origin same
+        (first.runs world origin same runs
+        (λ device out. within device (second.from_start few device (first.within device out))))
+        within;
+  }
+  by (inr many) = record {
+    later = later_trans first.later second.later;
+    parity = parity_is;
+    widths = second.widths ∙ first.widths;
+    only = only_then;
+    out = outs_then (point_of start.state.core.pool.out start.state.disk)
+        (point_of middle.state.core.pool.out middle.state.disk) (point_of now.state.core.pool.out now.state.disk)
+        first.later.faults second.later.faults first.out second.out;
+    listed = λ index item there. second.listed index item (first.listed index item there);
+    too_many = told;
+    borne = first.borne;
+    few = first.few;
+    from_start = first.from_start;
+    stopped = first.stopped;
+    within = λ device out. second.out.still device (first.within device out);
+    runs = λ world origin same runs within. second.runs world origin same
+        (first.runs world origin same runs within)
+        (λ device out. absurd (none_out device (second.stopped many device out)));
+  }
+
+  pub came_on : HasCome script start now
+  came_on = by (few_or_many middle.state.core.pool.out middle.state.core.pool.uber.parity)
+
+-- One turn, in which these items were listed.
+module _ (script : Script) (before after : Turns) (goes : TurnGoesOn before.state after.state) (more : List Item)
+    (items : after.items ≡ before.items ++ more)
+    (told : (index listed : ℕ) (entry : Entry) → CallAt after.items index entry
+    → entry.answer ≡ answer.TooManyFailed listed → CallAt before.items index entry
+    ⊎ ((before.state.core.pool.uber.parity < count_of listed) × IsWithin listed after.state.core.pool.out))
+    (runs : (world : World) (origin : Disk) → world.handed ≡ handed_by script
+    → (count_of before.state.core.pool.out ≤ before.state.core.pool.uber.parity
+    → IsWithin before.state.core.pool.out world.setting.failed)
+    → Runs world script origin before.state before.items before.clients
+    → Runs world script origin after.state after.items after.clients) where
+  turn : (count_of before.state.core.pool.out ≤ before.state.core.pool.uber.parity)
+      ⊎ (before.state.core.pool.uber.parity < count_of before.state.core.pool.out) → HasCome script before after
+  turn (inl few) = record {
+    later = goes.later;
+    parity = goes.parity;
+    widths = goes.widths;
+    only = goes.only;
+    out = goes.out;
+    listed = λ index item there. subst (λ (l : List Item). slice_get l index ≡ Some item) (sym items)
+        (grown_has before.items more index item there);
+    too_many = told;
+    borne = before.state.core.pool.out;
+    few = few;
+    from_start = λ still device out. out;
+    stopped = λ many. absurd (omega (arith, few, many));
+    within = goes.out.still;
+    runs = λ world origin same stood within. runs world origin same (λ still. within) stood;
+  }
+  turn (inr many) = record {
+    later = goes.later;
+    parity = goes.parity;
+    widths = goes.widths;
+    only = goes.only;
+    out = goes.out;
+    listed = λ index item there. subst (λ (l : List Item). slice_get l index ≡ Some item) (sym items)
+        (grown_has before.items more index item there);
+    too_many = told;
+    borne = 0;
+    few = none_listed before.state.core.pool.uber.parity;
+    from_start = λ few. absurd (omega (arith, few, many));
+    stopped = λ still device out. out;
+    within = λ device out. absurd (none_out device out);
+    runs = λ world origin same stood within. runs world origin same (λ few. absurd (omega (arith, few, many))) stood;
+  }
+
+  pub came_turn : HasCome script before after
+  came_turn = turn (few_or_many before.state.core.pool.out before.state.core.pool.uber.parity)
+
+-- Where nothing was listed, nothing more is told.
+pub told_same : (before after : Turns) → after.items ≡ before.items
+    → (index listed : ℕ) (entry : Entry) → CallAt after.items index entry → entry.answer ≡ answer.TooManyFailed listed
+    → CallAt before.items index entry
+    ⊎ ((before.state.core.pool.uber.parity < count_of listed) × IsWithin listed after.state.core.pool.out)
+told_same before after items index listed entry there is =
+    inl (subst (λ (l : List Item). slice_get l index ≡ Some (CallItem entry)) items there)
+
+-- Where an entry was listed that tells of too many devices, it lists those that are out.
+pub told_entry : (before after : Turns) (last : Entry) → after.items ≡ before.items ++ CallItem last ∷ []
+    → ((listed : ℕ) → last.answer ≡ answer.TooManyFailed listed → HasTooManyOut before.state.core
+    × (listed ≡ before.state.core.pool.out))
+    → IsWithin before.state.core.pool.out after.state.core.pool.out
+    → (index listed : ℕ) (entry : Entry) → CallAt after.items index entry → entry.answer ≡ answer.TooManyFailed listed
+    → CallAt before.items index entry
+    ⊎ ((before.state.core.pool.uber.parity < count_of listed) × IsWithin listed after.state.core.pool.out)
+told_entry before after last items tells still index listed entry there is =
+    elim (new_or_before before.items (CallItem last) index (CallItem entry)
+    (subst (λ (l : List Item). slice_get l index ≡ Some (CallItem entry)) items there)) [
+      | inl new ↦ inr (lists (same new.1))
+      | inr earlier ↦ inl earlier.1
+    ]
+  where
+    same : CallItem last ≡ CallItem entry → last ≡ entry
+    same is = cc
+
+    lists : last ≡ entry → (before.state.core.pool.uber.parity < count_of listed)
+        × IsWithin listed after.state.core.pool.out
+    lists same_entry =
+        let found = tells listed (ap (λ (e : Entry). e.answer) same_entry ∙ is) in (
+          subst (λ (n : ℕ). before.state.core.pool.uber.parity < count_of n) (sym found.1) found.0,
+          λ device out. still device (subst (λ (n : ℕ). has_device n device ≡ true) found.1 out),
+        )

@@ -1,0 +1,98 @@
+-- What a free comes to.
+use Rattle.std.proofs.Common.{◌≡◌, inr, ℕ, List, Option, Some, None, refl, sym, ◌∙◌, ap, subst}
+use Rattle.std.specs.Prelude.{slice_get, option_and_then}
+use Rattle.bank_trait.specs.Disk.{Disk}
+use Rattle.core_state.specs.declared.answer.Answer.{Answer}
+use Rattle.core_state.specs.declared.answer.Answer.TheVariants as answer
+use Rattle.core_state.specs.declared.answer.Kind.{Kind}
+use Rattle.core_state.specs.declared.answer.Kind.TheVariants as kind
+use Rattle.core_state.specs.declared.item.Entry.{Entry}
+use Rattle.core_state.specs.Map.{Map, Handed, map_of, map_after_answer, with_block}
+use Rattle.core_state.specs.Legal.{IsAnswerOf, IsRightFree}
+use Rattle.core_blocks.proofs.Listed.{found_id, found_listed}
+use Rattle.core_serial.specs.Answers.{map_after_free}
+use Rattle.core_serial.specs.Pool.{HoldsMap}
+use Rattle.client_script.specs.declared.call.ScriptCall.{ScriptCall}
+use Rattle.client_script.specs.Script.{Script, calls_of}
+use Rattle.core_turns.specs.Core.{Core, at_disk, pool_at}
+use Rattle.core_turns.specs.Freeing.{FreesBlock}
+use Rattle.core_turns.specs.UnderWay.{Stands}
+use Rattle.core_turns.specs.declared.turn.Turn.TheVariants.{Done}
+use Rattle.core_turns.proofs.GetStands.{frees_calls, frees_stands}
+use Rattle.schedule.specs.declared.client.Client.{Client}
+use Rattle.schedule.specs.Turned.{Station, Frees, LeavesBegun}
+use Rattle.schedule.specs.Comes.{TakesTurn, Comes}
+use Rattle.schedule.proofs.RightNext.{IsPlain, free_right}
+use Rattle.schedule.proofs.Theirs.{none_some}
+use Rattle.schedule.proofs.ComesBy.{LeavesPool, leaves_pool, first_entry, comes_at_once}
+
+-- The pool stays,
+frees_pool : (old new : Core) (id : ℕ) (given : Answer) → FreesBlock old new id given → LeavesPool old new
+frees_pool old new id answer.Freed frees = leaves_pool old new new.pool.blocks old.holds frees.2.rest
+frees_pool old new id answer.Absent frees = leaves_pool old new new.pool.blocks old.holds frees.1.rest
+frees_pool old new id (answer.TooManyFailed out) frees = leaves_pool old new old.pool.blocks old.holds frees.2
+frees_pool old new id other frees = absurd frees
+
+-- the answer is one to a free,
+frees_of : (old new : Core) (id : ℕ) (given : Answer) → FreesBlock old new id given
+    → IsAnswerOf kind.Free given × IsPlain given
+frees_of old new id answer.Freed frees = (refl, tt)
+frees_of old new id answer.Absent frees = (inr (inr refl), tt)
+frees_of old new id (answer.TooManyFailed out) frees = (tt, tt)
+frees_of old new id other frees = absurd frees
+
+-- and right of the map that the pool held.
+frees_right : (old new : Core) (disk : Disk) (map : Map) (id : ℕ) (given : Answer)
+    → HoldsMap map (pool_at (at_disk old disk)) → FreesBlock old new id given → IsRightFree (map id) given
+frees_right old new disk map id answer.Freed holds frees = λ none.
+    let entries = old.pool.blocks.table.entries in
+    let told = holds.table.listed frees.1 (found_listed entries id frees.1 frees.2.was) in
+    none_some (sym none ∙ ap map (sym (found_id entries id frees.1 frees.2.was)) ∙ told.1)
+frees_right old new disk map id answer.Absent holds frees = by (map id) refl
+  where
+    by : (held : Option (List ℕ)) → map id ≡ held → map id ≡ None
+    by None is = is
+    by (Some content) is = absurd (none_some (sym frees.1.none ∙ (holds.table.every id content is).1))
+frees_right old new disk map id (answer.TooManyFailed out) holds frees = tt
+frees_right old new disk map id other holds frees = absurd frees
+
+-- The map after it is the one that a free leaves.
+frees_map : (old new : Core) (handed : Handed) (map : Map) (entry : Entry) (id : ℕ) (given : Answer)
+    → entry.id ≡ Some id → FreesBlock old new id given
+    → map_after_answer handed map entry given ≡ map_after_free map id given
+frees_map old new handed map entry id answer.Freed id_is frees = ap (λ (o : Option ℕ). with_block map o None) id_is
+frees_map old new handed map entry id answer.Absent id_is frees = refl
+frees_map old new handed map entry id (answer.TooManyFailed out) id_is frees = refl
+frees_map old new handed map entry id other id_is frees = absurd frees
+
+module _ (script : Script) (actor : ℕ) (before after : Station) (clients news : List Client)
+    (takes : TakesTurn script actor before after clients news) (call : ScriptCall) (id : ℕ) (given : Answer)
+    (asked : call.kind ≡ kind.Free) (id_is : call.id ≡ Some id) (idle : before.client.under_way ≡ None)
+    (next : slice_get (calls_of script actor) before.client.begun ≡ Some call)
+    (frees : Frees before.state.core after.state.core id given) (disk : after.state.disk ≡ before.state.disk)
+    (left : LeavesBegun actor call before after (Done given)) where
+  -- A free is answered at once.
+  pub free_at_once : Comes script before after clients news
+  free_at_once =
+      let of = frees_of before.state.core after.state.core id given frees.frees in
+      comes_at_once script actor before after clients news takes call given idle next
+      (frees_pool before.state.core after.state.core id given frees.frees) disk left
+      (subst (λ (k : Kind). IsAnswerOf k given) (sym asked) of.0)
+      (λ out tells. let many = subst (FreesBlock before.state.core after.state.core id) tells frees.frees in
+      (many.0, many.1))
+      (frees_calls before.state.core after.state.core id given takes.schedule.going.calls frees.frees frees.under
+      takes.schedule.going.are)
+      (λ world origin runs.
+      let map = map_of world.handed world.opening before.items in
+      let entry = first_entry call actor before given in (
+        free_right world before.items entry asked of.1
+            (subst (λ (held : Option (List ℕ)). IsRightFree held given) (sym (ap (option_and_then map) id_is))
+            (frees_right before.state.core after.state.core before.state.disk map id given runs.stands.holds
+            frees.frees)),
+        subst (λ (m : Map). Stands world.setting runs.last runs.begun m runs.calls runs.commit after.state)
+            (sym (frees_map before.state.core after.state.core world.handed map entry id given id_is frees.frees))
+            (subst (λ (d : Disk). Stands world.setting runs.last runs.begun (map_after_free map id given) runs.calls
+            runs.commit (at_disk after.state.core d)) (sym disk)
+            (frees_stands world.setting runs.last runs.begun map runs.calls runs.commit before.state.core
+            after.state.core before.state.disk id given takes.is frees.frees frees.under frees.kept runs.stands)),
+      ))

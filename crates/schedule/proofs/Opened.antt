@@ -1,0 +1,102 @@
+-- A run of turns as an opening leaves it: no client has begun a call.
+use Rattle.std.proofs.Common.{◌≡◌, ℕ, zero, suc, List, [], ◌∷◌, Some, None, refl, sym, ◌∙◌, ap, subst, arith}
+use Rattle.std.specs.Prelude.{slice_get}
+use Rattle.bank_trait.specs.Disk.{Disk, Later}
+use Rattle.core_state.specs.declared.item.Item.TheVariants.{Group}
+use Rattle.core_state.specs.Map.{Map, Handed}
+use Rattle.core_state.specs.Keeps.{Kept, Setting}
+use Rattle.core_state.specs.CoreState.{World}
+use Rattle.core_state.proofs.Listed.{contains_none}
+use Rattle.core_blocks.specs.Blocks.{AreUnderWay}
+use Rattle.core_open.specs.Opens.{MayOpen}
+use Rattle.core_serial.specs.Opening.{Begins}
+use Rattle.core_serial.specs.Pool.{Pool, HasBank, HoldsMap, state_of}
+use Rattle.client_script.specs.Script.{Script}
+use Rattle.serial_run.specs.WholeRun.{first_item}
+use Rattle.serial_run.proofs.GrownGroups.{latest_alone}
+use Rattle.core_turns.specs.Core.{Core, at_disk}
+use Rattle.core_turns.specs.UnderWay.{Putting, AreCallsOf, Stands}
+use Rattle.schedule.specs.declared.client.Client.{Client}
+use Rattle.schedule.specs.declared.client.UnderWay.{UnderWay}
+use Rattle.schedule.specs.Running.{IsGoing, Runs}
+use Rattle.schedule.specs.Replaying.{blank_clients}
+use Rattle.schedule.proofs.Beginning.{recorded_first}
+use Rattle.schedule.proofs.Theirs.{none_some}
+
+-- the core of a pool of which no call is under way
+abbrev pub resting : Pool → Core
+resting pool = record { pool = pool; holds = []; begun = pool.uber.group; committing = None }
+
+-- A client that has begun no call has none under way.
+blank_idle : (count index : ℕ) (client : Client) → slice_get (blank_clients count) index ≡ Some client
+    → client.under_way ≡ None
+blank_idle zero index client there = absurd (nothing index there)
+  where
+    nothing : (place : ℕ) → slice_get [] place ≡ Some client → ⊥
+    nothing place is = cc
+blank_idle (suc count) zero client there = ap (λ (c : Client). c.under_way) (same there)
+  where
+    same : {one two : Client} → Some one ≡ Some two → two ≡ one
+    same is = cc
+blank_idle (suc count) (suc index) client there = blank_idle count index client there
+
+pub none_going : (count index : ℕ) (client : Client) (under : UnderWay)
+    → IsGoing (blank_clients count) index client under → ⊥
+none_going count index client under going =
+    none_some (sym (blank_idle count index client going.there) ∙ going.under_way)
+
+module _ {setting : Setting} {first : Kept} {later : List Kept} {pool : Pool} {old mid : Disk} (handed : Handed)
+    (may : MayOpen setting first later old) (begins : Begins setting first later pool old mid) where
+  abbrev chosen_map : Map
+  chosen_map = begins.opened.chosen.map
+
+  -- the world of a run that begins with the chosen group's map
+  abbrev pub opened_world : World
+  opened_world = record { setting = setting; known = first ∷ later; opening = chosen_map; handed = handed }
+
+  -- No call is under way.
+  calls_none : AreUnderWay pool.blocks [] → AreCallsOf (resting pool) []
+  calls_none rest = record {
+    each = λ call has. absurd (contains_none call has);
+    under = rest;
+    beside = λ place further call less low. absurd (omega (arith, less, low));
+  }
+
+  -- The pool stands, and holds the map of the group that was chosen.
+  stands_first : HasBank pool.uber pool.out mid → AreUnderWay pool.blocks []
+      → Stands setting begins.opened.next [] chosen_map [] None (at_disk (resting pool) mid)
+  stands_first bank rest = record {
+    groups = record { knows = begins.stands.knows; whole = λ few. (refl, refl) };
+    alike = begins.stands.alike;
+    kept = begins.stands.kept;
+    spared = λ run content has. absurd (contains_none (Putting run content) has);
+    odd = begins.stands.odd;
+    shape = begins.stands.shape;
+    tells = begins.stands.tells;
+    bank = bank;
+    holds = subst (λ (map : Map). HoldsMap map (state_of pool mid)) (λ i id. begins.opened.renews.map id i)
+        begins.holds;
+    are = calls_none rest;
+    each = λ call has. absurd (contains_none call has);
+  }
+
+  -- So a run of turns begins, with its journal's first group.
+  pub runs_first : Later old mid → HasBank pool.uber pool.out mid → AreUnderWay pool.blocks []
+      → (script : Script) (count : ℕ)
+      → Runs opened_world script old (at_disk (resting pool) mid) (Group (first_item pool) ∷ []) (blank_clients count)
+  runs_first opened_later bank rest script count = record {
+    last = begins.opened.next;
+    begun = [];
+    calls = [];
+    commit = None;
+    item = first_item pool;
+    latest = latest_alone (first_item pool);
+    recorded = recorded_first handed may begins opened_later;
+    stands = stands_first bank rest;
+    theirs = record {
+      of = λ call has. absurd (contains_none call has);
+      every = λ index client under going. absurd (none_going count index client under going);
+    };
+    sync = λ index client under going. absurd (none_going count index client under going);
+    each = λ index client under going. absurd (none_going count index client under going);
+  }

@@ -1,0 +1,182 @@
+-- What the first turn of a client's put comes to.
+use Rattle.std.proofs.Common.{◌≡◌, ℕ, ◌+◌, ◌-◌, ◌<◌, List, ◌∷◌, length, Some, None, refl, sym, ◌∙◌, ap, subst, arith}
+use Rattle.std.specs.Prelude.{slice_get}
+use Rattle.std.proofs.lemmas.Option.{slice_get_within}
+use Rattle.bank_trait.specs.Disk.{Disk}
+use Rattle.range_locks.specs.declared.hold.Hold.{Hold}
+use Rattle.reconstruct.specs.Lost.{AreBytes}
+use Rattle.core_state.specs.declared.answer.Answer.{Answer}
+use Rattle.core_state.specs.declared.answer.Kind.{Kind}
+use Rattle.core_state.specs.declared.answer.Kind.TheVariants as kind
+use Rattle.core_state.specs.declared.item.Entry.{Entry}
+use Rattle.core_state.specs.Map.{Map, map_of}
+use Rattle.core_state.specs.Legal.{IsAnswerOf}
+use Rattle.core_state.specs.CoreState.{World}
+use Rattle.client_script.specs.declared.call.ScriptCall.{ScriptCall}
+use Rattle.client_script.specs.Lines.{fill_bytes}
+use Rattle.client_script.specs.Script.{Script, calls_of}
+use Rattle.core_turns.specs.declared.putting.PutRun.{PutRun}
+use Rattle.core_turns.specs.declared.turn.Turn.TheVariants.{More, Busy, Done}
+use Rattle.core_turns.specs.Core.{Core, at_disk}
+use Rattle.core_turns.specs.Putting.{BeginsPutTurn, LeavesBlocks}
+use Rattle.core_turns.specs.UnderWay.{Call, Putting, Stands}
+use Rattle.core_turns.proofs.PutCalls.{Rearranges, begins_rearranges, leaves_rearranges, put_begins_calls, put_refused_calls}
+use Rattle.core_turns.proofs.PutStands.{put_begins_stands, put_refused_stands}
+use Rattle.schedule.specs.declared.client.Client.{Client}
+use Rattle.schedule.specs.declared.client.UnderWay.{UnderWay}
+use Rattle.schedule.specs.declared.client.Work.TheVariants as work
+use Rattle.schedule.specs.Running.{IsGoing, IsSync, AreGoing, Runs}
+use Rattle.schedule.specs.Turned.{Station, LeavesBegun, entry_for}
+use Rattle.schedule.specs.Comes.{TakesTurn, Comes}
+use Rattle.schedule.proofs.RightNext.{put_right}
+use Rattle.schedule.proofs.Theirs.{some_is, none_some}
+use Rattle.schedule.proofs.Answered.{answered}
+use Rattle.schedule.proofs.Going.{begins as going_begins, at_once as going_at_once}
+use Rattle.schedule.proofs.TurnRuns.{begins as runs_begins, answers_at_once as runs_at_once}
+use Rattle.schedule.proofs.TurnComes.{gains_first, goes_on_with_none, calls_of_others, stands_knows, answered_idle, answered_going, runs_waits, comes_same, comes_answered}
+use Rattle.schedule.proofs.Puts.{Refuses, put_no_sync, put_refused, rearranged_uber, rearranged_committing, rearranged_commits, rearranged_many, rearranged_goes, unstored_plain, unstored_answers, unstored_map}
+
+module _ (script : Script) (actor : ℕ) (before after : Station) (clients news : List Client)
+    (takes : TakesTurn script actor before after clients news) (call : ScriptCall) (id : ℕ)
+    (asked : call.kind ≡ kind.Put) (id_is : call.id ≡ Some id) (idle : before.client.under_way ≡ None)
+    (next : slice_get (calls_of script actor) before.client.begun ≡ Some call)
+    (disk : after.state.disk ≡ before.state.disk) where
+  abbrev content : List ℕ
+  content = fill_bytes call.fill
+
+  abbrev old : Core
+  old = before.state.core
+
+  abbrev now : Core
+  now = after.state.core
+
+  going : AreGoing script old clients
+  going = takes.schedule.going
+
+  was_no_sync : (its : Client) (under : UnderWay) → IsGoing clients actor its under → IsSync under.work → ⊥
+  was_no_sync its under is sync = goes_on_with_none clients actor before.client takes.was idle its under is
+
+  within : before.client.begun < length (calls_of script actor)
+  within = slice_get_within (calls_of script actor) before.client.begun call next
+
+  -- It begins on sectors that no other call has.
+  module _ (run : PutRun) (are : AreBytes (fill_bytes call.fill))
+      (begins : BeginsPutTurn before.state.core after.state.core actor id (length (fill_bytes call.fill)) (More run))
+      (leaves : LeavesBegun actor call before after (More (work.Put run))) where
+    abbrev under : UnderWay
+    under = record { at = length before.items; work = work.Put run }
+
+    under_is : after.client.under_way ≡ Some under
+    under_is = ap (λ (c : Client). c.under_way) leaves.1
+
+    begun_is : after.client.begun ≡ before.client.begun + 1
+    begun_is = ap (λ (c : Client). c.begun) leaves.1
+
+    one_less : after.client.begun - 1 ≡ before.client.begun
+    one_less = omega (arith, begun_is)
+
+    change : Rearranges old now
+    change = begins_rearranges old now actor id (length content) run begins
+
+    its : run.hold.actor ≡ actor
+    its = ap (λ (h : Hold). h.actor) begins.hold_is
+
+    begins_going : AreGoing script now news
+    begins_going =
+        let calls : List Call = Putting run content ∷ going.calls in
+        going_begins script old now clients news actor before.client after.client takes.changes takes.was going
+        (rearranged_committing old now change) (rearranged_commits old now change) (rearranged_many old now change)
+        was_no_sync
+        (λ its_under is. put_no_sync its_under.work run (ap (λ (u : UnderWay). u.work) (some_is (sym is ∙ under_is))))
+        calls (Putting run content) under call idle under_is (ap (slice_get (calls_of script actor)) one_less ∙ next)
+        (asked, id_is ∙ ap Some (sym begins.range.id_is), sym begins.len_is)
+        (gains_first going.calls (Putting run content)) its refl
+        (put_begins_calls going.calls calls old now actor id (length content) run content going.are begins
+        (calls_of_others clients actor before.client takes.was idle going.calls going.theirs)
+        (gains_first going.calls (Putting run content)))
+
+    begins_stands : (world : World) (origin : Disk)
+        → (runs : Runs world script origin before.state before.items clients)
+        → Stands world.setting runs.last runs.begun (map_of world.handed world.opening before.items)
+        (Putting run content ∷ runs.calls) runs.commit after.state
+    begins_stands world origin runs =
+        let map = map_of world.handed world.opening before.items in
+        let calls : List Call = Putting run content ∷ runs.calls in
+        subst (λ (d : Disk). Stands world.setting runs.last runs.begun map calls runs.commit (at_disk now d)) (sym disk)
+        (put_begins_stands world.setting runs.last runs.begun map runs.calls calls runs.commit old now before.state.disk
+        actor id (length content) run content runs.stands begins refl are
+        (calls_of_others clients actor before.client takes.was idle runs.calls runs.theirs)
+        (gains_first runs.calls (Putting run content)))
+
+    pub put_begins : Comes script before after clients news
+    put_begins = comes_same script actor before after clients news takes
+        (rearranged_goes before.state after.state change disk) begins_going leaves.0 (omega (arith, begun_is, within))
+        (λ its_under is. omega (arith, begun_is))
+        (answered_going after.client under under_is ∙ one_less ∙ sym (answered_idle before.client idle))
+        (λ world origin handed runs. runs_begins world script origin before.state after.state before.items clients news
+        actor before.client after.client takes.changes takes.was runs idle (Putting run content ∷ runs.calls)
+        (Putting run content) (work.Put run) (rearranged_uber old now change) disk leaves.1 (λ sync. sync)
+        (gains_first runs.calls (Putting run content)) its refl
+        (λ other is. ap (λ (c : ScriptCall). fill_bytes c.fill) (some_is (sym next ∙ is)))
+        (begins_stands world origin runs))
+
+  -- A refusal leaves what stands.
+  refused_stands : LeavesBlocks old now → (world : World) (origin : Disk)
+      → (runs : Runs world script origin before.state before.items clients)
+      → Stands world.setting runs.last runs.begun (map_of world.handed world.opening before.items) runs.calls
+      runs.commit after.state
+  refused_stands leaves world origin runs =
+      let map = map_of world.handed world.opening before.items in
+      subst (λ (d : Disk). Stands world.setting runs.last runs.begun map runs.calls runs.commit (at_disk now d))
+      (sym disk)
+      (put_refused_stands world.setting runs.last runs.begun map runs.calls runs.commit old now before.state.disk leaves
+      runs.stands)
+
+  -- One that finds another's sectors in its way waits.
+  pub put_waits : (by : ℕ)
+      → BeginsPutTurn before.state.core after.state.core actor id (length (fill_bytes call.fill)) (Busy by)
+      → LeavesBegun actor call before after (Busy by)
+      → Comes script before after clients news
+  put_waits by waits leaves =
+      let change = leaves_rearranges old now waits.1 in
+      let still : after.client.under_way ≡ None = ap (λ (c : Client). c.under_way) leaves.1 ∙ idle in
+      let begun_is : after.client.begun ≡ before.client.begun = ap (λ (c : Client). c.begun) leaves.1 in
+      comes_same script actor before after clients news takes (rearranged_goes before.state after.state change disk)
+      (going_at_once script old now clients news actor before.client after.client takes.changes takes.was going
+      (rearranged_committing old now change) (rearranged_commits old now change) (rearranged_many old now change)
+      was_no_sync (λ its_under is. absurd (none_some (sym still ∙ is))) idle still
+      (put_refused_calls going.calls old now waits.1 going.are))
+      leaves.0 (omega (arith, begun_is, within)) (λ its_under is. absurd (none_some (sym still ∙ is)))
+      (ap answered leaves.1)
+      (λ world origin handed runs. runs_waits world script origin before.state after.state before.items clients news
+      actor before.client after.client takes.changes takes.was runs idle still (rearranged_uber old now change) disk
+      (refused_stands waits.1 world origin runs))
+
+  -- One is refused: too many devices are out, the table is full, no run of free sectors fits, or memory is wanting.
+  pub put_at_once : (given : Answer)
+      → BeginsPutTurn before.state.core after.state.core actor id (length (fill_bytes call.fill)) (Done given)
+      → LeavesBegun actor call before after (Done given)
+      → Comes script before after clients news
+  put_at_once given is leaves =
+      let refuses : Refuses old now given = put_refused old now id (length content) given is in
+      let change = leaves_rearranges old now refuses.leaves in
+      let ended : after.client.under_way ≡ None = ap (λ (c : Client). c.under_way) leaves.1 in
+      let entry : Entry = entry_for call actor (before.client.begun + 1) (length before.items) given in
+      let count = answered_idle before.client idle in
+      comes_answered script actor before after clients news takes (rearranged_goes before.state after.state change disk)
+      (going_at_once script old now clients news actor before.client after.client takes.changes takes.was going
+      (rearranged_committing old now change) (rearranged_commits old now change) (rearranged_many old now change)
+      was_no_sync (λ its_under its. absurd (none_some (sym ended ∙ its))) idle ended
+      (put_refused_calls going.calls old now refuses.leaves going.are))
+      call (before.client.begun + 1) (length before.items) given (omega (arith, count))
+      (ap (slice_get (calls_of script actor)) count ∙ next) leaves.0 leaves.1 refuses.tells
+      (λ world origin handed runs.
+      let map = map_of world.handed world.opening before.items in
+      runs_at_once world script origin before.state after.state before.items clients news actor before.client
+      after.client takes.changes takes.was runs entry refl ended (rearranged_uber old now change) disk
+      (stands_knows world.setting runs.last runs.begun runs.calls runs.commit before.state runs.stands.groups)
+      (put_right world before.items entry asked (unstored_plain given refuses.unstored))
+      (subst (λ (k : Kind). IsAnswerOf k given) (sym asked) (unstored_answers given refuses.unstored)) idle
+      (subst (λ (m : Map). Stands world.setting runs.last runs.begun m runs.calls runs.commit after.state)
+      (sym (unstored_map world.handed map entry given refuses.unstored))
+      (refused_stands refuses.leaves world origin runs)))

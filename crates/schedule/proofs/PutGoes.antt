@@ -1,0 +1,398 @@
+-- What each later turn of a client's put comes to.
+use Rattle.std.proofs.Common.{◌≡◌, ◌⊎◌, inl, inr, ⊎_elim, ℕ, ◌-◌, List, [], ◌∷◌, ◌++◌, length, Option, Some, None, refl, sym, ◌∙◌, ap, subst, arith}
+use Rattle.std.specs.Prelude.{option_map, slice_get, unwrap_or}
+use Rattle.bank_trait.specs.Disk.{Disk}
+use Rattle.space_alloc.specs.Space.{Gains}
+use Rattle.core_state.specs.declared.answer.Answer.{Answer}
+use Rattle.core_state.specs.declared.answer.Answer.TheVariants as answer
+use Rattle.core_state.specs.declared.answer.Kind.{Kind}
+use Rattle.core_state.specs.declared.answer.Kind.TheVariants as kind
+use Rattle.core_state.specs.declared.item.Entry.{Entry}
+use Rattle.core_state.specs.declared.item.Item.TheVariants.{Call as CallItem}
+use Rattle.core_state.specs.Map.{Map, Handed, map_of, map_after_answer, with_block}
+use Rattle.core_state.specs.Legal.{IsAnswerOf}
+use Rattle.core_state.specs.Keeps.{Kept, Setting}
+use Rattle.core_state.specs.CoreState.{World}
+use Rattle.core_blocks.specs.declared.range.PutRange.{PutRange}
+use Rattle.core_blocks.proofs.Lists.{gains_item}
+use Rattle.core_commit.specs.CommitTurns.{CommitRun}
+use Rattle.client_script.specs.declared.call.ScriptCall.{ScriptCall}
+use Rattle.client_script.specs.Lines.{fill_bytes}
+use Rattle.client_script.specs.Script.{Script, calls_of, handed_by}
+use Rattle.core_turns.specs.declared.putting.Filled.{Filled}
+use Rattle.core_turns.specs.declared.putting.PutRun.{PutRun}
+use Rattle.core_turns.specs.declared.turn.Turn.TheVariants.{More, Done}
+use Rattle.core_turns.specs.Core.{Core, CoreState, at_disk}
+use Rattle.core_turns.specs.Putting.{EndsPut, FillsPut, GivesUp, GivesUpTurn, IsStoppedPut, StoresBlock, WritesOne}
+use Rattle.core_turns.specs.Committing.{IsCommitOf}
+use Rattle.core_turns.specs.UnderWay.{Call, Putting, AreCallsOf, Stands, TurnGoesOn}
+use Rattle.core_turns.proofs.PutCalls.{Rearranges, ends_rearranges, gives_up_rearranges, put_ends_calls, put_fills_calls, put_gives_up_calls, put_writes_calls}
+use Rattle.core_turns.proofs.PutStands.{put_ends_stands, put_fills_stands, put_gives_up_stands}
+use Rattle.core_turns.proofs.PutWrites.{put_writes_stands, put_writes_since}
+use Rattle.schedule.specs.declared.client.Client.{Client}
+use Rattle.schedule.specs.declared.client.UnderWay.{UnderWay}
+use Rattle.schedule.specs.declared.client.Work.TheVariants as work
+use Rattle.schedule.specs.Running.{IsGoing, IsWorkFor, IsSync, AreGoing, Runs}
+use Rattle.schedule.specs.Turned.{Station, EndsPutting, GoesOnPutting, IsFilledIn, LeavesGoing, entry_for, listed_for}
+use Rattle.schedule.specs.Comes.{TakesTurn, Comes}
+use Rattle.schedule.proofs.RightNext.{IsPlain, put_right}
+use Rattle.schedule.proofs.Theirs.{none_some, some_is}
+use Rattle.schedule.proofs.Going.{goes as going_goes, ends as going_ends}
+use Rattle.schedule.proofs.TurnRuns.{GoesOnSince, goes_on as runs_goes_on, ends as runs_ends}
+use Rattle.schedule.proofs.TurnComes.{gains_first, going_under, stands_knows, answered_going, comes_same, comes_answered}
+use Rattle.schedule.proofs.Puts.{IsAmong, IsUnstored, TellsOut, put_no_sync, put_among, rearranged_uber, rearranged_committing, rearranged_commits, rearranged_many, tells_out, unstored_plain, unstored_answers, unstored_listed, unstored_map}
+
+-- ---- a put is filled in
+
+-- It is the same put but for what is filled in,
+fills_same : (call : ScriptCall) (run filled : PutRun) → IsFilledIn call run filled
+    → filled ≡ record run { filled = filled.filled }
+fills_same call run filled (inl same) = subst (λ (r : PutRun). r ≡ record run { filled = r.filled }) (sym same) refl
+fills_same call run filled (inr (none, fills)) = fills.rest
+    ∙ (λ i. record run { filled = sym (ap (λ (r : PutRun). r.filled) fills.rest) i })
+
+-- is under way like any put of so many bytes,
+fills_calls : (left calls : List Call) (core : Core) (call : ScriptCall) (run filled : PutRun) (content : List ℕ)
+    → IsFilledIn call run filled → length (fill_bytes call.fill) ≡ run.len → AreCallsOf core calls
+    → Gains left calls (Putting run content)
+    → (nexts : List Call) × Gains left nexts (Putting filled content) × AreCallsOf core nexts
+fills_calls left calls core call run filled content (inl same) len_is are gains =
+    (calls, subst (λ (r : PutRun). Gains left calls (Putting r content)) (sym same) gains, are)
+fills_calls left calls core call run filled content (inr (none, fills)) len_is are gains =
+    let nexts : List Call = Putting filled content ∷ left in
+    let first = gains_first left (Putting filled content) in (
+      nexts,
+      first,
+      put_fills_calls left calls nexts core run filled (fill_bytes call.fill) content fills len_is are gains
+          first,
+    )
+
+-- and holds its bytes.
+fills_stands : (setting : Setting) (last : Kept) (begun : List Kept) (map : Map) (left calls : List Call)
+    (commit : Option CommitRun) (state : CoreState) (call : ScriptCall) (run filled : PutRun) (content : List ℕ)
+    → IsFilledIn call run filled → content ≡ fill_bytes call.fill
+    → Stands setting last begun map calls commit state → Gains left calls (Putting run content)
+    → (nexts : List Call) × Gains left nexts (Putting filled content) × Stands setting last begun map nexts commit state
+fills_stands setting last begun map left calls commit state call run filled content (inl same) is stands gains =
+    (calls, subst (λ (r : PutRun). Gains left calls (Putting r content)) (sym same) gains, stands)
+fills_stands setting last begun map left calls commit state call run filled content (inr (none, fills)) is stands
+    gains =
+    let nexts : List Call = Putting filled content ∷ left in
+    let first = gains_first left (Putting filled content) in (
+      nexts,
+      first,
+      put_fills_stands setting last begun map left calls nexts commit state run filled content
+          (subst (FillsPut run filled) (sym is) fills) stands gains first,
+    )
+
+-- ---- how it ends
+
+-- A put is given up so.
+record IsGivenUp (old new : Core) (run : PutRun) (given : Answer) : Type 0 where
+  gives_up : GivesUp old new run
+  unstored : IsUnstored given
+  tells : TellsOut old given
+
+-- It is where too many devices are out,
+given_up_stopped : (old new : Core) (run : PutRun) (given : Answer) → IsStoppedPut old new run given
+    → IsGivenUp old new run given
+given_up_stopped old new run given stopped = record {
+  gives_up = stopped.gives_up;
+  unstored = subst IsUnstored (sym stopped.given_is) tt;
+  tells = subst (TellsOut old) (sym stopped.given_is) (tells_out old old.pool.out stopped.many refl);
+}
+
+-- and where memory is wanting to fill it in.
+given_up_turn : (old new : Core) (run : PutRun) (given : Answer) → GivesUpTurn old run new (Done given)
+    → IsGivenUp old new run given
+given_up_turn old new run answer.NoMemory is =
+    record { gives_up = is.1; unstored = tt; tells = λ listed told. absurd (other listed told) }
+  where
+    other : (listed : ℕ) → answer.NoMemory ≡ answer.TooManyFailed listed → ⊥
+    other listed told = cc
+given_up_turn old new run (answer.TooManyFailed out) is =
+    given_up_stopped old new run (answer.TooManyFailed out) is
+given_up_turn old new run other is = absurd is
+
+-- Once all is written, its block is stored or the put is given up.
+stored_or_given_up : (old new : Core) (run : PutRun) (given : Answer) → EndsPut old run new (Done given)
+    → ((given ≡ answer.Stored) × StoresBlock old new run) ⊎ IsGivenUp old new run given
+stored_or_given_up old new run answer.Stored is = inl (refl, is)
+stored_or_given_up old new run (answer.TooManyFailed out) is =
+    inr (given_up_stopped old new run (answer.TooManyFailed out) is)
+stored_or_given_up old new run other is = absurd is
+
+-- All of it was written.
+abbrev IsWhole : PutRun → Type 0
+IsWhole run = (filled : Filled) × (run.filled ≡ Some filled) × (filled.write.next ≡ length filled.write.writes)
+
+-- So it is whatever its last turn was.
+put_ended : (before after : CoreState) (call : ScriptCall) (run : PutRun) (given : Answer)
+    → (ends : EndsPutting before after call run given)
+    → ((given ≡ answer.Stored) × StoresBlock before.core after.core ends.filled × IsWhole ends.filled)
+    ⊎ IsGivenUp before.core after.core ends.filled given
+put_ended before after call run given ends = elim ends.ends [
+  | inl writes ↦ inr (given_up_stopped before.core after.core ends.filled given writes.0)
+  | inr (inl last) ↦ ⊎_elim
+      (λ stored. inl (stored.0, stored.1, (last.0, last.1, last.2)))
+      (λ given_up. inr given_up)
+      (stored_or_given_up before.core after.core ends.filled given last.3)
+  | inr (inr given_up) ↦ inr (subst (λ (r : PutRun). IsGivenUp before.core after.core r given) (sym given_up.1)
+      (given_up_turn before.core after.core run given given_up.2))
+]
+
+-- ---- a later turn
+
+module _ (script : Script) (actor : ℕ) (before after : Station) (clients news : List Client)
+    (takes : TakesTurn script actor before after clients news) (call : ScriptCall) (under : UnderWay) (run : PutRun)
+    (does_is : under.work ≡ work.Put run) (under_is : before.client.under_way ≡ Some under)
+    (is : slice_get (calls_of script actor) (before.client.begun - 1) ≡ Some call)
+    (goes : TurnGoesOn before.state after.state) where
+  abbrev old : Core
+  old = before.state.core
+
+  abbrev now : Core
+  now = after.state.core
+
+  going : AreGoing script old clients
+  going = takes.schedule.going
+
+  here : IsGoing clients actor before.client under
+  here = record { there = takes.was; under_way = under_is }
+
+  no_sync : IsSync under.work → ⊥
+  no_sync sync = put_no_sync under.work run does_is sync
+
+  was_no_sync : (its : Client) (its_under : UnderWay) → IsGoing clients actor its its_under → IsSync its_under.work → ⊥
+  was_no_sync its its_under its_going sync = no_sync (subst (λ (u : UnderWay). IsSync u.work)
+      (going_under clients actor before.client under takes.was under_is its its_under its_going) sync)
+
+  -- The script asks for it.
+  asked_for : IsWorkFor call (work.Put run)
+  asked_for =
+      let found = going.asked actor before.client under here in
+      subst (λ (c : ScriptCall). IsWorkFor c (work.Put run)) (some_is (sym found.1 ∙ is))
+      (subst (IsWorkFor found.0) does_is found.2)
+
+  among : IsAmong going.calls actor run
+  among = put_among clients going.calls actor before.client under run going.theirs takes.was under_is does_is
+
+  -- Filled in, it is among the calls still.
+  filled_calls : (filled : PutRun) → IsFilledIn call run filled
+      → (nexts : List Call) × Gains among.left nexts (Putting filled among.content) × AreCallsOf old nexts
+  filled_calls filled fills =
+      fills_calls among.left going.calls old call run filled among.content fills asked_for.2 going.are among.gains
+
+  -- With a world, the put has the bytes that the script hands it.
+  module _ (world : World) (origin : Disk) (runs : Runs world script origin before.state before.items clients) where
+    among_runs : IsAmong runs.calls actor run
+    among_runs = put_among clients runs.calls actor before.client under run runs.theirs takes.was under_is does_is
+
+    content_is : among_runs.content ≡ fill_bytes call.fill
+    content_is = (runs.each actor before.client under here).content call (Putting run among_runs.content) is
+        (gains_item among_runs.left runs.calls (Putting run among_runs.content) among_runs.gains) among_runs.its
+
+    filled_stands : (filled : PutRun) → IsFilledIn call run filled
+        → (nexts : List Call) × Gains among_runs.left nexts (Putting filled among_runs.content)
+        × Stands world.setting runs.last runs.begun (map_of world.handed world.opening before.items) nexts runs.commit
+        before.state
+    filled_stands filled fills = fills_stands world.setting runs.last runs.begun
+        (map_of world.handed world.opening before.items) among_runs.left runs.calls runs.commit before.state call run
+        filled among_runs.content fills content_is runs.stands among_runs.gains
+
+  -- It goes on by one write.
+  module _ (next : PutRun) (puts : GoesOnPutting before.state after.state call run next)
+      (leaves : LeavesGoing actor call before after under (More (work.Put next))) where
+    writes : WritesOne before.state puts.filled after.state next
+    writes = puts.writes
+
+    abbrev next_under : UnderWay
+    next_under = record { at = under.at; work = work.Put next }
+
+    next_under_is : after.client.under_way ≡ Some next_under
+    next_under_is = ap (λ (c : Client). c.under_way) leaves.1
+
+    begun_is : after.client.begun ≡ before.client.begun
+    begun_is = ap (λ (c : Client). c.begun) leaves.1
+
+    -- The put has its range, its length and its hold still.
+    same : puts.filled ≡ record run { filled = puts.filled.filled }
+    same = fills_same call run puts.filled puts.fills
+
+    still_its : run.hold.actor ≡ actor → next.hold.actor ≡ actor
+    still_its its = ap (λ (r : PutRun). r.hold.actor) writes.next_is ∙ ap (λ (r : PutRun). r.hold.actor) same ∙ its
+
+    range_is : next.range ≡ run.range
+    range_is = ap (λ (r : PutRun). r.range) writes.next_is ∙ ap (λ (r : PutRun). r.range) same
+
+    len_is : next.len ≡ run.len
+    len_is = ap (λ (r : PutRun). r.len) writes.next_is ∙ ap (λ (r : PutRun). r.len) same
+
+    next_asked : IsWorkFor call (work.Put next)
+    next_asked = (
+      asked_for.0,
+      asked_for.1 ∙ ap (λ (range : PutRange). Some range.id) (sym range_is),
+      asked_for.2 ∙ sym len_is,
+    )
+
+    commits_on : (commit : CommitRun) → IsCommitOf old commit → IsCommitOf now commit
+    commits_on commit of = subst (λ (core : Core). IsCommitOf core commit) (sym writes.rest) (record {
+      actor = of.actor;
+      under_way = of.under_way;
+      number = of.number;
+      uber_is = of.uber_is;
+      lists = λ device listed. goes.out.still device (of.lists device listed);
+    })
+
+    goes_going : AreGoing script now news
+    goes_going =
+        let filled = filled_calls puts.filled puts.fills in
+        let nexts : List Call = Putting next among.content ∷ among.left in
+        let first = gains_first among.left (Putting next among.content) in
+        going_goes script old now clients news actor before.client after.client takes.changes takes.was going
+        (ap (λ (core : Core). core.committing) writes.rest) commits_on (λ many. absurd (writes.few many)) was_no_sync
+        (λ its_under its_is. put_no_sync its_under.work next
+        (ap (λ (u : UnderWay). u.work) (some_is (sym its_is ∙ next_under_is))))
+        among.left nexts (Putting run among.content) (Putting next among.content) next_under call next_under_is
+        (ap (λ (begun : ℕ). slice_get (calls_of script actor) (begun - 1)) begun_is ∙ is) next_asked among.gains first
+        among.its (still_its among.its) refl
+        (put_writes_calls among.left filled.0 nexts before.state after.state puts.filled next among.content writes
+        filled.2 filled.1 first)
+
+    goes_runs : (world : World) (origin : Disk) → Runs world script origin before.state before.items clients
+        → Runs world script origin after.state before.items news
+    goes_runs world origin runs =
+        let mine = among_runs world origin runs in
+        let filled = filled_stands world origin runs puts.filled puts.fills in
+        let map = map_of world.handed world.opening before.items in
+        let nexts : List Call = Putting next mine.content ∷ mine.left in
+        let first = gains_first mine.left (Putting next mine.content) in
+        let since : GoesOnSince world runs.last runs.begun before.state.disk after.state.disk =
+        put_writes_since world.setting runs.last runs.begun map mine.left filled.0 before.state after.state puts.filled
+        next mine.content takes.is takes.lawful writes filled.1 runs.commit filled.2 in
+        runs_goes_on world script origin before.state after.state before.items clients news actor before.client
+        after.client takes.changes takes.was runs (ap (λ (core : Core). core.pool.uber) writes.rest) goes.later since
+        mine.left nexts (Putting run mine.content) (Putting next mine.content) under (work.Put next) under_is leaves.1
+        no_sync (λ sync. sync) mine.gains first mine.its (still_its mine.its) refl (λ asked has. has)
+        (put_writes_stands world.setting runs.last runs.begun map mine.left filled.0 before.state after.state
+        puts.filled next mine.content takes.is takes.lawful writes filled.1 runs.commit filled.2 nexts takes.is.step
+        takes.still_lawful first)
+
+    pub put_goes_on : Comes script before after clients news
+    put_goes_on =
+        let few = takes.schedule.answered.few actor before.client takes.was in
+        let some = takes.schedule.answered.some actor before.client under takes.was under_is in
+        comes_same script actor before after clients news takes goes goes_going leaves.0 (omega (arith, begun_is, few))
+        (λ its_under its_is. omega (arith, begun_is, some))
+        (answered_going after.client next_under next_under_is ∙ ap (λ (begun : ℕ). begun - 1) begun_is
+        ∙ sym (answered_going before.client under under_is))
+        (λ world origin handed runs. goes_runs world origin runs)
+
+  -- the entry of its answer
+  abbrev entry : Answer → Entry
+  entry given = entry_for call actor before.client.begun under.at given
+
+  -- It ends, and its entry alone is listed.
+  module _ (given : Answer) (disk : after.state.disk ≡ before.state.disk) (change : Rearranges old now)
+      (plain : IsPlain given) (answers : IsAnswerOf kind.Put given) (tells : TellsOut old given)
+      (leaves : LeavesGoing actor call before after under (Done given)) where
+    ended : after.client.under_way ≡ None
+    ended = ap (λ (c : Client). c.under_way) leaves.1
+
+    ends_with : after.items ≡ before.items ++ CallItem (entry given) ∷ [] → AreCallsOf now among.left
+        → ((world : World) (origin : Disk) → world.handed ≡ handed_by script
+        → (runs : Runs world script origin before.state before.items clients)
+        → Stands world.setting runs.last runs.begun
+        (map_after_answer world.handed (map_of world.handed world.opening before.items) (entry given) given)
+        (among_runs world origin runs).left runs.commit after.state)
+        → Comes script before after clients news
+    ends_with listed are stands =
+        let some = takes.schedule.answered.some actor before.client under takes.was under_is in
+        let count = answered_going before.client under under_is in
+        comes_answered script actor before after clients news takes goes
+        (going_ends script old now clients news actor before.client after.client takes.changes takes.was going
+        (rearranged_committing old now change) (rearranged_commits old now change) (rearranged_many old now change)
+        was_no_sync (λ its_under its_is. absurd (none_some (sym ended ∙ its_is))) among.left
+        (Putting run among.content) ended among.gains among.its are)
+        call before.client.begun under.at given (omega (arith, count, some))
+        (ap (slice_get (calls_of script actor)) count ∙ is) listed leaves.1 tells
+        (λ world origin handed runs.
+        let mine = among_runs world origin runs in
+        runs_ends world script origin before.state after.state before.items clients news actor before.client
+        after.client takes.changes takes.was runs (entry given) refl ended (rearranged_uber old now change) disk
+        (stands_knows world.setting runs.last runs.begun runs.calls runs.commit before.state runs.stands.groups)
+        (put_right world before.items (entry given) asked_for.0 plain)
+        (subst (λ (k : Kind). IsAnswerOf k given) (sym asked_for.0) answers)
+        mine.left (Putting run mine.content) under under_is no_sync mine.gains mine.its
+        (stands world origin handed runs))
+
+  module _ (given : Answer) (leaves : LeavesGoing actor call before after under (Done given))
+      (disk : after.state.disk ≡ before.state.disk) (filled : PutRun) (fills : IsFilledIn call run filled) where
+    -- Its block is stored: the map has the bytes that the script hands it.
+    put_stored : given ≡ answer.Stored → StoresBlock old now filled → IsWhole filled
+        → Comes script before after clients news
+    put_stored given_is stores whole =
+        let among_filled = filled_calls filled fills in
+        ends_with given disk (ends_rearranges old now filled stores) (subst IsPlain (sym given_is) tt)
+        (subst (IsAnswerOf kind.Put) (sym given_is) refl)
+        (λ listed told. absurd (apart listed (sym given_is ∙ told))) leaves
+        (leaves.0 ∙ subst (λ (a : Answer). listed_for old before.items under.at (entry given) a
+        ≡ before.items ++ CallItem (entry given) ∷ []) (sym given_is) refl)
+        (put_ends_calls among.left among_filled.0 old now filled among.content stores among_filled.2 among_filled.1)
+        (λ world origin handed runs.
+        let mine = among_runs world origin runs in
+        let filled_in = filled_stands world origin runs filled fills in
+        let map = map_of world.handed world.opening before.items in
+        subst (λ (m : Map). Stands world.setting runs.last runs.begun m mine.left runs.commit after.state)
+        (sym (map_is world handed map mine.content (content_is world origin runs)))
+        (subst (λ (d : Disk). Stands world.setting runs.last runs.begun
+        (with_block map (Some filled.range.id) (Some mine.content)) mine.left runs.commit (at_disk now d)) (sym disk)
+        (put_ends_stands world.setting runs.last runs.begun map mine.left filled_in.0 runs.commit old now
+        before.state.disk filled mine.content takes.is takes.is.step stores whole filled_in.2 filled_in.1)))
+      where
+        apart : (listed : ℕ) → answer.Stored ≡ answer.TooManyFailed listed → ⊥
+        apart listed told = cc
+
+        id_is : call.id ≡ Some filled.range.id
+        id_is = asked_for.1 ∙ ap (λ (r : PutRun). Some r.range.id) (sym (fills_same call run filled fills))
+
+        bytes_are : (world : World) → world.handed ≡ handed_by script
+            → world.handed actor before.client.begun ≡ fill_bytes call.fill
+        bytes_are world handed = ap (λ (h : Handed). h actor before.client.begun) handed
+            ∙ ap (λ (asked : Option ScriptCall). unwrap_or (option_map (λ asked. fill_bytes asked.fill) asked) []) is
+
+        map_is : (world : World) → world.handed ≡ handed_by script → (map : Map) (content : List ℕ)
+            → content ≡ fill_bytes call.fill
+            → map_after_answer world.handed map (entry given) given
+            ≡ with_block map (Some filled.range.id) (Some content)
+        map_is world handed map content same = ap (map_after_answer world.handed map (entry given)) given_is
+            ∙ (λ i. with_block map (id_is i) (Some ((bytes_are world handed ∙ sym same) i)))
+
+    -- It is given up: too many devices are out, or memory is wanting.
+    put_given_up : IsGivenUp old now filled given → Comes script before after clients news
+    put_given_up given_up =
+        let among_filled = filled_calls filled fills in
+        ends_with given disk (gives_up_rearranges old now filled given_up.gives_up)
+        (unstored_plain given given_up.unstored) (unstored_answers given given_up.unstored) given_up.tells leaves
+        (leaves.0 ∙ unstored_listed old before.items under.at (entry given) given given_up.unstored)
+        (put_gives_up_calls among.left among_filled.0 old now filled among.content given_up.gives_up among_filled.2
+        among_filled.1)
+        (λ world origin handed runs.
+        let mine = among_runs world origin runs in
+        let filled_in = filled_stands world origin runs filled fills in
+        let map = map_of world.handed world.opening before.items in
+        subst (λ (m : Map). Stands world.setting runs.last runs.begun m mine.left runs.commit after.state)
+        (sym (unstored_map world.handed map (entry given) given given_up.unstored))
+        (subst (λ (d : Disk). Stands world.setting runs.last runs.begun map mine.left runs.commit (at_disk now d))
+        (sym disk)
+        (put_gives_up_stands world.setting runs.last runs.begun map mine.left filled_in.0 runs.commit old now
+        before.state.disk filled mine.content given_up.gives_up filled_in.2 filled_in.1)))
+
+  -- It ends: its block is stored, or it is given up.
+  pub put_ends : (given : Answer) → EndsPutting before.state after.state call run given
+      → LeavesGoing actor call before after under (Done given)
+      → Comes script before after clients news
+  put_ends given ends leaves = ⊎_elim
+      (λ stored. put_stored given leaves ends.disk ends.filled ends.fills stored.0 stored.1 stored.2)
+      (λ given_up. put_given_up given leaves ends.disk ends.filled ends.fills given_up)
+      (put_ended before.state after.state call run given ends)

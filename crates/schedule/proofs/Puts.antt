@@ -1,0 +1,208 @@
+-- A client's put among the calls under way, what its turns leave of the core, and what its answers mean.
+use Rattle.std.proofs.Common.{◌≡◌, ℕ, List, [], ◌∷◌, ◌++◌, Some, refl, sym, ◌∙◌, ap, subst}
+use Rattle.std.specs.Prelude.{Contains, slice_get, ⊤}
+use Rattle.bank_trait.specs.Disk.{Disk}
+use Rattle.space_alloc.specs.Space.{Gains}
+use Rattle.core_state.specs.declared.answer.Answer.{Answer}
+use Rattle.core_state.specs.declared.answer.Answer.TheVariants as answer
+use Rattle.core_state.specs.declared.answer.Kind.TheVariants as kind
+use Rattle.core_state.specs.declared.item.Entry.{Entry}
+use Rattle.core_state.specs.declared.item.Item.{Item}
+use Rattle.core_state.specs.declared.item.Item.TheVariants.{Call as CallItem}
+use Rattle.core_state.specs.Map.{Map, Handed, map_after_answer}
+use Rattle.core_state.specs.Legal.{IsAnswerOf}
+use Rattle.core_blocks.proofs.Usage.{adds_none}
+use Rattle.core_commit.specs.CommitTurns.{CommitRun}
+use Rattle.core_turns.specs.declared.putting.PutRun.{PutRun}
+use Rattle.core_turns.specs.Core.{Core, CoreState, at_disk}
+use Rattle.core_turns.specs.Getting.{HasTooManyOut}
+use Rattle.core_turns.specs.Putting.{IsPutRefused, LeavesBlocks}
+use Rattle.core_turns.specs.Committing.{IsCommitOf}
+use Rattle.core_turns.specs.UnderWay.{Call, Putting, Reading, TurnGoesOn}
+use Rattle.core_turns.proofs.Commits.{turn_nowhere}
+use Rattle.core_turns.proofs.PutCalls.{Rearranges}
+use Rattle.schedule.specs.declared.client.Client.{Client}
+use Rattle.schedule.specs.declared.client.UnderWay.{UnderWay}
+use Rattle.schedule.specs.declared.client.Work.{Work}
+use Rattle.schedule.specs.declared.client.Work.TheVariants as work
+use Rattle.schedule.specs.Running.{IsWorkOf, IsSync, AreTheirs}
+use Rattle.schedule.specs.Turned.{listed_for}
+use Rattle.schedule.proofs.RightNext.{IsPlain}
+use Rattle.schedule.proofs.Theirs.{actor_of}
+use Rattle.schedule.proofs.TurnComes.{gained}
+
+-- ---- among the calls under way
+
+-- a put is no sync
+pub put_no_sync : (does : Work) (run : PutRun) → does ≡ work.Put run → IsSync does → ⊥
+put_no_sync does run is sync = subst IsSync is sync
+
+-- A client's put stands among the calls under way, with some bytes.
+pub record IsAmong (calls : List Call) (actor : ℕ) (run : PutRun) : Type 0 where
+  pub content : List ℕ
+  pub left : List Call
+  pub gains : Gains left calls (Putting run content)
+  pub its : run.hold.actor ≡ actor
+
+-- A put's work is that of a put among the calls.
+put_is : (run : PutRun) (call : Call) → IsWorkOf (work.Put run) call
+    → (content : List ℕ) × (call ≡ Putting run content)
+put_is run (Putting other content) same = (content, ap (λ (r : PutRun). Putting r content) (sym same))
+put_is run (Reading other content) of = absurd of
+
+-- Each client's put does.
+pub put_among : (clients : List Client) (calls : List Call) (actor : ℕ) (client : Client) (under : UnderWay)
+    (run : PutRun) → AreTheirs clients calls → slice_get clients actor ≡ Some client → client.under_way ≡ Some under
+    → under.work ≡ work.Put run → IsAmong calls actor run
+put_among clients calls actor client under run theirs was going does_is =
+    let found = theirs.every actor client under (record { there = was; under_way = going })
+    (put_no_sync under.work run does_is) in
+    let is = put_is run found.0 (subst (λ (w : Work). IsWorkOf w found.0) does_is found.2) in
+    let split = gained (Putting run is.0) calls (subst (Contains calls) is.1 found.1) in record {
+      content = is.0;
+      left = split.0;
+      gains = split.1;
+      its = sym (ap actor_of is.1) ∙ found.3;
+    }
+
+-- ---- turns that call no device
+
+-- Where only blocks and holds are others, all else of the core goes on.
+module _ (old new : Core) (change : Rearranges old new) where
+  pub rearranged_uber : new.pool.uber ≡ old.pool.uber
+  rearranged_uber = ap (λ (core : Core). core.pool.uber) change.rest
+
+  pub rearranged_committing : new.committing ≡ old.committing
+  rearranged_committing = ap (λ (core : Core). core.committing) change.rest
+
+  pub rearranged_commits : (run : CommitRun) → IsCommitOf old run → IsCommitOf new run
+  rearranged_commits run of = subst (λ (core : Core). IsCommitOf core run) (sym change.rest) (record {
+    actor = of.actor;
+    under_way = of.under_way;
+    number = of.number;
+    uber_is = of.uber_is;
+    lists = of.lists;
+  })
+
+  pub rearranged_many : HasTooManyOut old → HasTooManyOut new
+  rearranged_many many = subst HasTooManyOut (sym change.rest) many
+
+-- Such a turn calls no device.
+pub rearranged_goes : (before after : CoreState) → Rearranges before.core after.core → after.disk ≡ before.disk
+    → TurnGoesOn before after
+rearranged_goes before after change disk =
+    let blocks = after.core.pool.blocks in
+    let holds = after.core.holds in
+    let still = turn_nowhere before in
+    subst (λ (core : Core). TurnGoesOn before (at_disk core after.disk)) (sym change.rest)
+    (subst (λ (d : Disk). TurnGoesOn before
+    (at_disk (record before.core { pool = record before.core.pool { blocks = blocks }; holds = holds }) d)) (sym disk)
+    (record {
+      parity = still.parity;
+      widths = still.widths;
+      births = still.births;
+      later = still.later;
+      out = still.out;
+      only = still.only;
+    }))
+
+-- ---- answers
+
+-- Another answer than that the block is stored.
+abbrev pub IsUnstored : Answer → Type 0
+IsUnstored (answer.TooManyFailed out) = ⊤
+IsUnstored answer.NoMemory = ⊤
+IsUnstored answer.Full = ⊤
+IsUnstored (answer.NoSpace sectors) = ⊤
+IsUnstored other = ⊥
+
+-- It tells neither of damage nor of a limit,
+pub unstored_plain : (given : Answer) → IsUnstored given → IsPlain given
+unstored_plain (answer.TooManyFailed out) unstored = tt
+unstored_plain answer.NoMemory unstored = tt
+unstored_plain answer.Full unstored = tt
+unstored_plain (answer.NoSpace sectors) unstored = tt
+unstored_plain other unstored = absurd unstored
+
+-- is an answer for puts,
+pub unstored_answers : (given : Answer) → IsUnstored given → IsAnswerOf kind.Put given
+unstored_answers (answer.TooManyFailed out) unstored = tt
+unstored_answers answer.NoMemory unstored = tt
+unstored_answers answer.Full unstored = refl
+unstored_answers (answer.NoSpace sectors) unstored = refl
+unstored_answers other unstored = absurd unstored
+
+-- changes no map,
+pub unstored_map : (handed : Handed) (map : Map) (entry : Entry) (given : Answer) → IsUnstored given
+    → map_after_answer handed map entry given ≡ map
+unstored_map handed map entry (answer.TooManyFailed out) unstored = refl
+unstored_map handed map entry answer.NoMemory unstored = refl
+unstored_map handed map entry answer.Full unstored = refl
+unstored_map handed map entry (answer.NoSpace sectors) unstored = refl
+unstored_map handed map entry other unstored = absurd unstored
+
+-- and its entry alone is listed.
+pub unstored_listed : (core : Core) (items : List Item) (at : ℕ) (entry : Entry) (given : Answer) → IsUnstored given
+    → listed_for core items at entry given ≡ items ++ CallItem entry ∷ []
+unstored_listed core items at entry (answer.TooManyFailed out) unstored = refl
+unstored_listed core items at entry answer.NoMemory unstored = refl
+unstored_listed core items at entry answer.Full unstored = refl
+unstored_listed core items at entry (answer.NoSpace sectors) unstored = refl
+unstored_listed core items at entry other unstored = absurd unstored
+
+-- Where it tells of too many devices, it lists those that are out.
+abbrev pub TellsOut : Core → Answer → Type 0
+TellsOut core given = (listed : ℕ) → given ≡ answer.TooManyFailed listed
+    → HasTooManyOut core × (listed ≡ core.pool.out)
+
+-- So it is where the call says what is out.
+pub tells_out : (core : Core) (out : ℕ) → HasTooManyOut core → out ≡ core.pool.out
+    → TellsOut core (answer.TooManyFailed out)
+tells_out core out many out_is listed is = (many, same is ∙ out_is)
+  where
+    same : answer.TooManyFailed out ≡ answer.TooManyFailed listed → listed ≡ out
+    same is = cc
+
+-- A put is refused: the blocks are left, and its block is not stored.
+pub record Refuses (old new : Core) (given : Answer) : Type 0 where
+  pub leaves : LeavesBlocks old new
+  pub unstored : IsUnstored given
+  pub tells : TellsOut old given
+
+-- Where too many devices are out, all is as it was,
+leaves_same : (old new : Core) → new ≡ old → LeavesBlocks old new
+leaves_same old new same = subst (LeavesBlocks old) (sym same) (record {
+  rest = refl;
+  parity = refl;
+  births = refl;
+  entries = refl;
+  capacity = refl;
+  adds = adds_none old.pool.blocks.space old.pool.blocks.space refl;
+  under = λ ranges under. under;
+  kept = λ past kept none. none;
+})
+
+-- and so a put is refused, whatever its first turn answers.
+pub put_refused : (old new : Core) (id len : ℕ) (given : Answer) → IsPutRefused old new id len given
+    → Refuses old new given
+put_refused old new id len (answer.TooManyFailed out) is = record {
+  leaves = leaves_same old new is.2;
+  unstored = tt;
+  tells = tells_out old out is.0 is.1;
+}
+put_refused old new id len answer.Full is =
+    record { leaves = is.2; unstored = tt; tells = λ listed told. absurd (other listed told) }
+  where
+    other : (listed : ℕ) → answer.Full ≡ answer.TooManyFailed listed → ⊥
+    other listed told = cc
+put_refused old new id len (answer.NoSpace sectors) is =
+    record { leaves = is.3; unstored = tt; tells = λ listed told. absurd (other listed told) }
+  where
+    other : (listed : ℕ) → answer.NoSpace sectors ≡ answer.TooManyFailed listed → ⊥
+    other listed told = cc
+put_refused old new id len answer.NoMemory is =
+    record { leaves = is.1; unstored = tt; tells = λ listed told. absurd (other listed told) }
+  where
+    other : (listed : ℕ) → answer.NoMemory ≡ answer.TooManyFailed listed → ⊥
+    other listed told = cc
+put_refused old new id len other is = absurd is

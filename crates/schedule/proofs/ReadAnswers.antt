@@ -1,0 +1,214 @@
+-- What reads are answered, and what their end leaves.
+use Rattle.std.proofs.Common.{◌≡◌, inl, inr, ⊎_elim, ℕ, ◌≤◌, List, [], ◌∷◌, ◌++◌, length, Option, Some, None, refl, sym, ◌∙◌, ap, subst, arith}
+use Rattle.std.specs.Prelude.{option_and_then}
+use Rattle.std.proofs.lemmas.Bool.{cases_lt}
+use Rattle.bank_trait.specs.Disk.{Disk}
+use Rattle.row_layout.specs.Layout.{rows_of}
+use Rattle.space_alloc.specs.Space.{Gains}
+use Rattle.uberblock_ring.specs.Devices.{count_of}
+use Rattle.core_state.specs.declared.answer.Answer.{Answer}
+use Rattle.core_state.specs.declared.answer.Answer.TheVariants as answer
+use Rattle.core_state.specs.declared.answer.Kind.{Kind}
+use Rattle.core_state.specs.declared.answer.Kind.TheVariants as kind
+use Rattle.core_state.specs.declared.item.Entry.{Entry}
+use Rattle.core_state.specs.declared.item.Item.{Item}
+use Rattle.core_state.specs.declared.item.Item.TheVariants.{Call as CallItem}
+use Rattle.core_state.specs.Map.{Map, Handed, map_after, map_after_answer}
+use Rattle.core_state.specs.Legal.{IsAnswerOf}
+use Rattle.core_state.specs.Keeps.{Kept, Setting}
+use Rattle.core_state.specs.CoreState.{World}
+use Rattle.core_commit.specs.CommitTurns.{CommitRun}
+use Rattle.core_serial.specs.Getting.{IsReadRight}
+use Rattle.client_script.specs.declared.call.ScriptCall.{ScriptCall}
+use Rattle.serial_run.specs.Steps.{point_after, read_point}
+use Rattle.core_turns.specs.declared.getting.GetRun.{GetRun}
+use Rattle.core_turns.specs.declared.getting.Solved.{Solved}
+use Rattle.core_turns.specs.declared.getting.Solved.TheVariants.{NotYet, Bytes, Damaged}
+use Rattle.core_turns.specs.declared.turn.Turn.TheVariants.{Done}
+use Rattle.core_turns.specs.Core.{Core, CoreState, at_disk}
+use Rattle.core_turns.specs.Getting.{IsRead, HasTooManyOut, IsGetRefused, ReadsTurn, SolvesGet, AnswersSolved, EndsGet, answer_of}
+use Rattle.core_turns.specs.UnderWay.{Call, Reading, AreCallsOf, Stands}
+use Rattle.core_turns.proofs.GetStands.{get_solves_calls, get_stops_calls, get_ends_calls, get_solves_stands, get_stops_stands, get_ends_stands}
+use Rattle.schedule.specs.Recorded.{IsRightNext, AllBelow}
+use Rattle.schedule.specs.Turned.{EndsReading, entry_for, listed_for}
+use Rattle.schedule.proofs.RightNext.{read_right, read_cut_right}
+use Rattle.schedule.proofs.ComesBy.{LeavesPool, leaves_pool, gains_first}
+
+-- ---- answers
+
+-- A read may be told that its block is absent,
+absent_of : (asked : Kind) → IsRead asked → IsAnswerOf asked answer.Absent
+absent_of kind.Get is = inl refl
+absent_of kind.Sum is = inr (inl refl)
+absent_of other is = absurd is
+
+-- or damaged.
+damaged_of : (asked : Kind) → IsRead asked → IsAnswerOf asked answer.Damaged
+damaged_of kind.Get is = inl refl
+damaged_of kind.Sum is = inr refl
+damaged_of other is = absurd is
+
+-- the point that a read's answer speaks of
+point_read : (asked : Kind) (at : ℕ) (given : Answer) → IsRead asked → point_after asked at given ≡ read_point at given
+point_read kind.Get at given is = refl
+point_read kind.Sum at given is = refl
+point_read other at given is = absurd is
+
+-- An answer to a read makes no group,
+pub listed_read : (core : Core) (items : List Item) (at : ℕ) (entry : Entry) (asked : Kind) (given : Answer)
+    → IsRead asked → IsAnswerOf asked given → listed_for core items at entry given ≡ items ++ CallItem entry ∷ []
+listed_read core items at entry asked (answer.Synced group) is of = absurd (subst IsRead of is)
+listed_read core items at entry asked other is of = refl
+
+-- and leaves the map.
+pub map_read : (handed : Handed) (map : Map) (entry : Entry) (asked : Kind) (given : Answer) → IsRead asked
+    → IsAnswerOf asked given → map_after_answer handed map entry given ≡ map
+map_read handed map entry asked answer.Stored is of = absurd (subst IsRead of is)
+map_read handed map entry asked answer.Freed is of = absurd (subst IsRead of is)
+map_read handed map entry asked other is of = refl
+
+-- An answer to a read that began after some of the items, all of its caller's among them, is right where it tells of
+-- the map of that time, or was cut short.
+pub right_read : (world : World) (items : List Item) (call : ScriptCall) (actor number at : ℕ) (given : Answer)
+    → IsRead call.kind → 1 ≤ at → at ≤ length items → AllBelow items actor at
+    → IsReadRight (option_and_then (map_after world.handed world.opening items at) call.id) call.kind given
+    → IsRightNext world items (entry_for call actor number at given)
+right_read world items call actor number at (answer.TooManyFailed out) is some within below right =
+    read_cut_right world items (entry_for call actor number at (answer.TooManyFailed out)) is
+    (point_read call.kind at (answer.TooManyFailed out) is) tt
+right_read world items call actor number at answer.NoMemory is some within below right =
+    read_cut_right world items (entry_for call actor number at answer.NoMemory) is
+    (point_read call.kind at answer.NoMemory is) tt
+right_read world items call actor number at answer.Damaged is some within below right = absurd right
+right_read world items call actor number at other is some within below right =
+    read_right world items (entry_for call actor number at other) at is (point_read call.kind at other is) some within
+    below right
+
+-- Why a read was refused is an answer to it,
+pub refused_of : (core : Core) (id : ℕ) (asked : Kind) (given : Answer) → IsRead asked → IsGetRefused core id given
+    → IsAnswerOf asked given
+refused_of core id asked (answer.TooManyFailed out) is refused = tt
+refused_of core id asked answer.Absent is refused = absent_of asked is
+refused_of core id asked answer.NoMemory is refused = tt
+refused_of core id asked other is refused = absurd refused
+
+-- and right, whatever the map has, where that has nothing at the id if it says so.
+pub refused_right : (core : Core) (id : ℕ) (held : Option (List ℕ)) (asked : Kind) (given : Answer)
+    → (given ≡ answer.Absent → held ≡ None) → IsGetRefused core id given → IsReadRight held asked given
+refused_right core id held asked (answer.TooManyFailed out) none refused = tt
+refused_right core id held asked answer.Absent none refused =
+    subst (λ (h : Option (List ℕ)). IsReadRight h asked answer.Absent) (sym (none refl)) refl
+refused_right core id held asked answer.NoMemory none refused = tt
+refused_right core id held asked other none refused = absurd refused
+
+-- What was solved is answered so, and never that too many devices are out.
+solved_of : (run : GetRun) (solved : Solved) (given : Answer) → IsRead run.kind → AnswersSolved run solved given
+    → IsAnswerOf run.kind given × ((out : ℕ) → given ≡ answer.TooManyFailed out → ⊥)
+solved_of run solved given is answers = by solved answers
+  where
+    Tells : Kind → Answer → Type 0
+    Tells asked told = IsAnswerOf asked told × ((out : ℕ) → told ≡ answer.TooManyFailed out → ⊥)
+
+    block : (asked : Kind) (bytes : List ℕ) → IsRead asked → Tells asked (answer_of asked run.entry bytes)
+    block kind.Get bytes asked = (refl, λ out same. cc)
+    block kind.Sum bytes asked = (refl, λ out same. cc)
+    block other bytes asked = absurd asked
+
+    by : (solved : Solved) → AnswersSolved run solved given → Tells run.kind given
+    by NotYet told = subst (Tells run.kind) (sym told) (tt, λ out same. cc)
+    by (Bytes bytes) told = subst (Tells run.kind) (sym told) (block run.kind bytes is)
+    by Damaged told = subst (Tells run.kind) (sym told) (damaged_of run.kind is, λ out same. cc)
+
+-- ---- the end of a read
+
+-- What a read's end leaves: the pool, the other calls, and all that stands; and what it is answered.
+pub record EndsRead (before after : CoreState) (run : GetRun) (given : Answer) : Type 0 where
+  pub leaves : LeavesPool before.core after.core
+  pub answer_is : IsAnswerOf run.kind given
+  pub too_many : (out : ℕ) → given ≡ answer.TooManyFailed out → HasTooManyOut before.core × (out ≡ before.core.pool.out)
+  pub calls : (content : List ℕ) (left calls : List Call) → Gains left calls (Reading run content)
+      → AreCallsOf before.core calls → AreCallsOf after.core left
+  pub stands : (setting : Setting) (last : Kept) (begun : List Kept) (map : Map) (commit : Option CommitRun)
+      (content : List ℕ) (left calls : List Call) → Gains left calls (Reading run content)
+      → Stands setting last begun map calls commit before
+      → Stands setting last begun map left commit after × IsReadRight (Some content) run.kind given
+
+-- Two answers that are one list the same devices.
+same_out : {one other : ℕ} → answer.TooManyFailed one ≡ answer.TooManyFailed other → one ≡ other
+same_out same = cc
+
+-- Too many devices are out,
+stopped_ends : (before after : CoreState) (run : GetRun) (given : Answer) → ReadsTurn before run after (Done given)
+    → EndsRead before after run given
+stopped_ends before after run given stops = record {
+  leaves = leaves_pool before.core after.core before.core.pool.blocks after.core.holds stops.0.rest;
+  answer_is = subst (IsAnswerOf run.kind) (sym stops.0.given_is) tt;
+  too_many = λ out tells. (stops.0.many, same_out (sym tells ∙ stops.0.given_is));
+  calls = λ content left calls gains are. get_stops_calls before after run content given left calls stops gains are;
+  stands = λ setting last begun map commit content left calls gains stands. (
+    get_stops_stands setting last begun map commit before after run content given left calls stops gains stands,
+    subst (IsReadRight (Some content) run.kind) (sym stops.0.given_is) tt,
+  );
+}
+
+-- or it is answered as it was solved,
+answered_ends : (before after : CoreState) (run : GetRun) (given : Answer) → IsRead run.kind
+    → EndsGet before.core run after.core (Done given) → after.disk ≡ before.disk → EndsRead before after run given
+answered_ends before after run given is ends disk = record {
+  leaves = leaves_pool before.core after.core before.core.pool.blocks after.core.holds ends.rest;
+  answer_is = ⊎_elim
+      (λ many. subst (IsAnswerOf run.kind) (sym (ends.too_many many)) tt)
+      (λ low. (solved_of run run.solved given is (ends.solved (few low))).0)
+      (cases_lt before.core.pool.uber.parity (count_of before.core.pool.out));
+  too_many = λ out tells. ⊎_elim
+      (λ many. (many, same_out (sym tells ∙ ends.too_many many)))
+      (λ low. absurd ((solved_of run run.solved given is (ends.solved (few low))).1 out tells))
+      (cases_lt before.core.pool.uber.parity (count_of before.core.pool.out));
+  calls = λ content left calls gains are.
+      get_ends_calls before.core after.core run content given left calls ends gains are;
+  stands = λ setting last begun map commit content left calls gains stands.
+      let done = get_ends_stands setting last begun map commit before.core after.core before.disk run content given left
+      calls ends gains stands in (
+        subst (λ (d : Disk). Stands setting last begun map left commit (at_disk after.core d)) (sym disk) done.0,
+        done.1,
+      );
+}
+  where
+    few : count_of before.core.pool.out ≤ before.core.pool.uber.parity → HasTooManyOut before.core → ⊥
+    few low many = omega (arith, low, many)
+
+-- where it may be solved just then.
+solved_ends : (before after : CoreState) (run solved : GetRun) (given : Answer) → SolvesGet run solved
+    → run.read.row ≡ rows_of run.read.layout → EndsRead before after solved given → EndsRead before after run given
+solved_ends before after run solved given solves whole ends = record {
+  leaves = ends.leaves;
+  answer_is = subst (λ (k : Kind). IsAnswerOf k given) same_kind ends.answer_is;
+  too_many = ends.too_many;
+  calls = λ content left calls gains are.
+      ends.calls content left (Reading solved content ∷ left) (gains_first (Reading solved content) left)
+      (get_solves_calls before.core run solved content left calls (Reading solved content ∷ left) solves gains
+      (gains_first (Reading solved content) left) are);
+  stands = λ setting last begun map commit content left calls gains stands.
+      let done = ends.stands setting last begun map commit content left (Reading solved content ∷ left)
+      (gains_first (Reading solved content) left)
+      (get_solves_stands setting last begun map commit before run solved content left calls
+      (Reading solved content ∷ left) solves whole gains (gains_first (Reading solved content) left) stands) in
+      (done.0, subst (λ (k : Kind). IsReadRight (Some content) k given) same_kind done.1);
+}
+  where
+    same_kind : solved.kind ≡ run.kind
+    same_kind = ap (λ (r : GetRun). r.kind) solves.rest
+
+-- However it ends.
+pub read_ends_so : (before after : CoreState) (run : GetRun) (given : Answer) → IsRead run.kind
+    → EndsReading before after run given → EndsRead before after run given
+read_ends_so before after run given is ending = elim ending.ends [
+  | inl stops ↦ stopped_ends before after run given stops
+  | inr ended ↦ ⊎_elim
+      (λ same. answered_ends before after run given is
+      (subst (λ (r : GetRun). EndsGet before.core r after.core (Done given)) same ended.3) ending.disk)
+      (λ solves. solved_ends before after run ended.0 given solves ended.2
+      (answered_ends before after ended.0 given
+      (subst IsRead (sym (ap (λ (r : GetRun). r.kind) solves.rest)) is) ended.3 ending.disk))
+      ended.1
+]

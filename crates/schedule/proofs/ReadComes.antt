@@ -1,0 +1,357 @@
+-- What the turns of reads come to.
+use Rattle.std.proofs.Common.{◌≡◌, ◌≢◌, ℕ, ◌+◌, ◌-◌, List, [], ◌∷◌, ◌++◌, length, Option, Some, None, refl, sym, ◌∙◌, ap, subst, arith}
+use Rattle.std.specs.Prelude.{Contains, slice_get, option_and_then}
+use Rattle.std.proofs.lemmas.Option.{slice_get_within}
+use Rattle.bank_trait.specs.Disk.{Disk}
+use Rattle.range_locks.specs.declared.hold.Hold.{Hold}
+use Rattle.space_alloc.specs.Space.{Gains}
+use Rattle.core_state.specs.declared.answer.Answer.{Answer}
+use Rattle.core_state.specs.declared.answer.Answer.TheVariants as answer
+use Rattle.core_state.specs.declared.answer.Kind.{Kind}
+use Rattle.core_state.specs.declared.item.Entry.{Entry}
+use Rattle.core_state.specs.declared.item.Item.TheVariants.{Call as CallItem}
+use Rattle.core_state.specs.Map.{Map, map_of, map_after}
+use Rattle.core_state.specs.Legal.{IsAnswerOf}
+use Rattle.core_blocks.proofs.Listed.{found_id}
+use Rattle.core_blocks.proofs.Lists.{gains_item}
+use Rattle.core_serial.specs.Getting.{IsReadRight}
+use Rattle.client_script.specs.declared.call.ScriptCall.{ScriptCall}
+use Rattle.client_script.specs.Script.{Script, calls_of}
+use Rattle.serial_run.proofs.Grown.{map_at_end}
+use Rattle.core_turns.specs.declared.getting.GetRun.{GetRun}
+use Rattle.core_turns.specs.declared.turn.Turn.TheVariants.{More, Busy, Done}
+use Rattle.core_turns.specs.Core.{Core, at_disk}
+use Rattle.core_turns.specs.Getting.{IsRead, IsGetRefused, BeginsGet}
+use Rattle.core_turns.specs.UnderWay.{Call, Putting, Reading, AreCallsOf, Stands, TurnGoesOn}
+use Rattle.core_turns.proofs.Frames.{since_read}
+use Rattle.core_turns.proofs.GetLaws.{get_finds}
+use Rattle.core_turns.proofs.GetStands.{get_begins_calls, get_reads_calls, get_begins_stands, get_reads_stands}
+use Rattle.core_turns.proofs.GetTurns.{reads_uber}
+use Rattle.schedule.specs.declared.client.Client.{Client}
+use Rattle.schedule.specs.declared.client.UnderWay.{UnderWay}
+use Rattle.schedule.specs.declared.client.Work.{Work}
+use Rattle.schedule.specs.declared.client.Work.TheVariants as work
+use Rattle.schedule.specs.Running.{AreGoing, IsGoing, IsWorkOf, IsSync, IsWorkFor, AreTheirs}
+use Rattle.schedule.specs.Turned.{Station, GoesOnReading, EndsReading, LeavesBegun, LeavesGoing, entry_for}
+use Rattle.schedule.specs.Comes.{TakesTurn, Comes}
+use Rattle.schedule.proofs.Answered.{answered}
+use Rattle.schedule.proofs.Below.{below_end}
+use Rattle.schedule.proofs.Theirs.{actor_of, some_is, none_some}
+use Rattle.schedule.proofs.Going.{goes, begins as going_begins, ends as going_ends}
+use Rattle.schedule.proofs.TurnRuns.{goes_on, begins as runs_begins, ends as runs_ends}
+use Rattle.schedule.proofs.ReadAnswers.{EndsRead, listed_read, map_read, right_read, refused_of, refused_right, read_ends_so}
+use Rattle.schedule.proofs.ComesBy.{LeavesPool, gains_first, gains_of, leaves_pool, commit_still, leaves_commit, leaves_many, turn_still, stands_knows, its_own, none_of_its, answered_idle, answered_going, RunsOn, first_entry, comes_nowhere, comes_on, comes_answered, comes_at_once}
+
+-- The calls under way have the client's read, of some bytes.
+record HasRead (calls : List Call) (actor : ℕ) (run : GetRun) : Type 0 where
+  left : List Call
+  content : List ℕ
+  gains : Gains left calls (Reading run content)
+  its : run.hold.actor ≡ actor
+
+-- They do where that is one of them.
+read_in : (calls : List Call) (actor : ℕ) (run : GetRun) (held : Call) → Contains calls held
+    → IsWorkOf (work.Read run) held → actor_of held ≡ actor → HasRead calls actor run
+read_in calls actor run (Putting put content) listed of its = absurd of
+read_in calls actor run (Reading other content) listed of its =
+    let found = gains_of (Reading other content) calls listed in record {
+      left = found.0;
+      content = content;
+      gains = subst (λ (r : GetRun). Gains found.0 calls (Reading r content)) (sym of) found.1;
+      its = ap (λ (r : GetRun). r.hold.actor) of ∙ its;
+    }
+
+module _ (script : Script) (actor : ℕ) (before after : Station) (clients news : List Client)
+    (takes : TakesTurn script actor before after clients news) (call : ScriptCall) where
+  -- ---- a read in its first turn
+
+  -- A client that has no call under way.
+  module _ (idle : before.client.under_way ≡ None) where
+    -- Those under way are others',
+    apart : (calls : List Call) → AreTheirs clients calls → (held : Call) → Contains calls held → actor_of held ≢ actor
+    apart calls theirs held listed same =
+        let found = theirs.of held listed in
+        none_of_its clients actor before.client takes.was idle found.0 found.1
+        (subst (λ (n : ℕ). IsGoing clients n found.0 found.1) same found.2)
+
+    -- and none is its sync.
+    was_none : (its : Client) (its_under : UnderWay) → IsGoing clients actor its its_under → IsSync its_under.work → ⊥
+    was_none its its_under its_going sync =
+        none_of_its clients actor before.client takes.was idle its its_under its_going
+
+  module _ (id : ℕ) (run : GetRun) (is : IsRead call.kind) (id_is : call.id ≡ Some id)
+      (idle : before.client.under_way ≡ None)
+      (next : slice_get (calls_of script actor) before.client.begun ≡ Some call)
+      (begins : BeginsGet before.state.core after.state.core actor call.kind id (More run))
+      (disk : after.state.disk ≡ before.state.disk)
+      (left : LeavesBegun actor call before after (More (work.Read run))) where
+    -- the read as the client has it under way
+    abbrev its_under : UnderWay
+    its_under = record { at = length before.items; work = work.Read run }
+
+    under_is : after.client.under_way ≡ Some its_under
+    under_is = ap (λ (c : Client). c.under_way) left.1
+
+    entry_id : run.entry.id ≡ id
+    entry_id = found_id before.state.core.pool.blocks.table.entries id run.entry begins.1
+
+    its_actor : run.hold.actor ≡ actor
+    its_actor = ap (λ (h : Hold). h.actor) begins.4
+
+    leaves : LeavesPool before.state.core after.state.core
+    leaves = leaves_pool before.state.core after.state.core before.state.core.pool.blocks
+        (before.state.core.holds ++ run.hold ∷ []) begins.6
+
+    going_on : AreGoing script after.state.core news
+    going_on = let was = takes.schedule.going in
+        going_begins script before.state.core after.state.core clients news actor before.client after.client
+        takes.changes takes.was was leaves.committing (leaves_commit before.state.core after.state.core leaves)
+        (leaves_many before.state.core after.state.core leaves) (was_none idle)
+        (λ under its. subst (λ (u : UnderWay). IsSync u.work) (some_is (sym its ∙ under_is)))
+        (Reading run [] ∷ was.calls) (Reading run []) its_under call idle under_is
+        (ap (slice_get (calls_of script actor))
+        (let begun = ap (λ (c : Client). c.begun) left.1 in omega (arith, begun)) ∙ next)
+        (sym begins.2, id_is ∙ ap Some (sym entry_id)) (gains_first (Reading run []) was.calls) its_actor refl
+        (get_begins_calls before.state.core after.state.core actor id call.kind run [] was.calls
+        (Reading run [] ∷ was.calls) is takes.is begins (apart idle was.calls was.theirs)
+        (gains_first (Reading run []) was.calls) was.are)
+
+    runs_on : RunsOn script before after clients news before.items
+    runs_on world origin handed within runs =
+        let map = map_of world.handed world.opening before.items in
+        let found = get_begins_stands world.setting runs.last runs.begun map runs.commit before.state.core
+        after.state.core before.state.disk actor id call.kind run runs.calls is takes.is begins
+        (apart idle runs.calls runs.theirs) runs.stands in
+        let calls = Reading run found.0 ∷ runs.calls in
+        runs_begins world script origin before.state after.state before.items clients news actor before.client
+        after.client takes.changes takes.was runs idle calls (Reading run found.0) (work.Read run) leaves.uber disk
+        left.1 (λ sync. sync) (gains_first (Reading run found.0) runs.calls) its_actor refl
+        (λ asked asked_is. ap (λ (m : Map). m run.entry.id) (map_at_end world.handed world.opening before.items)
+        ∙ ap map entry_id ∙ found.1)
+        (subst (λ (d : Disk). Stands world.setting runs.last runs.begun map calls runs.commit
+        (at_disk after.state.core d)) (sym disk) (found.2 calls (gains_first (Reading run found.0) runs.calls)))
+
+    -- A read begins.
+    pub read_begins : Comes script before after clients news
+    read_begins = comes_on script actor before after clients news takes
+        (turn_still before.state after.state leaves disk) left.0
+        (let one = answered_going after.client under_is in let other = answered_idle before.client idle in
+        omega (arith, one, other, begun))
+        (let low = slice_get_within (calls_of script actor) before.client.begun call next in omega (arith, low, begun))
+        (λ under its. omega (arith, begun)) going_on runs_on
+      where
+        begun : after.client.begun ≡ before.client.begun + 1
+        begun = ap (λ (c : Client). c.begun) left.1
+
+  -- It waits, and nothing changes.
+  pub read_waits : (id by : ℕ) → IsRead call.kind → call.id ≡ Some id → before.client.under_way ≡ None
+      → slice_get (calls_of script actor) before.client.begun ≡ Some call
+      → BeginsGet before.state.core after.state.core actor call.kind id (Busy by)
+      → after.state.disk ≡ before.state.disk → LeavesBegun actor call before after (Busy by)
+      → Comes script before after clients news
+  read_waits id by is id_is idle next begins disk left = comes_nowhere script actor before after clients news takes
+      (λ i. record { state = at_disk (begins.1 i) (disk i); items = left.0 i; client = left.1 i })
+
+  module _ (id : ℕ) (given : Answer) (is : IsRead call.kind) (id_is : call.id ≡ Some id)
+      (idle : before.client.under_way ≡ None) (next : slice_get (calls_of script actor) before.client.begun ≡ Some call)
+      (begins : BeginsGet before.state.core after.state.core actor call.kind id (Done given))
+      (disk : after.state.disk ≡ before.state.disk) (left : LeavesBegun actor call before after (Done given)) where
+    -- It is answered at once.
+    pub read_at_once : Comes script before after clients news
+    read_at_once =
+        let of = refused_of before.state.core id call.kind given is begins.1 in
+        comes_at_once script actor before after clients news takes call given idle next
+        (leaves_pool before.state.core after.state.core before.state.core.pool.blocks before.state.core.holds begins.0)
+        disk left of
+        (λ out tells. subst (IsGetRefused before.state.core id) tells begins.1)
+        (subst (λ (c : Core). AreCallsOf c takes.schedule.going.calls) (sym begins.0) takes.schedule.going.are)
+        (λ world origin runs.
+        let map = map_of world.handed world.opening before.items in
+        let map_now = map_after world.handed world.opening before.items (length before.items) in
+        let none : given ≡ answer.Absent → map id ≡ None = get_finds map before.state.core after.state.core
+        before.state.disk actor id call.kind (Done given) runs.stands.holds begins in (
+          right_read world before.items call actor (before.client.begun + 1) (length before.items) given is
+              (let some = runs.latest.before in omega (arith, some)) (omega arith) (below_end before.items actor)
+              (refused_right before.state.core id (option_and_then map_now call.id) call.kind given
+              (λ absent. ap (option_and_then map_now) id_is
+              ∙ ap (λ (m : Map). m id) (map_at_end world.handed world.opening before.items) ∙ none absent)
+              begins.1),
+          subst (λ (m : Map). Stands world.setting runs.last runs.begun m runs.calls runs.commit after.state)
+              (sym (map_read world.handed map (first_entry call actor before given) call.kind given is of))
+              (subst (Stands world.setting runs.last runs.begun map runs.calls runs.commit)
+              (λ i. at_disk (sym begins.0 i) (sym disk i)) runs.stands),
+        ))
+
+  -- ---- a read in its later turns
+
+  -- The client's call under way is a read.
+  module _ (under : UnderWay) (run : GetRun) (work_is : under.work ≡ work.Read run)
+      (under_is : before.client.under_way ≡ Some under) where
+    abbrev going : IsGoing clients actor before.client under
+    going = record { there = takes.was; under_way = under_is }
+
+    -- No work of it is a sync.
+    not_sync : IsSync under.work → ⊥
+    not_sync sync = subst IsSync work_is sync
+
+    was_read : (its : Client) (its_under : UnderWay) → IsGoing clients actor its its_under → IsSync its_under.work → ⊥
+    was_read its its_under its_going sync = not_sync (subst (λ (u : UnderWay). IsSync u.work)
+        (its_own clients actor before.client takes.was under under_is its its_under its_going) sync)
+
+    -- Its read is among the calls under way.
+    among : (calls : List Call) → AreTheirs clients calls → HasRead calls actor run
+    among calls theirs =
+        let found = theirs.every actor before.client under going not_sync in
+        read_in calls actor run found.0 found.1 (subst (λ (w : Work). IsWorkOf w found.0) work_is found.2) found.3
+
+    -- The script asks for it.
+    its_call : slice_get (calls_of script actor) (before.client.begun - 1) ≡ Some call
+        → (call.kind ≡ run.kind) × (call.id ≡ Some run.entry.id)
+    its_call is = let asked = takes.schedule.going.asked actor before.client under going in
+        subst (IsWorkFor call) work_is
+        (subst (λ (c : ScriptCall). IsWorkFor c under.work) (some_is (sym asked.1 ∙ is)) asked.2)
+
+    -- It is the one after those answered.
+    its_number : before.client.begun ≡ answered before.client + 1
+    its_number =
+        let some = takes.schedule.answered.some actor before.client under takes.was under_is in
+        let same = answered_going before.client under_is in
+        omega (arith, some, same)
+
+  module _ (under : UnderWay) (run next : GetRun) (work_is : under.work ≡ work.Read run)
+      (under_is : before.client.under_way ≡ Some under)
+      (is : slice_get (calls_of script actor) (before.client.begun - 1) ≡ Some call)
+      (reads : GoesOnReading before.state after.state run next) (turn : TurnGoesOn before.state after.state)
+      (left : LeavesGoing actor call before after under (More (work.Read next))) where
+    under_now : after.client.under_way ≡ Some (record { at = under.at; work = work.Read next })
+    under_now = ap (λ (c : Client). c.under_way) left.1
+
+    next_is : next ≡ record run { read = next.read }
+    next_is = reads.reads.1
+
+    core_is : after.state.core
+        ≡ record before.state.core { pool = record before.state.core.pool { out = after.state.core.pool.out } }
+    core_is = reads.reads.2
+
+    next_its : run.hold.actor ≡ actor → next.hold.actor ≡ actor
+    next_its its = ap (λ (r : GetRun). r.hold.actor) next_is ∙ its
+
+    still_going : AreGoing script after.state.core news
+    still_going =
+        let was = takes.schedule.going in
+        let has = among under run work_is under_is was.calls was.theirs in
+        let asked = its_call under run work_is under_is is in
+        goes script before.state.core after.state.core clients news actor before.client after.client takes.changes
+        takes.was was (ap (λ (c : Core). c.committing) core_is)
+        (λ commit. commit_still before.state.core after.state.core commit (ap (λ (c : Core). c.pool.uber) core_is)
+        (ap (λ (c : Core). c.begun) core_is) (ap (λ (c : Core). c.committing) core_is) turn.out.still)
+        (λ many. absurd (reads.reads.0 many)) (was_read under run work_is under_is)
+        (λ its its_is. subst (λ (u : UnderWay). IsSync u.work) (some_is (sym its_is ∙ under_now)))
+        has.left (Reading next has.content ∷ has.left) (Reading run has.content) (Reading next has.content)
+        (record { at = under.at; work = work.Read next }) call under_now
+        (ap (λ (c : Client). slice_get (calls_of script actor) (c.begun - 1)) left.1 ∙ is) (
+          asked.0 ∙ sym (ap (λ (r : GetRun). r.kind) next_is),
+          asked.1 ∙ sym
+              (ap (λ (r : GetRun). Some r.entry.id) next_is),
+        )
+        has.gains (gains_first (Reading next has.content) has.left) has.its (next_its has.its) refl
+        (get_reads_calls before.state after.state run next has.content has.left was.calls
+        (Reading next has.content ∷ has.left) reads.reads has.gains (gains_first (Reading next has.content) has.left)
+        was.are)
+
+    still_runs : RunsOn script before after clients news before.items
+    still_runs world origin handed within runs =
+        let has = among under run work_is under_is runs.calls runs.theirs in
+        goes_on world script origin before.state after.state before.items clients news actor before.client after.client
+        takes.changes takes.was runs (reads_uber before.state after.state run (More next) reads.reads) turn.later
+        (λ groups time row. since_read world.setting groups time before.state.disk after.state.disk reads.unchanged)
+        has.left (Reading next has.content ∷ has.left) (Reading run has.content) (Reading next has.content) under
+        (work.Read next) under_is left.1 (not_sync under run work_is under_is) (λ sync. sync) has.gains
+        (gains_first (Reading next has.content) has.left) has.its (next_its has.its) refl
+        (λ asked held. ap (λ (r : GetRun). map_after world.handed world.opening before.items under.at r.entry.id)
+        next_is ∙ held)
+        (get_reads_stands world.setting runs.last runs.begun (map_of world.handed world.opening before.items)
+        runs.commit before.state after.state run next has.content has.left runs.calls
+        (Reading next has.content ∷ has.left)
+        reads.place reads.left reads.reads reads.unchanged turn.out takes.still_lawful has.gains
+        (gains_first (Reading next has.content) has.left) runs.stands)
+
+    -- A read goes on.
+    pub read_goes_on : Comes script before after clients news
+    read_goes_on = comes_on script actor before after clients news takes turn left.0
+        (let one = answered_going after.client under_now in let other = answered_going before.client under_is in
+        omega (arith, one, other, begun))
+        (let few = takes.schedule.answered.few actor before.client takes.was in omega (arith, few, begun))
+        (λ its its_is. let some = its_number under run work_is under_is in omega (arith, some, begun))
+        still_going still_runs
+      where
+        begun : after.client.begun ≡ before.client.begun
+        begun = ap (λ (c : Client). c.begun) left.1
+
+  module _ (under : UnderWay) (run : GetRun) (given : Answer) (work_is : under.work ≡ work.Read run)
+      (under_is : before.client.under_way ≡ Some under)
+      (is : slice_get (calls_of script actor) (before.client.begun - 1) ≡ Some call)
+      (ending : EndsReading before.state after.state run given) (turn : TurnGoesOn before.state after.state)
+      (left : LeavesGoing actor call before after under (Done given)) where
+    abbrev entry : Entry
+    entry = entry_for call actor before.client.begun under.at given
+
+    asked_is : (call.kind ≡ run.kind) × (call.id ≡ Some run.entry.id)
+    asked_is = its_call under run work_is under_is is
+
+    is_read : IsRead run.kind
+    is_read =
+        let was = takes.schedule.going in
+        let has = among under run work_is under_is was.calls was.theirs in
+        (was.are.each (Reading run has.content) (gains_item has.left was.calls (Reading run has.content) has.gains)).0
+
+    call_read : IsRead call.kind
+    call_read = subst IsRead (sym asked_is.0) is_read
+
+    ends : EndsRead before.state after.state run given
+    ends = read_ends_so before.state after.state run given is_read ending
+
+    given_is : IsAnswerOf call.kind given
+    given_is = subst (λ (k : Kind). IsAnswerOf k given) (sym asked_is.0) ends.answer_is
+
+    ended : after.client.under_way ≡ None
+    ended = ap (λ (c : Client). c.under_way) left.1
+
+    end_going : AreGoing script after.state.core news
+    end_going =
+        let was = takes.schedule.going in
+        let has = among under run work_is under_is was.calls was.theirs in
+        going_ends script before.state.core after.state.core clients news actor before.client after.client takes.changes
+        takes.was was ends.leaves.committing (leaves_commit before.state.core after.state.core ends.leaves)
+        (leaves_many before.state.core after.state.core ends.leaves) (was_read under run work_is under_is)
+        (λ its its_is. absurd (none_some (sym ended ∙ its_is))) has.left (Reading run has.content) ended has.gains
+        has.its (ends.calls has.content has.left was.calls has.gains was.are)
+
+    end_runs : RunsOn script before after clients news (before.items ++ CallItem entry ∷ [])
+    end_runs world origin handed within runs =
+        let map = map_of world.handed world.opening before.items in
+        let has = among under run work_is under_is runs.calls runs.theirs in
+        let mine = runs.each actor before.client under (record { there = takes.was; under_way = under_is }) in
+        let done = ends.stands world.setting runs.last runs.begun map runs.commit has.content has.left runs.calls
+        has.gains runs.stands in
+        let content = mine.content call (Reading run has.content) is
+        (gains_item has.left runs.calls (Reading run has.content) has.gains) has.its in
+        runs_ends world script origin before.state after.state before.items clients news actor before.client
+        after.client takes.changes takes.was runs entry refl ended ends.leaves.uber ending.disk
+        (stands_knows world.setting runs.last runs.begun map runs.calls runs.commit before.state runs.stands)
+        (right_read world before.items call actor before.client.begun under.at given call_read mine.at.0 mine.at.1
+        mine.after
+        (subst (λ (held : Option (List ℕ)). IsReadRight held call.kind given)
+        (sym (ap (option_and_then (map_after world.handed world.opening before.items under.at)) asked_is.1 ∙ content))
+        (subst (λ (k : Kind). IsReadRight (Some has.content) k given) (sym asked_is.0) done.1)))
+        given_is has.left (Reading run has.content) under under_is (not_sync under run work_is under_is) has.gains
+        has.its (subst (λ (m : Map). Stands world.setting runs.last runs.begun m has.left runs.commit after.state)
+        (sym (map_read world.handed map entry call.kind given call_read given_is)) done.0)
+
+    -- A read ends.
+    pub read_ends : Comes script before after clients news
+    read_ends = comes_answered script actor before after clients news takes call before.client.begun under.at given
+        (its_number under run work_is under_is)
+        (ap (slice_get (calls_of script actor)) (answered_going before.client under_is) ∙ is) turn
+        (left.0 ∙ listed_read before.state.core before.items under.at entry call.kind given call_read given_is)
+        left.1 ends.too_many end_going end_runs

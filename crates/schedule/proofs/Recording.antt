@@ -1,0 +1,319 @@
+-- A journal goes on to tell what it did, turn by turn: the devices go on, a commit begins or ends, a call is answered.
+use Rattle.std.proofs.Common.{◌≡◌, inl, ⊎_elim, ℕ, ◌≤◌, List, [], ◌∷◌, ◌++◌, length, refl, sym, ◌∙◌, ap, subst, arith, append_assoc}
+use Rattle.std.proofs.lemmas.List.{append-nil}
+use Rattle.std.proofs.lemmas.List.Elements.{Contains-append_cases}
+use Rattle.std.specs.Prelude.{◌≢◌, Contains}
+use Rattle.bank_trait.specs.Disk.{Disk, Later}
+use Rattle.uberblock_ring.specs.Uberblock.{Uber}
+use Rattle.core_state.specs.declared.answer.Answer.TheVariants as answer
+use Rattle.core_state.specs.declared.answer.Kind.TheVariants as kind
+use Rattle.core_state.specs.declared.item.Entry.{Entry}
+use Rattle.core_state.specs.declared.item.Group.{Group as GroupItem}
+use Rattle.core_state.specs.declared.item.Item.{Item}
+use Rattle.core_state.specs.declared.item.Item.TheVariants.{Group, Call}
+use Rattle.core_state.specs.Map.{Map, Handed, map_after}
+use Rattle.core_state.specs.Legal.{IsGroupBefore, IsAnswerOf}
+use Rattle.core_state.specs.Journal.{Follows}
+use Rattle.core_state.specs.Keeps.{Kept}
+use Rattle.core_state.specs.Certain.{Knows}
+use Rattle.core_state.specs.Moment.{IsGroupOf, IsBegunAfter, Groups, IsRowOf, KeepsSince, KeepsThroughout}
+use Rattle.core_state.specs.CoreState.{World}
+use Rattle.core_state.proofs.Keeping.{knows_keep}
+use Rattle.core_state.proofs.Listed.{contains_none}
+use Rattle.core_serial.proofs.Committing.{since_wider}
+use Rattle.serial_run.specs.Moments.{KeepsLast}
+use Rattle.serial_run.specs.Widths.{HaveWidthOf}
+use Rattle.serial_run.proofs.Grown.{map_before}
+use Rattle.serial_run.proofs.GrownAnswers.{answers_grown_call, answers_grown_group}
+use Rattle.serial_run.proofs.GrownGroups.{groups_grown_call, groups_grown_group, latest_grown_call, latest_grown_group, group_of_grown, after_listed}
+use Rattle.serial_run.proofs.GrownRun.{groups_call, groups_end, groups_begun, groups_cut}
+use Rattle.serial_run.proofs.Moments.{contains_one}
+use Rattle.serial_run.proofs.Rows.{row_among}
+use Rattle.serial_run.proofs.Stepping.{each_grown_call, each_grown_group}
+use Rattle.schedule.specs.Recorded.{Recorded, IsRightNext, IsBegunAt, AllBelow}
+use Rattle.schedule.proofs.Counted.{counted_call, counted_group}
+use Rattle.schedule.proofs.Moments.{AreLatest, whole_row, on_goes, on_wider, turns_go, turns_list}
+use Rattle.schedule.proofs.RightNext.{sync_right}
+
+-- Where the groups stand as one is begun, and as it is answered.
+in_row : (known earlier begun : List Kept) (last : Kept)
+    → (known ++ (earlier ++ last ∷ [])) ++ begun ≡ ((known ++ earlier) ++ (last ∷ begun)) ++ []
+in_row known earlier begun last = simp (append_assoc, append-nil)
+
+next_at_end : (known answered : List Kept) (next : Kept)
+    → (known ++ answered) ++ next ∷ [] ≡ (known ++ (answered ++ next ∷ [])) ++ []
+next_at_end known answered next = simp (append_assoc, append-nil)
+
+begun_row : (known answered left all begun : List Kept) (next : Kept) → left ≡ [] → all ≡ answered → begun ≡ next ∷ []
+    → (known ++ answered ++ left) ++ next ∷ [] ≡ known ++ all ++ begun
+begun_row known answered left all begun next none all_is begun_is =
+    ap (λ (l : List Kept). (known ++ answered ++ l) ++ next ∷ []) none
+    ∙ ap (λ (l : List Kept). l ++ next ∷ []) (append-nil (known ++ answered))
+    ∙ (λ i. known ++ sym all_is i ++ sym begun_is i)
+
+ended_row : (known answered begun all left : List Kept) (next : Kept) → begun ≡ next ∷ [] → all ≡ answered ++ next ∷ []
+    → left ≡ []
+    → known ++ answered ++ begun ≡ known ++ all ++ left
+ended_row known answered begun all left next begun_is all_is none =
+    ap (λ (l : List Kept). known ++ answered ++ l) begun_is
+    ∙ next_at_end known answered next
+    ∙ (λ i. known ++ sym all_is i ++ sym none i)
+
+-- One group more that has their width and parity.
+widths_with : (uber : Uber) (groups : List Kept) (next : Kept) → next.uber.reflow.to ≡ uber.reflow.to
+    → next.uber.parity ≡ uber.parity → HaveWidthOf uber groups
+    → HaveWidthOf uber (groups ++ next ∷ [])
+widths_with uber groups next to_is parity_is wide = record {
+  each = λ kept has. ⊎_elim (wide.each kept)
+      (λ (one : Contains (next ∷ []) kept).
+      subst (λ (k : Kept). (k.uber.reflow.to ≡ uber.reflow.to) × (k.uber.parity ≡ uber.parity))
+      (sym (contains_one next kept one)) (to_is, parity_is))
+      (Contains-append_cases groups (next ∷ []) kept has);
+}
+
+widths_like : (uber other : Uber) (groups : List Kept) → other.reflow.to ≡ uber.reflow.to → other.parity ≡ uber.parity
+    → HaveWidthOf uber groups → HaveWidthOf other groups
+widths_like uber other groups to_is parity_is wide = record {
+  each = λ kept has. let its = wide.each kept has in (its.0 ∙ sym to_is, its.1 ∙ sym parity_is);
+}
+
+-- The groups with none that is begun.
+groups_none : {handed : Handed} {opening : Map} {known : List Kept} {items : List Item}
+    → (groups : Groups handed opening known items)
+    → (none : Groups handed opening known items) × (none.answered ≡ groups.answered) × (none.begun ≡ [])
+groups_none groups = (
+  record {
+    answered = groups.answered;
+    begun = [];
+    each = groups.each;
+    one = omega arith;
+    unanswered = λ kept has. absurd (contains_none kept has);
+  },
+  refl,
+  refl,
+)
+
+-- The last group of a journal and those begun, as its groups tell of them.
+latest_of : {handed : Handed} {opening : Map} {known : List Kept} {items : List Item} {item : GroupItem} {last : Kept}
+    {begun : List Kept} → (groups : Groups handed opening known items) → groups.begun ≡ begun
+    → IsGroupBefore items (length items) item → IsGroupOf handed opening items item last
+    → AreLatest handed opening items item last begun
+latest_of {handed = handed} {opening = opening} {known = known} {items = items} {item = item} groups begun_are latest
+    last_is = record {
+      latest = latest;
+      last_is = last_is;
+      one = subst (λ (l : List Kept). length l ≤ 1) begun_are groups.one;
+      begun_is = λ kept has. groups_begun handed opening known items groups item latest kept
+          (subst (λ (l : List Kept). Contains l kept) (sym begun_are) has);
+    }
+
+abbrev IsSound : Entry → Type 0
+IsSound entry = entry.answer ≢ answer.Damaged
+
+module _ {world : World} {origin : Disk} {items : List Item} {last : Kept} {begun : List Kept} {uber : Uber}
+    {now : Disk} (so_far : Recorded world origin items last begun uber now) where
+  some_items : 1 ≤ length items
+  some_items = let low = so_far.latest.before in omega (arith, low)
+
+  -- The last group was begun within the journal.
+  pub after_few : so_far.item.after ≤ length items
+  after_few =
+      let few = after_listed items so_far.in_order so_far.latest.place so_far.item so_far.latest.there in
+      let low = so_far.latest.before in omega (arith, few, low)
+
+  latest_now : AreLatest world.handed world.opening items so_far.item last begun
+  latest_now = latest_of so_far.groups so_far.begun_are so_far.latest so_far.item_is
+
+  -- The last group and those begun after it stand in a row.
+  row_now : IsRowOf (world.known ++ so_far.groups.answered ++ so_far.groups.begun) last begun
+  row_now = record {
+    before = world.known ++ so_far.earlier;
+    after = [];
+    row = (λ i. world.known ++ so_far.answered_are i ++ so_far.begun_are i)
+        ∙ in_row world.known so_far.earlier begun last;
+  }
+
+  -- The devices go on, and keep what they kept.
+  pub recorded_goes : {next : Disk} → Later now next
+      → ((groups : List Kept) (time : ℕ) → IsRowOf groups last begun → KeepsSince world.setting groups time now
+      → KeepsSince world.setting groups time next)
+      → Recorded world origin items last begun uber next
+  recorded_goes {next = next} later keeps =
+      let from = so_far.no_older.bank (length items) in
+      let go = turns_go so_far.no_older some_items next latest_now
+      (on_goes so_far.kept_on later (keeps (last ∷ begun) from.clock (whole_row last begun))) in record {
+        groups = so_far.groups;
+        earlier = so_far.earlier;
+        answered_are = so_far.answered_are;
+        begun_are = so_far.begun_are;
+        item = so_far.item;
+        latest = so_far.latest;
+        item_is = so_far.item_is;
+        in_order = so_far.in_order;
+        right = so_far.right;
+        sound = so_far.sound;
+        counted = so_far.counted;
+        since = keeps (world.known ++ so_far.groups.answered ++ so_far.groups.begun) origin.clock row_now so_far.since;
+        widths = so_far.widths;
+        no_older = go.0;
+        kept_on = go.1;
+      }
+
+  -- A call is answered that ends no group.
+  pub recorded_answers : (entry : Entry) → Knows world.setting last begun now → IsRightNext world items entry
+      → IsAnswerOf entry.kind entry.answer
+      → Recorded world origin (items ++ Call entry ∷ []) last begun uber now
+  recorded_answers entry knows right is_answer =
+      let grown = groups_call world.handed world.opening world.known items so_far.groups so_far.in_order entry in
+      let latest = latest_grown_call items entry so_far.item so_far.latest in
+      let item_is = group_of_grown world.handed world.opening items so_far.item last (Call entry ∷ []) after_few
+      so_far.item_is in
+      let listed = turns_list so_far.no_older some_items (Call entry)
+      (latest_of grown.0 (grown.2 ∙ so_far.begun_are) latest item_is) knows in record {
+        groups = grown.0;
+        earlier = so_far.earlier;
+        answered_are = grown.1 ∙ so_far.answered_are;
+        begun_are = grown.2 ∙ so_far.begun_are;
+        item = so_far.item;
+        latest = latest;
+        item_is = item_is;
+        in_order = groups_grown_call items entry so_far.in_order;
+        right = answers_grown_call world.handed world.opening items entry so_far.right right.right is_answer;
+        sound = each_grown_call IsSound items entry so_far.sound right.sound;
+        counted = counted_call items entry so_far.counted right.counted;
+        since = subst (λ (l : List Kept). KeepsSince world.setting l origin.clock now)
+            (λ i. world.known ++ sym grown.1 i ++ sym grown.2 i) so_far.since;
+        widths = subst (λ (l : List Kept). HaveWidthOf uber l)
+            (λ i. world.known ++ sym grown.1 i ++ sym grown.2 i) so_far.widths;
+        no_older = listed.0;
+        kept_on = listed.1;
+      }
+
+  -- What each image of the run keeps,
+  abbrev pub recorded_throughout : KeepsThroughout world.setting world.handed world.opening world.known items origin now
+  recorded_throughout = record { groups = so_far.groups; since = so_far.since }
+
+  -- and what the bank keeps at its end: groups that are among those.
+  pub recorded_keeps : Knows world.setting last begun now
+      → (at_end : KeepsLast world.setting world.handed world.opening items now)
+      × ((kept : Kept) → Contains (at_end.last ∷ at_end.begun) kept
+      → Contains (world.known ++ so_far.groups.answered ++ so_far.groups.begun) kept)
+  recorded_keeps knows = (
+    record {
+      group = so_far.item;
+      latest = so_far.latest;
+      last = last;
+      last_is = so_far.item_is;
+      begun = begun;
+      one = latest_now.one;
+      begun_is = latest_now.begun_is;
+      keeps = knows_keep world.setting last begun now knows;
+    },
+    row_among row_now,
+  )
+
+-- A commit begins the next group.
+module _ {world : World} {origin : Disk} {items : List Item} {last : Kept} {uber : Uber} {now : Disk}
+    (so_far : Recorded world origin items last [] uber now) {after : ℕ} {next : Kept}
+    (is : IsBegunAt world items so_far.item after next) where
+  next_after : IsBegunAfter world.handed world.opening items so_far.item next
+  next_after = record { number = is.number; after = after; listed = is.listed; map = is.map; widths = inl is.widths }
+
+  pub recorded_begins : next.uber.reflow.to ≡ uber.reflow.to → next.uber.parity ≡ uber.parity
+      → Recorded world origin items last (next ∷ []) uber now
+  recorded_begins to_is parity_is =
+      let grown = groups_cut world.handed world.opening world.known items so_far.groups so_far.begun_are so_far.item
+      so_far.latest (next ∷ []) (omega arith)
+      (λ kept has. subst (IsBegunAfter world.handed world.opening items so_far.item) (sym (contains_one next kept has))
+      next_after) in
+      let all = world.known ++ so_far.groups.answered ++ so_far.groups.begun in
+      let row = begun_row world.known so_far.groups.answered so_far.groups.begun grown.0.answered grown.0.begun next
+      so_far.begun_are grown.1 grown.2 in record {
+        groups = grown.0;
+        earlier = so_far.earlier;
+        answered_are = grown.1 ∙ so_far.answered_are;
+        begun_are = grown.2;
+        item = so_far.item;
+        latest = so_far.latest;
+        item_is = so_far.item_is;
+        in_order = so_far.in_order;
+        right = so_far.right;
+        sound = so_far.sound;
+        counted = so_far.counted;
+        since = subst (λ (l : List Kept). KeepsSince world.setting l origin.clock now) row
+            (since_wider world.setting all (next ∷ []) origin.clock now so_far.since);
+        widths = subst (λ (l : List Kept). HaveWidthOf uber l) row
+            (widths_with uber all next to_is parity_is so_far.widths);
+        no_older = so_far.no_older;
+        kept_on = on_wider (next ∷ []) so_far.kept_on;
+      }
+
+-- A commit has ended the group that was begun.
+module _ {world : World} {origin : Disk} {items : List Item} {last next : Kept} {uber : Uber} {now : Disk}
+    (so_far : Recorded world origin items last (next ∷ []) uber now) {after : ℕ}
+    (is : IsBegunAt world items so_far.item after next) (knows : Knows world.setting next [] now)
+    {group : GroupItem} (number : group.group ≡ next.uber.group) (after_is : group.after ≡ after)
+    (from_is : group.from ≡ next.uber.reflow.from) (group_to_is : group.to ≡ next.uber.reflow.to) where
+  abbrev with_group : List Item
+  with_group = items ++ Group group ∷ []
+
+  within : group.after ≤ length items
+  within = let few = is.listed.1 in omega (arith, few, after_is)
+
+  next_is : IsGroupOf world.handed world.opening with_group group next
+  next_is = record {
+    number = sym number;
+    widths = (sym from_is, sym group_to_is);
+    map = λ id. is.map id ∙ ap (λ (map : Map). map id)
+        (ap (λ (k : ℕ). map_after world.handed world.opening items k) (sym after_is)
+        ∙ sym (map_before world.handed world.opening items (Group group ∷ []) group.after within));
+  }
+
+  follows : Follows with_group (length items) so_far.item group
+  follows = record {
+    number = number ∙ is.number;
+    later = (let low = is.listed.0 in omega (arith, low, after_is));
+    listed = within;
+    widths = inl (from_is ∙ is.widths.0, group_to_is ∙ is.widths.1);
+  }
+
+  module _ {other : Uber} (to_is : other.reflow.to ≡ uber.reflow.to) (parity_is : other.parity ≡ uber.parity) where
+    -- Its item is listed,
+    pub recorded_group : Recorded world origin (items ++ Group group ∷ []) next [] other now
+    recorded_group =
+        let none = groups_none so_far.groups in
+        let ended = groups_end world.handed world.opening world.known items none.0 none.2 group next next_is
+        so_far.in_order in
+        let answered_are = ended.1 ∙ ap (λ (l : List Kept). l ++ next ∷ []) none.1 in
+        let latest = latest_grown_group items group in
+        let row = ended_row world.known so_far.groups.answered so_far.groups.begun ended.0.answered ended.0.begun next
+        so_far.begun_are answered_are ended.2 in
+        let listed = turns_list so_far.no_older (some_items so_far) (Group group)
+        (latest_of ended.0 ended.2 latest next_is) knows in record {
+          groups = ended.0;
+          earlier = so_far.groups.answered;
+          answered_are = answered_are;
+          begun_are = ended.2;
+          item = group;
+          latest = latest;
+          item_is = next_is;
+          in_order = groups_grown_group items group so_far.in_order so_far.item so_far.latest follows;
+          right = answers_grown_group world.handed world.opening items group so_far.right;
+          sound = each_grown_group IsSound items group so_far.sound;
+          counted = counted_group items group so_far.counted;
+          since = subst (λ (l : List Kept). KeepsSince world.setting l origin.clock now) row so_far.since;
+          widths = subst (λ (l : List Kept). HaveWidthOf other l) row
+              (widths_like uber other (world.known ++ so_far.groups.answered ++ so_far.groups.begun) to_is parity_is
+              so_far.widths);
+          no_older = listed.0;
+          kept_on = listed.1;
+        }
+
+    -- and the sync that asked for it is answered.
+    pub recorded_ends : (entry : Entry) → entry.kind ≡ kind.Sync → entry.answer ≡ answer.Synced group.group → 1 ≤ after
+        → AllBelow items entry.caller after
+        → Recorded world origin ((items ++ Group group ∷ []) ++ Call entry ∷ []) next [] other now
+    recorded_ends entry asked answer_is some below = recorded_answers recorded_group entry knows
+        (sync_right world items group entry asked answer_is (omega (arith, some, after_is))
+        (subst (AllBelow items entry.caller) (sym after_is) below))
+        (subst (IsAnswerOf entry.kind) (sym answer_is) asked)

@@ -1,0 +1,164 @@
+-- The next entry is right where it is listed.
+use Rattle.std.proofs.Common.{◌≡◌, inr, ℕ, ◌+◌, ◌≤◌, List, [], ◌∷◌, ◌++◌, length, Option, Some, None, refl, sym, ◌∙◌, subst, arith, length-append}
+use Rattle.std.specs.Prelude.{option_and_then, ⊤}
+use Rattle.core_state.specs.declared.answer.Answer.{Answer}
+use Rattle.core_state.specs.declared.answer.Answer.TheVariants as answer
+use Rattle.core_state.specs.declared.answer.Kind.{Kind}
+use Rattle.core_state.specs.declared.answer.Kind.TheVariants as kind
+use Rattle.core_state.specs.declared.item.Entry.{Entry}
+use Rattle.core_state.specs.declared.item.Group.{Group as GroupItem}
+use Rattle.core_state.specs.declared.item.Item.{Item}
+use Rattle.core_state.specs.declared.item.Item.TheVariants.{Group, Call}
+use Rattle.core_state.specs.Map.{Map, Handed, map_of, map_after}
+use Rattle.core_state.specs.Legal.{IsPrevious, IsGroupBefore, IsReadOf, IsCutShort, IsRightRead, IsRightFree, IsRightSync, IsRightCall}
+use Rattle.core_state.specs.CoreState.{World}
+use Rattle.core_serial.specs.Answers.{most_groups}
+use Rattle.core_turns.specs.Getting.{IsRead}
+use Rattle.serial_run.proofs.Grown.{grown_has, last_there, map_before, map_at_end}
+use Rattle.schedule.specs.Recorded.{IsRightNext, AllBelow}
+use Rattle.schedule.proofs.Below.{previous_below, below_group}
+
+-- The answer tells neither of damage nor of a limit.
+abbrev pub IsPlain : Answer → Type 0
+IsPlain answer.Damaged = ⊥
+IsPlain (answer.Limit reached) = ⊥
+IsPlain other = ⊤
+
+-- The call was cut short: too many devices are out, or memory is wanting.
+abbrev pub IsStopped : Answer → Type 0
+IsStopped (answer.TooManyFailed out) = ⊤
+IsStopped answer.NoMemory = ⊤
+IsStopped other = ⊥
+
+stopped_plain : (given : Answer) → IsStopped given → IsPlain given
+stopped_plain (answer.TooManyFailed out) stopped = tt
+stopped_plain answer.NoMemory stopped = tt
+stopped_plain other stopped = absurd stopped
+
+stopped_cut : (given : Answer) → IsStopped given → IsCutShort given
+stopped_cut (answer.TooManyFailed out) stopped = tt
+stopped_cut answer.NoMemory stopped = tt
+stopped_cut other stopped = absurd stopped
+
+stopped_sync : (items : List Item) (previous index : ℕ) (given : Answer) → IsStopped given
+    → IsRightSync items previous index given
+stopped_sync items previous index (answer.TooManyFailed out) stopped = tt
+stopped_sync items previous index answer.NoMemory stopped = tt
+stopped_sync items previous index other stopped = absurd stopped
+
+-- What a read answers of a map is plain.
+read_plain : (held : Option (List ℕ)) (asked : Kind) (given : Answer) → IsReadOf held asked given → IsPlain given
+read_plain None asked given is = subst IsPlain (sym is) tt
+read_plain (Some bytes) kind.Get (answer.Read given) is = tt
+read_plain (Some bytes) kind.Sum (answer.Digest len sha) is = tt
+read_plain (Some bytes) asked given is = absurd is
+
+-- A read is right as its point says.
+read_call : (handed : Handed) (opening : Map) (items : List Item) (previous index : ℕ) (entry : Entry) (asked : Kind)
+    → IsRead asked → IsRightRead handed opening items previous index entry entry.at
+    → IsRightCall handed opening items previous index entry asked
+read_call handed opening items previous index entry kind.Get is right = right
+read_call handed opening items previous index entry kind.Sum is right = right
+read_call handed opening items previous index entry other is right = absurd is
+
+module _ (world : World) (items : List Item) (entry : Entry) where
+  abbrev with_entry : List Item
+  with_entry = items ++ Call entry ∷ []
+
+  -- the answer is right at its place, whatever previous entry its caller has
+  abbrev IsRightAs : Kind → Type 0
+  IsRightAs asked = (previous : ℕ) → IsPrevious with_entry entry.caller (length items) previous
+      → IsRightCall world.handed world.opening with_entry previous (length items) entry asked
+
+  next_plain : IsPlain entry.answer → IsRightAs entry.kind → IsRightNext world items entry
+  next_plain plain right = record {
+    right = right;
+    sound = λ damaged. subst IsPlain damaged plain;
+    counted = λ reached limit. absurd (subst IsPlain limit plain);
+  }
+
+  -- A get or a sum that speaks of the map after some of the items, all of its caller's among them.
+  pub read_right : (at : ℕ) → IsRead entry.kind → entry.at ≡ Some at → 1 ≤ at → at ≤ length items
+      → AllBelow items entry.caller at
+      → IsReadOf (option_and_then (map_after world.handed world.opening items at) entry.id) entry.kind entry.answer
+      → IsRightNext world items entry
+  read_right at asked at_is some within below is =
+      next_plain (read_plain (option_and_then (map_after world.handed world.opening items at) entry.id) entry.kind
+      entry.answer is) (λ previous previous_is.
+      read_call world.handed world.opening with_entry previous (length items) entry entry.kind asked
+      (subst (IsRightRead world.handed world.opening with_entry previous (length items) entry) (sym at_is) (
+        previous_below items (Call entry ∷ []) entry.caller at previous some below previous_is,
+        within,
+        inr (subst (λ (map : Map). IsReadOf (option_and_then map entry.id) entry.kind entry.answer)
+            (sym (map_before world.handed world.opening items (Call entry ∷ []) at within)) is),
+      )))
+
+  -- One that was cut short.
+  pub read_cut_right : IsRead entry.kind → entry.at ≡ None → IsStopped entry.answer → IsRightNext world items entry
+  read_cut_right asked at_is stopped = next_plain (stopped_plain entry.answer stopped) (λ previous previous_is.
+      read_call world.handed world.opening with_entry previous (length items) entry entry.kind asked
+      (subst (IsRightRead world.handed world.opening with_entry previous (length items) entry) (sym at_is)
+      (stopped_cut entry.answer stopped)))
+
+  -- A put, whatever else it answers.
+  pub put_right : entry.kind ≡ kind.Put → IsPlain entry.answer → IsRightNext world items entry
+  put_right asked plain = next_plain plain (subst IsRightAs (sym asked) (λ previous previous_is. tt))
+
+  -- A free that speaks of the map after all items.
+  pub free_right : entry.kind ≡ kind.Free → IsPlain entry.answer
+      → IsRightFree (option_and_then (map_of world.handed world.opening items) entry.id) entry.answer
+      → IsRightNext world items entry
+  free_right asked plain is = next_plain plain (subst IsRightAs (sym asked) (λ previous previous_is.
+      subst (λ (map : Map). IsRightFree (option_and_then map entry.id) entry.answer)
+      (sym (map_before world.handed world.opening items (Call entry ∷ []) (length items) (omega arith)
+      ∙ map_at_end world.handed world.opening items)) is))
+
+  -- A sync that was cut short.
+  pub sync_cut_right : entry.kind ≡ kind.Sync → IsStopped entry.answer → IsRightNext world items entry
+  sync_cut_right asked stopped = next_plain (stopped_plain entry.answer stopped)
+      (subst IsRightAs (sym asked) (λ previous previous_is.
+      stopped_sync with_entry previous (length items) entry.answer stopped))
+
+  -- One that found no number left for its group.
+  pub sync_limit_right : (item : GroupItem) → entry.kind ≡ kind.Sync → entry.answer ≡ answer.Limit most_groups
+      → IsGroupBefore items (length items) item → most_groups ≤ item.group + 1
+      → IsRightNext world items entry
+  sync_limit_right item asked answer_is latest at_last = record {
+    right = subst IsRightAs (sym asked) (λ previous previous_is.
+        subst (IsRightSync with_entry previous (length items)) (sym answer_is) tt);
+    sound = λ damaged. apart (sym answer_is ∙ damaged);
+    counted = λ reached limit. record {
+      reached_is = same (sym limit ∙ answer_is);
+      group = item;
+      before = latest;
+      last = at_last;
+    };
+  }
+    where
+      apart : answer.Limit most_groups ≡ answer.Damaged → ⊥
+      apart is = cc
+
+      same : {one two : ℕ} → answer.Limit one ≡ answer.Limit two → one ≡ two
+      same is = cc
+
+module _ (world : World) (items : List Item) (group : GroupItem) (entry : Entry) where
+  abbrev with_group : List Item
+  with_group = items ++ Group group ∷ []
+
+  -- A sync that ended a group, which is listed just before it and was begun after all items of its caller.
+  pub sync_right : entry.kind ≡ kind.Sync → entry.answer ≡ answer.Synced group.group → 1 ≤ group.after
+      → AllBelow items entry.caller group.after
+      → IsRightNext world (items ++ Group group ∷ []) entry
+  sync_right asked answer_is some below = next_plain world with_group entry (subst IsPlain (sym answer_is) tt)
+      (λ previous is.
+      subst (IsRightCall world.handed world.opening (with_group ++ Call entry ∷ []) previous (length with_group) entry)
+      (sym asked)
+      (subst (IsRightSync (with_group ++ Call entry ∷ []) previous (length with_group)) (sym answer_is) (record {
+        place = length items;
+        group = group;
+        there = grown_has with_group (Call entry ∷ []) (length items) (Group group) (last_there items (Group group));
+        earlier = omega (arith, length-append items (Group group ∷ []));
+        number_is = refl;
+        begun = previous_below with_group (Call entry ∷ []) entry.caller group.after previous some
+            (below_group items group below) is;
+      })))

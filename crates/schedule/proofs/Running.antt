@@ -1,0 +1,131 @@
+-- What stands between two turns stands after a client's next one.
+use Rattle.std.proofs.Common.{◌≡◌, ◌≢◌, inl, inr, ⊎_elim, ℕ, ◌<◌, ◌≤◌, List, [], ◌∷◌, ◌++◌, length, Some, sym, ◌∙◌, ap, arith, length-append}
+use Rattle.std.specs.Prelude.{Contains, slice_get}
+use Rattle.std.proofs.lemmas.Bool.{cases_lt}
+use Rattle.core_state.specs.declared.item.Entry.{Entry}
+use Rattle.core_state.specs.declared.item.Group.{Group as GroupItem}
+use Rattle.core_state.specs.declared.item.Item.{Item}
+use Rattle.core_state.specs.declared.item.Item.TheVariants.{Group, Call as CallItem}
+use Rattle.core_state.specs.Map.{Map}
+use Rattle.core_state.specs.Legal.{CallAt, IsGroupBefore}
+use Rattle.core_state.specs.Keeps.{Kept}
+use Rattle.core_state.specs.CoreState.{World}
+use Rattle.client_script.specs.declared.call.ScriptCall.{ScriptCall}
+use Rattle.client_script.specs.Script.{Script}
+use Rattle.serial_run.proofs.Grown.{map_before, new_or_before}
+use Rattle.core_turns.specs.UnderWay.{Call, Putting, Reading}
+use Rattle.schedule.specs.declared.client.Client.{Client}
+use Rattle.schedule.specs.declared.client.UnderWay.{UnderWay}
+use Rattle.schedule.specs.declared.client.Work.{Work}
+use Rattle.schedule.specs.declared.client.Work.TheVariants as work
+use Rattle.schedule.specs.Recorded.{IsBegunAt}
+use Rattle.schedule.specs.Running.{IsSync, IsSyncOf, HasContent, IsClient}
+use Rattle.schedule.proofs.Theirs.{actor_of}
+
+-- What a call is about stays as the journal grows.
+pub content_grown : (world : World) (items more : List Item) (call : ScriptCall) (at : ℕ) (held : Call) → at ≤ length items
+    → HasContent world items call at held → HasContent world (items ++ more) call at held
+content_grown world items more call at (Putting run content) low has = has
+content_grown world items more call at (Reading run content) low has =
+    ap (λ (map : Map). map run.entry.id) (map_before world.handed world.opening items more at low) ∙ has
+
+pub begun_grown : (world : World) (items more : List Item) (item : GroupItem) (after : ℕ) (next : Kept)
+    → IsBegunAt world items item after next → IsBegunAt world (items ++ more) item after next
+begun_grown world items more item after next begun = record {
+  number = begun.number;
+  listed = (begun.listed.0, (let low = begun.listed.1 in omega (arith, low, length-append items more)));
+  map = λ id. begun.map id
+      ∙ sym (ap (λ (map : Map). map id) (map_before world.handed world.opening items more after begun.listed.1));
+  widths = begun.widths;
+}
+
+sync_grown : (world : World) (items more : List Item) (item : GroupItem) (begun : List Kept) (at : ℕ) (does : Work)
+    → IsSyncOf world items item begun at does → IsSyncOf world (items ++ more) item begun at does
+sync_grown world items more item begun at (work.Sync run) (next, is, was) =
+    (next, is, begun_grown world items more item at next was)
+sync_grown world items more item begun at (work.Put run) is = is
+sync_grown world items more item begun at (work.Read run) is = is
+
+-- work that is no sync knows nothing of groups
+pub sync_free : (world : World) (items : List Item) (item : GroupItem) (begun : List Kept) (at : ℕ) (does : Work)
+    → (IsSync does → ⊥) → IsSyncOf world items item begun at does
+sync_free world items item begun at (work.Sync run) not_sync = absurd (not_sync tt)
+sync_free world items item begun at (work.Put run) not_sync = tt
+sync_free world items item begun at (work.Read run) not_sync = tt
+
+-- Clients whose calls stay among those under way go on as the journal grows by items that are none of theirs.
+pub client_grown : (world : World) (script : Script) (items more : List Item) (item now : GroupItem)
+    (begun onward : List Kept) (calls nexts : List Call) (index : ℕ) (client : Client) (under : UnderWay)
+    → ((held : Call) → Contains nexts held → actor_of held ≡ index → Contains calls held)
+    → (IsSyncOf world items item begun under.at under.work → IsSyncOf world (items ++ more) now onward under.at under.work)
+    → ((place : ℕ) (entry : Entry) → CallAt (items ++ more) place entry → entry.caller ≡ index → CallAt items place entry)
+    → IsClient world script items item begun calls index client under
+    → IsClient world script (items ++ more) now onward nexts index client under
+client_grown world script items more item now begun onward calls nexts index client under among sync none is = record {
+  at = (is.at.0, (let low = is.at.1 in omega (arith, low, length-append items more)));
+  after = λ place entry there caller. is.after place entry (none place entry there caller) caller;
+  sync = sync is.sync;
+  content = λ call held asked has its. content_grown world items more call under.at held is.at.1
+      (is.content call held asked (among held has its) its);
+}
+
+-- The same where the journal stays.
+pub client_stays : (world : World) (script : Script) (items : List Item) (item : GroupItem) (begun onward : List Kept)
+    (calls nexts : List Call) (index : ℕ) (client : Client) (under : UnderWay)
+    → ((held : Call) → Contains nexts held → actor_of held ≡ index → Contains calls held)
+    → (IsSyncOf world items item begun under.at under.work → IsSyncOf world items item onward under.at under.work)
+    → IsClient world script items item begun calls index client under
+    → IsClient world script items item onward nexts index client under
+client_stays world script items item begun onward calls nexts index client under among sync is = record {
+  at = is.at;
+  after = is.after;
+  sync = sync is.sync;
+  content = λ call held asked has its. is.content call held asked (among held has its) its;
+}
+
+-- A new entry is none of another caller's.
+pub entry_apart : (items : List Item) (entry : Entry) (index : ℕ) → entry.caller ≢ index → (place : ℕ) (other : Entry)
+    → CallAt (items ++ CallItem entry ∷ []) place other → other.caller ≡ index → CallAt items place other
+entry_apart items entry index apart place other there its =
+    elim (new_or_before items (CallItem entry) place (CallItem other) there) [
+      | inl last ↦ absurd (apart (ap (λ (e : Entry). e.caller) (same last.1) ∙ its))
+      | inr earlier ↦ earlier.1
+    ]
+  where
+    same : CallItem entry ≡ CallItem other → entry ≡ other
+    same is = cc
+
+-- A new group is none of any caller's.
+pub group_apart : (items : List Item) (group : GroupItem) (place : ℕ) (other : Entry)
+    → CallAt (items ++ Group group ∷ []) place other → CallAt items place other
+group_apart items group place other there =
+    elim (new_or_before items (Group group) place (CallItem other) there) [
+      | inl last ↦ absurd (never last.1)
+      | inr earlier ↦ earlier.1
+    ]
+  where
+    never : Group group ≡ CallItem other → ⊥
+    never is = cc
+
+pub sync_more : (world : World) (items more : List Item) (item : GroupItem) (begun : List Kept) (at : ℕ) (does : Work)
+    → IsSyncOf world items item begun at does → IsSyncOf world (items ++ more) item begun at does
+sync_more world items more item begun at does is = sync_grown world items more item begun at does is
+
+pub head_is : {A : Type 0} {one two : A} → one ∷ [] ≡ two ∷ [] → one ≡ two
+head_is same = cc
+
+-- There is one last group.
+pub one_latest : (items : List Item) (count : ℕ) (one other : GroupItem) → IsGroupBefore items count one
+    → IsGroupBefore items count other → one ≡ other
+one_latest items count one other first second = ⊎_elim
+    (λ (less : first.place < second.place). absurd (first.latest second.place other less second.before second.there))
+    (λ (not_less : second.place ≤ first.place). ⊎_elim
+    (λ (less : second.place < first.place). absurd (second.latest first.place one less first.before first.there))
+    (λ (not_more : first.place ≤ second.place).
+    let same : first.place ≡ second.place = omega (arith, not_less, not_more) in
+    same_group (sym first.there ∙ ap (slice_get items) same ∙ second.there))
+    (cases_lt second.place first.place))
+    (cases_lt first.place second.place)
+  where
+    same_group : Some (Group one) ≡ Some (Group other) → one ≡ other
+    same_group is = cc

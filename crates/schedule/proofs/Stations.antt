@@ -1,0 +1,115 @@
+-- A turn of a client.
+use Rattle.std.proofs.Common.{◌≡◌, ℕ, ◌+◌, ◌-◌, List, [], ◌∷◌, ◌++◌, length, Option, Some, None, refl, sym, ◌∙◌, ap, subst}
+use Rattle.std.specs.Prelude.{slice_get}
+use Rattle.bank_trait.specs.Disk.{Disk}
+use Rattle.reflow_mark.specs.declared.reflow.Reflow.{Reflow}
+use Rattle.core_state.specs.declared.answer.Answer.{Answer}
+use Rattle.core_state.specs.declared.item.Entry.{Entry}
+use Rattle.core_state.specs.declared.item.Item.{Item}
+use Rattle.core_state.specs.declared.item.Item.TheVariants.{Call}
+use Rattle.client_script.specs.declared.call.ScriptCall.{ScriptCall}
+use Rattle.core_turns.specs.declared.turn.Turn.TheVariants.{More, Busy, Done}
+use Rattle.core_turns.specs.Core.{Core, CoreState}
+use Rattle.core_turns.specs.UnderWay.{TurnGoesOn}
+use Rattle.schedule.specs.declared.client.Client.{Client}
+use Rattle.schedule.specs.declared.client.UnderWay.{UnderWay}
+use Rattle.schedule.specs.declared.client.Work.{Work}
+use Rattle.schedule.specs.Turned.{Station, Turned, Began, Went, BeginsCall, GoesOnBy, HasTableOf, entry_for, listed_with, station_of}
+
+-- A client whose call under way was taken, and none was, is as it was.
+pub idle_turn : (calls : List ScriptCall) (actor : ℕ) (core : Core) (disk : Disk) (items : List Item) (client : Client)
+    (left : Option UnderWay) (after : Station) → client.under_way ≡ None → left ≡ None
+    → Turned calls actor (station_of core disk items (record { begun = client.begun; under_way = left })) after
+    → Turned calls actor (station_of core disk items client) after
+idle_turn calls actor core disk items client left after none left_is turned =
+    subst (λ (under : Option UnderWay). Turned calls actor
+    (station_of core disk items (record { begun = client.begun; under_way = under })) after) (left_is ∙ sym none) turned
+
+-- The client's next call had its first turn.
+module _ (calls : List ScriptCall) (actor : ℕ) (core new : Core) (disk : Disk) (items : List Item) (client : Client)
+    (call : ScriptCall) (idle : client.under_way ≡ None) (next : slice_get calls client.begun ≡ Some call) where
+  pub begun_more : (does : Work) (at : ℕ) → BeginsCall core new actor call (More does) → HasTableOf core (More does)
+      → at ≡ length items
+      → Turned calls actor (station_of core disk items client) (station_of new disk items (record {
+        begun = client.begun + 1;
+        under_way = Some (record { at = at; work = does });
+      }))
+  begun_more does at did table at_is = Began (More does) (record {
+    idle = idle;
+    call = call;
+    next = next;
+    did = did;
+    table = table;
+    disk = refl;
+  }) (refl, λ i. record { begun = client.begun + 1; under_way = Some (record { at = at_is i; work = does }) })
+
+  pub begun_busy : (by : ℕ) → BeginsCall core new actor call (Busy by)
+      → Turned calls actor (station_of core disk items client) (station_of new disk items client)
+  begun_busy by did = Began (Busy by) (record {
+    idle = idle;
+    call = call;
+    next = next;
+    did = did;
+    table = tt;
+    disk = refl;
+  }) (refl, refl)
+
+  pub begun_done : (given : Answer) (at : ℕ) (entry : Entry) (listed : List Item)
+      → BeginsCall core new actor call (Done given) → at ≡ length items
+      → entry ≡ entry_for call actor (client.begun + 1) at given → listed ≡ items ++ Call entry ∷ []
+      → Turned calls actor (station_of core disk items client)
+      (station_of new disk listed (record { begun = client.begun + 1; under_way = client.under_way }))
+  begun_done given at entry listed did at_is entry_is listed_is = Began (Done given) (record {
+    idle = idle;
+    call = call;
+    next = next;
+    did = did;
+    table = tt;
+    disk = refl;
+  }) (
+    listed_is ∙ ap (λ (e : Entry). items ++ Call e ∷ [])
+        (entry_is ∙ ap (λ (n : ℕ). entry_for call actor (client.begun + 1) n given) at_is),
+    λ i. record { begun = client.begun + 1; under_way = idle i },
+  )
+
+-- Its call under way had its next one.
+module _ (calls : List ScriptCall) (actor : ℕ) (before after : CoreState) (items : List Item) (client : Client)
+    (under : UnderWay) (call : ScriptCall) (going : client.under_way ≡ Some under)
+    (is : slice_get calls (client.begun - 1) ≡ Some call) (goes : TurnGoesOn before after) where
+  pub went_more : (does : Work) → GoesOnBy before after call under.work (More does)
+      → Turned calls actor (record { state = before; items = items; client = client }) (record {
+        state = after;
+        items = items;
+        client = record {
+          begun = client.begun;
+          under_way = Some (record { at = under.at; work = does });
+        };
+      })
+  went_more does did = Went under (More does) (record {
+    going = going;
+    call = call;
+    is = is;
+    did = did;
+    goes = goes;
+  }) (refl, refl)
+
+  pub went_done : (given : Answer) (widths : Reflow) (entry : Entry) (listed : List Item) (left : Option UnderWay)
+      → GoesOnBy before after call under.work (Done given) → widths ≡ before.core.pool.uber.reflow
+      → entry ≡ entry_for call actor client.begun under.at given
+      → listed ≡ listed_with widths items under.at entry entry.answer → left ≡ None
+      → Turned calls actor (record { state = before; items = items; client = client }) (record {
+        state = after;
+        items = listed;
+        client = record { begun = client.begun; under_way = left };
+      })
+  went_done given widths entry listed left did widths_is entry_is listed_is left_is = Went under (Done given) (record {
+    going = going;
+    call = call;
+    is = is;
+    did = did;
+    goes = goes;
+  }) (
+    listed_is ∙ ap (λ (e : Entry). listed_with widths items under.at e e.answer) entry_is
+        ∙ ap (λ (w : Reflow). listed_with w items under.at (entry_for call actor client.begun under.at given) given) widths_is,
+    λ i. record { begun = client.begun; under_way = left_is i },
+  )

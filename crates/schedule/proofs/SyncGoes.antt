@@ -1,0 +1,296 @@
+-- What a sync comes to that goes on or ends, among the other clients' calls.
+use Rattle.std.proofs.Common.{◌≡◌, ◌⊎◌, inl, inr, ℕ, ◌+◌, ◌-◌, ◌<◌, ◌≤◌, List, [], ◌∷◌, ◌++◌, Option, Some, None, refl, sym, ◌∙◌, ap, subst, arith, append_assoc}
+use Rattle.std.specs.Prelude.{slice_get}
+use Rattle.bank_trait.specs.Disk.{Disk}
+use Rattle.reflow_mark.specs.declared.reflow.Reflow.{Reflow}
+use Rattle.uberblock_ring.specs.Devices.{count_of, IsWithin}
+use Rattle.uberblock_ring.specs.Uberblock.{Uber}
+use Rattle.core_state.specs.declared.answer.Answer.{Answer}
+use Rattle.core_state.specs.declared.answer.Answer.TheVariants as answer
+use Rattle.core_state.specs.declared.answer.Kind.TheVariants as kind
+use Rattle.core_state.specs.declared.item.Entry.{Entry}
+use Rattle.core_state.specs.declared.item.Group.{Group as GroupItem}
+use Rattle.core_state.specs.declared.item.Item.{Item}
+use Rattle.core_state.specs.declared.item.Item.TheVariants.{Group, Call as CallItem}
+use Rattle.core_state.specs.Map.{Map, map_of}
+use Rattle.core_state.specs.Legal.{CallAt}
+use Rattle.core_state.specs.Keeps.{Kept}
+use Rattle.core_state.specs.Certain.{Knows}
+use Rattle.core_state.specs.Committing.{Point}
+use Rattle.core_state.specs.CoreState.{World}
+use Rattle.core_commit.specs.CommitTurns.{CommitRun}
+use Rattle.client_script.specs.declared.call.ScriptCall.{ScriptCall}
+use Rattle.client_script.specs.Script.{Script, calls_of}
+use Rattle.serial_run.proofs.Grown.{new_or_before}
+use Rattle.core_turns.specs.declared.turn.Turn.TheVariants.{More, Done}
+use Rattle.core_turns.specs.Core.{Core, CoreState}
+use Rattle.core_turns.specs.Committing.{IsCommitOf, StepsCommit, AnswersGroup}
+use Rattle.core_turns.specs.UnderWay.{Stands, TurnGoesOn}
+use Rattle.core_turns.proofs.Commits.{few_out, turn_bank}
+use Rattle.core_turns.proofs.CommitStands.{commit_steps_calls, commit_steps_stands, commit_steps_since, commit_ends_calls, commit_ends_stands, commit_is_cut as cut_stands}
+use Rattle.schedule.specs.declared.client.Client.{Client}
+use Rattle.schedule.specs.declared.client.UnderWay.{UnderWay}
+use Rattle.schedule.specs.declared.client.Work.TheVariants as work
+use Rattle.schedule.specs.Clients.{AreAnswered, answered_of}
+use Rattle.schedule.specs.Running.{IsGoing, IsSync, IsWorkFor, AreGoing, Runs}
+use Rattle.schedule.specs.Turned.{Station, LeavesGoing, entry_for, group_for}
+use Rattle.schedule.specs.Comes.{TakesTurn, Comes}
+use Rattle.schedule.proofs.RightNext.{sync_cut_right}
+use Rattle.schedule.proofs.Theirs.{some_is, none_some}
+use Rattle.schedule.proofs.Answered.{answered, answers_same, answers_call, answers_group}
+use Rattle.schedule.proofs.Going.{commits_on, commit_ends as going_ends, one_sync}
+use Rattle.schedule.proofs.Running.{group_apart}
+use Rattle.schedule.proofs.TurnRuns.{commit_goes_on, commit_ends, commit_is_cut}
+use Rattle.schedule.proofs.Syncs.{groups_know, its_commit}
+use Rattle.schedule.proofs.SyncComes.{StandsOn, came_still, came_listed, came_answered}
+
+module _ (script : Script) (actor : ℕ) (before after : Station) (clients news : List Client) (call : ScriptCall)
+    (takes : TakesTurn script actor before after clients news) where
+  -- The client syncs:
+  module _ (under : UnderWay) (run : CommitRun) (does_is : under.work ≡ work.Sync run)
+      (was_under : before.client.under_way ≡ Some under)
+      (next_is : slice_get (calls_of script actor) (before.client.begun - 1) ≡ Some call) where
+    -- it is going,
+    syncing : IsGoing clients actor before.client under
+    syncing = record { there = takes.was; under_way = was_under }
+
+    -- no other client does,
+    only : (other : ℕ) (its : Client) (its_under : UnderWay) → IsGoing clients other its its_under
+        → IsSync its_under.work → other ≡ actor
+    only = one_sync script before.state.core clients actor before.client under run takes.schedule.going syncing does_is
+
+    -- what it has under way is one,
+    is_sync : (its : Client) (its_under : UnderWay) → IsGoing clients actor its its_under → IsSync its_under.work
+    is_sync its its_under is = subst (λ (u : UnderWay). IsSync u.work)
+        (some_is (sym was_under ∙ ap (λ (c : Client). c.under_way) (some_is (sym takes.was ∙ is.there)) ∙ is.under_way))
+        (subst IsSync (sym does_is) tt)
+
+    -- its run is the core's commit,
+    of_core : IsCommitOf before.state.core run × (before.state.core.committing ≡ Some actor)
+    of_core = takes.schedule.going.syncs actor before.client under run syncing does_is
+
+    -- it is what the script asks for,
+    for_call : (call.kind ≡ kind.Sync) × (call.id ≡ None)
+    for_call =
+        let asked = takes.schedule.going.asked actor before.client under syncing in
+        subst (λ (c : ScriptCall). (c.kind ≡ kind.Sync) × (c.id ≡ None)) (some_is (sym asked.1 ∙ next_is))
+        (subst (IsWorkFor asked.0) does_is asked.2)
+
+    -- begun and not answered yet,
+    some_begun : 1 ≤ before.client.begun
+    some_begun = takes.schedule.answered.some actor before.client under takes.was was_under
+
+    -- with all before it answered,
+    answered_going : answered before.client ≡ before.client.begun - 1
+    answered_going = ap (answered_of before.client.begun) was_under
+
+    -- and the commit that stands.
+    its_stands : {world : World} {origin : Disk} (runs : Runs world script origin before.state before.items clients)
+        → Stands world.setting runs.last runs.begun (map_of world.handed world.opening before.items) runs.calls
+        (Some run) before.state
+    its_stands {world = world} runs = subst (λ (c : Option CommitRun). Stands world.setting runs.last runs.begun
+        (map_of world.handed world.opening before.items) runs.calls c before.state)
+        (its_commit clients actor before.client under run runs.commit syncing does_is only runs.sync) runs.stands
+
+    -- It goes on.
+    goes_on : (next : CommitRun) → StepsCommit before.state run after.state (More next)
+        → TurnGoesOn before.state after.state
+        → LeavesGoing actor call before after under (More (work.Sync next))
+        → Comes script before after clients news
+    goes_on next steps goes leaves = record {
+      come = came_still script before after clients news goes leaves.0 on;
+      schedule = record {
+        going = going;
+        answered = subst (AreAnswered script news) (sym leaves.0) answered_still;
+        bank = turn_bank before.state after.state goes takes.schedule.bank;
+      };
+    }
+      where
+        begun_is : after.client.begun ≡ before.client.begun
+        begun_is = ap (λ (c : Client). c.begun) leaves.1
+
+        going : AreGoing script after.state.core news
+        going = commits_on script before.state.core after.state.core clients news actor before.client after.client
+            takes.changes takes.was takes.schedule.going (record { at = under.at; work = work.Sync next }) next call
+            only is_sync (ap (λ (c : Client). c.under_way) leaves.1) refl
+            (ap (λ (n : ℕ). slice_get (calls_of script actor) (n - 1)) begun_is ∙ next_is) for_call steps.3
+            (ap (λ (c : Core). c.committing) steps.2 ∙ of_core.1)
+            (commit_steps_calls before.state after.state takes.schedule.going.calls run next steps
+            takes.schedule.going.are)
+
+        answered_still : AreAnswered script news before.items
+        answered_still = answers_same script clients news actor before.client after.client before.items takes.changes
+            takes.was
+            (let few = takes.schedule.answered.few actor before.client takes.was in omega (arith, few, begun_is))
+            (λ its_under is. let some = some_begun in omega (arith, some, begun_is)) takes.schedule.answered
+            (ap answered leaves.1 ∙ sym answered_going)
+
+        on : StandsOn script before after clients news before.items
+        on world origin within runs =
+            let map : Map = map_of world.handed world.opening before.items in
+            let borne = within (few_out before.state.core steps.0) in
+            commit_goes_on world script origin before.state after.state before.items clients news actor before.client
+            after.client takes.changes takes.was runs (ap (λ (c : Core). c.pool.uber) steps.2) goes.later
+            (λ groups time row kept. commit_steps_since world.setting runs.last runs.begun map runs.calls before.state
+            after.state run next groups time row steps borne (its_stands runs) kept)
+            under run next was_under does_is leaves.1
+            (commit_steps_stands world.setting runs.last runs.begun map runs.calls before.state after.state run next
+            steps borne (its_stands runs))
+
+    -- With its entry the journal answers one call more.
+    answered_end : (given : Answer) (items : List Item) → LeavesGoing actor call before after under (Done given)
+        → AreAnswered script clients items
+        → AreAnswered script news (items ++ CallItem (entry_for call actor before.client.begun under.at given) ∷ [])
+    answered_end given items leaves were = answers_call script clients news actor before.client after.client items
+        takes.changes takes.was
+        (let few = takes.schedule.answered.few actor before.client takes.was in omega (arith, few, begun_is))
+        (λ its_under is. absurd (none_some (sym (ap (λ (c : Client). c.under_way) leaves.1) ∙ is))) were call
+        (entry_for call actor before.client.begun under.at given)
+        (ap answered leaves.1 ∙ number) (ap (slice_get (calls_of script actor)) answered_going ∙ next_is) refl number
+        refl refl
+      where
+        begun_is : after.client.begun ≡ before.client.begun
+        begun_is = ap (λ (c : Client). c.begun) leaves.1
+
+        number : before.client.begun ≡ answered before.client + 1
+        number = let some = some_begun in let so_many = answered_going in omega (arith, some, so_many)
+
+    -- Its group is answered, and listed before it.
+    synced : (number : ℕ) → AnswersGroup before.state run after.state number → TurnGoesOn before.state after.state
+        → LeavesGoing actor call before after under (Done (answer.Synced number))
+        → Comes script before after clients news
+    synced number answers goes leaves = record {
+      come = came_listed script before after clients news (Group group ∷ CallItem entry ∷ []) goes (leaves.0 ∙ both)
+          told (subst (StandsOn script before after clients news) both on);
+      schedule = record {
+        going = going;
+        answered = subst (AreAnswered script news) (sym leaves.0)
+            (answered_end (answer.Synced number) (before.items ++ Group group ∷ []) leaves
+            (answers_group script clients before.items group takes.schedule.answered));
+        bank = turn_bank before.state after.state goes takes.schedule.bank;
+      };
+    }
+      where
+        entry : Entry
+        entry = entry_for call actor before.client.begun under.at (answer.Synced number)
+
+        group : GroupItem
+        group = group_for before.state.core under.at number
+
+        both : (before.items ++ Group group ∷ []) ++ CallItem entry ∷ []
+            ≡ before.items ++ Group group ∷ CallItem entry ∷ []
+        both = append_assoc before.items (Group group ∷ []) (CallItem entry ∷ [])
+
+        ended : after.client.under_way ≡ None
+        ended = ap (λ (c : Client). c.under_way) leaves.1
+
+        disk : after.state.disk ≡ before.state.disk
+        disk = ap (λ (p : Point). p.disk) answers.ends.same
+
+        -- Neither item tells of too many devices.
+        told : (index listed : ℕ) (other : Entry) → CallAt after.items index other
+            → other.answer ≡ answer.TooManyFailed listed → CallAt before.items index other
+            ⊎ ((before.state.core.pool.uber.parity < count_of listed) × IsWithin listed after.state.core.pool.out)
+        told index listed other there is = elim (new_or_before (before.items ++ Group group ∷ []) (CallItem entry) index
+            (CallItem other) (subst (λ (l : List Item). slice_get l index ≡ Some (CallItem other)) leaves.0 there)) [
+              | inl last ↦ absurd (never other last.1 is)
+              | inr earlier ↦ inl (group_apart before.items group index other earlier.1)
+            ]
+          where
+            never : (other : Entry) → CallItem entry ≡ CallItem other → other.answer ≡ answer.TooManyFailed listed → ⊥
+            never other same is = cc
+
+        going : AreGoing script after.state.core news
+        going = going_ends script before.state.core after.state.core clients news actor before.client after.client
+            takes.changes takes.was takes.schedule.going under run was_under does_is ended only
+            (λ its is. absurd (none_some (sym (ap (λ (c : Core). c.committing) answers.rest) ∙ is)))
+            (commit_ends_calls before.state after.state takes.schedule.going.calls run number of_core.0 answers
+            takes.schedule.going.are)
+
+        on : StandsOn script before after clients news ((before.items ++ Group group ∷ []) ++ CallItem entry ∷ [])
+        on world origin within runs =
+            let map : Map = map_of world.handed world.opening before.items in
+            let stands = its_stands runs in
+            let next : Kept = stands.groups.next in
+            let stood = commit_ends_stands world.setting runs.last next map runs.calls before.state after.state run
+            number answers (within (few_out before.state.core answers.few))
+            (subst (λ (l : List Kept). Stands world.setting runs.last l map runs.calls (Some run) before.state)
+            stands.groups.begun_is stands) in
+            let number_is : number ≡ next.uber.group =
+            answers.group_is ∙ sym stands.groups.of.number ∙ ap (λ (u : Uber). u.group) stands.groups.come.alike in
+            let reflow_is : before.state.core.pool.uber.reflow ≡ next.uber.reflow =
+            sym (ap (λ (u : Uber). u.reflow) stands.groups.of.uber_is)
+            ∙ ap (λ (u : Uber). u.reflow) stands.groups.come.alike in
+            commit_ends world script origin before.state after.state before.items clients news actor before.client
+            after.client takes.changes takes.was runs under run next group entry refl ended was_under does_is
+            stands.groups.begun_is only disk (ap (λ (r : Reflow). r.to) goes.widths) goes.parity
+            (λ i. record {
+              group = number_is i;
+              after = under.at;
+              from = (reflow_is i).from;
+              to = (reflow_is i).to;
+            })
+            for_call.0 refl (subst (Knows world.setting next []) disk stood.groups.knows) stood
+
+    -- It is cut short.
+    cut : (out : ℕ) → StepsCommit before.state run after.state (Done (answer.TooManyFailed out))
+        → TurnGoesOn before.state after.state
+        → LeavesGoing actor call before after under (Done (answer.TooManyFailed out))
+        → Comes script before after clients news
+    cut out steps goes leaves = record {
+      come = came_answered script before after clients news entry goes leaves.0
+          (λ listed is. (steps.0, same_out (sym is) ∙ steps.1)) on;
+      schedule = record {
+        going = subst (λ (s : CoreState). AreGoing script s.core news) (sym steps.2) going;
+        answered = subst (AreAnswered script news) (sym leaves.0)
+            (answered_end (answer.TooManyFailed out) before.items leaves takes.schedule.answered);
+        bank = turn_bank before.state after.state goes takes.schedule.bank;
+      };
+    }
+      where
+        entry : Entry
+        entry = entry_for call actor before.client.begun under.at (answer.TooManyFailed out)
+
+        same_out : {one other : ℕ} → answer.TooManyFailed one ≡ answer.TooManyFailed other → one ≡ other
+        same_out is = cc
+
+        ended : after.client.under_way ≡ None
+        ended = ap (λ (c : Client). c.under_way) leaves.1
+
+        going : AreGoing script before.state.core news
+        going = going_ends script before.state.core before.state.core clients news actor before.client after.client
+            takes.changes takes.was takes.schedule.going under run was_under does_is ended only (λ its is. steps.0)
+            takes.schedule.going.are
+
+        on : StandsOn script before after clients news (before.items ++ CallItem entry ∷ [])
+        on world origin within runs =
+            let map : Map = map_of world.handed world.opening before.items in
+            commit_is_cut world script origin before.state after.state before.items clients news actor before.client
+            after.client takes.changes takes.was runs entry refl ended
+            (ap (λ (s : CoreState). s.core.pool.uber) steps.2) (ap (λ (s : CoreState). s.disk) steps.2)
+            (groups_know world.setting runs.last runs.begun runs.calls runs.commit before.state runs.stands.groups)
+            (sync_cut_right world before.items entry for_call.0 tt) tt under run was_under does_is only
+            (subst (Stands world.setting runs.last runs.begun map runs.calls None) (sym steps.2)
+            (cut_stands world.setting runs.last runs.begun map runs.calls before.state run steps.0 (its_stands runs)))
+
+  -- A sync goes on,
+  pub sync_goes_on : (under : UnderWay) (run next : CommitRun) → under.work ≡ work.Sync run
+      → before.client.under_way ≡ Some under
+      → slice_get (calls_of script actor) (before.client.begun - 1) ≡ Some call
+      → StepsCommit before.state run after.state (More next) → TurnGoesOn before.state after.state
+      → LeavesGoing actor call before after under (More (work.Sync next))
+      → Comes script before after clients news
+  sync_goes_on under run next does_is was_under next_is = goes_on under run does_is was_under next_is next
+
+  -- or ends.
+  pub sync_ends : (under : UnderWay) (run : CommitRun) (given : Answer) → under.work ≡ work.Sync run
+      → before.client.under_way ≡ Some under
+      → slice_get (calls_of script actor) (before.client.begun - 1) ≡ Some call
+      → StepsCommit before.state run after.state (Done given) → TurnGoesOn before.state after.state
+      → LeavesGoing actor call before after under (Done given)
+      → Comes script before after clients news
+  sync_ends under run (answer.Synced number) does_is was_under next_is =
+      synced under run does_is was_under next_is number
+  sync_ends under run (answer.TooManyFailed out) does_is was_under next_is =
+      cut under run does_is was_under next_is out
+  sync_ends under run other does_is was_under next_is = λ steps. absurd steps

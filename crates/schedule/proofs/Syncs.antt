@@ -1,0 +1,166 @@
+-- A sync among the calls under way: its commit is the core's, and what it may be answered in its first turn.
+use Rattle.std.proofs.Common.{◌≡◌, ◌≢◌, ⊎_elim, ℕ, suc, List, [], ◌∷◌, length, Option, Some, None, refl, sym, ◌∙◌, ap, subst, arith}
+use Rattle.std.specs.Prelude.{slice_get}
+use Rattle.std.proofs.lemmas.Bool.{cases_eq}
+use Rattle.bank_trait.specs.Disk.{Later}
+use Rattle.bank_trait.specs.Regions.{TouchesOnly}
+use Rattle.bank_trait.proofs.Moments.{later_refl}
+use Rattle.bank_trait.proofs.Touches.{touches_none}
+use Rattle.core_state.specs.declared.answer.Answer.{Answer}
+use Rattle.core_state.specs.declared.answer.Answer.TheVariants as answer
+use Rattle.core_state.specs.declared.answer.Kind.{Kind}
+use Rattle.core_state.specs.declared.answer.Kind.TheVariants as kind
+use Rattle.core_state.specs.declared.item.Entry.{Entry}
+use Rattle.core_state.specs.declared.item.Group.{Group as GroupItem}
+use Rattle.core_state.specs.declared.item.Item.{Item}
+use Rattle.core_state.specs.Map.{Map, Handed, map_after_answer}
+use Rattle.core_state.specs.Legal.{IsGroupBefore, IsAnswerOf}
+use Rattle.core_state.specs.Keeps.{Kept, Setting}
+use Rattle.core_state.specs.Certain.{Knows}
+use Rattle.core_state.specs.Committing.{Point}
+use Rattle.core_state.specs.CoreState.{World}
+use Rattle.core_client.specs.Outs.{point_of, OnlyFailedGoOut}
+use Rattle.core_client.proofs.Outs.{outs_none}
+use Rattle.core_commit.specs.CommitTurns.{CommitRun}
+use Rattle.core_commit.specs.Spared.{IsOnInUse}
+use Rattle.core_commit.proofs.Beside.{committing_cut}
+use Rattle.core_serial.specs.Pool.{Pool}
+use Rattle.core_turns.specs.Core.{Core, CoreState}
+use Rattle.core_turns.specs.Getting.{HasTooManyOut}
+use Rattle.core_turns.specs.Committing.{IsSyncRefused}
+use Rattle.core_turns.specs.UnderWay.{Call, GroupsStand, TurnGoesOn}
+use Rattle.schedule.specs.declared.client.Client.{Client}
+use Rattle.schedule.specs.declared.client.UnderWay.{UnderWay}
+use Rattle.schedule.specs.declared.client.Work.{Work}
+use Rattle.schedule.specs.declared.client.Work.TheVariants as work
+use Rattle.schedule.specs.Clients.{Changes}
+use Rattle.schedule.specs.Recorded.{IsRightNext}
+use Rattle.schedule.specs.Running.{IsGoing, IsSync, IsTheirs}
+use Rattle.schedule.proofs.RightNext.{IsStopped, sync_cut_right, sync_limit_right}
+use Rattle.schedule.proofs.Theirs.{some_is, none_some}
+
+-- ---- where nothing was done
+
+-- Lists that have the same at each place are the same.
+same_list : {A : Type 0} (xs ys : List A) → ((place : ℕ) → slice_get xs place ≡ slice_get ys place) → xs ≡ ys
+same_list [] [] same = refl
+same_list [] (y ∷ ys) same = let none = same 0 in cc
+same_list (x ∷ xs) [] same = let none = same 0 in cc
+same_list (x ∷ xs) (y ∷ ys) same =
+    let first : x ≡ y = some_is (same 0) in
+    let rest : xs ≡ ys = same_list xs ys (λ place. same (suc place)) in
+    λ i. first i ∷ rest i
+
+-- A client stays as it is, and so do all.
+pub clients_same : (old new : List Client) (index : ℕ) (before client : Client) → Changes old new index client
+    → slice_get old index ≡ Some before → client ≡ before → new ≡ old
+clients_same old new index before client changes was same = same_list new old (λ place. ⊎_elim
+    (λ (here : place ≡ index). subst (λ (n : ℕ). slice_get new n ≡ slice_get old n) (sym here)
+    (changes.there ∙ ap Some same ∙ sym was))
+    (λ (apart : place ≢ index). changes.others place apart)
+    (cases_eq place index))
+
+-- A state is its core and its disk.
+pub state_is : (one other : CoreState) → one.core ≡ other.core → one.disk ≡ other.disk → one ≡ other
+state_is one other core disk = λ i. record { core = core i; disk = disk i }
+
+-- A turn that leaves the pool and calls no device.
+pub turn_still : (before after : CoreState) → after.core.pool ≡ before.core.pool → after.disk ≡ before.disk
+    → TurnGoesOn before after
+turn_still before after pool disk = record {
+  parity = ap (λ (p : Pool). p.uber.parity) pool;
+  widths = ap (λ (p : Pool). p.uber.reflow) pool;
+  births = ap (λ (p : Pool). p.uber.births) pool;
+  later = subst (Later before.disk) (sym disk) (later_refl before.disk);
+  out = subst (OnlyFailedGoOut here) (λ i. point_of (sym pool i).out (sym disk i)) (outs_none here);
+  only = subst (TouchesOnly (IsOnInUse before.core.pool.uber.reflow.to before.core.pool.out) before.disk) (sym disk)
+      (touches_none (IsOnInUse before.core.pool.uber.reflow.to before.core.pool.out) before.disk);
+}
+  where
+    here : Point
+    here = point_of before.core.pool.out before.disk
+
+-- ---- the core's commit
+
+-- the run of a sync
+pub run_of : (does : Work) → IsSync does → (run : CommitRun) × (does ≡ work.Sync run)
+run_of (work.Sync run) sync = (run, refl)
+run_of (work.Put run) sync = absurd sync
+run_of (work.Read run) sync = absurd sync
+
+-- What is certain of the last group, whether a commit is under way or not.
+pub groups_know : (setting : Setting) (last : Kept) (begun : List Kept) (calls : List Call) (commit : Option CommitRun)
+    (state : CoreState) → GroupsStand setting last begun calls commit state → Knows setting last begun state.disk
+groups_know setting last begun calls None state groups = groups.knows
+groups_know setting last begun calls (Some run) state groups =
+    subst (λ (l : List Kept). Knows setting last l state.disk) (sym groups.begun_is)
+    (committing_cut setting last groups.next run (point_of state.core.pool.out state.disk) groups.come)
+
+-- Where the core has no commit under way, none stands;
+pub no_commit : (setting : Setting) (last : Kept) (begun : List Kept) (calls : List Call) (commit : Option CommitRun)
+    (state : CoreState) → state.core.committing ≡ None → GroupsStand setting last begun calls commit state
+    → commit ≡ None
+no_commit setting last begun calls None state none groups = refl
+no_commit setting last begun calls (Some run) state none groups = absurd (none_some (sym none ∙ groups.of.under_way))
+
+-- and the one that stands is that of the client who syncs.
+pub its_commit : (clients : List Client) (index : ℕ) (client : Client) (under : UnderWay) (run : CommitRun)
+    (commit : Option CommitRun) → IsGoing clients index client under → under.work ≡ work.Sync run
+    → ((other : ℕ) (its : Client) (its_under : UnderWay) → IsGoing clients other its its_under
+    → IsSync its_under.work → other ≡ index)
+    → IsTheirs clients commit → commit ≡ Some run
+its_commit clients index client under run None going does_is only none =
+    absurd (none index client under going (subst IsSync (sym does_is) tt))
+its_commit clients index client under run (Some found) going does_is only (other, its, its_under, its_going, its_does) =
+    let here : other ≡ index = only other its its_under its_going (subst IsSync (sym its_does) tt) in
+    let same : its ≡ client =
+    some_is (sym its_going.there ∙ ap (λ (n : ℕ). slice_get clients n) here ∙ going.there) in
+    let same_under : its_under ≡ under =
+    some_is (sym its_going.under_way ∙ ap (λ (c : Client). c.under_way) same ∙ going.under_way) in
+    ap Some (run_is (sym its_does ∙ ap (λ (u : UnderWay). u.work) same_under ∙ does_is))
+  where
+    run_is : {one two : CommitRun} → work.Sync one ≡ work.Sync two → one ≡ two
+    run_is is = cc
+
+-- ---- answers of the first turn
+
+-- It tells of too many devices where they are out,
+pub refused_tells : (core : Core) (given : Answer) → IsSyncRefused core given → (listed : ℕ)
+    → given ≡ answer.TooManyFailed listed → HasTooManyOut core × (listed ≡ core.pool.out)
+refused_tells core (answer.TooManyFailed out) refused listed is = (refused.0, same (sym is) ∙ refused.1)
+  where
+    same : {one two : ℕ} → answer.TooManyFailed one ≡ answer.TooManyFailed two → one ≡ two
+    same is = cc
+refused_tells core (answer.Limit reached) refused listed is = cc
+refused_tells core answer.NoMemory refused listed is = cc
+refused_tells core other refused listed is = absurd refused
+
+-- changes no block,
+pub refused_map : (handed : Handed) (map : Map) (entry : Entry) (core : Core) (given : Answer)
+    → IsSyncRefused core given → map_after_answer handed map entry given ≡ map
+refused_map handed map entry core (answer.TooManyFailed out) refused = refl
+refused_map handed map entry core (answer.Limit reached) refused = refl
+refused_map handed map entry core answer.NoMemory refused = refl
+refused_map handed map entry core other refused = absurd refused
+
+-- answers any call,
+pub refused_answers : (asked : Kind) (core : Core) (given : Answer) → IsSyncRefused core given
+    → IsAnswerOf asked given
+refused_answers asked core (answer.TooManyFailed out) refused = tt
+refused_answers asked core (answer.Limit reached) refused = tt
+refused_answers asked core answer.NoMemory refused = tt
+refused_answers asked core other refused = absurd refused
+
+-- and is right where the last group listed is the last one begun, if none is under way.
+pub refused_right : (world : World) (items : List Item) (item : GroupItem) (entry : Entry) (core : Core)
+    (given : Answer) → entry.kind ≡ kind.Sync → entry.answer ≡ given → IsGroupBefore items (length items) item
+    → (core.committing ≡ None → core.begun ≡ item.group) → IsSyncRefused core given
+    → IsRightNext world items entry
+refused_right world items item entry core (answer.TooManyFailed out) asked is latest last refused =
+    sync_cut_right world items entry asked (subst IsStopped (sym is) tt)
+refused_right world items item entry core (answer.Limit reached) asked is latest last refused =
+    sync_limit_right world items entry item asked (is ∙ ap answer.Limit refused.2) latest
+    (let same = last refused.1 in let high = refused.3 in omega (arith, same, high))
+refused_right world items item entry core answer.NoMemory asked is latest last refused =
+    sync_cut_right world items entry asked (subst IsStopped (sym is) tt)
+refused_right world items item entry core other asked is latest last refused = absurd refused

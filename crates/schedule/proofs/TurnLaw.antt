@@ -1,0 +1,148 @@
+-- What a turn of one client comes to, whatever it did.
+use Rattle.std.proofs.Common.{◌≡◌, ⊎_elim, ℕ, ◌-◌, List, length, Option, Some, None, refl, sym, subst, arith}
+use Rattle.std.specs.Prelude.{slice_get}
+use Rattle.std.specs.List.{slice_index}
+use Rattle.std.proofs.lemmas.Bool.{cases_lt}
+use Rattle.std.proofs.lemmas.List.{get_or_past}
+use Rattle.reconstruct.specs.Lost.{AreBytes}
+use Rattle.core_state.specs.declared.answer.Answer.{Answer}
+use Rattle.core_state.specs.declared.answer.Kind.{Kind}
+use Rattle.core_state.specs.declared.answer.Kind.TheVariants as kind
+use Rattle.client_script.specs.declared.call.ScriptCall.{ScriptCall}
+use Rattle.client_script.specs.Lines.{fill_bytes}
+use Rattle.client_script.specs.Script.{Script, MayHave, IsAllowed, calls_of}
+use Rattle.core_turns.specs.declared.turn.Turn.{Turn}
+use Rattle.core_turns.specs.declared.turn.Turn.TheVariants.{More, Busy, Done}
+use Rattle.core_turns.specs.declared.getting.GetRun.{GetRun}
+use Rattle.core_turns.specs.Getting.{IsRead, BeginsGet}
+use Rattle.core_turns.specs.UnderWay.{TurnGoesOn}
+use Rattle.schedule.specs.declared.client.Client.{Client}
+use Rattle.schedule.specs.declared.client.UnderWay.{UnderWay}
+use Rattle.schedule.specs.declared.client.Work.{Work}
+use Rattle.schedule.specs.declared.client.Work.TheVariants as work
+use Rattle.schedule.specs.Comes.{TakesTurn, Comes}
+use Rattle.schedule.specs.Turned.{Station, Begins, Waits, AnswersAtOnce, BeginsCall, GoesOnBy, LeavesBegun, LeavesGoing, HasTableOf, Turned, Nothing, Began, Went}
+use Rattle.schedule.proofs.ComesBy.{comes_nowhere}
+use Rattle.schedule.proofs.FreeComes.{free_at_once}
+use Rattle.schedule.proofs.PutComes.{put_begins, put_waits, put_at_once}
+use Rattle.schedule.proofs.PutGoes.{put_goes_on, put_ends}
+use Rattle.schedule.proofs.ReadComes.{read_begins, read_waits, read_at_once, read_goes_on, read_ends}
+use Rattle.schedule.proofs.SyncComes.{sync_begins, sync_waits, sync_at_once}
+use Rattle.schedule.proofs.SyncGoes.{sync_goes_on, sync_ends}
+
+-- What a put may have are bytes.
+put_bytes : (id : Option ℕ) (bytes : List ℕ) → MayHave kind.Put id bytes → AreBytes bytes
+put_bytes id bytes may at = ⊎_elim (λ below. may.1.fit at 0 below)
+    (λ above. let past : slice_index bytes at ≡ 0 = get_or_past bytes at 0 above in omega (arith, past))
+    (cases_lt at (length bytes))
+
+module _ (script : Script) (actor : ℕ) (before after : Station) (clients news : List Client)
+    (takes : TakesTurn script actor before after clients news) where
+  abbrev ItComes : Type 0
+  ItComes = Comes script before after clients news
+
+  -- A first turn:
+  module _ (call : ScriptCall) (allowed : IsAllowed call) (idle : before.client.under_way ≡ None)
+      (next : slice_get (calls_of script actor) before.client.begun ≡ Some call)
+      (disk : after.state.disk ≡ before.state.disk) where
+    -- as the core says it of a read of this kind
+    as_read : (asked : Kind) (id : ℕ) (turn : Turn GetRun) → call.kind ≡ asked
+        → BeginsGet before.state.core after.state.core actor asked id turn
+        → BeginsGet before.state.core after.state.core actor call.kind id turn
+    as_read asked id turn is = subst (λ (k : Kind). BeginsGet before.state.core after.state.core actor k id turn) (sym is)
+
+    is_read : (asked : Kind) → call.kind ≡ asked → IsRead asked → IsRead call.kind
+    is_read asked is = subst IsRead (sym is)
+
+    -- one that goes on,
+    begins_by : (asked : Kind) (id : Option ℕ) (does : Work) → call.kind ≡ asked → call.id ≡ id
+        → Begins before.state.core after.state.core actor call asked id does
+        → HasTableOf before.state.core (More does) → LeavesBegun actor call before after (More does)
+        → ItComes
+    begins_by kind.Put (Some id) (work.Put run) asked id_is did table leaves =
+        put_begins script actor before after clients news takes call id asked id_is idle next disk run
+        (put_bytes call.id (fill_bytes call.fill)
+        (subst (λ (k : Kind). MayHave k call.id (fill_bytes call.fill)) asked allowed))
+        did leaves
+    begins_by kind.Get (Some id) (work.Read run) asked id_is did table leaves =
+        read_begins script actor before after clients news takes call id run (is_read kind.Get asked tt) id_is idle next
+        (as_read kind.Get id (More run) asked did) disk leaves
+    begins_by kind.Sum (Some id) (work.Read run) asked id_is did table leaves =
+        read_begins script actor before after clients news takes call id run (is_read kind.Sum asked tt) id_is idle next
+        (as_read kind.Sum id (More run) asked did) disk leaves
+    begins_by kind.Sync None (work.Sync run) asked id_is did table leaves =
+        sync_begins script actor before after clients news call takes run table asked id_is idle next did disk leaves
+    begins_by asked id does asked_is id_is did table leaves = absurd did
+
+    -- one that waits,
+    waits_by : (asked : Kind) (id : Option ℕ) (by : ℕ) → call.kind ≡ asked → call.id ≡ id
+        → Waits before.state.core after.state.core actor call asked id by → LeavesBegun actor call before after (Busy by)
+        → ItComes
+    waits_by kind.Put (Some id) by asked id_is did leaves =
+        put_waits script actor before after clients news takes call id asked id_is idle next disk by did leaves
+    waits_by kind.Get (Some id) by asked id_is did leaves =
+        read_waits script actor before after clients news takes call id by (is_read kind.Get asked tt) id_is idle next
+        (as_read kind.Get id (Busy by) asked did) disk leaves
+    waits_by kind.Sum (Some id) by asked id_is did leaves =
+        read_waits script actor before after clients news takes call id by (is_read kind.Sum asked tt) id_is idle next
+        (as_read kind.Sum id (Busy by) asked did) disk leaves
+    waits_by kind.Sync None by asked id_is did leaves =
+        sync_waits script actor before after clients news call takes by asked id_is idle next did disk leaves
+    waits_by asked id by asked_is id_is did leaves = absurd did
+
+    -- and one that is answered at once.
+    answers_by : (asked : Kind) (id : Option ℕ) (given : Answer) → call.kind ≡ asked → call.id ≡ id
+        → AnswersAtOnce before.state.core after.state.core actor call asked id given
+        → LeavesBegun actor call before after (Done given)
+        → ItComes
+    answers_by kind.Put (Some id) given asked id_is did leaves =
+        put_at_once script actor before after clients news takes call id asked id_is idle next disk given did leaves
+    answers_by kind.Get (Some id) given asked id_is did leaves =
+        read_at_once script actor before after clients news takes call id given (is_read kind.Get asked tt) id_is idle next
+        (as_read kind.Get id (Done given) asked did) disk leaves
+    answers_by kind.Sum (Some id) given asked id_is did leaves =
+        read_at_once script actor before after clients news takes call id given (is_read kind.Sum asked tt) id_is idle next
+        (as_read kind.Sum id (Done given) asked did) disk leaves
+    answers_by kind.Free (Some id) given asked id_is did leaves =
+        free_at_once script actor before after clients news takes call id given asked id_is idle next did disk leaves
+    answers_by kind.Sync None given asked id_is did leaves =
+        sync_at_once script actor before after clients news call takes given asked id_is idle next did disk leaves
+    answers_by asked id given asked_is id_is did leaves = absurd did
+
+    began_by : (turn : Turn Work) → BeginsCall before.state.core after.state.core actor call turn
+        → HasTableOf before.state.core turn → LeavesBegun actor call before after turn → ItComes
+    began_by (More does) did table leaves = begins_by call.kind call.id does refl refl did table leaves
+    began_by (Busy by) did table leaves = waits_by call.kind call.id by refl refl did leaves
+    began_by (Done given) did table leaves = answers_by call.kind call.id given refl refl did leaves
+
+  -- A later turn.
+  module _ (under : UnderWay) (call : ScriptCall) (going : before.client.under_way ≡ Some under)
+      (is : slice_get (calls_of script actor) (before.client.begun - 1) ≡ Some call)
+      (goes : TurnGoesOn before.state after.state) where
+    went_by : (does : Work) (turn : Turn Work) → under.work ≡ does → GoesOnBy before.state after.state call does turn
+        → LeavesGoing actor call before after under turn → ItComes
+    went_by (work.Put run) (More (work.Put next)) does_is did leaves =
+        put_goes_on script actor before after clients news takes call under run does_is going is goes next did leaves
+    went_by (work.Put run) (Done given) does_is did leaves =
+        put_ends script actor before after clients news takes call under run does_is going is goes given did leaves
+    went_by (work.Read run) (More (work.Read next)) does_is did leaves =
+        read_goes_on script actor before after clients news takes call under run next does_is going is did goes leaves
+    went_by (work.Read run) (Done given) does_is did leaves =
+        read_ends script actor before after clients news takes call under run given does_is going is did goes leaves
+    went_by (work.Sync run) (More (work.Sync next)) does_is did leaves =
+        sync_goes_on script actor before after clients news call takes under run next does_is going is did goes leaves
+    went_by (work.Sync run) (Done given) does_is did leaves =
+        sync_ends script actor before after clients news call takes under run given does_is going is did goes leaves
+    went_by does turn does_is did leaves = absurd did
+
+  -- **A turn of a client comes to a state in which the next turn may be taken, and what stood between two turns
+  -- stands.**
+  pub turned_comes : ((number : ℕ) (call : ScriptCall) → slice_get (calls_of script actor) number ≡ Some call → IsAllowed call)
+      → Turned (calls_of script actor) actor before after
+      → Comes script before after clients news
+  turned_comes allowed (Nothing nothing) = comes_nowhere script actor before after clients news takes nothing.same
+  turned_comes allowed (Began turn begins leaves) =
+      began_by begins.call (allowed before.client.begun begins.call begins.next) begins.idle begins.next begins.disk turn
+      begins.did begins.table leaves
+  turned_comes allowed (Went under turn goes leaves) =
+      went_by under goes.call goes.going goes.is goes.goes under.work turn refl goes.did leaves

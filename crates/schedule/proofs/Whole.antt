@@ -1,0 +1,173 @@
+-- A run of turns from the opening of its pool to its end.
+use Rattle.std.proofs.Common.{◌≡◌, inl, inr, ⊎_elim, ℕ, ◌≤◌, List, [], ◌∷◌, ◌++◌, Option, Some, None, Bool, true, false, refl, sym, ◌∙◌, ap, subst, arith}
+use Rattle.std.specs.Prelude.{Contains}
+use Rattle.bank_trait.specs.Causes.{Rose}
+use Rattle.bank_trait.specs.Disk.{Image, Disk, Later}
+use Rattle.bank_trait.specs.Regions.{TouchesOnly}
+use Rattle.bank_trait.proofs.Touches.{touches_then}
+use Rattle.uberblock_ring.specs.Devices.{has_device, count_of, IsWithin}
+use Rattle.uberblock_ring.specs.Uberblock.{Uber}
+use Rattle.core_state.specs.declared.item.Group.{Group as GroupItem}
+use Rattle.core_state.specs.declared.item.Item.{Item}
+use Rattle.core_state.specs.declared.item.Item.TheVariants.{Group}
+use Rattle.core_state.specs.Journal.{CallsAreRight}
+use Rattle.core_state.specs.Keeps.{Kept, Setting}
+use Rattle.core_state.specs.Certain.{Knows}
+use Rattle.core_state.specs.CoreState.{World}
+use Rattle.core_blocks.specs.Blocks.{AreUnderWay}
+use Rattle.core_client.specs.Outs.{point_of, OnlyFailedGoOut}
+use Rattle.core_commit.specs.CommitTurns.{CommitRun}
+use Rattle.core_commit.specs.Spared.{IsOnInUse}
+use Rattle.core_commit.proofs.Beside.{committing_cut}
+use Rattle.core_open.specs.Causes.{IsShownChoice, IsOutFor, AreOutFor, AreOutOf}
+use Rattle.core_open.specs.Failing.{HaveFailed}
+use Rattle.core_open.specs.Holds.{HoldsImage}
+use Rattle.core_open.specs.Opens.{HasBank, IsWithinBelow}
+use Rattle.core_open.specs.Regions.{IsOnBelow}
+use Rattle.core_serial.specs.Opening.{MayBegin, Begins, IsBegunWith}
+use Rattle.core_serial.specs.Pool.{Pool}
+use Rattle.client_script.specs.Script.{Script, asked_by, handed_by}
+use Rattle.serial_run.specs.Moments.{KeepsLast}
+use Rattle.serial_run.specs.WholeRun.{BeginsAfter, first_item}
+use Rattle.serial_run.proofs.Widths.{opened_width, widths_of_one}
+use Rattle.core_turns.specs.Core.{CoreState, at_disk}
+use Rattle.core_turns.specs.UnderWay.{Call, GroupsStand}
+use Rattle.schedule.specs.declared.client.Client.{Client}
+use Rattle.schedule.specs.Coming.{HasCome, turns_of}
+use Rattle.schedule.specs.Replaying.{blank_clients}
+use Rattle.schedule.specs.Running.{Runs}
+use Rattle.schedule.specs.WholeRun.{TurnsKeep, HasTakenTurns}
+use Rattle.schedule.proofs.Beginning.{no_call}
+use Rattle.schedule.proofs.Opened.{resting, opened_world, runs_first}
+use Rattle.schedule.proofs.Recording.{recorded_throughout, recorded_keeps}
+
+-- The devices know the last group, and the one that was begun after it, whether its commit is under way or was cut
+-- short.
+groups_known : (setting : Setting) (last : Kept) (begun : List Kept) (calls : List Call) (commit : Option CommitRun)
+    (state : CoreState) → GroupsStand setting last begun calls commit state
+    → Knows setting last begun state.disk
+groups_known setting last begun calls None state stands = stands.knows
+groups_known setting last begun calls (Some run) state stands =
+    subst (λ (l : List Kept). Knows setting last l state.disk) (sym stands.begun_is)
+    (committing_cut setting last stands.next run (point_of state.core.pool.out state.disk) stands.come)
+
+-- What failed earlier has failed later,
+module _ (old mid new : Disk) (later : Later mid new) where
+  rose_later : (device : ℕ) → Rose (old.faults device) (mid.faults device)
+      → Rose (old.faults device) (new.faults device)
+  rose_later device rose = let more = later.faults device in omega (arith, rose, more)
+
+  failed_later : (silent : ℕ) → HaveFailed old mid silent → HaveFailed old new silent
+  failed_later silent failed device has = let was = failed device has in (was.0, rose_later device was.1)
+
+  abbrev shown_later : (image : Image) → IsShownChoice old mid image → IsShownChoice old new image
+  shown_later image shown = record {
+    silent = shown.silent;
+    failed = failed_later shown.silent shown.failed;
+    device = shown.device;
+    uber = shown.uber;
+    entries = shown.entries;
+    chosen = shown.chosen;
+  }
+
+  -- and each device that is out then has its reason.
+  out_later : (uber : Uber) (out onward : ℕ) → Later old mid → AreOutOf old mid uber out
+      → OnlyFailedGoOut (point_of out mid) (point_of onward new) → (image : Image) → HoldsImage old image
+      → (shown : IsShownChoice old new image) × (shown.uber.parity ≡ uber.parity) × AreOutFor shown onward
+  out_later uber out onward earlier outs goes image holds =
+      (shown_later image was.0, was.1, λ device has. by device has (has_device out device) refl)
+    where
+      was : (shown : IsShownChoice old mid image) × (shown.uber.parity ≡ uber.parity) × AreOutFor shown out
+      was = outs.each image holds
+
+      by : (device : ℕ) → has_device onward device ≡ true → (before : Bool) → has_device out device ≡ before
+          → IsOutFor (shown_later image was.0) device
+      by device has true is = ⊎_elim (λ at. inl at) (λ rose. inr (rose_later device rose)) (was.2 device is)
+      by device has false is =
+          inr (let rose = goes.failed device is has in let more = earlier.faults device in omega (arith, rose, more))
+
+module _ (script : Script) (old mid : Disk) (pool : Pool) (silent : ℕ) (items : List Item) (clients : List Client)
+    (final : CoreState) (opened_later : Later old mid)
+    (opened_only : TouchesOnly (IsOnBelow pool.uber.reflow.to) old mid)
+    (failed : HaveFailed old mid silent) (few : count_of pool.out ≤ pool.uber.parity)
+    (outs : AreOutOf old mid pool.uber pool.out) (begun : IsBegunWith pool silent old mid)
+    (rest : AreUnderWay pool.blocks []) (bank : HasBank pool.uber pool.out mid)
+    (come : HasCome script
+    (turns_of (at_disk (resting pool) mid) (Group (first_item pool) ∷ []) (blank_clients script.clients))
+    (turns_of final items clients))
+    (calls : CallsAreRight (asked_by script) items) where
+  abbrev item : GroupItem
+  item = first_item pool
+
+  module _ (setting : Setting) (first : Kept) (later : List Kept) (may : MayBegin setting first later old)
+      (silent_in : IsWithinBelow first.uber.reflow.to silent setting.failed)
+      (borne_in : IsWithin come.borne setting.failed) where
+    begins : Begins setting first later pool old mid
+    begins = begun.each setting first later may silent_in
+        (λ device out. borne_in device (come.from_start few device out))
+
+    abbrev world : World
+    world = opened_world (handed_by script) may.may begins
+
+    runs : Runs world script old final items clients
+    runs = come.runs world old refl
+        (runs_first (handed_by script) may.may begins opened_later bank rest script script.clients) borne_in
+
+    abbrev run_groups : List Kept
+    run_groups = (first ∷ later) ++ runs.recorded.groups.answered ++ runs.recorded.groups.begun
+
+    at_end : (kept : KeepsLast setting (handed_by script) begins.opened.chosen.map items final.disk)
+        × ((group : Kept) → Contains (kept.last ∷ kept.begun) group → Contains run_groups group)
+    at_end = recorded_keeps runs.recorded
+        (groups_known setting runs.last runs.begun runs.calls runs.commit final runs.stands.groups)
+
+    -- The journal begins with the group that renews the chosen one.
+    begins_after : BeginsAfter begins.opened.chosen items
+    begins_after = let alike = begins.opened.alike in let renews = begins.opened.renews.alike in record {
+      first = item;
+      there = come.listed 0 (Group item) refl;
+      number = ap (λ (u : Uber). u.group) alike ∙ ap (λ (u : Uber). u.group) renews;
+      widths = (
+        ap (λ (u : Uber). u.reflow.from) alike ∙ ap (λ (u : Uber). u.reflow.from) renews,
+        ap (λ (u : Uber). u.reflow.to) alike ∙ ap (λ (u : Uber). u.reflow.to) renews,
+      );
+    }
+
+    -- What the run keeps, where these devices may fail.
+    pub turns_keep : TurnsKeep script setting first later old final.disk items pool.uber.parity
+    unfolding begins
+    turns_keep = record {
+      chosen = begins.opened.chosen;
+      known = begins.opened.listed;
+      choice = λ image holds. let shown = begins.opened.choice image holds in
+          (shown_later old mid final.disk come.later image shown.0, shown.1);
+      begins = begins_after;
+      legal = record { groups = runs.recorded.in_order; calls_are = calls; answers = runs.recorded.right };
+      sound = runs.recorded.sound;
+      counted = runs.recorded.counted;
+      any_moment = recorded_throughout runs.recorded;
+      no_older = runs.recorded.no_older;
+      kept = at_end.0;
+      kept_among = at_end.1;
+      widths = widths_of_one run_groups first (0, omega arith, refl) runs.recorded.widths;
+      parity_is = sym (opened_width may.may begins.opened).1;
+    }
+
+  -- The calls of the script were carried out on the pool that the devices showed.
+  pub has_taken_turns : HasTakenTurns script old final.disk items final.core.pool.out
+  has_taken_turns = record {
+    opened = item;
+    there = come.listed 0 (Group item) refl;
+    silent = silent;
+    failed = failed_later old mid final.disk come.later silent failed;
+    parity = pool.uber.parity;
+    only = touches_then (IsOnBelow pool.uber.reflow.to) (IsOnInUse pool.uber.reflow.to pool.out)
+        (IsOnBelow pool.uber.reflow.to) (λ d x here. here) (λ d x here. here.0) opened_only come.only;
+    each = out_later old mid final.disk come.later pool.uber pool.out final.core.pool.out opened_later outs come.out;
+    too_many = λ index listed entry there is. ⊎_elim
+        (λ at. absurd (no_call item index entry at)) (λ many. many) (come.too_many index listed entry there is);
+    borne = come.borne;
+    within = come.within;
+    few = come.few;
+    keeps = turns_keep;
+  }

@@ -1,0 +1,29 @@
+use Rattle.std.proofs.Common.{length, refl}
+use Rattle.std.proofs.lemmas.Option.{slice_get_read}
+use Rattle.schedule.proofs.Stations.{begun_more, begun_busy, begun_done}
+use Rattle.schedule.proofs.station.begin_next.Goals as goal
+
+pub returns-in-More-clause-turned : goal.returns-in-More-clause-turned
+returns-in-More-clause-turned c = λ disk.
+    begun_more c.args.calls.now c.args.actor c.args.core.now c.begin_call.new.core disk c.args.journal.now.items
+    c.args.client.now c.in-Some.call.now c.requires.idle
+    (slice_get_read c.args.calls.now (length c.args.calls.now) c.args.client.now.begun c.in-Some.call.now refl
+    c.in-Some.ensures.lookup.3.0 c.in-Some.ensures.lookup.1)
+    c.in-More.work c.len-at.result c.in-More.ensures.begins c.in-More.ensures.table c.len-at.ensures
+
+pub returns-in-Busy-clause-turned : goal.returns-in-Busy-clause-turned
+returns-in-Busy-clause-turned c = λ disk.
+    begun_busy c.args.calls.now c.args.actor c.args.core.now c.begin_call.new.core disk c.args.journal.now.items
+    c.args.client.now c.in-Some.call.now c.requires.idle
+    (slice_get_read c.args.calls.now (length c.args.calls.now) c.args.client.now.begun c.in-Some.call.now refl
+    c.in-Some.ensures.lookup.3.0 c.in-Some.ensures.lookup.1)
+    c.in-Busy.by c.in-Busy.ensures.begins
+
+pub returns-in-Done-clause-turned : goal.returns-in-Done-clause-turned
+returns-in-Done-clause-turned c = λ disk.
+    begun_done c.args.calls.now c.args.actor c.args.core.now c.begin_call.new.core disk c.args.journal.now.items
+    c.args.client.now c.in-Some.call.now c.requires.idle
+    (slice_get_read c.args.calls.now (length c.args.calls.now) c.args.client.now.begun c.in-Some.call.now refl
+    c.in-Some.ensures.lookup.3.0 c.in-Some.ensures.lookup.1)
+    c.in-Done.answer c.len-at.result c.entry_for.result c.list.new.self.items c.in-Done.ensures.begins c.len-at.ensures
+    c.entry_for.ensures c.list.ensures.items

@@ -1,0 +1,42 @@
+use Rattle.std.proofs.Common.{◌≤◌, ◌-◌, ◌∙◌, length, refl, sym, arith}
+use Rattle.std.proofs.lemmas.Option.{slice_get_read}
+use Rattle.core_turns.specs.Core.{at_disk}
+use Rattle.schedule.specs.Turned.{station_of}
+use Rattle.schedule.proofs.Stations.{idle_turn, went_more, went_done}
+use Rattle.schedule.proofs.station.take_turn.Goals as goal
+
+pub returns-in_default-clause-turned : goal.returns-in_default-clause-turned
+returns-in_default-clause-turned g c =
+    let disk = g.B.Bank.disk c.args.bank.now in
+    idle_turn c.args.calls.now c.args.actor c.args.core.now disk c.args.journal.now.items c.args.client.now c.take.new.self
+    (station_of c.begin_next.new.core disk c.begin_next.new.journal.items c.begin_next.new.client)
+    (sym c.take.ensures.value ∙ c.in_default.is) c.take.ensures.after (c.begin_next.ensures.turned disk)
+
+pub returns-in_default-clause-bank : goal.returns-in_default-clause-bank
+returns-in_default-clause-bank g c = c.begin_next.ensures.bank (g.B.Bank.disk c.args.bank.now) c.requires.bank
+
+pub returns-in-More-clause-turned : goal.returns-in-More-clause-turned
+returns-in-More-clause-turned g c =
+    let going = sym c.take.ensures.value ∙ c.in-Some.is in
+    let begun : 1 ≤ c.args.client.now.begun = c.requires.begun c.in-Some.under_way going in
+    let few = c.requires.few in
+    went_more c.args.calls.now c.args.actor (at_disk c.args.core.now (g.B.Bank.disk c.args.bank.now))
+    (at_disk c.go_on.new.core (g.B.Bank.disk c.go_on.new.bank)) c.args.journal.now.items c.args.client.now
+    c.in-Some.under_way c.index-calls-client.result going
+    (slice_get_read c.args.calls.now (length c.args.calls.now) (c.args.client.now.begun - 1) c.index-calls-client.result refl
+    (omega (arith, begun, few)) c.index-calls-client.is)
+    c.go_on.ensures.goes_on c.in-More.work c.in-More.ensures.goes
+
+pub returns-in-Done-clause-turned : goal.returns-in-Done-clause-turned
+returns-in-Done-clause-turned g c =
+    let going = sym c.take.ensures.value ∙ c.in-Some.is in
+    let begun : 1 ≤ c.args.client.now.begun = c.requires.begun c.in-Some.under_way going in
+    let few = c.requires.few in
+    went_done c.args.calls.now c.args.actor (at_disk c.args.core.now (g.B.Bank.disk c.args.bank.now))
+    (at_disk c.go_on.new.core (g.B.Bank.disk c.go_on.new.bank)) c.args.journal.now.items c.args.client.now
+    c.in-Some.under_way c.index-calls-client.result going
+    (slice_get_read c.args.calls.now (length c.args.calls.now) (c.args.client.now.begun - 1) c.index-calls-client.result refl
+    (omega (arith, begun, few)) c.index-calls-client.is)
+    c.go_on.ensures.goes_on c.in-Done.answer c.reflow-widths.result c.entry_for-entry.result c.list_answer.new.journal.items
+    c.take.new.self c.in-Done.ensures.goes c.reflow-widths.ensures.value c.entry_for-entry.ensures c.list_answer.ensures
+    c.take.ensures.after

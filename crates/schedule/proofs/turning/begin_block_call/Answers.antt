@@ -1,0 +1,7 @@
+use Rattle.std.proofs.Common.{rules}
+use Rattle.schedule.proofs.CallTurns.{read_begins}
+use Rattle.schedule.proofs.turning.begin_block_call.Goals as goal
+
+pub returns-in-Get-clause-begins : goal.returns-in-Get-clause-begins
+returns-in-Get-clause-begins c = read_begins c.args.core.now c.get_begin.new.self c.args.actor c.args.id c.args.call.now
+    c.get_begin.result c.read_turn.result (search rules) c.requires.id c.read_turn.ensures c.get_begin.ensures.begins

@@ -1,0 +1,16 @@
+use Rattle.schedule.proofs.CallTurns.{filled_of, put_gives, put_gives_goes}
+use Rattle.schedule.proofs.turning.go_on_putting.Goals as goal
+
+pub write_on-requires-clause-of : goal.write_on-requires-clause-of
+write_on-requires-clause-of g c = filled_of c.args.core.now c.args.call.now c.args.run c.fill_in.new.run
+    (c.fill_in.ensures.fills c.if-fill_in.true) c.requires.len c.requires.of
+
+pub returns-else-fill_in-clause-goes : goal.returns-else-fill_in-clause-goes
+returns-else-fill_in-clause-goes g c =
+    let wanting = c.fill_in.ensures.wanting c.if-fill_in.false in
+    put_gives c.args.core.now c.put_give_up.new.self (g.B.Bank.disk c.args.bank.now) c.args.call.now c.args.run
+    c.fill_in.new.run c.put_give_up.result wanting.1 wanting.0 c.put_give_up.ensures.gives_up
+
+pub returns-else-fill_in-clause-goes_on : goal.returns-else-fill_in-clause-goes_on
+returns-else-fill_in-clause-goes_on g c = put_gives_goes c.args.core.now c.put_give_up.new.self
+    (g.B.Bank.disk c.args.bank.now) c.fill_in.new.run c.put_give_up.result c.put_give_up.ensures.gives_up

@@ -1,0 +1,23 @@
+-- What a turn of one client comes to, among the others.
+use Rattle.std.specs.Prelude.{◌≡◌, ℕ, List, Some, slice_get}
+use Rattle.bank_trait.specs.Disk.{Lawful}
+use Rattle.client_script.specs.Script.{Script}
+use Rattle.core_turns.specs.Core.{IsCore}
+use Rattle.schedule.specs.declared.client.Client.{Client}
+use Rattle.schedule.specs.Clients.{Changes}
+use Rattle.schedule.specs.Coming.{HasCome, IsSchedule, turns_of}
+use Rattle.schedule.specs.Turned.{Station}
+
+-- A client takes a turn: the others stay as they are.
+pub record TakesTurn (script : Script) (actor : ℕ) (before after : Station) (clients news : List Client) : Type 0 where
+  pub schedule : IsSchedule script (turns_of before.state before.items clients)
+  pub was : slice_get clients actor ≡ Some before.client
+  pub changes : Changes clients news actor after.client
+  pub is : IsCore before.state.core
+  pub lawful : Lawful before.state.disk
+  pub still_lawful : Lawful after.state.disk
+
+-- It comes to a state in which the next turn may be taken.
+pub record Comes (script : Script) (before after : Station) (clients news : List Client) : Type 0 where
+  pub come : HasCome script (turns_of before.state before.items clients) (turns_of after.state after.items news)
+  pub schedule : IsSchedule script (turns_of after.state after.items news)

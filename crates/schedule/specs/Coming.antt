@@ -1,0 +1,62 @@
+-- What some turns of a script's clients come to.
+use Rattle.std.specs.Prelude.{◌≡◌, ◌⊎◌, ℕ, ◌≤◌, ◌<◌, List, Some, slice_get}
+use Rattle.bank_trait.specs.Disk.{Disk, Later}
+use Rattle.bank_trait.specs.Regions.{TouchesOnly}
+use Rattle.uberblock_ring.specs.Devices.{count_of, IsWithin}
+use Rattle.core_state.specs.declared.answer.Answer.TheVariants as answer
+use Rattle.core_state.specs.declared.item.Entry.{Entry}
+use Rattle.core_state.specs.declared.item.Item.{Item}
+use Rattle.core_state.specs.Legal.{CallAt}
+use Rattle.core_state.specs.CoreState.{World}
+use Rattle.core_client.specs.Outs.{point_of, OnlyFailedGoOut}
+use Rattle.core_commit.specs.Spared.{IsOnInUse}
+use Rattle.core_serial.specs.Pool.{HasBank}
+use Rattle.client_script.specs.Script.{Script, handed_by}
+use Rattle.core_turns.specs.Core.{CoreState}
+use Rattle.schedule.specs.declared.client.Client.{Client}
+use Rattle.schedule.specs.Clients.{AreAnswered}
+use Rattle.schedule.specs.Running.{AreGoing, Runs}
+
+-- the core with its disk, the journal's items, and what the clients have come to
+pub record Turns : Type 0 where
+  pub state : CoreState
+  pub items : List Item
+  pub clients : List Client
+
+abbrev pub turns_of : CoreState → List Item → List Client → Turns
+turns_of state items clients = record { state = state; items = items; clients = clients }
+
+-- What is needed of the calls under way, and which calls the journal answers.
+pub record IsSchedule (script : Script) (turns : Turns) : Type 0 where
+  pub going : AreGoing script turns.state.core turns.clients
+  pub answered : AreAnswered script turns.clients turns.items
+  pub bank : HasBank turns.state.core.pool.uber turns.state.core.pool.out turns.state.disk
+
+-- Turns have come from one state to another. Devices went out where they failed, and none was touched but those
+-- of the pool that were in use. An answer that tells of too many devices lists devices that are out, more than
+-- there are parities. The devices whose failure has to be borne were out when it began, or have failed, and are no
+-- more than there are parities; none where too many were out then, since no device is called any more.
+pub record HasCome (script : Script) (start now : Turns) : Type 0 where
+  pub later : Later start.state.disk now.state.disk
+  pub parity : now.state.core.pool.uber.parity ≡ start.state.core.pool.uber.parity
+  pub widths : now.state.core.pool.uber.reflow ≡ start.state.core.pool.uber.reflow
+  pub only : TouchesOnly (IsOnInUse start.state.core.pool.uber.reflow.to start.state.core.pool.out)
+      start.state.disk now.state.disk
+  pub out : OnlyFailedGoOut (point_of start.state.core.pool.out start.state.disk)
+      (point_of now.state.core.pool.out now.state.disk)
+  pub listed : (index : ℕ) (item : Item) → slice_get start.items index ≡ Some item
+      → slice_get now.items index ≡ Some item
+  pub too_many : (index listed : ℕ) (entry : Entry) → CallAt now.items index entry
+      → entry.answer ≡ answer.TooManyFailed listed
+      → CallAt start.items index entry
+      ⊎ ((start.state.core.pool.uber.parity < count_of listed) × IsWithin listed now.state.core.pool.out)
+  pub borne : ℕ
+  pub few : count_of borne ≤ start.state.core.pool.uber.parity
+  pub from_start : count_of start.state.core.pool.out ≤ start.state.core.pool.uber.parity
+      → IsWithin start.state.core.pool.out borne
+  pub stopped : start.state.core.pool.uber.parity < count_of start.state.core.pool.out → IsWithin borne 0
+  pub within : IsWithin borne now.state.core.pool.out
+  pub runs : (world : World) (origin : Disk) → world.handed ≡ handed_by script
+      → Runs world script origin start.state start.items start.clients
+      → IsWithin borne world.setting.failed
+      → Runs world script origin now.state now.items now.clients

@@ -1,0 +1,10 @@
+pub mod Moments
+pub mod Recorded
+pub mod Clients
+pub mod Running
+pub mod Coming
+pub mod Turned
+pub mod Comes
+pub mod WholeRun
+pub mod Left
+pub mod Replaying

@@ -1,0 +1,33 @@
+-- The banks that a run of turns came by.
+use Rattle.std.specs.Prelude.{◌≡◌, ℕ, ◌+◌, ◌≤◌, List, ◌∷◌, length, take, Contains}
+use Rattle.bank_trait.specs.Disk.{Disk, Later}
+use Rattle.core_state.specs.declared.item.Group.{Group as GroupItem}
+use Rattle.core_state.specs.declared.item.Item.{Item}
+use Rattle.core_state.specs.Map.{Map, Handed}
+use Rattle.core_state.specs.Keeps.{Kept, Setting}
+use Rattle.core_state.specs.Collision.{BankKeeps}
+use Rattle.core_state.specs.Moment.{IsBegunAfter, KeepsSince, KeepsThroughout}
+use Rattle.serial_run.specs.Moments.{KeepsUntil}
+
+-- The banks that a run came by, one for each number of items in its journal, from the end of the opening, which
+-- listed the first, and the one at its end. Until the first, whatever a stop left keeps some of the groups known
+-- and that first one; since then, no older group than the last one listed by then.
+pub record KeepsTurnByTurn (setting : Setting) (handed : Handed) (opening : Map) (known : List Kept)
+    (items : List Item) (old new : Disk) : Type 0 where
+  pub bank : ℕ → Disk
+  pub later : Later old (bank 1)
+  pub opened : KeepsThroughout setting handed opening known (take 1 items) old (bank 1)
+  pub each : (count : ℕ) → 1 ≤ count → count ≤ length items
+      → KeepsUntil setting handed opening (take count items) (bank count) (bank (count + 1))
+  pub ends : bank (length items + 1) ≡ new
+
+-- From the moment at which the journal came to these items, whose last group this is: first the bank kept it, and
+-- maybe one that was begun after it; and whatever a stop left keeps some in a row of it and those begun by now.
+pub record KeepsOn (setting : Setting) (handed : Handed) (opening : Map) (items : List Item) (item : GroupItem)
+    (last : Kept) (begun : List Kept) (from now : Disk) : Type 0 where
+  pub later : Later from now
+  pub first : List Kept
+  pub one : length first ≤ 1
+  pub first_is : (kept : Kept) → Contains first kept → IsBegunAfter handed opening items item kept
+  pub keeps : BankKeeps setting last first from
+  pub since : KeepsSince setting (last ∷ begun) from.clock now

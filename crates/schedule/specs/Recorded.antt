@@ -1,0 +1,65 @@
+-- What a journal tells while calls are under way, and what the devices kept meanwhile.
+use Rattle.std.specs.Prelude.{◌≡◌, ◌≢◌, ℕ, ◌+◌, ◌<◌, ◌≤◌, List, [], ◌∷◌, ◌++◌, length}
+use Rattle.bank_trait.specs.Disk.{Disk}
+use Rattle.uberblock_ring.specs.Uberblock.{Uber}
+use Rattle.core_state.specs.declared.answer.Answer.TheVariants as answer
+use Rattle.core_state.specs.declared.item.Entry.{Entry}
+use Rattle.core_state.specs.declared.item.Group.{Group as GroupItem}
+use Rattle.core_state.specs.declared.item.Item.{Item}
+use Rattle.core_state.specs.declared.item.Item.TheVariants.{Call}
+use Rattle.core_state.specs.Map.{SameMap, map_after}
+use Rattle.core_state.specs.Legal.{CallAt, IsPrevious, IsGroupBefore, IsRightCall, AnswersAreRight}
+use Rattle.core_state.specs.Journal.{GroupsAreRight}
+use Rattle.core_state.specs.Keeps.{Kept}
+use Rattle.core_state.specs.Moment.{IsGroupOf, Groups, KeepsSince}
+use Rattle.core_state.specs.CoreState.{World}
+use Rattle.serial_run.specs.Caused.{IsAtLastGroup}
+use Rattle.serial_run.specs.Widths.{HaveWidthOf}
+use Rattle.schedule.specs.Moments.{KeepsTurnByTurn, KeepsOn}
+
+-- Each answer that tells of a limit has its cause in the items before it.
+pub record GroupsAreCounted (items : List Item) : Type 0 where
+  pub each : (index reached : ℕ) (entry : Entry) → CallAt items index entry
+      → entry.answer ≡ answer.Limit reached → IsAtLastGroup items index reached
+
+-- The journal is right so far; each image since the bank was the first one keeps groups of the run in a row, none
+-- older than the last one listed by then. The last group listed is this one, and these were begun after it; each
+-- image since the last item was listed keeps some of them. All groups of the run have the width and the parity of
+-- the uberblock.
+pub record Recorded (world : World) (origin : Disk) (items : List Item) (last : Kept) (begun : List Kept)
+    (uber : Uber) (now : Disk) : Type 0 where
+  pub groups : Groups world.handed world.opening world.known items
+  pub earlier : List Kept
+  pub answered_are : groups.answered ≡ earlier ++ last ∷ []
+  pub begun_are : groups.begun ≡ begun
+  pub item : GroupItem
+  pub latest : IsGroupBefore items (length items) item
+  pub item_is : IsGroupOf world.handed world.opening items item last
+  pub in_order : GroupsAreRight items
+  pub right : AnswersAreRight world.handed world.opening items
+  pub sound : (index : ℕ) (entry : Entry) → CallAt items index entry → entry.answer ≢ answer.Damaged
+  pub counted : GroupsAreCounted items
+  pub since : KeepsSince world.setting (world.known ++ groups.answered ++ groups.begun) origin.clock now
+  pub widths : HaveWidthOf uber (world.known ++ groups.answered ++ groups.begun)
+  pub no_older : KeepsTurnByTurn world.setting world.handed world.opening world.known items origin now
+  pub kept_on : KeepsOn world.setting world.handed world.opening items item last begun
+      (no_older.bank (length items)) now
+
+-- The next entry is right where it is listed.
+pub record IsRightNext (world : World) (items : List Item) (entry : Entry) : Type 0 where
+  pub right : (previous : ℕ) → IsPrevious (items ++ Call entry ∷ []) entry.caller (length items) previous
+      → IsRightCall world.handed world.opening (items ++ Call entry ∷ []) previous (length items) entry entry.kind
+  pub sound : entry.answer ≢ answer.Damaged
+  pub counted : (reached : ℕ) → entry.answer ≡ answer.Limit reached → IsAtLastGroup items (length items) reached
+
+-- A commit of this group began after so many items, those of the last group or later ones.
+pub record IsBegunAt (world : World) (items : List Item) (item : GroupItem) (after : ℕ) (next : Kept) : Type 0 where
+  pub number : next.uber.group ≡ item.group + 1
+  pub listed : (item.after ≤ after) × (after ≤ length items)
+  pub map : SameMap next.map (map_after world.handed world.opening items after)
+  pub widths : (next.uber.reflow.from ≡ item.from) × (next.uber.reflow.to ≡ item.to)
+
+-- All entries of this caller stand below this index.
+abbrev pub AllBelow : List Item → ℕ → ℕ → Type 0
+AllBelow items caller index =
+    (place : ℕ) (entry : Entry) → CallAt items place entry → entry.caller ≡ caller → place < index

@@ -1,0 +1,123 @@
+-- What stands between two turns of a script's clients.
+use Rattle.std.specs.Prelude.{◌≡◌, ◌⊎◌, ℕ, ◌-◌, ◌<◌, ◌≤◌, List, ◌∷◌, [], length, Option, Some, None, slice_get, Contains, ⊤}
+use Rattle.bank_trait.specs.Disk.{Disk}
+use Rattle.core_state.specs.declared.answer.Kind.TheVariants as kind
+use Rattle.core_state.specs.declared.item.Entry.{Entry}
+use Rattle.core_state.specs.declared.item.Group.{Group as GroupItem}
+use Rattle.core_state.specs.declared.item.Item.{Item}
+use Rattle.core_state.specs.Map.{map_of, map_after}
+use Rattle.core_state.specs.Legal.{CallAt, IsGroupBefore}
+use Rattle.core_state.specs.Keeps.{Kept}
+use Rattle.core_state.specs.CoreState.{World}
+use Rattle.core_commit.specs.CommitTurns.{CommitRun}
+use Rattle.client_script.specs.declared.call.ScriptCall.{ScriptCall}
+use Rattle.client_script.specs.Lines.{fill_bytes}
+use Rattle.client_script.specs.Script.{Script, calls_of}
+use Rattle.core_turns.specs.Core.{Core, CoreState}
+use Rattle.core_turns.specs.Getting.{HasTooManyOut}
+use Rattle.core_turns.specs.Committing.{IsCommitOf}
+use Rattle.core_turns.specs.UnderWay.{Call, Putting, Reading, AreCallsOf, Stands, hold_of_call}
+use Rattle.schedule.specs.declared.client.Client.{Client}
+use Rattle.schedule.specs.declared.client.UnderWay.{UnderWay}
+use Rattle.schedule.specs.declared.client.Work.{Work}
+use Rattle.schedule.specs.declared.client.Work.TheVariants as work
+use Rattle.schedule.specs.Recorded.{Recorded, IsBegunAt}
+
+-- ---- without a world
+
+-- The client is the one of this number, and this is its call under way.
+pub record IsGoing (clients : List Client) (index : ℕ) (client : Client) (under : UnderWay) : Type 0 where
+  pub there : slice_get clients index ≡ Some client
+  pub under_way : client.under_way ≡ Some under
+
+-- The work is that of this call, one that holds sectors.
+abbrev pub IsWorkOf : Work → Call → Type 0
+IsWorkOf (work.Put run) (Putting other content) = run ≡ other
+IsWorkOf (work.Read run) (Reading other content) = run ≡ other
+IsWorkOf other call = ⊥
+
+-- the work that holds no sectors
+abbrev pub IsSync : Work → Type 0
+IsSync (work.Sync run) = ⊤
+IsSync other = ⊥
+
+-- The calls under way that hold sectors are the clients' works: each is that of the client who has its hold, and
+-- each client's is one of them.
+pub record AreTheirs (clients : List Client) (calls : List Call) : Type 0 where
+  pub of : (call : Call) → Contains calls call → (client : Client) × (under : UnderWay)
+      × IsGoing clients (hold_of_call call).actor client under × IsWorkOf under.work call
+  pub every : (index : ℕ) (client : Client) (under : UnderWay) → IsGoing clients index client under
+      → (IsSync under.work → ⊥)
+      → (call : Call) × Contains calls call × IsWorkOf under.work call × ((hold_of_call call).actor ≡ index)
+
+-- The work is what a call of the script asks for.
+abbrev pub IsWorkFor : ScriptCall → Work → Type 0
+IsWorkFor call (work.Put run) = (call.kind ≡ kind.Put) × (call.id ≡ Some run.range.id)
+    × (length (fill_bytes call.fill) ≡ run.len)
+IsWorkFor call (work.Read run) = (call.kind ≡ run.kind) × (call.id ≡ Some run.entry.id)
+IsWorkFor call (work.Sync run) = (call.kind ≡ kind.Sync) × (call.id ≡ None)
+
+-- The clients' calls under way are calls of this core, whatever their blocks' bytes, and are what the script asks
+-- for. At most one is a sync, the core's commit.
+pub record AreGoing (script : Script) (core : Core) (clients : List Client) : Type 0 where
+  pub calls : List Call
+  pub are : AreCallsOf core calls
+  pub theirs : AreTheirs clients calls
+  pub asked : (index : ℕ) (client : Client) (under : UnderWay) → IsGoing clients index client under
+      → (call : ScriptCall) × (slice_get (calls_of script index) (client.begun - 1) ≡ Some call)
+      × IsWorkFor call under.work
+  pub syncs : (index : ℕ) (client : Client) (under : UnderWay) (run : CommitRun)
+      → IsGoing clients index client under → under.work ≡ work.Sync run
+      → IsCommitOf core run × (core.committing ≡ Some index)
+  pub one : (actor : ℕ) → core.committing ≡ Some actor → HasTooManyOut core
+      ⊎ ((client : Client) × (under : UnderWay) × (run : CommitRun) × IsGoing clients actor client under
+      × (under.work ≡ work.Sync run))
+
+-- ---- with one
+
+-- The commit under way, if there is one, is a client's work.
+abbrev pub IsTheirs : List Client → Option CommitRun → Type 0
+IsTheirs clients None = (index : ℕ) (client : Client) (under : UnderWay) → IsGoing clients index client under
+    → IsSync under.work → ⊥
+IsTheirs clients (Some run) = (index : ℕ) × (client : Client) × (under : UnderWay)
+    × IsGoing clients index client under × (under.work ≡ work.Sync run)
+
+-- A sync makes the map of the time when it began its group's.
+abbrev pub IsSyncOf : World → List Item → GroupItem → List Kept → ℕ → Work → Type 0
+IsSyncOf world items item begun at (work.Sync run) =
+    (next : Kept) × (begun ≡ next ∷ []) × IsBegunAt world items item at next
+IsSyncOf world items item begun at other = ⊤
+
+-- A put has the bytes that the script hands it, a read the block that its id had when the read began.
+abbrev pub HasContent : World → List Item → ScriptCall → ℕ → Call → Type 0
+HasContent world items call at (Putting run content) = content ≡ fill_bytes call.fill
+HasContent world items call at (Reading run content) =
+    map_after world.handed world.opening items at run.entry.id ≡ Some content
+
+-- A client's call under way began after some items, those of its own calls before it.
+pub record IsClient (world : World) (script : Script) (items : List Item) (item : GroupItem) (begun : List Kept)
+    (calls : List Call) (index : ℕ) (client : Client) (under : UnderWay) : Type 0 where
+  pub at : (1 ≤ under.at) × (under.at ≤ length items)
+  pub after : (place : ℕ) (entry : Entry) → CallAt items place entry → entry.caller ≡ index → place < under.at
+  pub sync : IsSyncOf world items item begun under.at under.work
+  pub content : (call : ScriptCall) (held : Call)
+      → slice_get (calls_of script index) (client.begun - 1) ≡ Some call → Contains calls held
+      → (hold_of_call held).actor ≡ index → HasContent world items call under.at held
+
+-- After these items the journal is right, the core stands with the clients' calls under way and holds the
+-- journal's map, and each image since the bank was the first one keeps groups of the run in a row, none older than
+-- the last one listed by then.
+pub record Runs (world : World) (script : Script) (origin : Disk) (state : CoreState) (items : List Item)
+    (clients : List Client) : Type 0 where
+  pub last : Kept
+  pub begun : List Kept
+  pub calls : List Call
+  pub commit : Option CommitRun
+  pub item : GroupItem
+  pub latest : IsGroupBefore items (length items) item
+  pub recorded : Recorded world origin items last begun state.core.pool.uber state.disk
+  pub stands : Stands world.setting last begun (map_of world.handed world.opening items) calls commit state
+  pub theirs : AreTheirs clients calls
+  pub sync : IsTheirs clients commit
+  pub each : (index : ℕ) (client : Client) (under : UnderWay) → IsGoing clients index client under
+      → IsClient world script items item begun calls index client under

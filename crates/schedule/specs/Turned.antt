@@ -1,0 +1,276 @@
+-- What one turn of a client does.
+use Rattle.std.specs.Prelude.{◌≡◌, ◌⊎◌, ℕ, ◌+◌, ◌-◌, ◌≤◌, ◌<◌, List, [], ◌∷◌, ◌++◌, length, Option, Some, None, slice_get, ⊤}
+use Rattle.bank_trait.specs.Disk.{Disk, Unchanged}
+use Rattle.reflow_mark.specs.declared.reflow.Reflow.{Reflow}
+use Rattle.row_layout.specs.Layout.{rows_of}
+use Rattle.core_state.specs.declared.answer.Answer.{Answer}
+use Rattle.core_state.specs.declared.answer.Answer.TheVariants as answer
+use Rattle.core_state.specs.declared.answer.Kind.{Kind}
+use Rattle.core_state.specs.declared.answer.Kind.TheVariants as kind
+use Rattle.core_state.specs.declared.item.Entry.{Entry}
+use Rattle.core_state.specs.declared.item.Group.{Group as GroupItem}
+use Rattle.core_state.specs.declared.item.Item.{Item}
+use Rattle.core_state.specs.declared.item.Item.TheVariants.{Group, Call}
+use Rattle.core_blocks.specs.declared.range.PutRange.{PutRange}
+use Rattle.core_blocks.specs.Blocks.{AreUnderWay, IsUnderWay}
+use Rattle.core_blocks.specs.Kept.{NoneFree}
+use Rattle.block_record.specs.declared.entry.IndexEntry.{IndexEntry}
+use Rattle.block_table.specs.Table.{IsTable}
+use Rattle.core_client.specs.BlockTurns.{IsPlace}
+use Rattle.core_commit.specs.CommitTurns.{CommitRun}
+use Rattle.client_script.specs.declared.call.ScriptCall.{ScriptCall}
+use Rattle.client_script.specs.Lines.{fill_bytes}
+use Rattle.core_turns.specs.declared.getting.GetRun.{GetRun}
+use Rattle.core_turns.specs.declared.putting.Filled.{Filled}
+use Rattle.core_turns.specs.declared.putting.PutRun.{PutRun}
+use Rattle.core_turns.specs.declared.turn.Turn.{Turn}
+use Rattle.core_turns.specs.declared.turn.Turn.TheVariants.{More, Busy, Done}
+use Rattle.core_turns.specs.Core.{Core, CoreState, at_disk}
+use Rattle.core_turns.specs.Getting.{IsRead, IsGetOf, BeginsGet, ReadsTurn, SolvesGet, EndsGet}
+use Rattle.core_turns.specs.Freeing.{FreesBlock}
+use Rattle.core_turns.specs.Putting.{IsPutOf, BeginsPutTurn, FillsPut, WritesTurn, EndsPut, GivesUpTurn}
+use Rattle.core_turns.specs.Committing.{IsCommitOf, BeginsCommit, StepsCommit}
+use Rattle.core_turns.specs.UnderWay.{TurnGoesOn}
+use Rattle.serial_run.specs.Steps.{point_after}
+use Rattle.schedule.specs.declared.client.Client.{Client}
+use Rattle.schedule.specs.declared.client.UnderWay.{UnderWay}
+use Rattle.schedule.specs.declared.client.Work.{Work}
+use Rattle.schedule.specs.declared.client.Work.TheVariants as work
+
+-- ---- the turns of works
+
+-- a put's turn, a read's and a commit's, as that of a call
+abbrev pub put_turn : Turn PutRun → Turn Work
+put_turn (More run) = More (work.Put run)
+put_turn (Busy by) = Busy by
+put_turn (Done given) = Done given
+
+abbrev pub read_turn : Turn GetRun → Turn Work
+read_turn (More run) = More (work.Read run)
+read_turn (Busy by) = Busy by
+read_turn (Done given) = Done given
+
+abbrev pub sync_turn : Turn CommitRun → Turn Work
+sync_turn (More run) = More (work.Sync run)
+sync_turn (Busy by) = Busy by
+sync_turn (Done given) = Done given
+
+-- ---- first turns
+
+-- A free took a block away; puts under way stay so, and no sector of a block that a group up to now keeps is free.
+pub record Frees (old new : Core) (id : ℕ) (given : Answer) : Type 0 where
+  pub frees : FreesBlock old new id given
+  pub under : (ranges : List PutRange) → AreUnderWay old.pool.blocks ranges → AreUnderWay new.pool.blocks ranges
+  pub kept : (past : ℕ) (kept : List IndexEntry) → past < old.begun + 1 → NoneFree old.pool.blocks past kept
+      → NoneFree new.pool.blocks past kept
+
+-- what a call that is answered in its first turn comes to
+abbrev pub AnswersAtOnce : Core → Core → ℕ → ScriptCall → Kind → Option ℕ → Answer → Type 0
+AnswersAtOnce old new actor call kind.Put (Some id) given =
+    BeginsPutTurn old new actor id (length (fill_bytes call.fill)) (Done given)
+AnswersAtOnce old new actor call kind.Get (Some id) given = BeginsGet old new actor kind.Get id (Done given)
+AnswersAtOnce old new actor call kind.Sum (Some id) given = BeginsGet old new actor kind.Sum id (Done given)
+AnswersAtOnce old new actor call kind.Free (Some id) given = Frees old new id given
+AnswersAtOnce old new actor call kind.Sync None given = BeginsCommit old new actor (Done given)
+AnswersAtOnce old new actor call asked id given = ⊥
+
+-- what a call that finds another's in its way comes to
+abbrev pub Waits : Core → Core → ℕ → ScriptCall → Kind → Option ℕ → ℕ → Type 0
+Waits old new actor call kind.Put (Some id) by =
+    BeginsPutTurn old new actor id (length (fill_bytes call.fill)) (Busy by)
+Waits old new actor call kind.Get (Some id) by = BeginsGet old new actor kind.Get id (Busy by)
+Waits old new actor call kind.Sum (Some id) by = BeginsGet old new actor kind.Sum id (Busy by)
+Waits old new actor call kind.Sync None by = BeginsCommit old new actor (Busy by)
+Waits old new actor call asked id by = ⊥
+
+-- what a call that goes on comes to
+abbrev pub Begins : Core → Core → ℕ → ScriptCall → Kind → Option ℕ → Work → Type 0
+Begins old new actor call kind.Put (Some id) (work.Put run) =
+    BeginsPutTurn old new actor id (length (fill_bytes call.fill)) (More run)
+Begins old new actor call kind.Get (Some id) (work.Read run) = BeginsGet old new actor kind.Get id (More run)
+Begins old new actor call kind.Sum (Some id) (work.Read run) = BeginsGet old new actor kind.Sum id (More run)
+Begins old new actor call kind.Sync None (work.Sync run) = BeginsCommit old new actor (More run)
+Begins old new actor call asked id does = ⊥
+
+abbrev pub BeginsCall : Core → Core → ℕ → ScriptCall → Turn Work → Type 0
+BeginsCall old new actor call (More does) = Begins old new actor call call.kind call.id does
+BeginsCall old new actor call (Busy by) = Waits old new actor call call.kind call.id by
+BeginsCall old new actor call (Done given) = AnswersAtOnce old new actor call call.kind call.id given
+
+-- The blocks of a commit that begins are those of a table.
+abbrev pub HasTableOf : Core → Turn Work → Type 0
+HasTableOf core (More (work.Sync run)) = IsTable core.pool.blocks.table
+HasTableOf core other = ⊤
+
+-- ---- later turns
+
+-- A put's block was filled in before, or is now.
+abbrev pub IsFilledIn : ScriptCall → PutRun → PutRun → Type 0
+IsFilledIn call run filled = (filled ≡ run) ⊎ ((run.filled ≡ None) × FillsPut run filled (fill_bytes call.fill))
+
+-- A put goes on, once it is filled in, or is given up where memory is wanting for that.
+pub record GoesOnPutting (before after : CoreState) (call : ScriptCall) (run next : PutRun) : Type 0 where
+  pub filled : PutRun
+  pub fills : IsFilledIn call run filled
+  pub writes : WritesTurn before filled after (More next)
+
+-- how it ends: by a write that finds too many devices out, by its last turn, or given up
+pub record EndsPutting (before after : CoreState) (call : ScriptCall) (run : PutRun) (given : Answer) : Type 0 where
+  pub filled : PutRun
+  pub fills : IsFilledIn call run filled
+  pub disk : after.disk ≡ before.disk
+  pub ends : WritesTurn before filled after (Done given)
+      ⊎ (((all : Filled) × (filled.filled ≡ Some all) × (all.write.next ≡ length all.write.writes)
+      × EndsPut before.core filled after.core (Done given))
+      ⊎ ((run.filled ≡ None) × (filled ≡ run) × GivesUpTurn before.core run after.core (Done given)))
+
+abbrev pub PutGoesOn : CoreState → CoreState → ScriptCall → PutRun → Turn PutRun → Type 0
+PutGoesOn before after call run (More next) = GoesOnPutting before after call run next
+PutGoesOn before after call run (Busy by) = ⊥
+PutGoesOn before after call run (Done given) = EndsPutting before after call run given
+
+-- what the next turn of a put that is filled in comes to: a write, or its last turn, which calls no device
+abbrev pub WritesOn : CoreState → PutRun → CoreState → Turn PutRun → Type 0
+WritesOn before run after turn = WritesTurn before run after turn
+    ⊎ ((after.disk ≡ before.disk) × ((all : Filled) × (run.filled ≡ Some all)
+    × (all.write.next ≡ length all.write.writes) × EndsPut before.core run after.core turn))
+
+-- A read has one column more, or passed over it.
+pub record GoesOnReading (before after : CoreState) (run next : GetRun) : Type 0 where
+  pub left : run.read.row < rows_of run.read.layout
+  pub place : IsPlace run.read
+  pub reads : ReadsTurn before run after (More next)
+  pub unchanged : Unchanged before.disk after.disk
+
+-- how it ends: by a column that finds too many devices out, or by its last turn, solved where memory was there
+pub record EndsReading (before after : CoreState) (run : GetRun) (given : Answer) : Type 0 where
+  pub disk : after.disk ≡ before.disk
+  pub ends : ReadsTurn before run after (Done given)
+      ⊎ ((solved : GetRun) × ((solved ≡ run) ⊎ SolvesGet run solved)
+      × (run.read.row ≡ rows_of run.read.layout) × EndsGet before.core solved after.core (Done given))
+
+abbrev pub ReadGoesOn : CoreState → CoreState → GetRun → Turn GetRun → Type 0
+ReadGoesOn before after run (More next) = GoesOnReading before after run next
+ReadGoesOn before after run (Busy by) = ⊥
+ReadGoesOn before after run (Done given) = EndsReading before after run given
+
+abbrev pub GoesOnBy : CoreState → CoreState → ScriptCall → Work → Turn Work → Type 0
+GoesOnBy before after call (work.Put run) (More (work.Put next)) = GoesOnPutting before after call run next
+GoesOnBy before after call (work.Read run) (More (work.Read next)) = GoesOnReading before after run next
+GoesOnBy before after call (work.Sync run) (More (work.Sync next)) = StepsCommit before run after (More next)
+GoesOnBy before after call (work.Put run) (Done given) = EndsPutting before after call run given
+GoesOnBy before after call (work.Read run) (Done given) = EndsReading before after run given
+GoesOnBy before after call (work.Sync run) (Done given) = StepsCommit before run after (Done given)
+GoesOnBy before after call does turn = ⊥
+
+-- ---- what is listed
+
+-- the entry of a call of this number, which began after so many items
+abbrev pub entry_for : ScriptCall → ℕ → ℕ → ℕ → Answer → Entry
+entry_for call actor number at given = record {
+  caller = actor;
+  call = number;
+  kind = call.kind;
+  id = call.id;
+  at = point_after call.kind at given;
+  answer = given;
+}
+
+-- the item of a group of these widths that a sync made which began after so many items
+abbrev pub group_with : Reflow → ℕ → ℕ → GroupItem
+group_with widths at number = record { group = number; after = at; from = widths.from; to = widths.to }
+
+abbrev pub group_for : Core → ℕ → ℕ → GroupItem
+group_for core at number = group_with core.pool.uber.reflow at number
+
+-- the journal with an answer, and before it the group that the call made
+abbrev pub listed_with : Reflow → List Item → ℕ → Entry → Answer → List Item
+listed_with widths items at entry (answer.Synced number) =
+    (items ++ Group (group_with widths at number) ∷ []) ++ Call entry ∷ []
+listed_with widths items at entry given = items ++ Call entry ∷ []
+
+abbrev pub listed_for : Core → List Item → ℕ → Entry → Answer → List Item
+listed_for core items at entry given = listed_with core.pool.uber.reflow items at entry given
+
+-- ---- a turn
+
+-- the core with its disk, the journal's items, and what a client has come to
+pub record Station : Type 0 where
+  pub state : CoreState
+  pub items : List Item
+  pub client : Client
+
+abbrev pub station_of : Core → Disk → List Item → Client → Station
+station_of core disk items client = record { state = at_disk core disk; items = items; client = client }
+
+-- The client has begun all its calls, and none is under way.
+pub record HasNothingLeft (calls : List ScriptCall) (before after : Station) : Type 0 where
+  pub idle : before.client.under_way ≡ None
+  pub none : length calls ≤ before.client.begun
+  pub same : after ≡ before
+
+-- The client's next call begins, waits, or is answered at once.
+pub record BeginsNext (calls : List ScriptCall) (actor : ℕ) (before after : Station) (turn : Turn Work) : Type 0 where
+  pub idle : before.client.under_way ≡ None
+  pub call : ScriptCall
+  pub next : slice_get calls before.client.begun ≡ Some call
+  pub did : BeginsCall before.state.core after.state.core actor call turn
+  pub table : HasTableOf before.state.core turn
+  pub disk : after.state.disk ≡ before.state.disk
+
+-- The client's call under way goes on, or is answered.
+pub record GoesOn (calls : List ScriptCall) (before after : Station) (under : UnderWay) (turn : Turn Work) : Type 0 where
+  pub going : before.client.under_way ≡ Some under
+  pub call : ScriptCall
+  pub is : slice_get calls (before.client.begun - 1) ≡ Some call
+  pub did : GoesOnBy before.state after.state call under.work turn
+  pub goes : TurnGoesOn before.state after.state
+
+-- what the client is then, and what the journal has
+abbrev pub LeavesBegun : ℕ → ScriptCall → Station → Station → Turn Work → Type 0
+LeavesBegun actor call before after (More does) = (after.items ≡ before.items)
+    × (after.client ≡ record {
+      begun = before.client.begun + 1;
+      under_way = Some (record { at = length before.items; work = does });
+    })
+LeavesBegun actor call before after (Busy by) = (after.items ≡ before.items) × (after.client ≡ before.client)
+LeavesBegun actor call before after (Done given) =
+    (after.items ≡ before.items
+    ++ Call (entry_for call actor (before.client.begun + 1) (length before.items) given) ∷ [])
+    × (after.client ≡ record { begun = before.client.begun + 1; under_way = None })
+
+abbrev pub LeavesGoing : ℕ → ScriptCall → Station → Station → UnderWay → Turn Work → Type 0
+LeavesGoing actor call before after under (More does) = (after.items ≡ before.items)
+    × (after.client ≡ record {
+      begun = before.client.begun;
+      under_way = Some (record { at = under.at; work = does });
+    })
+LeavesGoing actor call before after under (Busy by) = ⊥
+LeavesGoing actor call before after under (Done given) =
+    (after.items ≡ listed_for before.state.core before.items under.at
+    (entry_for call actor before.client.begun under.at given) given)
+    × (after.client ≡ record { begun = before.client.begun; under_way = None })
+
+-- a turn of a client
+pub data Turned (calls : List ScriptCall) (actor : ℕ) (before after : Station) : Type 0 where
+  Nothing : HasNothingLeft calls before after → Turned calls actor before after
+  Began : (turn : Turn Work) (begins : BeginsNext calls actor before after turn)
+      → LeavesBegun actor begins.call before after turn → Turned calls actor before after
+  Went : (under : UnderWay) (turn : Turn Work) (goes : GoesOn calls before after under turn)
+      → LeavesGoing actor goes.call before after under turn → Turned calls actor before after
+
+-- ---- what a turn asks for
+
+-- The call under way is one of this core, and what the script asks for.
+abbrev pub MayGoOn : Core → ScriptCall → Work → Type 0
+MayGoOn core call (work.Put run) = IsPutOf core run × IsUnderWay core.pool.blocks run.range
+    × (length (fill_bytes call.fill) ≡ run.len)
+MayGoOn core call (work.Read run) = IsRead run.kind × IsGetOf core run
+MayGoOn core call (work.Sync run) = IsCommitOf core run
+
+-- What a turn asks of a client: it has begun no more calls than there are, and its call under way may go on.
+pub record MayTake (calls : List ScriptCall) (core : Core) (client : Client) : Type 0 where
+  pub few : client.begun ≤ length calls
+  pub begun : (under : UnderWay) → client.under_way ≡ Some under → 1 ≤ client.begun
+  pub may : (under : UnderWay) (call : ScriptCall) → client.under_way ≡ Some under
+      → slice_get calls (client.begun - 1) ≡ Some call → MayGoOn core call under.work

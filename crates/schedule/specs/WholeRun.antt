@@ -1,0 +1,76 @@
+-- What a run of turns keeps, from the opening of its pool to its end.
+use Rattle.std.specs.Prelude.{◌≡◌, ◌≢◌, ℕ, ◌<◌, ◌≤◌, List, ◌∷◌, ◌++◌, Contains}
+use Rattle.bank_trait.specs.Disk.{Image, Disk}
+use Rattle.bank_trait.specs.Regions.{TouchesOnly}
+use Rattle.uberblock_ring.specs.Devices.{count_of, IsWithin}
+use Rattle.core_state.specs.declared.answer.Answer.TheVariants as answer
+use Rattle.core_state.specs.declared.item.Entry.{Entry}
+use Rattle.core_state.specs.declared.item.Group.{Group as GroupItem}
+use Rattle.core_state.specs.declared.item.Item.{Item}
+use Rattle.core_state.specs.Legal.{GroupAt, CallAt}
+use Rattle.core_state.specs.Journal.{IsLegalJournal}
+use Rattle.core_state.specs.Keeps.{Kept, Setting}
+use Rattle.core_state.specs.Moment.{KeepsThroughout}
+use Rattle.core_open.specs.Causes.{IsShownChoice, AreOutFor}
+use Rattle.core_open.specs.Failing.{HaveFailed}
+use Rattle.core_open.specs.Holds.{HoldsImage}
+use Rattle.core_open.specs.Opens.{IsWithinBelow}
+use Rattle.core_open.specs.Regions.{IsOnBelow}
+use Rattle.client_script.specs.Script.{Script, asked_by, handed_by}
+use Rattle.core_serial.specs.Opening.{MayBegin}
+use Rattle.serial_run.specs.Moments.{KeepsLast}
+use Rattle.serial_run.specs.Widths.{HaveWidthOf}
+use Rattle.serial_run.specs.WholeRun.{BeginsAfter}
+use Rattle.schedule.specs.Moments.{KeepsTurnByTurn}
+use Rattle.schedule.specs.Recorded.{GroupsAreCounted}
+
+-- A run of turns began with one of the groups that the bank kept, and its journal is legal from that group's map on.
+-- Whatever a stop leaves, at any moment of the run, keeps some of the groups in a row: those kept before, the
+-- journal's, and at most one that was begun after them; and none older than the last one listed by then. At its end
+-- that is the journal's last one, and what the bank keeps then is among these groups. All of them have the width and
+-- the parity of the first one that the bank kept, and that is the run's parity. No read is told as damaged. An answer
+-- that tells of a limit has its cause.
+pub record TurnsKeep (script : Script) (setting : Setting) (first : Kept) (later : List Kept) (old new : Disk)
+    (items : List Item) (parity : ℕ) : Type 0 where
+  pub chosen : Kept
+  pub known : Contains (first ∷ later) chosen
+  pub choice : (image : Image) → HoldsImage old image
+      → (shown : IsShownChoice old new image) × (shown.uber.group ≡ chosen.uber.group)
+  pub begins : BeginsAfter chosen items
+  pub legal : IsLegalJournal (asked_by script) (handed_by script) chosen.map items
+  pub sound : (index : ℕ) (entry : Entry) → CallAt items index entry → entry.answer ≢ answer.Damaged
+  pub counted : GroupsAreCounted items
+  pub any_moment : KeepsThroughout setting (handed_by script) chosen.map (first ∷ later) items old new
+  pub no_older : KeepsTurnByTurn setting (handed_by script) chosen.map (first ∷ later) items old new
+  pub kept : KeepsLast setting (handed_by script) chosen.map items new
+  pub kept_among : (group : Kept) → Contains (kept.last ∷ kept.begun) group
+      → Contains ((first ∷ later) ++ any_moment.groups.answered ++ any_moment.groups.begun) group
+  pub widths : HaveWidthOf first.uber
+      ((first ∷ later) ++ any_moment.groups.answered ++ any_moment.groups.begun)
+  pub parity_is : first.uber.parity ≡ parity
+
+-- A script's calls were carried out turn by turn on the pool that the devices showed; the journal begins with a
+-- group. Each device that is out at the end was out at the opening, or failed in the run. A call that tells of too
+-- many devices lists devices that are out, more than there are parities. All that a run keeps it keeps where the
+-- devices that were silent when the pool was looked for may fail, and those of the devices out that have to be borne,
+-- no more than there are parities. No device is touched but those of the pool.
+pub record HasTakenTurns (script : Script) (old new : Disk) (items : List Item) (out : ℕ) : Type 0 where
+  pub opened : GroupItem
+  pub there : GroupAt items 0 opened
+  pub silent : ℕ
+  pub failed : HaveFailed old new silent
+  pub parity : ℕ
+  pub only : TouchesOnly (IsOnBelow opened.to) old new
+  pub each : (image : Image) → HoldsImage old image
+      → (shown : IsShownChoice old new image) × (shown.uber.parity ≡ parity) × AreOutFor shown out
+  pub too_many : (index listed : ℕ) (entry : Entry) → CallAt items index entry
+      → entry.answer ≡ answer.TooManyFailed listed
+      → (parity < count_of listed) × IsWithin listed out
+  pub borne : ℕ
+  pub within : IsWithin borne out
+  pub few : count_of borne ≤ parity
+  pub keeps : (setting : Setting) (first : Kept) (later : List Kept)
+      → MayBegin setting first later old
+      → IsWithinBelow first.uber.reflow.to silent setting.failed
+      → IsWithin borne setting.failed
+      → TurnsKeep script setting first later old new items parity

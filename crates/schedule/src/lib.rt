@@ -1,0 +1,24 @@
+//! The calls of several clients, turn by turn, in the order that a script lists.
+//!
+//! Each client carries out its calls one after the other; a turn of a client is the first turn of its next
+//! call, or the next one of its call under way. Read `specs/WholeRun.antt` for what a run promises, then
+//! `specs/Running.antt`, `specs/Turned.antt` and `specs/Coming.antt` for how it goes on. Stands on
+//! `core_turns`, `client_script` and `serial_run`.
+#![tactic(auto)]
+
+mod client;
+mod replay;
+#[cfg(test)]
+mod replay_tests;
+mod station;
+#[cfg(test)]
+mod test_replays;
+#[cfg(test)]
+mod tests;
+mod turning;
+mod whole_run;
+
+pub use client::{Client, UnderWay, Work};
+pub use replay::carry_out;
+pub use station::take_turn;
+pub use whole_run::{Ran, replay_pool};

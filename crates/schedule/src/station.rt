@@ -1,0 +1,146 @@
+// A turn of one client.
+ghost use Rattle.std.specs.Prelude.{◌≡◌, ◌≤◌, ◌-◌, ℕ, None, Some, length, slice_get};
+ghost use Rattle.bank_trait.specs.Disk.{Disk, Lawful};
+ghost use Rattle.client_script.specs.declared.call.ScriptCall.{ScriptCall as CallOf};
+ghost use Rattle.client_script.specs.Script.{IsAllowed};
+ghost use Rattle.core_serial.specs.Pool.{HasBank};
+ghost use Rattle.core_turns.specs.Core.{IsCore};
+ghost use Rattle.serial_run.specs.Steps.{point_after, read_point};
+ghost use Rattle.schedule.specs.declared.client.UnderWay.{UnderWay as UnderWayOf};
+ghost use Rattle.schedule.specs.Turned.{MayGoOn, Turned, entry_for, listed_with, station_of};
+
+use crate::client::{Client, UnderWay};
+use crate::turning::{begin_call, go_on};
+use bank_trait::Bank;
+use client_script::ScriptCall;
+use core_state::{Answer, Entry, Group, Item, Journal, Kind};
+use core_turns::{Core, Turn};
+use reflow_mark::Reflow;
+use std::alloc::Global;
+
+/// The point of the journal that a read speaks of which began after so many items: the map as it was then,
+/// unless it was cut short.
+fn read_point(at: usize, answer: &Answer) -> Option<u64>
+    ensures { result ≡ read_point at answer.now }
+{
+    match answer {
+        Answer::TooManyFailed { out: _ } | Answer::NoMemory => None,
+        _ => Some(at as u64),
+    }
+}
+
+/// Calls that aren't reads speak of none.
+fn point_after(kind: Kind, at: usize, answer: &Answer) -> Option<u64>
+    ensures { result ≡ point_after kind at answer.now }
+{
+    match kind {
+        Kind::Get | Kind::Sum => read_point(at, answer),
+        _ => None,
+    }
+}
+
+/// The entry of a call of this number, which began after so many items.
+fn entry_for(call: &ScriptCall, actor: u8, number: usize, at: usize, answer: Answer) -> Entry
+    ensures { result ≡ entry_for call.now actor number at answer }
+{
+    Entry {
+        caller: actor,
+        call: number as u64,
+        kind: call.kind,
+        id: call.id,
+        at: point_after(call.kind, at, &answer),
+        answer,
+    }
+}
+
+/// Lists an answer, and before it the group that its call made, if it made one.
+fn list_answer(journal: &mut Journal, widths: &Reflow, at: usize, entry: Entry)
+    requires room { 2 ≤ journal.old.room }
+    ensures { journal.new.items ≡ listed_with widths.now journal.old.items at entry entry.answer }
+{
+    if let Answer::Synced { group } = entry.answer {
+        journal.list(Item::Group(Group {
+            group,
+            after: at as u64,
+            from: widths.from,
+            to: widths.to,
+        }));
+    }
+    journal.list(Item::Call(entry));
+}
+
+/// The next call of a client begins, waits, or is answered at once.
+fn begin_next(
+    alloc: Global,
+    core: &mut Core,
+    journal: &mut Journal,
+    calls: &[ScriptCall],
+    actor: u8,
+    client: &mut Client,
+)
+    requires allowed { (number : ℕ) (call : CallOf) → slice_get calls.now number ≡ Some call → IsAllowed call }
+    requires room { 2 ≤ journal.old.room }
+    requires idle { client.old.under_way ≡ None }
+    ensures turned { (disk : Disk) → Turned calls.now actor
+        (station_of core.old disk journal.old.items client.old)
+        (station_of core.new disk journal.new.items client.new) }
+    ensures bank { (disk : Disk) → HasBank core.old.pool.uber core.old.pool.out disk
+        → HasBank core.new.pool.uber core.new.pool.out disk }
+{
+    let Some(call) = calls.get(client.begun) else {
+        return;
+    };
+    let at = journal.len();
+    match begin_call(alloc, core, actor, call) {
+        Turn::More(work) => {
+            client.begun += 1;
+            client.under_way = Some(UnderWay { at, work });
+        }
+        Turn::Busy { by: _ } => {}
+        Turn::Done(answer) => {
+            client.begun += 1;
+            journal.list(Item::Call(entry_for(call, actor, client.begun, at, answer)));
+        }
+    }
+}
+
+/// One turn of a client: the next of its call under way, or the first of its next call. Nothing is done
+/// where that finds another's call in its way, or the client has no call left.
+pub fn take_turn<B: Bank>(
+    alloc: Global,
+    bank: &mut B,
+    core: &mut Core,
+    journal: &mut Journal,
+    calls: &[ScriptCall],
+    actor: u8,
+    client: &mut Client,
+)
+    requires allowed { (number : ℕ) (call : CallOf) → slice_get calls.now number ≡ Some call → IsAllowed call }
+    requires room { 2 ≤ journal.old.room }
+    requires bank { HasBank core.old.pool.uber core.old.pool.out (B.disk bank.old) }
+    requires few { client.old.begun ≤ length calls.now }
+    requires begun { (under : UnderWayOf) → client.old.under_way ≡ Some under → 1 ≤ client.old.begun }
+    requires may { (under : UnderWayOf) (call : CallOf) → client.old.under_way ≡ Some under
+        → slice_get calls.now (client.old.begun - 1) ≡ Some call → MayGoOn core.old call under.work }
+    ensures turned { Turned calls.now actor
+        (station_of core.old (B.disk bank.old) journal.old.items client.old)
+        (station_of core.new (B.disk bank.new) journal.new.items client.new) }
+    ensures is { IsCore core.old }
+    ensures bank { HasBank core.new.pool.uber core.new.pool.out (B.disk bank.new) }
+    ensures lawful { Lawful (B.disk bank.old) × Lawful (B.disk bank.new) }
+{
+    let widths = core.reflow();
+    let Some(under_way) = client.under_way.take() else {
+        return begin_next(alloc, core, journal, calls, actor, client);
+    };
+    let call = &calls[client.begun - 1];
+    let UnderWay { at, work } = under_way;
+    match go_on(alloc, bank, core, call, work) {
+        Turn::More(work) => client.under_way = Some(UnderWay { at, work }),
+        Turn::Busy { by: _ } => unreachable!(),
+        Turn::Done(answer) => {
+            let entry = entry_for(call, actor, client.begun, at, answer);
+            list_answer(journal, &widths, at, entry);
+        }
+    }
+}

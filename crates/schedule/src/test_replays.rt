@@ -1,0 +1,45 @@
+// Replays on banks in memory, and what they say.
+use crate::{Ran, replay_pool};
+use bank_mem::{MemBank, MemSink};
+use bank_trait::Bank;
+use client_script::{parse, print_journal};
+use core_open::{OpenWhy, create};
+use core_state::Journal;
+use std::alloc::Global;
+use std::process::Abort;
+use std::test::Fail;
+use uberblock_ring::DeviceSet;
+
+/// How a replay ended, and its journal as text.
+#[derive(Drop)]
+pub struct Told {
+    pub ended: Result<Ran, OpenWhy>,
+    pub text: MemSink,
+}
+
+/// How a replay ends that answers each call while these devices are out.
+pub fn finished(out: DeviceSet) -> Result<Ran, OpenWhy> {
+    Ok(Ran {
+        finished: true,
+        out,
+    })
+}
+
+/// A bank of three devices on which pool 9 with one parity was made.
+pub fn bank_of_nine(rt: &impl Abort, alloc: Global) -> Result<MemBank, Fail> {
+    let mut bank = MemBank::new(alloc, 3, 256)?;
+    assert!(rt; bank.devices() == 3 && bank.sectors() == 256);
+    create(&mut bank, 1, 3, 9)?;
+    Ok(bank)
+}
+
+/// Replays the script of this text.
+pub fn replay(alloc: Global, bank: &mut MemBank, script: &[u8]) -> Result<Told, Fail> {
+    let script = parse(alloc, script)?;
+    let mut journal = Journal::new(alloc);
+    journal.reserve(1)?;
+    let ended = replay_pool(alloc, bank, &script, script.order(), &mut journal);
+    let mut text = MemSink::with_room(alloc, 1 << 20, &[])?;
+    print_journal(&journal, &mut text)?;
+    Ok(Told { ended, text })
+}

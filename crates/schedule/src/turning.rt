@@ -1,0 +1,204 @@
+// A call's turns.
+ghost use Rattle.std.specs.Prelude.{◌≡◌, ◌≤◌, true, false, None, Some, length};
+ghost use Rattle.bank_trait.specs.Disk.{Disk};
+ghost use Rattle.reconstruct.specs.Rows.{sectors_for};
+ghost use Rattle.core_blocks.specs.Blocks.{IsUnderWay};
+ghost use Rattle.core_client.specs.Pool.{IsInPool};
+ghost use Rattle.client_script.specs.Lines.{fill_bytes};
+ghost use Rattle.client_script.specs.Script.{IsAllowed};
+ghost use Rattle.core_serial.specs.Pool.{HasBank};
+ghost use Rattle.core_turns.specs.declared.putting.Filled.{Filled as FilledOf};
+ghost use Rattle.core_turns.specs.Core.{Core as CoreOf, at_disk};
+ghost use Rattle.core_turns.specs.Getting.{IsGetOf, IsRead};
+ghost use Rattle.core_turns.specs.Putting.{IsPutOf};
+ghost use Rattle.core_turns.specs.UnderWay.{TurnGoesOn};
+ghost use Rattle.schedule.specs.Turned.{BeginsCall, GoesOnBy, HasTableOf, IsFilledIn, MayGoOn, PutGoesOn, ReadGoesOn, WritesOn, put_turn, read_turn, sync_turn};
+
+use crate::client::Work;
+use bank_trait::Bank;
+use client_script::{Fill, ScriptCall};
+use core_commit::CommitRun;
+use core_state::Kind;
+use core_turns::{Core, GetRun, PutRun, Turn};
+use std::alloc::Global;
+
+/// How many bytes a put is handed.
+fn fill_len(fill: &Fill) -> u32
+    requires few { length (fill_bytes fill.now) ≤ 65536 }
+    ensures { result ≡ length (fill_bytes fill.now) }
+{
+    match fill {
+        Fill::Nothing => 0,
+        Fill::Pattern { len, seed: _ } => *len,
+        Fill::Hex(bytes) => bytes.as_slice().len() as u32,
+    }
+}
+
+fn put_turn(turn: Turn<PutRun>) -> Turn<Work>
+    ensures { result ≡ put_turn turn }
+{
+    match turn {
+        Turn::More(run) => Turn::More(Work::Put(run)),
+        Turn::Busy { by } => Turn::Busy { by },
+        Turn::Done(answer) => Turn::Done(answer),
+    }
+}
+
+fn read_turn(turn: Turn<GetRun>) -> Turn<Work>
+    ensures { result ≡ read_turn turn }
+{
+    match turn {
+        Turn::More(run) => Turn::More(Work::Read(run)),
+        Turn::Busy { by } => Turn::Busy { by },
+        Turn::Done(answer) => Turn::Done(answer),
+    }
+}
+
+fn sync_turn(turn: Turn<CommitRun>) -> Turn<Work>
+    ensures { result ≡ sync_turn turn }
+{
+    match turn {
+        Turn::More(run) => Turn::More(Work::Sync(run)),
+        Turn::Busy { by } => Turn::Busy { by },
+        Turn::Done(answer) => Turn::Done(answer),
+    }
+}
+
+/// The first turn of a call.
+pub fn begin_call(alloc: Global, core: &mut Core, actor: u8, call: &ScriptCall) -> Turn<Work>
+    requires allowed { IsAllowed call.now }
+    ensures begins { BeginsCall core.old core.new actor call.now result }
+    ensures table { HasTableOf core.old result }
+    ensures bank { (disk : Disk) → HasBank core.old.pool.uber core.old.pool.out disk
+        → HasBank core.new.pool.uber core.new.pool.out disk }
+{
+    match call.id {
+        Some(id) => begin_block_call(alloc, core, actor, call, id),
+        None => sync_turn(core.commit_begin(alloc, actor)),
+    }
+}
+
+/// The first turn of a call that names a block.
+fn begin_block_call(
+    alloc: Global,
+    core: &mut Core,
+    actor: u8,
+    call: &ScriptCall,
+    id: u64,
+) -> Turn<Work>
+    requires allowed { IsAllowed call.now }
+    requires id { call.now.id ≡ Some id }
+    ensures begins { BeginsCall core.old core.new actor call.now result }
+    ensures table { HasTableOf core.old result }
+    ensures bank { (disk : Disk) → HasBank core.old.pool.uber core.old.pool.out disk
+        → HasBank core.new.pool.uber core.new.pool.out disk }
+{
+    match call.kind {
+        Kind::Put => put_turn(core.put_begin(actor, id, fill_len(&call.fill))),
+        Kind::Get | Kind::Sum => read_turn(core.get_begin(alloc, actor, call.kind, id)),
+        Kind::Free => Turn::Done(core.free(id)),
+        _ => unreachable!(),
+    }
+}
+
+/// Fills a put's block in, unless it was before. Tells whether there was memory for it.
+fn fill_in(alloc: Global, call: &ScriptCall, run: &mut PutRun) -> bool
+    requires pool { IsInPool run.old.range.layout run.old.reflow }
+    requires sectors { sectors_for run.old.len ≡ run.old.range.layout.sectors }
+    requires len { length (fill_bytes call.now.fill) ≡ run.old.len }
+    ensures fills { result ≡ true → IsFilledIn call.now run.old run.new }
+    ensures filled { result ≡ true → (filled : FilledOf) × (run.new.filled ≡ Some filled) }
+    ensures wanting { result ≡ false → (run.new ≡ run.old) × (run.old.filled ≡ None) }
+{
+    if run.is_filled() {
+        return true;
+    }
+    match call.fill.to_bytes(alloc) {
+        Ok(bytes) => run.fill(alloc, bytes.as_slice()).is_ok(),
+        Err(_) => false,
+    }
+}
+
+/// The next write of a put that is filled in, or its last turn.
+fn write_on<B: Bank>(bank: &mut B, core: &mut Core, run: PutRun) -> Turn<PutRun>
+    requires of { IsPutOf core.old run }
+    requires under_way { IsUnderWay core.old.pool.blocks run.range }
+    requires filled { (filled : FilledOf) × (run.filled ≡ Some filled) }
+    requires bank { HasBank core.old.pool.uber core.old.pool.out (B.disk bank.old) }
+    ensures writes { WritesOn (at_disk core.old (B.disk bank.old)) run
+        (at_disk core.new (B.disk bank.new)) result }
+    ensures goes_on { TurnGoesOn (at_disk core.old (B.disk bank.old))
+        (at_disk core.new (B.disk bank.new)) }
+{
+    if run.is_written() {
+        core.put_end(run)
+    } else {
+        core.put_write(bank, run)
+    }
+}
+
+/// A put's block is filled in before its first write.
+fn go_on_putting<B: Bank>(
+    alloc: Global,
+    bank: &mut B,
+    core: &mut Core,
+    call: &ScriptCall,
+    run: PutRun,
+) -> Turn<PutRun>
+    requires of { IsPutOf core.old run }
+    requires under_way { IsUnderWay core.old.pool.blocks run.range }
+    requires len { length (fill_bytes call.now.fill) ≡ run.len }
+    requires bank { HasBank core.old.pool.uber core.old.pool.out (B.disk bank.old) }
+    ensures goes { PutGoesOn (at_disk core.old (B.disk bank.old)) (at_disk core.new (B.disk bank.new))
+        call.now run result }
+    ensures goes_on { TurnGoesOn (at_disk core.old (B.disk bank.old))
+        (at_disk core.new (B.disk bank.new)) }
+{
+    let mut run = run;
+    if fill_in(alloc, call, &mut run) {
+        write_on(bank, core, run)
+    } else {
+        core.put_give_up(run)
+    }
+}
+
+/// A read's block is solved before its last turn. Where memory is wanting for that, the last turn says so.
+fn go_on_reading<B: Bank>(alloc: Global, bank: &mut B, core: &mut Core, run: GetRun) -> Turn<GetRun>
+    requires kind { IsRead run.kind }
+    requires of { IsGetOf core.old run }
+    requires bank { HasBank core.old.pool.uber core.old.pool.out (B.disk bank.old) }
+    ensures goes { ReadGoesOn (at_disk core.old (B.disk bank.old))
+        (at_disk core.new (B.disk bank.new)) run result }
+    ensures goes_on { TurnGoesOn (at_disk core.old (B.disk bank.old))
+        (at_disk core.new (B.disk bank.new)) }
+{
+    if !run.is_read() {
+        return core.get_read(bank, run);
+    }
+    let mut run = run;
+    let _ = run.solve(alloc);
+    core.get_end(run)
+}
+
+/// The next turn of a call that is under way.
+pub fn go_on<B: Bank>(
+    alloc: Global,
+    bank: &mut B,
+    core: &mut Core,
+    call: &ScriptCall,
+    work: Work,
+) -> Turn<Work>
+    requires may { MayGoOn core.old call.now work }
+    requires bank { HasBank core.old.pool.uber core.old.pool.out (B.disk bank.old) }
+    ensures goes { GoesOnBy (at_disk core.old (B.disk bank.old)) (at_disk core.new (B.disk bank.new))
+        call.now work result }
+    ensures goes_on { TurnGoesOn (at_disk core.old (B.disk bank.old))
+        (at_disk core.new (B.disk bank.new)) }
+    ensures bank { HasBank core.new.pool.uber core.new.pool.out (B.disk bank.new) }
+{
+    match work {
+        Work::Put(run) => put_turn(go_on_putting(alloc, bank, core, call, run)),
+        Work::Read(run) => read_turn(go_on_reading(alloc, bank, core, run)),
+        Work::Sync(run) => sync_turn(core.commit_step(bank, run)),
+    }
+}

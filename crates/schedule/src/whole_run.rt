@@ -1,0 +1,77 @@
+// A whole run: a pool is opened, and a script's calls are carried out on it turn by turn.
+ghost use Rattle.std.specs.Prelude.{◌≡◌, ◌<◌, ◌≤◌, [], All, IfOk, IfErr, IsTrue};
+ghost use Rattle.core_state.specs.Journal.{IsComplete};
+ghost use Rattle.core_open.specs.Causes.{IsOpenCause};
+ghost use Rattle.core_open.specs.Opens.{IsForMemory, LeavesOthers};
+ghost use Rattle.client_script.specs.Script.{IsAllowed, asked_by};
+ghost use Rattle.core_serial.specs.Opening.{CutsOpening, LeavesUnopened};
+ghost use Rattle.serial_run.specs.WholeRun.{first_item};
+ghost use Rattle.schedule.specs.WholeRun.{HasTakenTurns};
+
+use crate::replay::carry_out;
+use bank_trait::Bank;
+use client_script::Script;
+use core_open::OpenWhy;
+use core_serial::{Pool, open_pool};
+use core_state::{Group, Item, Journal};
+use core_turns::Core;
+use std::alloc::Global;
+use uberblock_ring::DeviceSet;
+
+/// How a run ended: whether each call was answered, or else room for answers was wanting; and the devices
+/// that are out.
+#[derive(Clone, Copy, Debug, PartialEq, Eq)]
+pub struct Ran {
+    pub finished: bool,
+    pub out: DeviceSet,
+}
+
+/// The item of the group that a pool was opened with.
+fn first_item(pool: &Pool) -> Group
+    ensures { result ≡ first_item pool.now }
+{
+    let uber = pool.uber();
+    let reflow = uber.reflow();
+    Group {
+        group: uber.group(),
+        after: 0,
+        from: reflow.from,
+        to: reflow.to,
+    }
+}
+
+/// Opens the pool that the devices show and carries out the calls of a script's clients on it turn by turn: first
+/// the turns that `order` lists, then what these leave. Lists what is answered: the opening's group, each group
+/// that a sync ends, and each call. Lists nothing where no pool is opened.
+pub fn replay_pool<B: Bank>(
+    alloc: Global,
+    bank: &mut B,
+    script: &Script,
+    order: &[u8],
+    journal: &mut Journal,
+) -> Result<Ran, OpenWhy>
+    requires empty { journal.old.items ≡ [] }
+    requires room { 1 ≤ journal.old.room }
+    requires allowed { All (λ placed. IsAllowed placed.call) script.now.calls }
+    requires actors { All (λ placed. placed.actor < script.now.clients) script.now.calls }
+    ensures run { IfOk result (λ ran. HasTakenTurns script.now (B.disk bank.old) (B.disk bank.new)
+        journal.new.items ran.out) }
+    ensures complete { IfOk result (λ ran. IsTrue ran.finished
+        → IsComplete (asked_by script.now) journal.new.items) }
+    ensures nothing { IfErr result (λ why. journal.new.items ≡ []) }
+    ensures cause { IfErr result (IsOpenCause (B.disk bank.old) (B.disk bank.new)) }
+    ensures cut { IfErr result (λ why. CutsOpening (B.disk bank.old) (B.disk bank.new)) }
+    ensures untouched { IfErr result (λ why.
+        LeavesUnopened why (B.disk bank.old) (B.disk bank.new)) }
+    ensures opens { IfErr result (IsForMemory (B.disk bank.old) (B.disk bank.new)) }
+    ensures others { IfErr result (λ why. LeavesOthers (B.disk bank.old) (B.disk bank.new)) }
+{
+    let opened = open_pool(alloc, bank)?;
+    journal.list(Item::Group(first_item(&opened.pool)));
+    let mut core = Core::new(alloc, opened.pool);
+    let finished = carry_out(alloc, bank, &mut core, script, order, journal).is_ok();
+    Ok(Ran {
+        finished,
+        out: core.out(),
+    })
+}
