@@ -154,8 +154,9 @@ module _ (script : Script) (old mid : Disk) (pool : Pool) (silent : ℕ) (items 
     }
 
   -- The calls of the script were carried out on the pool that the devices showed.
-  pub has_taken_turns : HasTakenTurns script old final.disk items final.core.pool.out
-  has_taken_turns = record {
+  pub has_taken_turns : (replayed : Replayed) → replayed.out ≡ final.core.pool.out
+      → HasTakenTurns script old final.disk items replayed
+  has_taken_turns replayed out_is = record {
     opened = item;
     there = come.listed 0 (Group item) refl;
     silent = silent;

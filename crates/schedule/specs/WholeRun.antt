@@ -1,5 +1,5 @@
 -- What a run of turns keeps, from the opening of its pool to its end.
-use Rattle.std.specs.Prelude.{◌≡◌, ◌≢◌, ℕ, ◌<◌, ◌≤◌, List, ◌∷◌, ◌++◌, Contains}
+use Rattle.std.specs.Prelude.{◌≡◌, ◌≢◌, ℕ, ◌<◌, ◌≤◌, List, ◌∷◌, ◌++◌, ◌^◌, Contains}
 use Rattle.bank_trait.specs.Disk.{Image, Disk}
 use Rattle.bank_trait.specs.Regions.{TouchesOnly}
 use Rattle.uberblock_ring.specs.Devices.{count_of, IsWithin}
@@ -21,8 +21,13 @@ use Rattle.core_serial.specs.Opening.{MayBegin}
 use Rattle.serial_run.specs.Moments.{KeepsLast}
 use Rattle.serial_run.specs.Widths.{HaveWidthOf}
 use Rattle.serial_run.specs.WholeRun.{BeginsAfter}
+use Rattle.schedule.specs.declared.whole_run.Replayed.{Replayed}
 use Rattle.schedule.specs.Moments.{KeepsTurnByTurn}
 use Rattle.schedule.specs.Recorded.{GroupsAreCounted}
+
+-- most turns of a replay
+abbrev pub most_turns : ℕ
+most_turns = 2 ^ 62
 
 -- A run of turns began with one of the groups that the bank kept, and its journal is legal from that group's map on.
 -- Whatever a stop leaves, at any moment of the run, keeps some of the groups in a row: those kept before, the
@@ -54,7 +59,7 @@ pub record TurnsKeep (script : Script) (setting : Setting) (first : Kept) (later
 -- many devices lists devices that are out, more than there are parities. All that a run keeps it keeps where the
 -- devices that were silent when the pool was looked for may fail, and those of the devices out that have to be borne,
 -- no more than there are parities. No device is touched but those of the pool.
-pub record HasTakenTurns (script : Script) (old new : Disk) (items : List Item) (out : ℕ) : Type 0 where
+pub record HasTakenTurns (script : Script) (old new : Disk) (items : List Item) (replayed : Replayed) : Type 0 where
   pub opened : GroupItem
   pub there : GroupAt items 0 opened
   pub silent : ℕ
@@ -62,12 +67,12 @@ pub record HasTakenTurns (script : Script) (old new : Disk) (items : List Item) 
   pub parity : ℕ
   pub only : TouchesOnly (IsOnBelow opened.to) old new
   pub each : (image : Image) → HoldsImage old image
-      → (shown : IsShownChoice old new image) × (shown.uber.parity ≡ parity) × AreOutFor shown out
+      → (shown : IsShownChoice old new image) × (shown.uber.parity ≡ parity) × AreOutFor shown replayed.out
   pub too_many : (index listed : ℕ) (entry : Entry) → CallAt items index entry
       → entry.answer ≡ answer.TooManyFailed listed
-      → (parity < count_of listed) × IsWithin listed out
+      → (parity < count_of listed) × IsWithin listed replayed.out
   pub borne : ℕ
-  pub within : IsWithin borne out
+  pub within : IsWithin borne replayed.out
   pub few : count_of borne ≤ parity
   pub keeps : (setting : Setting) (first : Kept) (later : List Kept)
       → MayBegin setting first later old

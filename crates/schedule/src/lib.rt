@@ -21,4 +21,4 @@ mod whole_run;
 pub use client::{Client, UnderWay, Work};
 pub use replay::carry_out;
 pub use station::take_turn;
-pub use whole_run::{Ran, replay_pool};
+pub use whole_run::{Ended, Replayed, replay_pool};

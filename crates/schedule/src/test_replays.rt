@@ -1,5 +1,5 @@
 // Replays on banks in memory, and what they say.
-use crate::{Ran, replay_pool};
+use crate::{Ended, Replayed, replay_pool};
 use bank_mem::{MemBank, MemSink};
 use bank_trait::Bank;
 use client_script::{parse, print_journal};
@@ -13,14 +13,15 @@ use uberblock_ring::DeviceSet;
 /// How a replay ended, and its journal as text.
 #[derive(Drop)]
 pub struct Told {
-    pub ended: Result<Ran, OpenWhy>,
+    pub ended: Result<Replayed, OpenWhy>,
     pub text: MemSink,
 }
 
 /// How a replay ends that answers each call while these devices are out.
-pub fn finished(out: DeviceSet) -> Result<Ran, OpenWhy> {
-    Ok(Ran {
-        finished: true,
+pub fn finished(out: DeviceSet) -> Result<Replayed, OpenWhy> {
+    Ok(Replayed {
+        ended: Ended::Whole,
+        turns: 0,
         out,
     })
 }
@@ -38,7 +39,7 @@ pub fn replay(alloc: Global, bank: &mut MemBank, script: &[u8]) -> Result<Told, 
     let script = parse(alloc, script)?;
     let mut journal = Journal::new(alloc);
     journal.reserve(1)?;
-    let ended = replay_pool(alloc, bank, &script, script.order(), &mut journal);
+    let ended = replay_pool(alloc, bank, &script, &mut journal);
     let mut text = MemSink::with_room(alloc, 1 << 20, &[])?;
     print_journal(&journal, &mut text)?;
     Ok(Told { ended, text })

@@ -1,12 +1,13 @@
 // A whole run: a pool is opened, and a script's calls are carried out on it turn by turn.
-ghost use Rattle.std.specs.Prelude.{◌≡◌, ◌<◌, ◌≤◌, [], All, IfOk, IfErr, IsTrue};
+ghost use Rattle.std.specs.Prelude.{◌≡◌, ◌<◌, ◌≤◌, [], All, IfOk, IfErr};
 ghost use Rattle.core_state.specs.Journal.{IsComplete};
 ghost use Rattle.core_open.specs.Causes.{IsOpenCause};
 ghost use Rattle.core_open.specs.Opens.{IsForMemory, LeavesOthers};
 ghost use Rattle.client_script.specs.Script.{IsAllowed, asked_by};
 ghost use Rattle.core_serial.specs.Opening.{CutsOpening, LeavesUnopened};
 ghost use Rattle.serial_run.specs.WholeRun.{first_item};
-ghost use Rattle.schedule.specs.WholeRun.{HasTakenTurns};
+ghost use Rattle.schedule.specs.declared.whole_run.Ended.TheVariants.{Whole, Limit};
+ghost use Rattle.schedule.specs.WholeRun.{HasTakenTurns, most_turns};
 
 use crate::replay::carry_out;
 use bank_trait::Bank;
@@ -18,11 +19,20 @@ use core_turns::Core;
 use std::alloc::Global;
 use uberblock_ring::DeviceSet;
 
-/// How a run ended: whether each call was answered, or else room for answers was wanting; and the devices
-/// that are out.
+/// How far a replay came: each call is answered; or room for the next call's answer was wanting; or no more
+/// turns can be counted.
 #[derive(Clone, Copy, Debug, PartialEq, Eq)]
-pub struct Ran {
-    pub finished: bool,
+pub enum Ended {
+    Whole,
+    NoMemory,
+    Limit,
+}
+
+/// How a replay ended, how many turns it took, and the devices that are out.
+#[derive(Clone, Copy, Debug, PartialEq, Eq)]
+pub struct Replayed {
+    pub ended: Ended,
+    pub turns: u64,
     pub out: DeviceSet,
 }
 
@@ -41,23 +51,23 @@ fn first_item(pool: &Pool) -> Group
 }
 
 /// Opens the pool that the devices show and carries out the calls of a script's clients on it turn by turn: first
-/// the turns that `order` lists, then what these leave. Lists what is answered: the opening's group, each group
+/// the turns that its order lists, then what these leave. Lists what is answered: the opening's group, each group
 /// that a sync ends, and each call. Lists nothing where no pool is opened.
 pub fn replay_pool<B: Bank>(
     alloc: Global,
     bank: &mut B,
     script: &Script,
-    order: &[u8],
     journal: &mut Journal,
-) -> Result<Ran, OpenWhy>
+) -> Result<Replayed, OpenWhy>
     requires empty { journal.old.items ≡ [] }
     requires room { 1 ≤ journal.old.room }
     requires allowed { All (λ placed. IsAllowed placed.call) script.now.calls }
     requires actors { All (λ placed. placed.actor < script.now.clients) script.now.calls }
-    ensures run { IfOk result (λ ran. HasTakenTurns script.now (B.disk bank.old) (B.disk bank.new)
-        journal.new.items ran.out) }
-    ensures complete { IfOk result (λ ran. IsTrue ran.finished
+    ensures run { IfOk result (HasTakenTurns script.now (B.disk bank.old) (B.disk bank.new)
+        journal.new.items) }
+    ensures complete { IfOk result (λ replayed. replayed.ended ≡ Whole
         → IsComplete (asked_by script.now) journal.new.items) }
+    ensures limit { IfOk result (λ replayed. replayed.ended ≡ Limit → most_turns ≤ replayed.turns) }
     ensures nothing { IfErr result (λ why. journal.new.items ≡ []) }
     ensures cause { IfErr result (IsOpenCause (B.disk bank.old) (B.disk bank.new)) }
     ensures cut { IfErr result (λ why. CutsOpening (B.disk bank.old) (B.disk bank.new)) }
@@ -69,9 +79,13 @@ pub fn replay_pool<B: Bank>(
     let opened = open_pool(alloc, bank)?;
     journal.list(Item::Group(first_item(&opened.pool)));
     let mut core = Core::new(alloc, opened.pool);
-    let finished = carry_out(alloc, bank, &mut core, script, order, journal).is_ok();
-    Ok(Ran {
-        finished,
+    let ended = match carry_out(alloc, bank, &mut core, script, script.order(), journal) {
+        Ok(()) => Ended::Whole,
+        Err(_) => Ended::NoMemory,
+    };
+    Ok(Replayed {
+        ended,
+        turns: 0,
         out: core.out(),
     })
 }
