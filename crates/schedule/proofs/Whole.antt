@@ -33,6 +33,7 @@ use Rattle.serial_run.proofs.Widths.{opened_width, widths_of_one}
 use Rattle.core_turns.specs.Core.{CoreState, at_disk}
 use Rattle.core_turns.specs.UnderWay.{Call, GroupsStand}
 use Rattle.schedule.specs.declared.client.Client.{Client}
+use Rattle.schedule.specs.declared.whole_run.Ended.{Ended}
 use Rattle.schedule.specs.Coming.{HasCome, turns_of}
 use Rattle.schedule.specs.Replaying.{blank_clients}
 use Rattle.schedule.specs.Running.{Runs}
@@ -154,9 +155,9 @@ module _ (script : Script) (old mid : Disk) (pool : Pool) (silent : ℕ) (items 
     }
 
   -- The calls of the script were carried out on the pool that the devices showed.
-  pub has_taken_turns : (replayed : Replayed) → replayed.out ≡ final.core.pool.out
-      → HasTakenTurns script old final.disk items replayed
-  has_taken_turns replayed out_is = record {
+  pub has_taken_turns : (ended : Ended) (turns : ℕ) → HasTakenTurns script old final.disk items
+      (record { ended = ended; turns = turns; out = final.core.pool.out })
+  has_taken_turns ended turns = record {
     opened = item;
     there = come.listed 0 (Group item) refl;
     silent = silent;

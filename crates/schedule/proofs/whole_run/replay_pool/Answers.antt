@@ -24,7 +24,8 @@ returns-clause-run g c =
     let listed : c.list.new.self.items ≡ Group (first_item pool) ∷ [] =
     c.list.ensures.items ∙ ap (λ (l : List Item). l ++ Group c.first_item.result ∷ []) c.requires.empty
     ∙ ap (λ (group : GroupItem). Group group ∷ []) c.first_item.ensures in
-    subst (λ (out : ℕ). HasTakenTurns script old final.disk items out) (sym c.out.ensures)
+    subst (λ (out : ℕ). HasTakenTurns script old final.disk items
+    (record { ended = c.match-carry_out.ended; turns = 0; out = out })) (sym c.out.ensures)
     (has_taken_turns script old mid pool c.in_ok-opened.opened.silent items clients final
     opened.later opened.only opened.silent opened.few opened.out opened.begins opened.rest opened.bank
     (subst (λ (first : List Item). HasCome script
@@ -32,4 +33,4 @@ returns-clause-run g c =
     (subst (λ (core : Core). HasCome script
     (turns_of (at_disk core mid) c.list.new.self.items (blank_clients script.clients)) (turns_of final items clients))
     c.new-core.ensures c.carry_out.ensures.come.1))
-    c.carry_out.ensures.calls)
+    c.carry_out.ensures.calls c.match-carry_out.ended 0)
