@@ -34,7 +34,7 @@ or_right true b on = refl
 or_right false b on = on
 
 -- The ids of a list, each once, are among them,
-unique_among : (ids : List ℕ) → All (λ id. is_member nat_eq ids id ≡ true) (unique_keys nat_eq ids)
+pub unique_among : (ids : List ℕ) → All (λ id. is_member nat_eq ids id ≡ true) (unique_keys nat_eq ids)
 unique_among [] = All-nil (λ id. is_member nat_eq [] id ≡ true)
 unique_among (one ∷ ids) = by (is_member nat_eq ids one) (λ k d low. or_right _ _ (unique_among ids k d low))
   where
@@ -55,7 +55,7 @@ apart_from P id others not_there all = recursion_from_All (λ other. nat_eq id o
     by {other} there = ne_eqb id other (λ same. not_there (subst P (sym same) there))
 
 -- and are distinct.
-unique_distinct : (ids : List ℕ) → IsDistinct nat_eq (unique_keys nat_eq ids)
+pub unique_distinct : (ids : List ℕ) → IsDistinct nat_eq (unique_keys nat_eq ids)
 unfolding IsDistinct
 unique_distinct [] = tt
 unique_distinct (one ∷ ids) = by (is_member nat_eq ids one) refl (unique_distinct ids)
@@ -69,8 +69,8 @@ unique_distinct (one ∷ ids) = by (is_member nat_eq ids one) refl (unique_disti
 
 module _ (entries : List IndexEntry) (map : Map) (is : IsTableOf entries map) where
   -- Each id of an entry is in the map,
-  held : (id : ℕ) → is_member nat_eq (ids_of entries) id ≡ true → map id ≢ None
-  held id member = by (entry_of entries id) refl (held_is entries id ∙ member)
+  pub entry_held : (id : ℕ) → is_member nat_eq (ids_of entries) id ≡ true → map id ≢ None
+  entry_held id member = by (entry_of entries id) refl (held_is entries id ∙ member)
     where
       by : (found : Option IndexEntry) → entry_of entries id ≡ found → is_some found ≡ true → map id ≢ None
       by None at some = absurd (false≢true some)
@@ -101,7 +101,7 @@ module _ (entries : List IndexEntry) (map : Map) (is : IsTableOf entries map) wh
     others = unique_keys nat_eq (ids_of entries);
     distinct = unique_distinct (ids_of entries);
     all = full.all_used;
-    held = λ k d low. held _ (unique_among (ids_of entries) k d low);
+    held = λ k d low. entry_held _ (unique_among (ids_of entries) k d low);
   }
   full_with (first ∷ reserved) id none full = cc
 

@@ -1,8 +1,9 @@
 -- A put that is refused as full is one of more ids than a table has room for.
 use Rattle.std.proofs.Common.{◌≡◌, ◌≢◌, ◌⊎◌, inl, inr, ⊎_elim, ℕ, zero, suc, ◌-◌, List, [], ◌∷◌, Bool, true, false, Option, Some, None, refl, sym, ◌∙◌, ap, subst, arith}
-use Rattle.std.specs.Prelude.{All, Contains, filter, map, nat_eq, ◌==◌, slice_get, option_map, if◌then◌else◌}
+use Rattle.std.specs.Prelude.{All, Contains, filter, length, map, nat_eq, ◌==◌, slice_get, option_map, if◌then◌else◌}
+use Rattle.std.specs.List.{IsDistinct}
 use Rattle.std.proofs.lemmas.Bool.{eqb-true}
-use Rattle.std.proofs.lemmas.List.Elements.{All-cons, All-filter, All-contains_itself}
+use Rattle.std.proofs.lemmas.List.Elements.{All-cons, All-weaker, All-filter, All-contains_itself}
 use Rattle.std.proofs.lemmas.Map.Keys.{IsDistinct-cons}
 use Rattle.std.proofs.lemmas.Option.{get_or_from_slice_get, slice_get-map, slice_get_within}
 use Rattle.core_state.specs.declared.answer.Answer.{Answer}
@@ -12,8 +13,9 @@ use Rattle.core_state.specs.declared.item.Entry.{Entry}
 use Rattle.core_state.specs.declared.item.Item.{Item}
 use Rattle.core_state.specs.declared.item.Item.TheVariants.{Group, Call}
 use Rattle.core_state.specs.Map.{Map, Handed, with_block, map_after_answer, map_after}
-use Rattle.core_state.specs.Legal.{CallAt, IsAnswerOf}
-use Rattle.core_state.specs.Journal.{Asked, IsLegalJournal}
+use Rattle.core_state.specs.Legal.{CallAt, IsAnswerOf, AnswersAreRight}
+use Rattle.core_state.specs.Journal.{Asked, CallsAreRight, IsLegalJournal}
+use Rattle.client_script.specs.declared.call.ScriptCall.{ScriptCall}
 use Rattle.client_script.specs.Script.{Placed, Script, calls_of, asked_by, handed_by}
 use Rattle.serial_run.specs.Caused.{HasNoRoom, IsAtLimit, LimitsAreCaused, IsHeldOrPut, HasTooManyIds}
 use Rattle.serial_run.proofs.FullTables.{apart_from}
@@ -79,60 +81,88 @@ mapped_there {A} {B} f list index there is = by (slice_get list index) refl
 abbrev placed_of : Script → ℕ → List Placed
 placed_of script caller = filter (λ placed. placed.actor == caller) script.calls
 
--- What a client is asked stands in the script.
-asked_placed : (script : Script) (caller number : ℕ) (asked : Asked)
-    → slice_get (asked_by script caller) number ≡ Some asked
-    → (placed : Placed) × Contains script.calls placed × (placed.call.kind ≡ asked.kind) × (placed.call.id ≡ asked.id)
-asked_placed script caller number asked there =
-    let call = mapped_there (λ call. record { kind = call.kind; id = call.id }) (calls_of script caller) number asked
-    there in
+-- A client's call stands in the script.
+call_placed : (script : Script) (caller number : ℕ) (call : ScriptCall)
+    → slice_get (calls_of script caller) number ≡ Some call
+    → (placed : Placed) × Contains script.calls placed × (placed.call ≡ call)
+call_placed script caller number call there =
     let its = placed_of script caller in
-    let placed = mapped_there (λ (placed : Placed). placed.call) its number call.0 call.1 in (
+    let placed = mapped_there (λ (placed : Placed). placed.call) its number call there in (
       placed.0,
       subst (λ (p : Placed). Contains script.calls p) (get_or_from_slice_get its number placed.0 placed.0 placed.1)
           (among number placed.0 (slice_get_within its number placed.0 placed.1)),
-      ap (λ call. call.kind) placed.2 ∙ ap (λ (a : Asked). a.kind) call.2,
-      ap (λ call. call.id) placed.2 ∙ ap (λ (a : Asked). a.id) call.2,
+      placed.2,
     )
   where
     among : All (Contains script.calls) (placed_of script caller)
     among = All-filter (λ placed. placed.actor == caller) (Contains script.calls) script.calls
         (All-contains_itself script.calls)
 
-module _ (script : Script) (opening : Map) (items : List Item)
-    (legal : IsLegalJournal (asked_by script) (handed_by script) opening items) where
+-- A client's put puts its id.
+pub call_puts : (script : Script) (opening : Map) (caller number : ℕ) (call : ScriptCall) (id : ℕ)
+    → slice_get (calls_of script caller) number ≡ Some call → call.kind ≡ kind.Put → call.id ≡ Some id
+    → IsHeldOrPut script opening id
+call_puts script opening caller number call id there put same =
+    let placed = call_placed script caller number call there in inr (
+      placed.0,
+      placed.1,
+      ap (λ (c : ScriptCall). c.kind) placed.2 ∙ put,
+      ap (λ (c : ScriptCall). c.id) placed.2 ∙ same,
+    )
+
+-- What a client is asked is what a call of its asks.
+asked_call : (script : Script) (caller number : ℕ) (asked : Asked)
+    → slice_get (asked_by script caller) number ≡ Some asked
+    → (call : ScriptCall) × (slice_get (calls_of script caller) number ≡ Some call) × (call.kind ≡ asked.kind)
+    × (call.id ≡ asked.id)
+asked_call script caller number asked there =
+    let call = mapped_there (λ (call : ScriptCall). record { kind = call.kind; id = call.id }) (calls_of script caller)
+    number asked there in
+    (call.0, call.1, ap (λ (a : Asked). a.kind) call.2, ap (λ (a : Asked). a.id) call.2)
+
+-- One id more than 512 that are held or put is one too many.
+pub one_too_many : (script : Script) (opening : Map) (P : ℕ → Type 0) (id : ℕ) (others : List ℕ) → (P id → ⊥)
+    → IsDistinct nat_eq others → length others ≡ 512 → All P others → IsHeldOrPut script opening id
+    → ((other : ℕ) → P other → IsHeldOrPut script opening other)
+    → HasTooManyIds script opening
+one_too_many script opening P id others apart distinct all those put each = record {
+  ids = id ∷ others;
+  distinct = IsDistinct-cons nat_eq id others (apart_from P id others apart those) distinct;
+  many = omega (arith, all);
+  each = All-cons (IsHeldOrPut script opening) id others put (All-weaker P (IsHeldOrPut script opening) each others those);
+}
+
+-- The journal answers what the script asks, and answers it right.
+module _ (script : Script) (handed : Handed) (opening : Map) (items : List Item)
+    (calls_are : CallsAreRight (asked_by script) items) (answers : AnswersAreRight handed opening items) where
   -- An answered put stands in the script.
   put_placed : (index : ℕ) (entry : Entry) (id : ℕ) → CallAt items index entry
       → (IsAnswerOf entry.kind entry.answer → entry.kind ≡ kind.Put) → entry.id ≡ Some id
       → IsHeldOrPut script opening id
   put_placed index entry id there put same =
       let previous = previous_of items entry.caller index in
-      let placed = asked_placed script entry.caller (entry.call - 1) (record { kind = entry.kind; id = entry.id })
-      (legal.calls_are.each index entry there).asked in
-      let right = legal.answers.each previous.0 index entry there previous.1 in
-      inr (placed.0, placed.1, placed.2 ∙ put right.1, placed.3 ∙ same)
+      let call = asked_call script entry.caller (entry.call - 1) (record { kind = entry.kind; id = entry.id })
+      (calls_are.each index entry there).asked in
+      let right = answers.each previous.0 index entry there previous.1 in
+      call_puts script opening entry.caller (entry.call - 1) call.0 id call.1 (call.2 ∙ put right.1) (call.3 ∙ same)
 
-  held_or_put : (count id : ℕ) → map_after (handed_by script) opening items count id ≢ None
-      → IsHeldOrPut script opening id
+  -- An id of the map after some items was in the one before them, or a put of the script stored it.
+  pub held_or_put : (count id : ℕ) → map_after handed opening items count id ≢ None → IsHeldOrPut script opening id
   held_or_put count id held = ⊎_elim (λ first. inl first)
       (λ (stored : IsStored items id). put_placed stored.0 stored.1 id stored.2
       (λ is. subst (λ (given : Answer). IsAnswerOf stored.1.kind given) stored.3 is) stored.4)
-      (first_or_stored (handed_by script) opening items count id held)
+      (first_or_stored handed opening items count id held)
 
+module _ (script : Script) (opening : Map) (items : List Item)
+    (legal : IsLegalJournal (asked_by script) (handed_by script) opening items) where
   -- A put is refused as full where there are too many ids.
   pub too_many_ids : LimitsAreCaused (handed_by script) opening items → (index : ℕ) (entry : Entry)
       → CallAt items index entry → entry.answer ≡ answer.Full → HasTooManyIds script opening
-  too_many_ids caused index entry there is = record {
-    ids = full.id ∷ full.others;
-    distinct = IsDistinct-cons nat_eq full.id full.others
-        (apart_from (λ other. so_far other ≢ None) full.id full.others (λ there. there full.absent) full.held)
-        full.distinct;
-    many = (let all = full.all in omega (arith, all));
-    each = All-cons (IsHeldOrPut script opening) full.id full.others
-        (put_placed index entry full.id there (λ of. subst (λ (given : Answer). IsAnswerOf entry.kind given) is of)
-        full.put_is)
-        (λ k d low. held_or_put index _ (full.held k d low));
-  }
+  too_many_ids caused index entry there is = one_too_many script opening (λ other. so_far other ≢ None) full.id
+      full.others (λ there. there full.absent) full.distinct full.all full.held
+      (put_placed script (handed_by script) opening items legal.calls_are legal.answers index entry full.id there
+      (λ of. subst (λ (given : Answer). IsAnswerOf entry.kind given) is of) full.put_is)
+      (λ other held. held_or_put script (handed_by script) opening items legal.calls_are legal.answers index other held)
     where
       so_far : Map
       so_far = map_after (handed_by script) opening items index
