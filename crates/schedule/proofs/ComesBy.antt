@@ -1,5 +1,5 @@
 -- What a turn comes to, put together from its parts.
-use Rattle.std.proofs.Common.{◌≡◌, ⊎_elim, ℕ, suc, ◌+◌, ◌-◌, ◌<◌, ◌≤◌, List, [], ◌∷◌, ◌++◌, length, Option, Some, None, refl, sym, ◌∙◌, ap, subst, arith}
+use Rattle.std.proofs.Common.{◌≡◌, ◌≢◌, ⊎_elim, ℕ, suc, ◌+◌, ◌-◌, ◌<◌, ◌≤◌, List, [], ◌∷◌, ◌++◌, length, Option, Some, None, refl, sym, ◌∙◌, ap, subst, arith}
 use Rattle.std.specs.Prelude.{Contains, slice_get}
 use Rattle.std.proofs.lemmas.Bool.{cases_eq}
 use Rattle.std.proofs.lemmas.List.{append-nil}
@@ -12,6 +12,7 @@ use Rattle.uberblock_ring.specs.Devices.{count_of, IsWithin}
 use Rattle.uberblock_ring.specs.Uberblock.{Uber}
 use Rattle.core_state.specs.declared.answer.Answer.{Answer}
 use Rattle.core_state.specs.declared.answer.Answer.TheVariants as answer
+use Rattle.core_state.specs.declared.answer.Kind.TheVariants as kind
 use Rattle.core_state.specs.declared.item.Entry.{Entry}
 use Rattle.core_state.specs.declared.item.Item.{Item}
 use Rattle.core_state.specs.declared.item.Item.TheVariants.{Call as CallItem}
@@ -46,6 +47,7 @@ use Rattle.schedule.proofs.Theirs.{some_is, none_some}
 use Rattle.schedule.proofs.Answered.{answered, answers_same, answers_call}
 use Rattle.schedule.proofs.Going.{at_once}
 use Rattle.schedule.proofs.TurnRuns.{answers_at_once}
+use Rattle.schedule.proofs.Fulls.{full_same, full_other, put_alone}
 use Rattle.schedule.proofs.Coming.{came_nowhere, came_turn, told_same, told_entry}
 
 -- ---- lists
@@ -216,7 +218,8 @@ module _ (script : Script) (actor : ℕ) (before after : Station) (clients news 
         (told_same (turns_of before.state before.items clients) (turns_of after.state after.items news) items)
         (λ world origin handed within stood.
         subst (λ (l : List Item). Runs world script origin after.state l news) (sym items)
-        (runs world origin handed within stood));
+        (runs world origin handed within stood))
+        (full_same script (turns_of before.state before.items clients) (turns_of after.state after.items news) items);
     schedule = record {
       going = going;
       answered = subst (AreAnswered script news) (sym items)
@@ -226,7 +229,7 @@ module _ (script : Script) (actor : ℕ) (before after : Station) (clients news 
     };
   }
 
-  -- A turn that lists the answer of the client's next call.
+  -- A turn that lists the answer of the client's next call, another one than that the table is full.
   module _ (call : ScriptCall) (number at : ℕ) (given : Answer) (number_is : number ≡ answered before.client + 1)
       (next : slice_get (calls_of script actor) (answered before.client) ≡ Some call) where
     abbrev its_entry : Entry
@@ -236,17 +239,20 @@ module _ (script : Script) (actor : ℕ) (before after : Station) (clients news 
         → after.client ≡ record { begun = number; under_way = None }
         → ((out : ℕ) → given ≡ answer.TooManyFailed out → HasTooManyOut before.state.core
         × (out ≡ before.state.core.pool.out))
+        → given ≢ answer.Full
         → AreGoing script after.state.core news
         → RunsOn script before after clients news (before.items ++ CallItem its_entry ∷ [])
         → Comes script before after clients news
-    comes_answered goes items client_is tells going runs = record {
+    comes_answered goes items client_is tells other going runs = record {
       come = came_turn script (turns_of before.state before.items clients) (turns_of after.state after.items news) goes
           (CallItem its_entry ∷ []) items
           (told_entry (turns_of before.state before.items clients) (turns_of after.state after.items news) its_entry
           items tells goes.out.still)
           (λ world origin handed within stood.
           subst (λ (l : List Item). Runs world script origin after.state l news) (sym items)
-          (runs world origin handed within stood));
+          (runs world origin handed within stood))
+          (full_other script (turns_of before.state before.items clients) (turns_of after.state after.items news)
+          its_entry items other);
       schedule = record {
         going = going;
         answered = subst (AreAnswered script news) (sym items)
@@ -263,13 +269,13 @@ module _ (script : Script) (actor : ℕ) (before after : Station) (clients news 
             let begun : after.client.begun ≡ number = ap (λ (c : Client). c.begun) client_is in
             omega (arith, low, begun, number_is)
 
-  -- A call that is answered in its first turn.
+  -- A call that is answered in its first turn, and is no put.
   module _ (call : ScriptCall) (given : Answer) (idle : before.client.under_way ≡ None)
       (next : slice_get (calls_of script actor) before.client.begun ≡ Some call)
       (leaves : LeavesPool before.state.core after.state.core) (disk : after.state.disk ≡ before.state.disk)
       (left : LeavesBegun actor call before after (Done given)) (of : IsAnswerOf call.kind given)
       (tells : (out : ℕ) → given ≡ answer.TooManyFailed out → HasTooManyOut before.state.core
-      × (out ≡ before.state.core.pool.out)) where
+      × (out ≡ before.state.core.pool.out)) (no_put : call.kind ≢ kind.Put) where
     ended : after.client.under_way ≡ None
     ended = ap (λ (c : Client). c.under_way) left.1
 
@@ -291,7 +297,8 @@ module _ (script : Script) (actor : ℕ) (before after : Station) (clients news 
     comes_at_once are stands = comes_answered call (before.client.begun + 1) (length before.items) given
         (ap (λ (n : ℕ). n + 1) (sym (answered_idle before.client idle)))
         (ap (slice_get (calls_of script actor)) (answered_idle before.client idle) ∙ next)
-        (turn_still before.state after.state leaves disk) left.0 left.1 tells (still_going are)
+        (turn_still before.state after.state leaves disk) left.0 left.1 tells (put_alone call.kind given no_put of)
+        (still_going are)
         (λ world origin handed within runs.
         let now = stands world origin runs in
         answers_at_once world script origin before.state after.state before.items clients news actor before.client

@@ -27,6 +27,7 @@ use Rattle.core_turns.specs.Getting.{HasTooManyOut}
 use Rattle.core_turns.specs.UnderWay.{TurnGoesOn}
 use Rattle.schedule.specs.Coming.{Turns, HasCome}
 use Rattle.schedule.specs.Running.{Runs}
+use Rattle.schedule.proofs.Fulls.{FullStays}
 
 -- how far the devices' failure has to be borne where nothing was done: those that are out, unless they are too many
 borne_by : (out parity : ℕ) → (count_of out ≤ parity) ⊎ (parity < count_of out) → ℕ
@@ -59,6 +60,7 @@ came_nowhere script turns = by (few_or_many turns.state.core.pool.out turns.stat
       stopped = λ many. absurd (omega (arith, few, many));
       within = λ device out. out;
       runs = λ world origin same runs within. runs;
+      full = λ world origin same runs within caused. caused;
     }
     by (inr many) = record {
       later = later_refl turns.state.disk;
@@ -74,6 +76,7 @@ came_nowhere script turns = by (few_or_many turns.state.core.pool.out turns.stat
       stopped = λ still device out. out;
       within = λ device out. absurd (none_out device out);
       runs = λ world origin same runs within. runs;
+      full = λ world origin same runs within caused. caused;
     }
 
 -- Turns after turns.
@@ -128,6 +131,10 @@ module _ (script : Script) (start middle now : Turns) (first : HasCome script st
         (first.runs world origin same runs
         (λ device out. within device (second.from_start few device (first.within device out))))
         within;
+    full = λ world origin same runs within caused.
+        let earlier : IsWithin first.borne world.setting.failed = λ device out. within device (second.from_start few device (first.within device out)) in
+        second.full world origin same (first.runs world origin same runs earlier) within
+        (first.full world origin same runs earlier caused);
   }
   by (inr many) = record {
     later = later_trans first.later second.later;
@@ -147,6 +154,10 @@ module _ (script : Script) (start middle now : Turns) (first : HasCome script st
     runs = λ world origin same runs within. second.runs world origin same
         (first.runs world origin same runs within)
         (λ device out. absurd (none_out device (second.stopped many device out)));
+    full = λ world origin same runs within caused. second.full world origin same
+        (first.runs world origin same runs within)
+        (λ device out. absurd (none_out device (second.stopped many device out)))
+        (first.full world origin same runs within caused);
   }
 
   pub came_on : HasCome script start now
@@ -162,7 +173,8 @@ module _ (script : Script) (before after : Turns) (goes : TurnGoesOn before.stat
     → (count_of before.state.core.pool.out ≤ before.state.core.pool.uber.parity
     → IsWithin before.state.core.pool.out world.setting.failed)
     → Runs world script origin before.state before.items before.clients
-    → Runs world script origin after.state after.items after.clients) where
+    → Runs world script origin after.state after.items after.clients)
+    (full : FullStays script before after) where
   turn : (count_of before.state.core.pool.out ≤ before.state.core.pool.uber.parity)
       ⊎ (before.state.core.pool.uber.parity < count_of before.state.core.pool.out) → HasCome script before after
   turn (inl few) = record {
@@ -180,6 +192,7 @@ module _ (script : Script) (before after : Turns) (goes : TurnGoesOn before.stat
     stopped = λ many. absurd (omega (arith, few, many));
     within = goes.out.still;
     runs = λ world origin same stood within. runs world origin same (λ still. within) stood;
+    full = λ world origin same stood within. full world origin same stood;
   }
   turn (inr many) = record {
     later = goes.later;
@@ -196,6 +209,7 @@ module _ (script : Script) (before after : Turns) (goes : TurnGoesOn before.stat
     stopped = λ still device out. out;
     within = λ device out. absurd (none_out device out);
     runs = λ world origin same stood within. runs world origin same (λ few. absurd (omega (arith, few, many))) stood;
+    full = λ world origin same stood within. full world origin same stood;
   }
 
   pub came_turn : HasCome script before after

@@ -71,6 +71,10 @@ module _ (script : Script) (actor : ℕ) (before after : Station) (clients news 
     (next : slice_get (calls_of script actor) before.client.begun ≡ Some call)
     (frees : Frees before.state.core after.state.core id given) (disk : after.state.disk ≡ before.state.disk)
     (left : LeavesBegun actor call before after (Done given)) where
+  -- It is no put.
+  free_no_put : kind.Free ≡ kind.Put → ⊥
+  free_no_put same = cc
+
   -- A free is answered at once.
   pub free_at_once : Comes script before after clients news
   free_at_once =
@@ -80,6 +84,7 @@ module _ (script : Script) (actor : ℕ) (before after : Station) (clients news 
       (subst (λ (k : Kind). IsAnswerOf k given) (sym asked) of.0)
       (λ out tells. let many = subst (FreesBlock before.state.core after.state.core id) tells frees.frees in
       (many.0, many.1))
+      (λ put. free_no_put (sym asked ∙ put))
       (frees_calls before.state.core after.state.core id given takes.schedule.going.calls frees.frees frees.under
       takes.schedule.going.are)
       (λ world origin runs.

@@ -8,6 +8,7 @@ pub mod Begun
 pub mod Theirs
 pub mod Answered
 pub mod Running
+pub mod Fulls
 pub mod TurnRuns
 pub mod Coming
 pub mod Going

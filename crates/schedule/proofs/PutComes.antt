@@ -18,7 +18,7 @@ use Rattle.client_script.specs.Script.{Script, calls_of}
 use Rattle.core_turns.specs.declared.putting.PutRun.{PutRun}
 use Rattle.core_turns.specs.declared.turn.Turn.TheVariants.{More, Busy, Done}
 use Rattle.core_turns.specs.Core.{Core, at_disk}
-use Rattle.core_turns.specs.Putting.{BeginsPutTurn, LeavesBlocks}
+use Rattle.core_turns.specs.Putting.{BeginsPutTurn, IsPutRefused, LeavesBlocks}
 use Rattle.core_turns.specs.UnderWay.{Call, Putting, Stands}
 use Rattle.core_turns.proofs.PutCalls.{Rearranges, begins_rearranges, leaves_rearranges, put_begins_calls, put_refused_calls}
 use Rattle.core_turns.proofs.PutStands.{put_begins_stands, put_refused_stands}
@@ -26,10 +26,12 @@ use Rattle.schedule.specs.declared.client.Client.{Client}
 use Rattle.schedule.specs.declared.client.UnderWay.{UnderWay}
 use Rattle.schedule.specs.declared.client.Work.TheVariants as work
 use Rattle.schedule.specs.Running.{IsGoing, IsSync, AreGoing, Runs}
+use Rattle.schedule.specs.Coming.{turns_of}
 use Rattle.schedule.specs.Turned.{Station, LeavesBegun, entry_for}
 use Rattle.schedule.specs.Comes.{TakesTurn, Comes}
 use Rattle.schedule.proofs.RightNext.{put_right}
 use Rattle.schedule.proofs.Theirs.{some_is, none_some}
+use Rattle.schedule.proofs.Fulls.{full_put}
 use Rattle.schedule.proofs.Answered.{answered}
 use Rattle.schedule.proofs.Going.{begins as going_begins, at_once as going_at_once}
 use Rattle.schedule.proofs.TurnRuns.{begins as runs_begins, answers_at_once as runs_at_once}
@@ -170,6 +172,8 @@ module _ (script : Script) (actor : ℕ) (before after : Station) (clients news 
       (put_refused_calls going.calls old now refuses.leaves going.are))
       call (before.client.begun + 1) (length before.items) given (omega (arith, count))
       (ap (slice_get (calls_of script actor)) count ∙ next) leaves.0 leaves.1 refuses.tells
+      (λ full. full_put script (turns_of before.state before.items clients) takes.schedule actor before.client.begun call
+      id next asked id_is (subst (IsPutRefused old now id (length content)) full is).1)
       (λ world origin handed runs.
       let map = map_of world.handed world.opening before.items in
       runs_at_once world script origin before.state after.state before.items clients news actor before.client

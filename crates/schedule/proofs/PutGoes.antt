@@ -1,5 +1,5 @@
 -- What each later turn of a client's put comes to.
-use Rattle.std.proofs.Common.{◌≡◌, ◌⊎◌, inl, inr, ⊎_elim, ℕ, ◌-◌, List, [], ◌∷◌, ◌++◌, length, Option, Some, None, refl, sym, ◌∙◌, ap, subst, arith}
+use Rattle.std.proofs.Common.{◌≡◌, ◌≢◌, ◌⊎◌, inl, inr, ⊎_elim, ℕ, ◌-◌, List, [], ◌∷◌, ◌++◌, length, Option, Some, None, refl, sym, ◌∙◌, ap, subst, arith}
 use Rattle.std.specs.Prelude.{option_map, slice_get, unwrap_or}
 use Rattle.bank_trait.specs.Disk.{Disk}
 use Rattle.space_alloc.specs.Space.{Gains}
@@ -92,6 +92,7 @@ record IsGivenUp (old new : Core) (run : PutRun) (given : Answer) : Type 0 where
   gives_up : GivesUp old new run
   unstored : IsUnstored given
   tells : TellsOut old given
+  other : given ≢ answer.Full
 
 -- It is where too many devices are out,
 given_up_stopped : (old new : Core) (run : PutRun) (given : Answer) → IsStoppedPut old new run given
@@ -100,16 +101,27 @@ given_up_stopped old new run given stopped = record {
   gives_up = stopped.gives_up;
   unstored = subst IsUnstored (sym stopped.given_is) tt;
   tells = subst (TellsOut old) (sym stopped.given_is) (tells_out old old.pool.out stopped.many refl);
+  other = λ full. apart (sym stopped.given_is ∙ full);
 }
+  where
+    apart : answer.TooManyFailed old.pool.out ≡ answer.Full → ⊥
+    apart same = cc
 
 -- and where memory is wanting to fill it in.
 given_up_turn : (old new : Core) (run : PutRun) (given : Answer) → GivesUpTurn old run new (Done given)
     → IsGivenUp old new run given
-given_up_turn old new run answer.NoMemory is =
-    record { gives_up = is.1; unstored = tt; tells = λ listed told. absurd (other listed told) }
+given_up_turn old new run answer.NoMemory is = record {
+  gives_up = is.1;
+  unstored = tt;
+  tells = λ listed told. absurd (other listed told);
+  other = λ full. apart full;
+}
   where
     other : (listed : ℕ) → answer.NoMemory ≡ answer.TooManyFailed listed → ⊥
     other listed told = cc
+
+    apart : answer.NoMemory ≡ answer.Full → ⊥
+    apart same = cc
 given_up_turn old new run (answer.TooManyFailed out) is =
     given_up_stopped old new run (answer.TooManyFailed out) is
 given_up_turn old new run other is = absurd is
@@ -295,6 +307,7 @@ module _ (script : Script) (actor : ℕ) (before after : Station) (clients news 
   -- It ends, and its entry alone is listed.
   module _ (given : Answer) (disk : after.state.disk ≡ before.state.disk) (change : Rearranges old now)
       (plain : IsPlain given) (answers : IsAnswerOf kind.Put given) (tells : TellsOut old given)
+      (other : given ≢ answer.Full)
       (leaves : LeavesGoing actor call before after under (Done given)) where
     ended : after.client.under_way ≡ None
     ended = ap (λ (c : Client). c.under_way) leaves.1
@@ -315,7 +328,7 @@ module _ (script : Script) (actor : ℕ) (before after : Station) (clients news 
         was_no_sync (λ its_under its_is. absurd (none_some (sym ended ∙ its_is))) among.left
         (Putting run among.content) ended among.gains among.its are)
         call before.client.begun under.at given (omega (arith, count, some))
-        (ap (slice_get (calls_of script actor)) count ∙ is) listed leaves.1 tells
+        (ap (slice_get (calls_of script actor)) count ∙ is) listed leaves.1 tells (λ full. absurd (other full))
         (λ world origin handed runs.
         let mine = among_runs world origin runs in
         runs_ends world script origin before.state after.state before.items clients news actor before.client
@@ -335,7 +348,7 @@ module _ (script : Script) (actor : ℕ) (before after : Station) (clients news 
         let among_filled = filled_calls filled fills in
         ends_with given disk (ends_rearranges old now filled stores) (subst IsPlain (sym given_is) tt)
         (subst (IsAnswerOf kind.Put) (sym given_is) refl)
-        (λ listed told. absurd (apart listed (sym given_is ∙ told))) leaves
+        (λ listed told. absurd (apart listed (sym given_is ∙ told))) (λ full. no_full (sym given_is ∙ full)) leaves
         (leaves.0 ∙ subst (λ (a : Answer). listed_for old before.items under.at (entry given) a
         ≡ before.items ++ CallItem (entry given) ∷ []) (sym given_is) refl)
         (put_ends_calls among.left among_filled.0 old now filled among.content stores among_filled.2 among_filled.1)
@@ -352,6 +365,9 @@ module _ (script : Script) (actor : ℕ) (before after : Station) (clients news 
       where
         apart : (listed : ℕ) → answer.Stored ≡ answer.TooManyFailed listed → ⊥
         apart listed told = cc
+
+        no_full : answer.Stored ≡ answer.Full → ⊥
+        no_full same = cc
 
         id_is : call.id ≡ Some filled.range.id
         id_is = asked_for.1 ∙ ap (λ (r : PutRun). Some r.range.id) (sym (fills_same call run filled fills))
@@ -373,7 +389,8 @@ module _ (script : Script) (actor : ℕ) (before after : Station) (clients news 
     put_given_up given_up =
         let among_filled = filled_calls filled fills in
         ends_with given disk (gives_up_rearranges old now filled given_up.gives_up)
-        (unstored_plain given given_up.unstored) (unstored_answers given given_up.unstored) given_up.tells leaves
+        (unstored_plain given given_up.unstored) (unstored_answers given given_up.unstored) given_up.tells
+        given_up.other leaves
         (leaves.0 ∙ unstored_listed old before.items under.at (entry given) given given_up.unstored)
         (put_gives_up_calls among.left among_filled.0 old now filled among.content given_up.gives_up among_filled.2
         among_filled.1)

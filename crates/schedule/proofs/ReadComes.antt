@@ -37,6 +37,7 @@ use Rattle.schedule.specs.Comes.{TakesTurn, Comes}
 use Rattle.schedule.proofs.Answered.{answered}
 use Rattle.schedule.proofs.Below.{below_end}
 use Rattle.schedule.proofs.Theirs.{actor_of, some_is, none_some}
+use Rattle.schedule.proofs.Fulls.{put_alone, read_no_put}
 use Rattle.schedule.proofs.Going.{goes, begins as going_begins, ends as going_ends}
 use Rattle.schedule.proofs.TurnRuns.{goes_on, begins as runs_begins, ends as runs_ends}
 use Rattle.schedule.proofs.ReadAnswers.{EndsRead, listed_read, map_read, right_read, refused_of, refused_right, read_ends_so}
@@ -163,7 +164,7 @@ module _ (script : Script) (actor : ℕ) (before after : Station) (clients news 
         comes_at_once script actor before after clients news takes call given idle next
         (leaves_pool before.state.core after.state.core before.state.core.pool.blocks before.state.core.holds begins.0)
         disk left of
-        (λ out tells. subst (IsGetRefused before.state.core id) tells begins.1)
+        (λ out tells. subst (IsGetRefused before.state.core id) tells begins.1) (read_no_put call.kind is)
         (subst (λ (c : Core). AreCallsOf c takes.schedule.going.calls) (sym begins.0) takes.schedule.going.are)
         (λ world origin runs.
         let map = map_of world.handed world.opening before.items in
@@ -354,4 +355,4 @@ module _ (script : Script) (actor : ℕ) (before after : Station) (clients news 
         (its_number under run work_is under_is)
         (ap (slice_get (calls_of script actor)) (answered_going before.client under_is) ∙ is) turn
         (left.0 ∙ listed_read before.state.core before.items under.at entry call.kind given call_read given_is)
-        left.1 ends.too_many end_going end_runs
+        left.1 ends.too_many (put_alone call.kind given (read_no_put call.kind call_read) given_is) end_going end_runs

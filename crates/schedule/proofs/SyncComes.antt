@@ -1,5 +1,5 @@
 -- What the first turn of a sync comes to, among the other clients' calls.
-use Rattle.std.proofs.Common.{◌≡◌, ◌⊎◌, ℕ, ◌+◌, ◌-◌, ◌<◌, ◌≤◌, List, [], ◌∷◌, ◌++◌, length, Option, Some, None, refl, sym, ◌∙◌, ap, subst, arith}
+use Rattle.std.proofs.Common.{◌≡◌, ◌≢◌, ◌⊎◌, ℕ, ◌+◌, ◌-◌, ◌<◌, ◌≤◌, List, [], ◌∷◌, ◌++◌, length, Option, Some, None, refl, sym, ◌∙◌, ap, subst, arith}
 use Rattle.std.specs.Prelude.{slice_get}
 use Rattle.std.proofs.lemmas.List.{append-nil}
 use Rattle.std.proofs.lemmas.Option.{slice_get_within}
@@ -40,6 +40,7 @@ use Rattle.schedule.proofs.Answered.{answered, answers_same, answers_call}
 use Rattle.schedule.proofs.Begun.{begun_now}
 use Rattle.schedule.proofs.Going.{commits_on, at_once}
 use Rattle.schedule.proofs.TurnRuns.{commit_begins, answers_at_once}
+use Rattle.schedule.proofs.Fulls.{FullStays, full_same, full_other, put_alone}
 use Rattle.schedule.proofs.Coming.{came_nowhere, came_turn, told_same, told_entry}
 use Rattle.schedule.proofs.Syncs.{clients_same, state_is, turn_still, run_of, groups_know, no_commit, refused_tells, refused_map, refused_answers, refused_right}
 
@@ -62,12 +63,13 @@ module _ (script : Script) (before after : Station) (clients news : List Client)
       → ((index listed : ℕ) (entry : Entry) → CallAt after.items index entry
       → entry.answer ≡ answer.TooManyFailed listed → CallAt before.items index entry
       ⊎ ((before.state.core.pool.uber.parity < count_of listed) × IsWithin listed after.state.core.pool.out))
-      → StandsOn script before after clients news (before.items ++ more)
+      → StandsOn script before after clients news (before.items ++ more) → FullStays script start end
       → HasCome script start end
-  came_listed more goes same told stands = came_turn script start end goes more same told
+  came_listed more goes same told stands full = came_turn script start end goes more same told
       (λ world origin handed within stood.
       subst (λ (l : List Item). Runs world script origin after.state l news) (sym same)
       (stands world origin within stood))
+      full
 
   -- one that lists nothing,
   pub came_still : TurnGoesOn before.state after.state → after.items ≡ before.items
@@ -75,16 +77,19 @@ module _ (script : Script) (before after : Station) (clients news : List Client)
       → HasCome script start end
   came_still goes same stands = came_listed [] goes (same ∙ sym (append-nil before.items)) (told_same start end same)
       (subst (StandsOn script before after clients news) (sym (append-nil before.items)) stands)
+      (full_same script start end same)
 
-  -- and one that lists an answer.
+  -- and one that lists an answer, another one than that the table is full.
   pub came_answered : (entry : Entry) → TurnGoesOn before.state after.state
       → after.items ≡ before.items ++ CallItem entry ∷ []
       → ((listed : ℕ) → entry.answer ≡ answer.TooManyFailed listed
       → HasTooManyOut before.state.core × (listed ≡ before.state.core.pool.out))
+      → entry.answer ≢ answer.Full
       → StandsOn script before after clients news (before.items ++ CallItem entry ∷ [])
       → HasCome script start end
-  came_answered entry goes same tells stands =
+  came_answered entry goes same tells other stands =
       came_listed (CallItem entry ∷ []) goes same (told_entry start end entry same tells goes.out.still) stands
+      (full_other script start end entry same other)
 
 module _ (script : Script) (actor : ℕ) (before after : Station) (clients news : List Client) (call : ScriptCall)
     (takes : TakesTurn script actor before after clients news) where
@@ -210,7 +215,8 @@ module _ (script : Script) (actor : ℕ) (before after : Station) (clients news 
       → Comes script before after clients news
   sync_at_once given asked no_id idle next refused disk leaves = record {
     come = came_answered script before after clients news entry goes leaves.0
-        (refused_tells before.state.core given refused.0) on;
+        (refused_tells before.state.core given refused.0)
+        (put_alone kind.Sync given (λ put. no_put put) (refused_answers kind.Sync before.state.core given refused.0)) on;
     schedule = record {
       going = subst (λ (core : Core). AreGoing script core news) (sym refused.1) going;
       answered = subst (AreAnswered script news) (sym leaves.0) answered_more;
@@ -218,6 +224,9 @@ module _ (script : Script) (actor : ℕ) (before after : Station) (clients news 
     };
   }
     where
+      no_put : kind.Sync ≡ kind.Put → ⊥
+      no_put same = cc
+
       entry : Entry
       entry = entry_for call actor (before.client.begun + 1) (length before.items) given
 

@@ -33,11 +33,13 @@ use Rattle.schedule.specs.declared.client.UnderWay.{UnderWay}
 use Rattle.schedule.specs.declared.client.Work.TheVariants as work
 use Rattle.schedule.specs.Clients.{AreAnswered, answered_of}
 use Rattle.schedule.specs.Running.{IsGoing, IsSync, IsWorkFor, AreGoing, Runs}
+use Rattle.schedule.specs.Coming.{turns_of}
 use Rattle.schedule.specs.Turned.{Station, LeavesGoing, entry_for, group_for}
 use Rattle.schedule.specs.Comes.{TakesTurn, Comes}
 use Rattle.schedule.proofs.RightNext.{sync_cut_right}
 use Rattle.schedule.proofs.Theirs.{some_is, none_some}
 use Rattle.schedule.proofs.Answered.{answered, answers_same, answers_call, answers_group}
+use Rattle.schedule.proofs.Fulls.{full_synced}
 use Rattle.schedule.proofs.Going.{commits_on, commit_ends as going_ends, one_sync}
 use Rattle.schedule.proofs.Running.{group_apart}
 use Rattle.schedule.proofs.TurnRuns.{commit_goes_on, commit_ends, commit_is_cut}
@@ -161,7 +163,9 @@ module _ (script : Script) (actor : ℕ) (before after : Station) (clients news 
         → Comes script before after clients news
     synced number answers goes leaves = record {
       come = came_listed script before after clients news (Group group ∷ CallItem entry ∷ []) goes (leaves.0 ∙ both)
-          told (subst (StandsOn script before after clients news) both on);
+          told (subst (StandsOn script before after clients news) both on)
+          (full_synced script (turns_of before.state before.items clients) (turns_of after.state after.items news) group
+          entry leaves.0 (λ full. no_full full));
       schedule = record {
         going = going;
         answered = subst (AreAnswered script news) (sym leaves.0)
@@ -186,6 +190,9 @@ module _ (script : Script) (actor : ℕ) (before after : Station) (clients news 
 
         disk : after.state.disk ≡ before.state.disk
         disk = ap (λ (p : Point). p.disk) answers.ends.same
+
+        no_full : answer.Synced number ≡ answer.Full → ⊥
+        no_full same = cc
 
         -- Neither item tells of too many devices.
         told : (index listed : ℕ) (other : Entry) → CallAt after.items index other
@@ -239,7 +246,7 @@ module _ (script : Script) (actor : ℕ) (before after : Station) (clients news 
         → Comes script before after clients news
     cut out steps goes leaves = record {
       come = came_answered script before after clients news entry goes leaves.0
-          (λ listed is. (steps.0, same_out (sym is) ∙ steps.1)) on;
+          (λ listed is. (steps.0, same_out (sym is) ∙ steps.1)) (λ full. no_full full) on;
       schedule = record {
         going = subst (λ (s : CoreState). AreGoing script s.core news) (sym steps.2) going;
         answered = subst (AreAnswered script news) (sym leaves.0)
@@ -253,6 +260,9 @@ module _ (script : Script) (actor : ℕ) (before after : Station) (clients news 
 
         same_out : {one other : ℕ} → answer.TooManyFailed one ≡ answer.TooManyFailed other → one ≡ other
         same_out is = cc
+
+        no_full : answer.TooManyFailed out ≡ answer.Full → ⊥
+        no_full same = cc
 
         ended : after.client.under_way ≡ None
         ended = ap (λ (c : Client). c.under_way) leaves.1

@@ -35,6 +35,7 @@ use Rattle.schedule.specs.Turned.{Station, entry_for}
 use Rattle.schedule.specs.Comes.{TakesTurn, Comes}
 use Rattle.schedule.proofs.Theirs.{actor_of, some_is, none_some, going_was, going_here, theirs_stays, sync_stays}
 use Rattle.schedule.proofs.Answered.{answered, answers_same, answers_call}
+use Rattle.schedule.proofs.Fulls.{HasManyAt, full_same, full_answer}
 use Rattle.schedule.proofs.Coming.{came_turn, told_same, told_entry}
 
 -- ---- lists of calls
@@ -159,7 +160,8 @@ module _ (script : Script) (actor : ℕ) (before after : Station) (clients news 
   comes_same items few some count runs = record {
     come = came_turn script was now goes [] (items ∙ sym (append-nil before.items)) (told_same was now items)
         (λ world origin handed within stood. subst (λ (l : List Item). Runs world script origin after.state l news)
-        (sym items) (runs world origin handed stood));
+        (sym items) (runs world origin handed stood))
+        (full_same script was now items);
     schedule = record {
       going = going;
       answered = subst (λ (l : List Item). AreAnswered script news l) (sym items)
@@ -169,19 +171,20 @@ module _ (script : Script) (actor : ℕ) (before after : Station) (clients news 
     };
   }
 
-  -- One that answers the client's next call.
+  -- One that answers the client's next call. Where it says that the table is full, there are too many ids.
   pub comes_answered : (call : ScriptCall) (number at : ℕ) (given : Answer) → number ≡ answered before.client + 1
       → slice_get (calls_of script actor) (answered before.client) ≡ Some call
       → after.items ≡ before.items ++ CallItem (entry_for call actor number at given) ∷ []
       → after.client ≡ record { begun = number; under_way = None }
       → ((listed : ℕ) → given ≡ answer.TooManyFailed listed → HasTooManyOut before.state.core
       × (listed ≡ before.state.core.pool.out))
+      → (given ≡ answer.Full → HasManyAt script was)
       → ((world : World) (origin : Disk) → world.handed ≡ handed_by script
       → Runs world script origin before.state before.items clients
       → Runs world script origin after.state (before.items ++ CallItem (entry_for call actor number at given) ∷ [])
       news)
       → Comes script before after clients news
-  comes_answered call number at given number_is next items client_is tells runs =
+  comes_answered call number at given number_is next items client_is tells full runs =
       let ended : after.client.under_way ≡ None = ap (λ (c : Client). c.under_way) client_is in
       let begun : after.client.begun ≡ number = ap (λ (c : Client). c.begun) client_is in
       let within = slice_get_within (calls_of script actor) (answered before.client) call next in
@@ -189,7 +192,8 @@ module _ (script : Script) (actor : ℕ) (before after : Station) (clients news 
         come = came_turn script was now goes (CallItem (entry_for call actor number at given) ∷ []) items
             (told_entry was now (entry_for call actor number at given) items tells goes.out.still)
             (λ world origin handed few stood. subst (λ (l : List Item). Runs world script origin after.state l news)
-            (sym items) (runs world origin handed stood));
+            (sym items) (runs world origin handed stood))
+            (full_answer script was now (entry_for call actor number at given) items full);
         schedule = record {
           going = going;
           answered = subst (λ (l : List Item). AreAnswered script news l) (sym items)

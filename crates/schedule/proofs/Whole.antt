@@ -34,6 +34,7 @@ use Rattle.core_turns.specs.Core.{CoreState, at_disk}
 use Rattle.core_turns.specs.UnderWay.{Call, GroupsStand}
 use Rattle.schedule.specs.declared.client.Client.{Client}
 use Rattle.schedule.specs.declared.whole_run.Ended.{Ended}
+use Rattle.schedule.specs.Caused.{FullIsCaused}
 use Rattle.schedule.specs.Coming.{HasCome, turns_of}
 use Rattle.schedule.specs.Replaying.{blank_clients}
 use Rattle.schedule.specs.Running.{Runs}
@@ -110,9 +111,16 @@ module _ (script : Script) (old mid : Disk) (pool : Pool) (silent : ℕ) (items 
     abbrev world : World
     world = opened_world (handed_by script) may.may begins
 
+    first_runs : Runs world script old (at_disk (resting pool) mid) (Group item ∷ []) (blank_clients script.clients)
+    first_runs = runs_first (handed_by script) may.may begins opened_later bank rest script script.clients
+
     runs : Runs world script old final items clients
-    runs = come.runs world old refl
-        (runs_first (handed_by script) may.may begins opened_later bank rest script script.clients) borne_in
+    runs = come.runs world old refl first_runs borne_in
+
+    -- The journal that the opening left has no answers.
+    full : FullIsCaused script begins.opened.chosen.map items
+    full = come.full world old refl first_runs borne_in
+        (record { each = λ index entry there is. absurd (no_call item index entry there) })
 
     abbrev run_groups : List Kept
     run_groups = (first ∷ later) ++ runs.recorded.groups.answered ++ runs.recorded.groups.begun
@@ -146,6 +154,7 @@ module _ (script : Script) (old mid : Disk) (pool : Pool) (silent : ℕ) (items 
       legal = record { groups = runs.recorded.in_order; calls_are = calls; answers = runs.recorded.right };
       sound = runs.recorded.sound;
       counted = runs.recorded.counted;
+      full = full.each;
       any_moment = recorded_throughout runs.recorded;
       no_older = runs.recorded.no_older;
       kept = at_end.0;

@@ -14,6 +14,7 @@ use Rattle.core_serial.specs.Pool.{HasBank}
 use Rattle.client_script.specs.Script.{Script, handed_by}
 use Rattle.core_turns.specs.Core.{CoreState}
 use Rattle.schedule.specs.declared.client.Client.{Client}
+use Rattle.schedule.specs.Caused.{FullIsCaused}
 use Rattle.schedule.specs.Clients.{AreAnswered}
 use Rattle.schedule.specs.Running.{AreGoing, Runs}
 
@@ -35,7 +36,8 @@ pub record IsSchedule (script : Script) (turns : Turns) : Type 0 where
 -- Turns have come from one state to another. Devices went out where they failed, and none was touched but those
 -- of the pool that were in use. An answer that tells of too many devices lists devices that are out, more than
 -- there are parities. The devices whose failure has to be borne were out when it began, or have failed, and are no
--- more than there are parities; none where too many were out then, since no device is called any more.
+-- more than there are parities; none where too many were out then, since no device is called any more. Where these may
+-- fail, what stood stands, and answers that the table is full have their cause.
 pub record HasCome (script : Script) (start now : Turns) : Type 0 where
   pub later : Later start.state.disk now.state.disk
   pub parity : now.state.core.pool.uber.parity ≡ start.state.core.pool.uber.parity
@@ -60,3 +62,7 @@ pub record HasCome (script : Script) (start now : Turns) : Type 0 where
       → Runs world script origin start.state start.items start.clients
       → IsWithin borne world.setting.failed
       → Runs world script origin now.state now.items now.clients
+  pub full : (world : World) (origin : Disk) → world.handed ≡ handed_by script
+      → Runs world script origin start.state start.items start.clients
+      → IsWithin borne world.setting.failed
+      → FullIsCaused script world.opening start.items → FullIsCaused script world.opening now.items

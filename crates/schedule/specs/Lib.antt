@@ -1,4 +1,5 @@
 pub mod Moments
+pub mod Caused
 pub mod Recorded
 pub mod Clients
 pub mod Running
