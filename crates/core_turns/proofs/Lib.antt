@@ -3,6 +3,7 @@ pub mod GetTurns
 pub mod GetLaws
 pub mod Beside
 pub mod Frames
+pub mod TakenBack
 pub mod PutTurns
 pub mod PutRanges
 pub mod PutCalls

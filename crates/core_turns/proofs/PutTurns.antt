@@ -57,6 +57,7 @@ use Rattle.core_turns.specs.Putting.{BeginsPutSo, BeginsPutTurn, FillsPut, IsFil
 use Rattle.core_turns.specs.UnderWay.{TurnGoesOn}
 use Rattle.core_turns.proofs.Cores.{bank_has, core_blocks}
 use Rattle.core_turns.proofs.GetTurns.{get_of}
+use Rattle.core_turns.proofs.TakenBack.{was_there}
 
 -- What is filled in is one.
 pub same_filled : {one two : Filled} → Some one ≡ Some two → one ≡ two
@@ -128,6 +129,8 @@ leaves core after same under kept = record {
   entries = same.entries;
   capacity = ap (λ (s : Space). s.capacity) same.space;
   adds = adds_none core.pool.blocks.space after.space same.space;
+  taken = λ run listed. subst (λ (s : Space). Contains s.taken run) same.space listed;
+  held = ap (λ (s : Space). s.held) same.space;
   under = under;
   kept = kept;
 }
@@ -190,6 +193,9 @@ put_dropped core begun after range holds same begins under kept spares parity bi
       capacity = dropped.capacity ∙ begins.taken.capacity;
       adds = adds_taken_back core.pool.blocks.space begun.space after.space range.layout.start (allocated_of range.layout)
           begins.taken dropped;
+      taken = was_there core.pool.blocks.space.taken begun.space.taken after.space.taken
+          (record { start = range.layout.start; len = allocated_of range.layout }) begins.taken.taken dropped.taken;
+      held = dropped.held ∙ begins.taken.held;
       under = λ ranges all. under_after ranges (ranges ++ range ∷ [])
           (record { before = ranges; after = []; was = sym (append-nil ranges); is = refl }) (under ranges all);
       kept = λ past listed none. kept_after past listed

@@ -8,7 +8,7 @@ use Rattle.row_layout.specs.Layout.{allocated_of}
 use Rattle.shadow_write.specs.declared.write.Write.{Write}
 use Rattle.shadow_write.specs.Required.{front_after_stop}
 use Rattle.shadow_write.specs.Writes.{writes_of}
-use Rattle.space_alloc.specs.Space.{Gains, IsDropping, IsBusySpace, IsFull as HasNoRun}
+use Rattle.space_alloc.specs.Space.{Run, Gains, IsDropping, IsBusySpace, IsFull as HasNoRun}
 use Rattle.block_record.specs.declared.entry.IndexEntry.{IndexEntry}
 use Rattle.block_table.specs.Table.{ChangesOnly, IsFull, entry_of, without_one}
 use Rattle.reconstruct.specs.Lost.{AreBytes}
@@ -68,7 +68,8 @@ pub record IsPutOf (core : Core) (run : PutRun) : Type 0 where
   pub filled : (filled : Filled) → run.filled ≡ Some filled
       → (content : List ℕ) × IsFilledWith core run filled content
 
--- The blocks are as they were but for the order in which ids are reserved, and all else is as it was.
+-- The blocks are as they were but for the order in which ids are reserved, no more runs are in use, and all else is
+-- as it was.
 pub record LeavesBlocks (old new : Core) : Type 0 where
   pub rest : new ≡ record old { pool = record old.pool { blocks = new.pool.blocks } }
   pub parity : new.pool.blocks.parity ≡ old.pool.blocks.parity
@@ -76,6 +77,8 @@ pub record LeavesBlocks (old new : Core) : Type 0 where
   pub entries : new.pool.blocks.table.entries ≡ old.pool.blocks.table.entries
   pub capacity : new.pool.blocks.space.capacity ≡ old.pool.blocks.space.capacity
   pub adds : AddsAtMost old.pool.blocks.space new.pool.blocks.space []
+  pub taken : (run : Run) → Contains new.pool.blocks.space.taken run → Contains old.pool.blocks.space.taken run
+  pub held : new.pool.blocks.space.held ≡ old.pool.blocks.space.held
   pub under : (ranges : List PutRange) → AreUnderWay old.pool.blocks ranges
       → AreUnderWay new.pool.blocks ranges
   pub kept : (past : ℕ) (kept : List IndexEntry) → NoneFree old.pool.blocks past kept

@@ -178,6 +178,8 @@ leaves_same old new same = subst (LeavesBlocks old) (sym same) (record {
   entries = refl;
   capacity = refl;
   adds = adds_none old.pool.blocks.space old.pool.blocks.space refl;
+  taken = λ run listed. listed;
+  held = refl;
   under = λ ranges under. under;
   kept = λ past kept none. none;
 })
