@@ -10,6 +10,9 @@ pub mod Answered
 pub mod Running
 pub mod Fulls
 pub mod TurnRuns
+pub mod Using
+pub mod UsingTurns
+pub mod UsingLaw
 pub mod Coming
 pub mod Going
 pub mod Syncs
@@ -27,6 +30,8 @@ pub mod TurnLaw
 pub mod CallTurns
 pub mod Stations
 pub mod Opened
+pub mod OpenedBirths
+pub mod UsingOpened
 pub mod Whole
 pub mod OwnTurns
 pub mod Left

@@ -19,7 +19,7 @@ use Rattle.core_turns.specs.UnderWay.{Putting, AreCallsOf, Stands}
 use Rattle.schedule.specs.declared.client.Client.{Client}
 use Rattle.schedule.specs.declared.client.UnderWay.{UnderWay}
 use Rattle.schedule.specs.Running.{IsGoing, Runs}
-use Rattle.schedule.specs.Replaying.{blank_clients}
+use Rattle.schedule.specs.Replaying.{blank_client, blank_clients}
 use Rattle.schedule.proofs.Beginning.{recorded_first}
 use Rattle.schedule.proofs.Theirs.{none_some}
 
@@ -27,23 +27,24 @@ use Rattle.schedule.proofs.Theirs.{none_some}
 abbrev pub resting : Pool → Core
 resting pool = record { pool = pool; holds = []; begun = pool.uber.group; committing = None }
 
--- A client that has begun no call has none under way.
-blank_idle : (count index : ℕ) (client : Client) → slice_get (blank_clients count) index ≡ Some client
-    → client.under_way ≡ None
-blank_idle zero index client there = absurd (nothing index there)
+-- A client that has begun no call is one of those,
+pub blank_is : (count index : ℕ) (client : Client) → slice_get (blank_clients count) index ≡ Some client
+    → client ≡ blank_client
+blank_is zero index client there = absurd (nothing index there)
   where
     nothing : (place : ℕ) → slice_get [] place ≡ Some client → ⊥
     nothing place is = cc
-blank_idle (suc count) zero client there = ap (λ (c : Client). c.under_way) (same there)
+blank_is (suc count) zero client there = same there
   where
     same : {one two : Client} → Some one ≡ Some two → two ≡ one
     same is = cc
-blank_idle (suc count) (suc index) client there = blank_idle count index client there
+blank_is (suc count) (suc index) client there = blank_is count index client there
 
+-- and has none under way.
 pub none_going : (count index : ℕ) (client : Client) (under : UnderWay)
     → IsGoing (blank_clients count) index client under → ⊥
 none_going count index client under going =
-    none_some (sym (blank_idle count index client going.there) ∙ going.under_way)
+    none_some (sym (ap (λ (c : Client). c.under_way) (blank_is count index client going.there)) ∙ going.under_way)
 
 module _ {setting : Setting} {first : Kept} {later : List Kept} {pool : Pool} {old mid : Disk} (handed : Handed)
     (may : MayOpen setting first later old) (begins : Begins setting first later pool old mid) where

@@ -3,6 +3,7 @@ pub mod Caused
 pub mod Recorded
 pub mod Clients
 pub mod Running
+pub mod Using
 pub mod Coming
 pub mod Turned
 pub mod Comes

@@ -104,7 +104,7 @@ finds_grown script uber entries items more index entry size within finds = recor
 module _ (script : Script) (uber : Uber) (entries : List IndexEntry) (items : List Item)
     (caused : NoSpaceIsCaused script uber entries items) where
   -- A new answer that has its cause in the items so far.
-  no_space_call : (entry : Entry)
+  pub no_space_call : (entry : Entry)
       → ((size : ℕ) → entry.answer ≡ answer.NoSpace size → FindsNoSpace script uber entries items (length items) entry size)
       → NoSpaceIsCaused script uber entries (items ++ Call entry ∷ [])
   no_space_call entry new = record {
@@ -128,7 +128,7 @@ module _ (script : Script) (uber : Uber) (entries : List IndexEntry) (items : Li
           (new size (ap (λ (e : Entry). e.answer) same ∙ is))))
 
   -- A new group answers nothing.
-  no_space_group : (group : GroupItem) → NoSpaceIsCaused script uber entries (items ++ Group group ∷ [])
+  pub no_space_group : (group : GroupItem) → NoSpaceIsCaused script uber entries (items ++ Group group ∷ [])
   no_space_group group = record {
     each = λ index size other there is. elim (new_or_before items (Group group) index (Call other) there) [
       | inl last ↦ absurd (apart other last.1)

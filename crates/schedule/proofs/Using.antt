@@ -1,0 +1,275 @@
+-- The calls that are left of a script and the runs of sectors that were taken, as they come.
+use Rattle.std.proofs.Common.{◌≡◌, ◌≢◌, ⊎_elim, ℕ, suc, ◌+◌, ◌≤◌, List, [], ◌∷◌, ◌++◌, length, Bool, Some, refl, sym, ◌∙◌, ap, arith, cond, if◌then◌else◌, eq-eqb, ne_eqb, length-append, drop, drop-cons}
+use Rattle.std.specs.Prelude.{filter, flat_map, map, nat_le, slice_get, sum, ◌==◌}
+use Rattle.std.proofs.lemmas.Bool.{cases_eq}
+use Rattle.std.proofs.lemmas.Bool.Decides.{nat_tests}
+use Rattle.std.proofs.lemmas.Grind.{flat_map-append}
+use Rattle.std.proofs.lemmas.List.{append-nil, map-append}
+use Rattle.std.proofs.lemmas.List.Sums.{sum_by-append}
+use Rattle.std.proofs.lemmas.Option.{slice_get_within, get_or_from_slice_get}
+use Rattle.width_map.specs.declared.birth.Birth.{Birth}
+use Rattle.width_map.specs.Births.{width_from, width_of_birth, NoneAbove}
+use Rattle.space_alloc.specs.Space.{Run, Space, Gains, IsFull as HasNoRun}
+use Rattle.block_record.specs.declared.entry.IndexEntry.{IndexEntry}
+use Rattle.uberblock_ring.specs.Uberblock.{Uber}
+use Rattle.core_blocks.specs.Runs.{held_sectors}
+use Rattle.core_blocks.specs.Usage.{sectors_in, IsTight}
+use Rattle.core_blocks.proofs.Usage.{full_tight}
+use Rattle.client_script.specs.declared.call.ScriptCall.{ScriptCall}
+use Rattle.client_script.specs.Lines.{fill_bytes}
+use Rattle.client_script.specs.Script.{Placed, Script, calls_of}
+use Rattle.core_turns.specs.Core.{Core}
+use Rattle.serial_run.specs.NoSpace.{length_put, largest_size}
+use Rattle.schedule.specs.declared.client.Client.{Client}
+use Rattle.schedule.specs.Clients.{Changes}
+use Rattle.schedule.specs.Using.{AreAtMost, AreLeft, AreRunsOf, calls_among, sizes_left, sizes_of, sizes_put}
+use Rattle.schedule.proofs.Theirs.{some_is}
+
+-- ---- widths
+
+-- From the last of the births' groups on there is one width.
+width_late : (births : List Birth) (width group one other : ℕ) → NoneAbove group births → group ≤ one → group ≤ other
+    → width_from width births one ≡ width_from width births other
+width_late [] width group one other none low high = refl
+width_late (entry ∷ births) width group one other none low high =
+    let same : (if nat_le entry.group one then entry.width else width)
+    ≡ (if nat_le entry.group other then entry.width else width) = grind (arith, nat_tests, none.0, low, high) in
+    ap (λ (w : ℕ). width_from w births one) same
+    ∙ width_late births (if nat_le entry.group other then entry.width else width) group one other none.1 low high
+
+pub one_width : (births : List Birth) (group one other : ℕ) → NoneAbove group births → group ≤ one → group ≤ other
+    → width_of_birth births one ≡ width_of_birth births other
+one_width births group one other = width_late births 0 group one other
+
+-- ---- the calls that are left
+
+-- A call before some others is its client's first,
+among_its : (first : Placed) (calls : List Placed) (actor : ℕ) → first.actor ≡ actor
+    → calls_among (first ∷ calls) actor ≡ first.call ∷ calls_among calls actor
+among_its first calls actor same = ap
+    (λ (test : Bool). map (λ (placed : Placed). placed.call)
+    (cond test (first ∷ filter (λ (placed : Placed). placed.actor == actor) calls)
+    (filter (λ (placed : Placed). placed.actor == actor) calls)))
+    (eq-eqb first.actor actor same)
+
+-- and no other's.
+among_not : (first : Placed) (calls : List Placed) (actor : ℕ) → first.actor ≢ actor
+    → calls_among (first ∷ calls) actor ≡ calls_among calls actor
+among_not first calls actor apart = ap
+    (λ (test : Bool). map (λ (placed : Placed). placed.call)
+    (cond test (first ∷ filter (λ (placed : Placed). placed.actor == actor) calls)
+    (filter (λ (placed : Placed). placed.actor == actor) calls)))
+    (ne_eqb first.actor actor apart)
+
+-- A call is taken out of some calls, the first of its client.
+pub record TakesFirst (calls next : List Placed) (actor : ℕ) (call : ScriptCall) (rest : List ScriptCall) : Type 0 where
+  pub placed : Placed
+  pub call_is : placed.call ≡ call
+  pub gains : Gains next calls placed
+  pub its : calls_among next actor ≡ rest
+  pub others : (other : ℕ) → other ≢ actor → calls_among next other ≡ calls_among calls other
+
+one_call : {one other : ScriptCall} {ones others : List ScriptCall} → one ∷ ones ≡ other ∷ others → one ≡ other
+one_call same = cc
+
+rest_calls : {one other : ScriptCall} {ones others : List ScriptCall} → one ∷ ones ≡ other ∷ others → ones ≡ others
+rest_calls same = cc
+
+-- The first call of a client can be.
+pub take_first : (calls : List Placed) (actor : ℕ) (call : ScriptCall) (rest : List ScriptCall)
+    → calls_among calls actor ≡ call ∷ rest → (next : List Placed) × TakesFirst calls next actor call rest
+take_first [] actor call rest is = absurd (nothing is)
+  where
+    nothing : [] ≡ call ∷ rest → ⊥
+    nothing same = cc
+take_first (first ∷ calls) actor call rest is =
+    ⊎_elim here (further (take_first calls actor call rest)) (cases_eq first.actor actor)
+  where
+    here : first.actor ≡ actor → (next : List Placed) × TakesFirst (first ∷ calls) next actor call rest
+    here same =
+        let split : first.call ∷ calls_among calls actor ≡ call ∷ rest = sym (among_its first calls actor same) ∙ is in (
+          calls,
+          record {
+            placed = first;
+            call_is = one_call split;
+            gains = record { before = []; after = calls; was = refl; is = refl };
+            its = rest_calls split;
+            others = λ other apart. sym (among_not first calls other (λ its. apart (sym its ∙ same)));
+          },
+        )
+
+    further : (calls_among calls actor ≡ call ∷ rest → (next : List Placed) × TakesFirst calls next actor call rest)
+        → first.actor ≢ actor → (next : List Placed) × TakesFirst (first ∷ calls) next actor call rest
+    further take apart = behind (take (sym (among_not first calls actor apart) ∙ is))
+      where
+        behind : (next : List Placed) × TakesFirst calls next actor call rest
+            → (next : List Placed) × TakesFirst (first ∷ calls) next actor call rest
+        behind (next, takes) = (
+          first ∷ next,
+          record {
+            placed = takes.placed;
+            call_is = takes.call_is;
+            gains = record {
+              before = first ∷ takes.gains.before;
+              after = takes.gains.after;
+              was = ap (λ (l : List Placed). first ∷ l) takes.gains.was;
+              is = ap (λ (l : List Placed). first ∷ l) takes.gains.is;
+            };
+            its = among_not first next actor apart ∙ takes.its;
+            others = λ other away. ⊎_elim
+                (λ same. among_its first next other same
+                ∙ ap (λ (l : List ScriptCall). first.call ∷ l) (takes.others other away)
+                ∙ sym (among_its first calls other same))
+                (λ not_its. among_not first next other not_its ∙ takes.others other away
+                ∙ sym (among_not first calls other not_its))
+                (cases_eq first.actor other);
+          },
+        )
+
+module _ (script : Script) (clients news : List Client) (actor : ℕ) (old new : Client)
+    (changes : Changes clients news actor new) (was : slice_get clients actor ≡ Some old) (left : List Placed)
+    (are : AreLeft script clients left) where
+  -- Where the client begins no call, the same are left.
+  pub left_same : new.begun ≡ old.begun → AreLeft script news left
+  left_same begun = record {
+    each = λ index client there. ⊎_elim
+        (λ same.
+        let its : client ≡ new =
+        some_is (sym there ∙ ap (slice_get news) same ∙ changes.there) in
+        ap (calls_among left) same ∙ are.each actor old was
+        ∙ (λ i. drop ((sym begun ∙ ap (λ (c : Client). c.begun) (sym its)) i) (calls_of script (sym same i))))
+        (λ apart. are.each index client (sym (changes.others index apart) ∙ there))
+        (cases_eq index actor);
+  }
+
+  -- Where it begins its next call, that is taken out.
+  pub left_next : (call : ScriptCall) → slice_get (calls_of script actor) old.begun ≡ Some call
+      → new.begun ≡ old.begun + 1
+      → (next : List Placed) × (placed : Placed) × (placed.call ≡ call) × Gains next left placed × AreLeft script news next
+  left_next call is begun = by (take_first left actor call (drop (suc old.begun) (calls_of script actor))
+      (are.each actor old was ∙ split))
+    where
+      split : drop old.begun (calls_of script actor) ≡ call ∷ drop (suc old.begun) (calls_of script actor)
+      split = drop-cons (calls_of script actor) old.begun call
+          (slice_get_within (calls_of script actor) old.begun call is)
+          ∙ ap (λ (c : ScriptCall). c ∷ drop (suc old.begun) (calls_of script actor))
+          (get_or_from_slice_get (calls_of script actor) old.begun call call is)
+
+      by : (next : List Placed) × TakesFirst left next actor call (drop (suc old.begun) (calls_of script actor))
+          → (next : List Placed) × (placed : Placed) × (placed.call ≡ call) × Gains next left placed
+          × AreLeft script news next
+      by (next, takes) = (
+        next,
+        takes.placed,
+        takes.call_is,
+        takes.gains,
+        record {
+          each = λ index client there. ⊎_elim
+              (λ same.
+              let its : client ≡ new = some_is (sym there ∙ ap (slice_get news) same ∙ changes.there) in
+              let number : suc old.begun ≡ client.begun =
+              (let more = ap (λ (c : Client). c.begun) its in omega (arith, more, begun)) in
+              ap (calls_among next) same ∙ takes.its ∙ (λ i. drop (number i) (calls_of script (sym same i))))
+              (λ apart. takes.others index apart
+              ∙ are.each index client (sym (changes.others index apart) ∙ there))
+              (cases_eq index actor);
+        },
+      )
+
+-- ---- sizes
+
+module _ (uber : Uber) where
+  -- One call less is its size less.
+  gained_sizes : (next left : List Placed) (placed : Placed) → Gains next left placed
+      → (length (sizes_left uber left) ≡ length (sizes_left uber next) + length (sizes_put uber placed))
+      × (sum (sizes_left uber left) ≡ sum (sizes_left uber next) + sum (sizes_put uber placed))
+  gained_sizes next left placed gains =
+      let before = sizes_left uber gains.before in
+      let after = sizes_left uber gains.after in
+      let its = sizes_put uber placed in
+      let was : sizes_left uber next ≡ before ++ after =
+      ap (sizes_left uber) gains.was ∙ flat_map-append (sizes_put uber) gains.before gains.after in
+      let is : sizes_left uber left ≡ before ++ (its ++ after) =
+      ap (sizes_left uber) gains.is ∙ flat_map-append (sizes_put uber) gains.before (placed ∷ gains.after) in
+      let long_was : length (sizes_left uber next) ≡ length before + length after =
+      ap length was ∙ length-append before after in
+      let long_rest = length-append its after in
+      let long_is : length (sizes_left uber left) ≡ length before + length (its ++ after) =
+      ap length is ∙ length-append before (its ++ after) in
+      let sum_was : sum (sizes_left uber next) ≡ sum before + sum after =
+      ap sum was ∙ sum_by-append (λ (n : ℕ). n) before after in
+      let sum_rest : sum (its ++ after) ≡ sum its + sum after = sum_by-append (λ (n : ℕ). n) its after in
+      let sum_is : sum (sizes_left uber left) ≡ sum before + sum (its ++ after) =
+      ap sum is ∙ sum_by-append (λ (n : ℕ). n) before (its ++ after) in
+      (omega (arith, long_was, long_rest, long_is), omega (arith, sum_was, sum_rest, sum_is))
+
+  -- Runs of no more than the call's size may come in its place.
+  pub most_next : (runs more : List Run) (next left : List Placed) (placed : Placed) (sizes : List ℕ)
+      → Gains next left placed → length more ≤ length (sizes_put uber placed)
+      → sectors_in more ≤ sum (sizes_put uber placed) → AreAtMost runs (sizes_left uber left) sizes
+      → AreAtMost (more ++ runs) (sizes_left uber next) sizes
+  most_next runs more next left placed sizes gains few small most =
+      let less = gained_sizes next left placed gains in
+      let long = length-append more runs in
+      let total : sectors_in (more ++ runs) ≡ sectors_in more + sectors_in runs =
+      sum_by-append (λ (run : Run). run.len) more runs in
+      let fewer = most.few in
+      let sectors = most.sectors in
+      record {
+        few = (let one = less.0 in omega (arith, one, long, few, fewer));
+        sectors = (let one = less.1 in omega (arith, one, total, small, sectors));
+      }
+
+  -- What all calls put are those that are left at first.
+  sizes_mapped : (calls : List Placed)
+      → map (largest_size uber) (flat_map (λ placed. length_put placed.call.kind (fill_bytes placed.call.fill)) calls)
+      ≡ sizes_left uber calls
+  sizes_mapped [] = refl
+  sizes_mapped (placed ∷ calls) =
+      map-append (largest_size uber) (length_put placed.call.kind (fill_bytes placed.call.fill))
+      (flat_map (λ placed. length_put placed.call.kind (fill_bytes placed.call.fill)) calls)
+      ∙ ap (λ (l : List ℕ). sizes_put uber placed ++ l) (sizes_mapped calls)
+
+  pub sizes_split : (entries : List IndexEntry) (calls : List Placed)
+      → sizes_of uber entries calls
+      ≡ map (largest_size uber) (map (λ (entry : IndexEntry). entry.len) entries) ++ sizes_left uber calls
+  sizes_split entries calls =
+      map-append (largest_size uber) (map (λ (entry : IndexEntry). entry.len) entries)
+      (flat_map (λ placed. length_put placed.call.kind (fill_bytes placed.call.fill)) calls)
+      ∙ ap (λ (l : List ℕ). map (largest_size uber) (map (λ (entry : IndexEntry). entry.len) entries) ++ l)
+      (sizes_mapped calls)
+
+-- ---- no run of free sectors
+
+-- a space in which these runs are taken
+abbrev space_with : ℕ → List Run → Space
+space_with capacity runs = record { capacity = capacity; taken = runs; held = [] }
+
+-- Where no run is free, none is beside the runs that were taken since the opening,
+full_beside : (runs : List Run) (core : Core) (size : ℕ) → AreRunsOf runs core
+    → HasNoRun core.pool.blocks.space core.holds size
+    → HasNoRun (space_with core.pool.blocks.space.capacity runs) [] size
+full_beside runs core size are full start free = full start (λ sector inside. let its = free sector inside in record {
+  below = its.below;
+  untaken = λ taken. its.untaken (taken.0, are.taken taken.0 taken.1, taken.2);
+  not_held = λ held. its.untaken (held_sectors held.0, are.held held.0 held.1, held.2);
+  not_shared = λ shared.
+      let within = are.holds shared.0 shared.1 in
+      let overlaps = shared.3 in
+      let begins = overlaps.begins in
+      let ends = overlaps.ends in
+      let low = within.begins in
+      let high = within.ends in
+      its.untaken (within.run, within.listed, (omega (arith, begins, low), omega (arith, ends, high)));
+})
+
+-- and so they could leave none.
+pub full_by_runs : (runs : List Run) (core : Core) (left sizes : List ℕ) (size : ℕ) → AreRunsOf runs core
+    → AreAtMost runs left sizes → HasNoRun core.pool.blocks.space core.holds size
+    → IsTight core.pool.blocks.space.capacity sizes size
+full_by_runs runs core left sizes size are most full =
+    full_tight (space_with core.pool.blocks.space.capacity runs) sizes size (record {
+      runs = (let long = ap length (append-nil runs) in let few = most.few in omega (arith, long, few));
+      sectors = (let same = ap sectors_in (append-nil runs) in let few = most.sectors in omega (arith, same, few));
+    })
+    (full_beside runs core size are full)

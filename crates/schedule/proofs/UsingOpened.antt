@@ -1,0 +1,92 @@
+-- What a pool that was opened uses is what its index tells, before the first turn.
+use Rattle.std.proofs.Common.{◌≡◌, ℕ, ◌+◌, List, [], ◌∷◌, length, refl, sym, ◌∙◌, ap, subst, arith, length-append}
+use Rattle.std.specs.Prelude.{Contains, drop, map, sum}
+use Rattle.std.proofs.lemmas.List.{append-nil}
+use Rattle.std.proofs.lemmas.List.Sums.{sum_by-append}
+use Rattle.bank_trait.specs.Disk.{Disk}
+use Rattle.width_map.specs.Births.{NoneAbove}
+use Rattle.space_alloc.specs.Space.{Run, HeldRun}
+use Rattle.block_record.specs.declared.entry.IndexEntry.{IndexEntry}
+use Rattle.uberblock_ring.specs.Valid.{IsRightUber}
+use Rattle.core_state.specs.declared.item.Item.TheVariants.{Group}
+use Rattle.core_blocks.specs.Runs.{held_sectors}
+use Rattle.core_blocks.specs.Usage.{runs_in_use, sectors_in, UsesAtMost}
+use Rattle.core_blocks.proofs.Lists.{none_listed}
+use Rattle.client_script.specs.Script.{Script, calls_of}
+use Rattle.core_serial.specs.Opening.{AreLoaded}
+use Rattle.core_serial.specs.Pool.{Pool}
+use Rattle.serial_run.specs.NoSpace.{largest_size}
+use Rattle.serial_run.specs.WholeRun.{first_item}
+use Rattle.serial_run.proofs.GrownGroups.{latest_alone}
+use Rattle.serial_run.proofs.NoSpace.{no_space_alone}
+use Rattle.serial_run.proofs.NoSpaceOpened.{used_first}
+use Rattle.schedule.specs.declared.client.Client.{Client}
+use Rattle.schedule.specs.Replaying.{blank_clients}
+use Rattle.schedule.specs.Using.{AreAtMost, HasUsedRuns, sizes_left, sizes_of}
+use Rattle.schedule.proofs.Opened.{blank_is, resting}
+use Rattle.schedule.proofs.Using.{sizes_split}
+
+module _ (script : Script) (pool : Pool) (disk : Disk) (right : IsRightUber pool.uber)
+    (born : NoneAbove pool.uber.group pool.uber.births)
+    (loaded : AreLoaded pool.uber pool.blocks.table.entries pool.blocks) where
+  abbrev entries : List IndexEntry
+  entries = pool.blocks.table.entries
+
+  abbrev sizes : List ℕ
+  sizes = map (largest_size pool.uber) (map (λ (entry : IndexEntry). entry.len) entries)
+
+  -- The taken runs are no more than the blocks of the index.
+  uses : UsesAtMost pool.blocks.space sizes
+  uses = subst (λ (lengths : List ℕ). UsesAtMost pool.blocks.space (map (largest_size pool.uber) lengths))
+      (append-nil (map (λ (entry : IndexEntry). entry.len) entries))
+      (used_first script pool disk right loaded).uses
+
+  most : AreAtMost pool.blocks.space.taken (sizes_left pool.uber script.calls)
+      (sizes_of pool.uber entries script.calls)
+  most =
+      let split = sizes_split pool.uber entries script.calls in
+      let left = sizes_left pool.uber script.calls in
+      let held = map held_sectors pool.blocks.space.held in
+      let long : length (sizes_of pool.uber entries script.calls) ≡ length sizes + length left =
+      ap length split ∙ length-append sizes left in
+      let total : sum (sizes_of pool.uber entries script.calls) ≡ sum sizes + sum left =
+      ap sum split ∙ sum_by-append (λ (n : ℕ). n) sizes left in
+      let runs = length-append pool.blocks.space.taken held in
+      let sectors : sectors_in (runs_in_use pool.blocks.space) ≡ sectors_in pool.blocks.space.taken + sectors_in held =
+      sum_by-append (λ (run : Run). run.len) pool.blocks.space.taken held in
+      let few = uses.runs in
+      let small = uses.sectors in
+      record {
+        few = omega (arith, long, runs, few);
+        sectors = omega (arith, total, sectors, small);
+      }
+
+  -- A run of turns begins with that.
+  pub uses_first : HasUsedRuns script pool.uber entries (resting pool) (Group (first_item pool) ∷ [])
+      (blank_clients script.clients)
+  uses_first = record {
+    opened = record {
+      right = right;
+      born = born;
+      since = omega arith;
+      parity = refl;
+      births = refl;
+      reflow = refl;
+    };
+    used = record {
+      left = script.calls;
+      are_left = record {
+        each = λ actor client there. ap (λ (c : Client). drop c.begun (calls_of script actor))
+            (sym (blank_is script.clients actor client there));
+      };
+      runs = pool.blocks.space.taken;
+      are = record {
+        taken = λ run listed. listed;
+        held = λ run listed. absurd (none_listed run (subst (λ (l : List HeldRun). Contains l run) loaded.space.held listed));
+        holds = λ hold listed. absurd (none_listed hold listed);
+      };
+      most = most;
+    };
+    last = record { group = first_item pool; latest = latest_alone (first_item pool); number = refl };
+    caused = no_space_alone script pool.uber entries (first_item pool);
+  }
