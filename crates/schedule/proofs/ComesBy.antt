@@ -213,7 +213,8 @@ module _ (script : Script) (actor : ℕ) (before after : Station) (clients news 
       → AreGoing script after.state.core news → RunsOn script before after clients news before.items
       → Comes script before after clients news
   comes_on goes items same few some going runs = record {
-    come = came_turn script (turns_of before.state before.items clients) (turns_of after.state after.items news) goes []
+    come = came_turn script (turns_of before.state before.items clients) (turns_of after.state after.items news) goes
+        takes.space []
         (items ∙ sym (append-nil before.items))
         (told_same (turns_of before.state before.items clients) (turns_of after.state after.items news) items)
         (λ world origin handed within stood.
@@ -245,7 +246,7 @@ module _ (script : Script) (actor : ℕ) (before after : Station) (clients news 
         → Comes script before after clients news
     comes_answered goes items client_is tells other going runs = record {
       come = came_turn script (turns_of before.state before.items clients) (turns_of after.state after.items news) goes
-          (CallItem its_entry ∷ []) items
+          takes.space (CallItem its_entry ∷ []) items
           (told_entry (turns_of before.state before.items clients) (turns_of after.state after.items news) its_entry
           items tells goes.out.still)
           (λ world origin handed within stood.

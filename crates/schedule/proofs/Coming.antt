@@ -25,7 +25,7 @@ use Rattle.client_script.specs.Script.{Script, handed_by}
 use Rattle.serial_run.proofs.Grown.{grown_has, new_or_before}
 use Rattle.core_turns.specs.Getting.{HasTooManyOut}
 use Rattle.core_turns.specs.UnderWay.{TurnGoesOn}
-use Rattle.schedule.specs.Coming.{Turns, HasCome}
+use Rattle.schedule.specs.Coming.{Turns, HasCome, KeepsUsing}
 use Rattle.schedule.specs.Running.{Runs}
 use Rattle.schedule.proofs.Fulls.{FullStays}
 
@@ -61,6 +61,7 @@ came_nowhere script turns = by (few_or_many turns.state.core.pool.out turns.stat
       within = λ device out. out;
       runs = λ world origin same runs within. runs;
       full = λ world origin same runs within caused. caused;
+      space = λ uber entries used. used;
     }
     by (inr many) = record {
       later = later_refl turns.state.disk;
@@ -77,6 +78,7 @@ came_nowhere script turns = by (few_or_many turns.state.core.pool.out turns.stat
       within = λ device out. absurd (none_out device out);
       runs = λ world origin same runs within. runs;
       full = λ world origin same runs within caused. caused;
+      space = λ uber entries used. used;
     }
 
 -- Turns after turns.
@@ -135,6 +137,7 @@ module _ (script : Script) (start middle now : Turns) (first : HasCome script st
         let earlier : IsWithin first.borne world.setting.failed = λ device out. within device (second.from_start few device (first.within device out)) in
         second.full world origin same (first.runs world origin same runs earlier) within
         (first.full world origin same runs earlier caused);
+    space = λ uber entries used. second.space uber entries (first.space uber entries used);
   }
   by (inr many) = record {
     later = later_trans first.later second.later;
@@ -158,14 +161,15 @@ module _ (script : Script) (start middle now : Turns) (first : HasCome script st
         (first.runs world origin same runs within)
         (λ device out. absurd (none_out device (second.stopped many device out)))
         (first.full world origin same runs within caused);
+    space = λ uber entries used. second.space uber entries (first.space uber entries used);
   }
 
   pub came_on : HasCome script start now
   came_on = by (few_or_many middle.state.core.pool.out middle.state.core.pool.uber.parity)
 
 -- One turn, in which these items were listed.
-module _ (script : Script) (before after : Turns) (goes : TurnGoesOn before.state after.state) (more : List Item)
-    (items : after.items ≡ before.items ++ more)
+module _ (script : Script) (before after : Turns) (goes : TurnGoesOn before.state after.state)
+    (space : KeepsUsing script before after) (more : List Item) (items : after.items ≡ before.items ++ more)
     (told : (index listed : ℕ) (entry : Entry) → CallAt after.items index entry
     → entry.answer ≡ answer.TooManyFailed listed → CallAt before.items index entry
     ⊎ ((before.state.core.pool.uber.parity < count_of listed) × IsWithin listed after.state.core.pool.out))
@@ -193,6 +197,7 @@ module _ (script : Script) (before after : Turns) (goes : TurnGoesOn before.stat
     within = goes.out.still;
     runs = λ world origin same stood within. runs world origin same (λ still. within) stood;
     full = λ world origin same stood within. full world origin same stood;
+    space = space;
   }
   turn (inr many) = record {
     later = goes.later;
@@ -210,6 +215,7 @@ module _ (script : Script) (before after : Turns) (goes : TurnGoesOn before.stat
     within = λ device out. absurd (none_out device out);
     runs = λ world origin same stood within. runs world origin same (λ few. absurd (omega (arith, few, many))) stood;
     full = λ world origin same stood within. full world origin same stood;
+    space = space;
   }
 
   pub came_turn : HasCome script before after

@@ -32,7 +32,7 @@ use Rattle.schedule.specs.declared.client.UnderWay.{UnderWay}
 use Rattle.schedule.specs.declared.client.Work.TheVariants as work
 use Rattle.schedule.specs.Clients.{AreAnswered, answered_of}
 use Rattle.schedule.specs.Running.{IsGoing, IsSync, AreGoing, Runs}
-use Rattle.schedule.specs.Coming.{Turns, HasCome, IsSchedule, turns_of}
+use Rattle.schedule.specs.Coming.{Turns, HasCome, IsSchedule, KeepsUsing, turns_of}
 use Rattle.schedule.specs.Turned.{Station, LeavesBegun, entry_for}
 use Rattle.schedule.specs.Comes.{TakesTurn, Comes}
 use Rattle.schedule.proofs.Theirs.{some_is, none_some}
@@ -51,7 +51,9 @@ StandsOn script before after clients news items = (world : World) (origin : Disk
     → IsWithin before.state.core.pool.out world.setting.failed)
     → Runs world script origin before.state before.items clients → Runs world script origin after.state items news
 
-module _ (script : Script) (before after : Station) (clients news : List Client) where
+module _ (script : Script) (before after : Station) (clients news : List Client)
+    (space : KeepsUsing script (turns_of before.state before.items clients)
+    (turns_of after.state after.items news)) where
   abbrev start : Turns
   start = turns_of before.state before.items clients
 
@@ -65,7 +67,7 @@ module _ (script : Script) (before after : Station) (clients news : List Client)
       ⊎ ((before.state.core.pool.uber.parity < count_of listed) × IsWithin listed after.state.core.pool.out))
       → StandsOn script before after clients news (before.items ++ more) → FullStays script start end
       → HasCome script start end
-  came_listed more goes same told stands full = came_turn script start end goes more same told
+  came_listed more goes same told stands full = came_turn script start end goes space more same told
       (λ world origin handed within stood.
       subst (λ (l : List Item). Runs world script origin after.state l news) (sym same)
       (stands world origin within stood))
@@ -116,7 +118,7 @@ module _ (script : Script) (actor : ℕ) (before after : Station) (clients news 
       → LeavesBegun actor call before after (More (work.Sync run))
       → Comes script before after clients news
   sync_begins run table asked no_id idle next begins disk leaves = record {
-    come = came_still script before after clients news goes leaves.0 on;
+    come = came_still script before after clients news takes.space goes leaves.0 on;
     schedule = record {
       going = going;
       answered = subst (AreAnswered script news) (sym leaves.0) answered_still;
@@ -214,7 +216,7 @@ module _ (script : Script) (actor : ℕ) (before after : Station) (clients news 
       → LeavesBegun actor call before after (Done given)
       → Comes script before after clients news
   sync_at_once given asked no_id idle next refused disk leaves = record {
-    come = came_answered script before after clients news entry goes leaves.0
+    come = came_answered script before after clients news takes.space entry goes leaves.0
         (refused_tells before.state.core given refused.0)
         (put_alone kind.Sync given (λ put. no_put put) (refused_answers kind.Sync before.state.core given refused.0)) on;
     schedule = record {

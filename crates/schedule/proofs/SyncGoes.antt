@@ -100,7 +100,7 @@ module _ (script : Script) (actor : ℕ) (before after : Station) (clients news 
         → LeavesGoing actor call before after under (More (work.Sync next))
         → Comes script before after clients news
     goes_on next steps goes leaves = record {
-      come = came_still script before after clients news goes leaves.0 on;
+      come = came_still script before after clients news takes.space goes leaves.0 on;
       schedule = record {
         going = going;
         answered = subst (AreAnswered script news) (sym leaves.0) answered_still;
@@ -162,7 +162,7 @@ module _ (script : Script) (actor : ℕ) (before after : Station) (clients news 
         → LeavesGoing actor call before after under (Done (answer.Synced number))
         → Comes script before after clients news
     synced number answers goes leaves = record {
-      come = came_listed script before after clients news (Group group ∷ CallItem entry ∷ []) goes (leaves.0 ∙ both)
+      come = came_listed script before after clients news takes.space (Group group ∷ CallItem entry ∷ []) goes (leaves.0 ∙ both)
           told (subst (StandsOn script before after clients news) both on)
           (full_synced script (turns_of before.state before.items clients) (turns_of after.state after.items news) group
           entry leaves.0 (λ full. no_full full));
@@ -245,7 +245,7 @@ module _ (script : Script) (actor : ℕ) (before after : Station) (clients news 
         → LeavesGoing actor call before after under (Done (answer.TooManyFailed out))
         → Comes script before after clients news
     cut out steps goes leaves = record {
-      come = came_answered script before after clients news entry goes leaves.0
+      come = came_answered script before after clients news takes.space entry goes leaves.0
           (λ listed is. (steps.0, same_out (sym is) ∙ steps.1)) (λ full. no_full full) on;
       schedule = record {
         going = subst (λ (s : CoreState). AreGoing script s.core news) (sym steps.2) going;

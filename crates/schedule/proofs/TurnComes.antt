@@ -158,7 +158,7 @@ module _ (script : Script) (actor : ℕ) (before after : Station) (clients news 
       → Runs world script origin after.state before.items news)
       → Comes script before after clients news
   comes_same items few some count runs = record {
-    come = came_turn script was now goes [] (items ∙ sym (append-nil before.items)) (told_same was now items)
+    come = came_turn script was now goes takes.space [] (items ∙ sym (append-nil before.items)) (told_same was now items)
         (λ world origin handed within stood. subst (λ (l : List Item). Runs world script origin after.state l news)
         (sym items) (runs world origin handed stood))
         (full_same script was now items);
@@ -189,7 +189,7 @@ module _ (script : Script) (actor : ℕ) (before after : Station) (clients news 
       let begun : after.client.begun ≡ number = ap (λ (c : Client). c.begun) client_is in
       let within = slice_get_within (calls_of script actor) (answered before.client) call next in
       record {
-        come = came_turn script was now goes (CallItem (entry_for call actor number at given) ∷ []) items
+        come = came_turn script was now goes takes.space (CallItem (entry_for call actor number at given) ∷ []) items
             (told_entry was now (entry_for call actor number at given) items tells goes.out.still)
             (λ world origin handed few stood. subst (λ (l : List Item). Runs world script origin after.state l news)
             (sym items) (runs world origin handed stood))

@@ -2,11 +2,12 @@
 use Rattle.std.proofs.Common.{◌≡◌, inl, inr, ⊎_elim, ℕ, ◌≤◌, List, [], ◌∷◌, ◌++◌, Option, Some, None, Bool, true, false, refl, sym, ◌∙◌, ap, subst, arith}
 use Rattle.std.specs.Prelude.{Contains}
 use Rattle.bank_trait.specs.Causes.{Rose}
-use Rattle.bank_trait.specs.Disk.{Image, Disk, Later}
+use Rattle.bank_trait.specs.Disk.{Image, Disk, Later, Lawful}
 use Rattle.bank_trait.specs.Regions.{TouchesOnly}
 use Rattle.bank_trait.proofs.Touches.{touches_then}
 use Rattle.uberblock_ring.specs.Devices.{has_device, count_of, IsWithin}
 use Rattle.uberblock_ring.specs.Uberblock.{Uber}
+use Rattle.uberblock_ring.specs.Valid.{IsRightUber}
 use Rattle.core_state.specs.declared.item.Group.{Group as GroupItem}
 use Rattle.core_state.specs.declared.item.Item.{Item}
 use Rattle.core_state.specs.declared.item.Item.TheVariants.{Group}
@@ -24,11 +25,13 @@ use Rattle.core_open.specs.Failing.{HaveFailed}
 use Rattle.core_open.specs.Holds.{HoldsImage}
 use Rattle.core_open.specs.Opens.{HasBank, IsWithinBelow}
 use Rattle.core_open.specs.Regions.{IsOnBelow}
-use Rattle.core_serial.specs.Opening.{MayBegin, Begins, IsBegunWith}
+use Rattle.core_serial.specs.Opening.{AreLoaded, MayBegin, Begins, IsBegunWith}
 use Rattle.core_serial.specs.Pool.{Pool}
 use Rattle.client_script.specs.Script.{Script, asked_by, handed_by}
 use Rattle.serial_run.specs.Moments.{KeepsLast}
+use Rattle.serial_run.specs.NoSpace.{NoSpaceIsCaused}
 use Rattle.serial_run.specs.WholeRun.{BeginsAfter, first_item}
+use Rattle.serial_run.proofs.NoSpaceOpened.{no_space_alike}
 use Rattle.serial_run.proofs.Widths.{opened_width, widths_of_one}
 use Rattle.core_turns.specs.Core.{CoreState, at_disk}
 use Rattle.core_turns.specs.UnderWay.{Call, GroupsStand}
@@ -41,7 +44,9 @@ use Rattle.schedule.specs.Running.{Runs}
 use Rattle.schedule.specs.WholeRun.{TurnsKeep, HasTakenTurns}
 use Rattle.schedule.proofs.Beginning.{no_call}
 use Rattle.schedule.proofs.Opened.{resting, opened_world, runs_first}
+use Rattle.schedule.proofs.OpenedBirths.{opened_births}
 use Rattle.schedule.proofs.Recording.{recorded_throughout, recorded_keeps}
+use Rattle.schedule.proofs.UsingOpened.{uses_first}
 
 -- The devices know the last group, and the one that was begun after it, whether its commit is under way or was cut
 -- short.
@@ -93,7 +98,8 @@ module _ (script : Script) (old mid : Disk) (pool : Pool) (silent : ℕ) (items 
     (opened_only : TouchesOnly (IsOnBelow pool.uber.reflow.to) old mid)
     (failed : HaveFailed old mid silent) (few : count_of pool.out ≤ pool.uber.parity)
     (outs : AreOutOf old mid pool.uber pool.out) (begun : IsBegunWith pool silent old mid)
-    (rest : AreUnderWay pool.blocks []) (bank : HasBank pool.uber pool.out mid)
+    (rest : AreUnderWay pool.blocks []) (bank : HasBank pool.uber pool.out mid) (lawful : Lawful old)
+    (right : IsRightUber pool.uber) (loaded : AreLoaded pool.uber pool.blocks.table.entries pool.blocks)
     (come : HasCome script
     (turns_of (at_disk (resting pool) mid) (Group (first_item pool) ∷ []) (blank_clients script.clients))
     (turns_of final items clients))
@@ -142,6 +148,23 @@ module _ (script : Script) (old mid : Disk) (pool : Pool) (silent : ℕ) (items 
       );
     }
 
+    out_in : IsWithin pool.out setting.failed
+    out_in device out = borne_in device (come.from_start few device out)
+
+    -- No space was found only where the chosen group's blocks and the script's are many.
+    no_space : NoSpaceIsCaused script begins.opened.chosen.uber begins.opened.chosen.entries items
+    no_space =
+        let alike = begins.opened.alike in
+        let renews = begins.opened.renews.alike in
+        no_space_alike script pool.uber begins.opened.chosen.uber pool.blocks.table.entries begins.opened.chosen.entries
+        items
+        (ap (λ (u : Uber). u.parity) alike ∙ ap (λ (u : Uber). u.parity) renews)
+        (ap (λ (u : Uber). u.births) alike ∙ ap (λ (u : Uber). u.births) renews)
+        (ap (λ (u : Uber). u.reflow) alike ∙ ap (λ (u : Uber). u.reflow) renews)
+        (begins.opened.entries_are ∙ begins.opened.renews.entries)
+        (come.space pool.uber pool.blocks.table.entries (uses_first script pool mid right
+        (opened_births setting first later old may pool silent mid lawful begun silent_in out_in) loaded)).caused
+
     -- What the run keeps, where these devices may fail.
     pub turns_keep : TurnsKeep script setting first later old final.disk items pool.uber.parity
     unfolding begins
@@ -155,6 +178,7 @@ module _ (script : Script) (old mid : Disk) (pool : Pool) (silent : ℕ) (items 
       sound = runs.recorded.sound;
       counted = runs.recorded.counted;
       full = full.each;
+      no_space = no_space;
       any_moment = recorded_throughout runs.recorded;
       no_older = runs.recorded.no_older;
       kept = at_end.0;

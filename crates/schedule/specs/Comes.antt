@@ -5,7 +5,7 @@ use Rattle.client_script.specs.Script.{Script}
 use Rattle.core_turns.specs.Core.{IsCore}
 use Rattle.schedule.specs.declared.client.Client.{Client}
 use Rattle.schedule.specs.Clients.{Changes}
-use Rattle.schedule.specs.Coming.{HasCome, IsSchedule, turns_of}
+use Rattle.schedule.specs.Coming.{HasCome, IsSchedule, KeepsUsing, turns_of}
 use Rattle.schedule.specs.Turned.{Station}
 
 -- A client takes a turn: the others stay as they are.
@@ -16,6 +16,8 @@ pub record TakesTurn (script : Script) (actor : ℕ) (before after : Station) (c
   pub is : IsCore before.state.core
   pub lawful : Lawful before.state.disk
   pub still_lawful : Lawful after.state.disk
+  pub space : KeepsUsing script (turns_of before.state before.items clients)
+      (turns_of after.state after.items news)
 
 -- It comes to a state in which the next turn may be taken.
 pub record Comes (script : Script) (before after : Station) (clients news : List Client) : Type 0 where

@@ -2,7 +2,9 @@
 use Rattle.std.specs.Prelude.{◌≡◌, ◌⊎◌, ℕ, ◌≤◌, ◌<◌, List, Some, slice_get}
 use Rattle.bank_trait.specs.Disk.{Disk, Later}
 use Rattle.bank_trait.specs.Regions.{TouchesOnly}
+use Rattle.block_record.specs.declared.entry.IndexEntry.{IndexEntry}
 use Rattle.uberblock_ring.specs.Devices.{count_of, IsWithin}
+use Rattle.uberblock_ring.specs.Uberblock.{Uber}
 use Rattle.core_state.specs.declared.answer.Answer.TheVariants as answer
 use Rattle.core_state.specs.declared.item.Entry.{Entry}
 use Rattle.core_state.specs.declared.item.Item.{Item}
@@ -17,6 +19,7 @@ use Rattle.schedule.specs.declared.client.Client.{Client}
 use Rattle.schedule.specs.Caused.{FullIsCaused}
 use Rattle.schedule.specs.Clients.{AreAnswered}
 use Rattle.schedule.specs.Running.{AreGoing, Runs}
+use Rattle.schedule.specs.Using.{HasUsedRuns}
 
 -- the core with its disk, the journal's items, and what the clients have come to
 pub record Turns : Type 0 where
@@ -32,6 +35,12 @@ pub record IsSchedule (script : Script) (turns : Turns) : Type 0 where
   pub going : AreGoing script turns.state.core turns.clients
   pub answered : AreAnswered script turns.clients turns.items
   pub bank : HasBank turns.state.core.pool.uber turns.state.core.pool.out turns.state.disk
+
+-- What turns have used of a pool's space since its opening goes on being known.
+abbrev pub KeepsUsing : Script → Turns → Turns → Type 0
+KeepsUsing script start now = (uber : Uber) (entries : List IndexEntry)
+    → HasUsedRuns script uber entries start.state.core start.items start.clients
+    → HasUsedRuns script uber entries now.state.core now.items now.clients
 
 -- Turns have come from one state to another. Devices went out where they failed, and none was touched but those
 -- of the pool that were in use. An answer that tells of too many devices lists devices that are out, more than
@@ -66,3 +75,4 @@ pub record HasCome (script : Script) (start now : Turns) : Type 0 where
       → Runs world script origin start.state start.items start.clients
       → IsWithin borne world.setting.failed
       → FullIsCaused script world.opening start.items → FullIsCaused script world.opening now.items
+  pub space : KeepsUsing script start now

@@ -20,6 +20,7 @@ use Rattle.client_script.specs.Script.{Script, asked_by, handed_by}
 use Rattle.core_serial.specs.Opening.{MayBegin}
 use Rattle.serial_run.specs.Caused.{HasTooManyIds}
 use Rattle.serial_run.specs.Moments.{KeepsLast}
+use Rattle.serial_run.specs.NoSpace.{NoSpaceIsCaused}
 use Rattle.serial_run.specs.Widths.{HaveWidthOf}
 use Rattle.serial_run.specs.WholeRun.{BeginsAfter}
 use Rattle.schedule.specs.declared.whole_run.Replayed.{Replayed}
@@ -35,7 +36,8 @@ most_turns = 2 ^ 62
 -- journal's, and at most one that was begun after them; and none older than the last one listed by then. At its end
 -- that is the journal's last one, and what the bank keeps then is among these groups. All of them have the width and
 -- the parity of the first one that the bank kept, and that is the run's parity. No read is told as damaged. An answer
--- that tells of a limit has its cause: the last group, or more ids than a table has room for.
+-- that tells of a limit has its cause: the last group, or more ids than a table has room for. Where one says `NoSpace`,
+-- the chosen group's index and the script have too many blocks.
 pub record TurnsKeep (script : Script) (setting : Setting) (first : Kept) (later : List Kept) (old new : Disk)
     (items : List Item) (parity : ℕ) : Type 0 where
   pub chosen : Kept
@@ -48,6 +50,7 @@ pub record TurnsKeep (script : Script) (setting : Setting) (first : Kept) (later
   pub counted : GroupsAreCounted items
   pub full : (index : ℕ) (entry : Entry) → CallAt items index entry → entry.answer ≡ answer.Full
       → HasTooManyIds script chosen.map
+  pub no_space : NoSpaceIsCaused script chosen.uber chosen.entries items
   pub any_moment : KeepsThroughout setting (handed_by script) chosen.map (first ∷ later) items old new
   pub no_older : KeepsTurnByTurn setting (handed_by script) chosen.map (first ∷ later) items old new
   pub kept : KeepsLast setting (handed_by script) chosen.map items new

@@ -5,6 +5,7 @@ use Rattle.core_turns.specs.Core.{at_disk}
 use Rattle.schedule.specs.Coming.{turns_of}
 use Rattle.schedule.specs.Turned.{Turned, station_of}
 use Rattle.schedule.proofs.Replaying.{allowed_of, changes_at, client_at, going_may, turn_none, turn_taken}
+use Rattle.schedule.proofs.UsingLaw.{turn_uses}
 use Rattle.schedule.proofs.replay.turn_of.Goals as goal
 
 pub take_turn-requires-clause-allowed : goal.take_turn-requires-clause-allowed
@@ -51,6 +52,15 @@ returns-then-place-clients g c =
             is = c.take_turn.ensures.is;
             lawful = c.take_turn.ensures.lawful.0;
             still_lawful = c.take_turn.ensures.lawful.1;
+            space = λ uber entries stood. turn_uses c.args.script.now c.args.actor before after c.args.clients.now
+                (slice_set c.args.clients.now c.from-place.result c.take_turn.new.client) c.requires.schedule.going
+                (client_at c.args.clients.now c.from-place.result c.args.actor c.index-clients-place.result
+                c.from-place.ensures c.if-place-clients.true)
+                (changes_at c.args.clients.now c.from-place.result c.args.actor c.take_turn.new.client
+                c.from-place.ensures c.if-place-clients.true)
+                c.take_turn.ensures.is uber entries stood
+                (subst (λ (calls : List CallOf). Turned calls c.args.actor before after) c.calls.ensures
+                c.take_turn.ensures.turned);
           })
           c.requires.allowed c.requires.shared
           (subst (λ (calls : List CallOf). Turned calls c.args.actor before after) c.calls.ensures c.take_turn.ensures.turned);

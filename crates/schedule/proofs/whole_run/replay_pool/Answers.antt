@@ -28,6 +28,7 @@ returns-clause-run g c =
     (record { ended = c.match-carry_out.ended; turns = 0; out = out })) (sym c.out.ensures)
     (has_taken_turns script old mid pool c.in_ok-opened.opened.silent items clients final
     opened.later opened.only opened.silent opened.few opened.out opened.begins opened.rest opened.bank
+    (g.met.B.Bank.lawful c.args.bank.now) opened.right opened.loaded
     (subst (λ (first : List Item). HasCome script
     (turns_of (at_disk (resting pool) mid) first (blank_clients script.clients)) (turns_of final items clients)) listed
     (subst (λ (core : Core). HasCome script
