@@ -12,6 +12,7 @@ pub mod Fulls
 pub mod TurnRuns
 pub mod Using
 pub mod UsingTurns
+pub mod UsingEnds
 pub mod UsingLaw
 pub mod Coming
 pub mod Going

@@ -37,7 +37,8 @@ use Rattle.schedule.specs.Running.{AreGoing}
 use Rattle.schedule.specs.Turned.{AnswersAtOnce, Station, Turned, Nothing, Began, Went, entry_for, group_for, listed_for}
 use Rattle.schedule.specs.Using.{AreLeft, AreRunsOf, AreUsed, HasUsedRuns, IsOpenSince, sizes_of}
 use Rattle.schedule.proofs.Using.{full_by_runs, left_next, left_same, most_next, one_width}
-use Rattle.schedule.proofs.UsingTurns.{BeginsWith, FitsPut, GoesWith, IsPlainEnd, answers_with, none_fits, runs_still, same_core, waits_with, works_begin, works_end, works_go}
+use Rattle.schedule.proofs.UsingTurns.{BeginsWith, FitsPut, answers_with, none_fits, runs_still, same_core, waits_with, works_begin}
+use Rattle.schedule.proofs.UsingEnds.{GoesWith, IsPlainEnd, works_end, works_go}
 
 -- Only a put tells of no space in its first turn.
 first_none : (old new : Core) (actor : ℕ) (call : ScriptCall) (asked : Kind) (id : Option ℕ) (size : ℕ)

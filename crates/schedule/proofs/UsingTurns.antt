@@ -1,7 +1,6 @@
--- What each turn of a client leaves of the runs of sectors that were taken, and of the pool's group.
-use Rattle.std.proofs.Common.{◌≡◌, ◌⊎◌, inl, inr, ⊎_elim, ℕ, ◌+◌, ◌≤◌, List, [], ◌∷◌, ◌++◌, length, Option, Some, None, append-nil, refl, sym, ◌∙◌, ap, subst, arith}
-use Rattle.std.specs.Prelude.{Contains, map, nat_lt, sum, ⊤}
-use Rattle.std.proofs.lemmas.Bool.{cases_lt}
+-- What the first turn of a call leaves of the runs of sectors that were taken.
+use Rattle.std.proofs.Common.{◌≡◌, ◌⊎◌, inl, inr, ⊎_elim, ℕ, ◌+◌, ◌≤◌, List, [], ◌∷◌, ◌++◌, length, Option, Some, None, append-nil, sym, ◌∙◌, ap, subst, arith}
+use Rattle.std.specs.Prelude.{Contains, map, sum}
 use Rattle.width_map.specs.declared.birth.Birth.{Birth}
 use Rattle.range_locks.specs.declared.hold.Hold.{Hold}
 use Rattle.range_locks.specs.Holds.{EndsHold}
@@ -9,7 +8,6 @@ use Rattle.row_layout.specs.Layout.{Layout, allocated_of}
 use Rattle.space_alloc.specs.Space.{Run, HeldRun, Space}
 use Rattle.block_record.specs.declared.entry.IndexEntry.{IndexEntry}
 use Rattle.block_table.specs.Table.{entry_of}
-use Rattle.uberblock_ring.specs.Devices.{count_of}
 use Rattle.uberblock_ring.specs.Uberblock.{Uber}
 use Rattle.core_state.specs.declared.answer.Answer.{Answer}
 use Rattle.core_state.specs.declared.answer.Answer.TheVariants as answer
@@ -20,27 +18,21 @@ use Rattle.core_blocks.specs.Puts.{HoldsBack, sectors_taken}
 use Rattle.core_blocks.specs.Runs.{held_sectors}
 use Rattle.core_blocks.specs.Usage.{sectors_in}
 use Rattle.core_blocks.proofs.Listed.{found_listed}
-use Rattle.core_blocks.proofs.Lists.{first_listed, rest_listed, gains_old, gains_item, gains_cases, filter_was}
-use Rattle.core_commit.specs.CommitTurns.{CommitRun}
-use Rattle.core_commit.proofs.Stepping.{ready_keeps}
+use Rattle.core_blocks.proofs.Lists.{first_listed, rest_listed, gains_old, gains_item, gains_cases}
 use Rattle.client_script.specs.declared.call.ScriptCall.{ScriptCall}
 use Rattle.client_script.specs.Lines.{fill_bytes}
 use Rattle.core_turns.specs.declared.getting.GetRun.{GetRun}
 use Rattle.core_turns.specs.declared.putting.PutRun.{PutRun}
-use Rattle.core_turns.specs.declared.turn.Turn.{Turn}
-use Rattle.core_turns.specs.declared.turn.Turn.TheVariants.{More, Busy, Done}
-use Rattle.core_turns.specs.Core.{Core, CoreState, IsCore}
-use Rattle.core_turns.specs.declared.getting.Solved.{Solved}
-use Rattle.core_turns.specs.declared.getting.Solved.TheVariants.{NotYet, Bytes, Damaged}
-use Rattle.core_turns.specs.Getting.{AnswersSolved, BeginsGet, EndsGet, answer_of, hold_of}
+use Rattle.core_turns.specs.declared.turn.Turn.TheVariants.{More}
+use Rattle.core_turns.specs.Core.{Core, IsCore}
+use Rattle.core_turns.specs.Getting.{BeginsGet, hold_of}
 use Rattle.core_turns.specs.Freeing.{FreesBlock}
-use Rattle.core_turns.specs.Putting.{BeginsPutSo, BeginsPutTurn, EndsPut, GivesUp, GivesUpTurn, IsPutRefused, IsStoppedPut, LeavesBlocks, StoresBlock, WritesTurn}
-use Rattle.core_turns.specs.Committing.{AnswersGroup, IsCommitOf, StepsCommit}
+use Rattle.core_turns.specs.Putting.{BeginsPutSo, BeginsPutTurn, GivesUp, IsPutRefused, LeavesBlocks, StoresBlock}
 use Rattle.serial_run.specs.NoSpace.{length_put, largest_size}
 use Rattle.serial_run.proofs.NoSpace.{largest}
 use Rattle.schedule.specs.declared.client.Work.{Work}
 use Rattle.schedule.specs.declared.client.Work.TheVariants as work
-use Rattle.schedule.specs.Turned.{AnswersAtOnce, Begins, EndsPutting, EndsReading, GoesOnBy, Waits}
+use Rattle.schedule.specs.Turned.{AnswersAtOnce, Begins, Waits}
 use Rattle.schedule.specs.Using.{AreRunsOf, IsHeldIn, IsOpenSince}
 
 -- ---- runs
@@ -84,7 +76,7 @@ module _ (old new : Core) where
     holds = λ hold listed. subst (λ (c : Core). Contains c.holds hold) same listed;
   }
 
-  same_parts : new.pool.blocks.space ≡ old.pool.blocks.space → new.holds ≡ old.holds → UsesNoMore old new
+  pub same_parts : new.pool.blocks.space ≡ old.pool.blocks.space → new.holds ≡ old.holds → UsesNoMore old new
   same_parts space holds = record {
     taken = λ run listed. subst (λ (s : Space). Contains s.taken run) space listed;
     held = λ run listed. inl (subst (λ (s : Space). Contains s.held run) space listed);
@@ -98,12 +90,12 @@ module _ (old new : Core) where
     holds = λ hold listed. subst (λ (l : List Hold). Contains l hold) (ap (λ (c : Core). c.holds) leaves.rest) listed;
   }
 
-  one_less : (hold : Hold) → EndsHold old.holds new.holds hold → (other : Hold) → Contains new.holds other
+  pub one_less : (hold : Hold) → EndsHold old.holds new.holds hold → (other : Hold) → Contains new.holds other
       → Contains old.holds other
   one_less hold ends other listed = gains_old new.holds old.holds hold other
       (record { before = ends.before; after = ends.after; was = ends.is; is = ends.was }) listed
 
-  given_up : (run : PutRun) → GivesUp old new run → UsesNoMore old new
+  pub given_up : (run : PutRun) → GivesUp old new run → UsesNoMore old new
   given_up run gives = record {
     taken = λ other listed. gains_old new.pool.blocks.space.taken old.pool.blocks.space.taken (put_run run.range) other
         gives.dropped.taken listed;
@@ -131,7 +123,7 @@ module _ (old new : Core) where
     holds = holds;
   }
 
-  stored : (run : PutRun) → StoresBlock old new run → UsesNoMore old new
+  pub stored : (run : PutRun) → StoresBlock old new run → UsesNoMore old new
   stored run stores = held_back old.pool.blocks.parity old.pool.blocks.births (old.begun + 1)
       (entry_of old.pool.blocks.table.entries run.range.id) stores.held (one_less run.hold stores.ends)
 
@@ -311,157 +303,3 @@ module _ (old new : Core) (is : IsCore old) where
   answers_with actor call kind.Free (Some id) given answers = free_begins id given answers.frees
   answers_with actor call kind.Sync None given answers = same_begins answers.1
   answers_with actor call asked id given answers = absurd answers
-
--- ---- later turns
-
--- A turn goes on with no more runs; the group is this one then.
-pub record GoesWith (old new : Core) (group : ℕ) : Type 0 where
-  pub uses : UsesNoMore old new
-  pub group_is : new.pool.uber.group ≡ group
-  pub rises : old.pool.uber.group ≤ group
-
-goes_still : (old new : Core) → new.pool.uber ≡ old.pool.uber → UsesNoMore old new → GoesWith old new old.pool.uber.group
-goes_still old new uber uses = record {
-  uses = uses;
-  group_is = ap (λ (u : Uber). u.group) uber;
-  rises = omega arith;
-}
-
--- An answer that neither ends a group nor tells of no space.
-abbrev pub IsPlainEnd : Answer → Type 0
-IsPlainEnd (answer.Synced group) = ⊥
-IsPlainEnd (answer.NoSpace sectors) = ⊥
-IsPlainEnd other = ⊤
-
--- A call ends so: with a plain answer in the same group, or with its group.
-abbrev pub EndsWith : Core → Core → Answer → Type 0
-EndsWith old new given = (IsPlainEnd given × GoesWith old new old.pool.uber.group)
-    ⊎ ((number : ℕ) × (given ≡ answer.Synced number) × GoesWith old new number)
-
-module _ (before after : CoreState) (is : IsCore before.core) where
-  abbrev old : Core
-  old = before.core
-
-  abbrev new : Core
-  new = after.core
-
-  stopped_goes : (run : PutRun) (given : Answer) → IsStoppedPut old new run given → GoesWith old new old.pool.uber.group
-  stopped_goes run given stopped = goes_still old new (ap (λ (c : Core). c.pool.uber) stopped.gives_up.rest)
-      (given_up old new run stopped.gives_up)
-
-  writes_goes : (run : PutRun) (turn : Turn PutRun) → WritesTurn before run after turn
-      → GoesWith old new old.pool.uber.group
-  writes_goes run (More next) writes = goes_still old new (ap (λ (c : Core). c.pool.uber) writes.rest)
-      (same_parts old new (ap (λ (c : Core). c.pool.blocks.space) writes.rest) (ap (λ (c : Core). c.holds) writes.rest))
-  writes_goes run (Busy by) writes = absurd writes
-  writes_goes run (Done given) writes = stopped_goes run given writes.0
-
-  ended_put : (run : PutRun) (given : Answer) → EndsPut old run new (Done given)
-      → IsPlainEnd given × GoesWith old new old.pool.uber.group
-  ended_put run answer.Stored ends =
-      (tt, goes_still old new (ap (λ (c : Core). c.pool.uber) ends.rest) (stored old new run ends))
-  ended_put run (answer.TooManyFailed out) ends = (tt, stopped_goes run (answer.TooManyFailed out) ends)
-  ended_put run other ends = absurd ends
-
-  gave_up : (run : PutRun) (given : Answer) → GivesUpTurn old run new (Done given)
-      → IsPlainEnd given × GoesWith old new old.pool.uber.group
-  gave_up run answer.NoMemory ends =
-      (tt, goes_still old new (ap (λ (c : Core). c.pool.uber) ends.1.rest) (given_up old new run ends.1))
-  gave_up run (answer.TooManyFailed out) ends = (tt, stopped_goes run (answer.TooManyFailed out) ends)
-  gave_up run other ends = absurd ends
-
-  put_ends : (call : ScriptCall) (run : PutRun) (given : Answer) → EndsPutting before after call run given
-      → IsPlainEnd given × GoesWith old new old.pool.uber.group
-  put_ends call run given ends = elim ends.ends [
-    | inl writes ↦ (subst IsPlainEnd (sym writes.0.given_is) tt, writes_goes ends.filled (Done given) writes)
-    | inr later ↦ elim later [
-      | inl last ↦ ended_put ends.filled given last.3
-      | inr gives ↦ gave_up run given gives.2
-    ]
-  ]
-
-  ended_hold : (hold : Hold) → new ≡ record old { holds = new.holds } → EndsHold old.holds new.holds hold
-      → GoesWith old new old.pool.uber.group
-  ended_hold hold rest ends = goes_still old new (ap (λ (c : Core). c.pool.uber) rest) (record {
-    taken = λ run listed. subst (λ (s : Space). Contains s.taken run)
-        (ap (λ (c : Core). c.pool.blocks.space) rest) listed;
-    held = λ run listed. inl (subst (λ (s : Space). Contains s.held run)
-        (ap (λ (c : Core). c.pool.blocks.space) rest) listed);
-    holds = one_less old new hold ends;
-  })
-
-  -- What was solved is answered plainly.
-  block_plain : (asked : Kind) (entry : IndexEntry) (bytes : List ℕ) → IsPlainEnd (answer_of asked entry bytes)
-  block_plain kind.Sum entry bytes = tt
-  block_plain other entry bytes = tt
-
-  solved_plain : (run : GetRun) (solved : Solved) (given : Answer) → AnswersSolved run solved given
-      → IsPlainEnd given
-  solved_plain run NotYet given is = subst IsPlainEnd (sym is) tt
-  solved_plain run (Bytes bytes) given is = subst IsPlainEnd (sym is) (block_plain run.kind run.entry bytes)
-  solved_plain run Damaged given is = subst IsPlainEnd (sym is) tt
-
-  read_plain : (run : GetRun) (given : Answer) → EndsGet old run new (Done given) → IsPlainEnd given
-  read_plain run given ends = ⊎_elim
-      (λ many. subst IsPlainEnd (sym (ends.too_many many)) tt)
-      (λ few. solved_plain run run.solved given (ends.solved (λ many. omega (arith, few, many))))
-      (cases_lt old.pool.uber.parity (count_of old.pool.out))
-
-  read_ends : (run : GetRun) (given : Answer) → EndsReading before after run given
-      → IsPlainEnd given × GoesWith old new old.pool.uber.group
-  read_ends run given ends = elim ends.ends [
-    | inl reads ↦ (subst IsPlainEnd (sym reads.0.given_is) tt, ended_hold run.hold reads.0.rest reads.0.ends)
-    | inr last ↦ (read_plain last.0 given last.3, ended_hold last.0.hold last.3.rest last.3.ends)
-  ]
-
-  -- A group is answered: what was held back until it is free.
-  group_ends : (run : CommitRun) (number : ℕ) → IsCommitOf old run → AnswersGroup before run after number
-      → GoesWith old new number
-  group_ends run number of answers = record {
-    uses = record {
-      taken = λ other listed. subst (λ (l : List Run). Contains l other)
-          (ap (λ (c : Core). c.pool.blocks.space.taken) answers.rest) listed;
-      held = λ other listed. inl (filter_was (λ (held : HeldRun). nat_lt answers.ended.uber.group held.group)
-          old.pool.blocks.space.held other
-          (subst (λ (l : List HeldRun). Contains l other)
-          (ap (λ (c : Core). c.pool.blocks.space.held) answers.rest) listed));
-      holds = λ hold listed. subst (λ (l : List Hold). Contains l hold)
-          (ap (λ (c : Core). c.holds) answers.rest) listed;
-    };
-    group_is = ap (λ (c : Core). c.pool.uber.group) answers.rest
-        ∙ ap (λ (u : Uber). u.group) (ready_keeps old.pool.out run answers.ended answers.ends.is_ready).uber
-        ∙ of.number ∙ sym answers.group_is;
-    rises = (let begun = is.begun in let number_is = answers.group_is in omega (arith, begun, number_is));
-  }
-
-  sync_ends : (run : CommitRun) (given : Answer) → IsCommitOf old run → StepsCommit before run after (Done given)
-      → EndsWith old new given
-  sync_ends run (answer.Synced number) of steps = inr (number, refl, group_ends run number of steps)
-  sync_ends run (answer.TooManyFailed out) of steps =
-      inl (
-        tt,
-        goes_still old new (ap (λ (s : CoreState). s.core.pool.uber) steps.2)
-            (same_core old new (ap (λ (s : CoreState). s.core) steps.2)),
-      )
-  sync_ends run other of steps = absurd steps
-
-  core_goes : (state_out : ℕ) → new ≡ record old { pool = record old.pool { out = state_out } }
-      → GoesWith old new old.pool.uber.group
-  core_goes out rest = goes_still old new (ap (λ (c : Core). c.pool.uber) rest)
-      (same_parts old new (ap (λ (c : Core). c.pool.blocks.space) rest) (ap (λ (c : Core). c.holds) rest))
-
-  -- A later turn: one after which the call goes on,
-  pub works_go : (call : ScriptCall) (does next : Work) → GoesOnBy before after call does (More next)
-      → GoesWith old new old.pool.uber.group
-  works_go call (work.Put run) (work.Put next) goes = core_goes new.pool.out goes.writes.rest
-  works_go call (work.Read run) (work.Read next) goes = core_goes new.pool.out goes.reads.2
-  works_go call (work.Sync run) (work.Sync next) goes = core_goes new.pool.out goes.2
-  works_go call does next goes = absurd goes
-
-  -- and its last.
-  pub works_end : (call : ScriptCall) (does : Work) (given : Answer)
-      → ((run : CommitRun) → does ≡ work.Sync run → IsCommitOf old run)
-      → GoesOnBy before after call does (Done given) → EndsWith old new given
-  works_end call (work.Put run) given commits goes = inl (put_ends call run given goes)
-  works_end call (work.Read run) given commits goes = inl (read_ends run given goes)
-  works_end call (work.Sync run) given commits goes = sync_ends run given (commits run refl) goes
