@@ -1,5 +1,5 @@
 -- What calls that take turns have used of a pool's space since its opening, and why one found none.
-use Rattle.std.specs.Prelude.{◌≡◌, ℕ, ◌+◌, ◌≤◌, List, ◌==◌, length, drop, filter, map, flat_map, sum, Some, slice_get, Contains}
+use Rattle.std.specs.Prelude.{◌≡◌, ℕ, ◌+◌, ◌≤◌, List, [], length, drop, map, flat_map, sum, Some, slice_get, Contains}
 use Rattle.width_map.specs.Births.{NoneAbove}
 use Rattle.range_locks.specs.declared.hold.Hold.{Hold}
 use Rattle.space_alloc.specs.Space.{Run, HeldRun}
@@ -22,7 +22,7 @@ use Rattle.schedule.specs.declared.client.Client.{Client}
 
 -- those of one client among some calls, in order
 abbrev pub calls_among : List Placed → ℕ → List ScriptCall
-calls_among calls actor = map (λ placed. placed.call) (filter (λ placed. placed.actor == actor) calls)
+calls_among calls actor = calls_of (record { clients = 0; calls = calls; order = [] }) actor
 
 -- These calls of the script are left: each client's are those that it hasn't begun.
 pub record AreLeft (script : Script) (clients : List Client) (left : List Placed) : Type 0 where
