@@ -1,8 +1,8 @@
 -- Where a run begins, and where it ends with all calls answered.
-use Rattle.std.proofs.Common.{◌≡◌, ◌≢◌, ⊎_elim, ℕ, ◌+◌, ◌<◌, ◌≤◌, List, [], ◌∷◌, length, Some, zero, suc, sym, ◌∙◌, ap, subst, arith, ne_eqb, slice_index_or}
-use Rattle.std.specs.Prelude.{All, Err, Ok, OnOk, Result, filter, slice_get, ◌==◌}
+use Rattle.std.proofs.Common.{◌≡◌, ◌≢◌, ⊎_elim, ℕ, ◌+◌, ◌*◌, ◌<◌, ◌≤◌, List, [], ◌∷◌, length, Some, zero, suc, sym, ◌∙◌, ap, subst, arith, ne_eqb, slice_index_or}
+use Rattle.std.specs.Prelude.{All, filter, slice_get, ◌==◌}
 use Rattle.std.proofs.lemmas.Bool.{cases_eq}
-use Rattle.std.proofs.lemmas.List.{length-map, take_all}
+use Rattle.std.proofs.lemmas.List.{length-map, length-replicate, take_all}
 use Rattle.std.proofs.lemmas.Option.{slice_get-get_or}
 use Rattle.bank_trait.specs.Disk.{Disk}
 use Rattle.core_blocks.proofs.Lists.{none_listed}
@@ -10,16 +10,21 @@ use Rattle.core_state.specs.declared.item.Entry.{Entry}
 use Rattle.core_state.specs.declared.item.Item.{Item}
 use Rattle.core_state.specs.Legal.{CallAt}
 use Rattle.core_state.specs.Journal.{Asked, IsComplete}
+use Rattle.core_state.specs.JournalRoom.{Journal}
 use Rattle.client_script.specs.declared.call.ScriptCall.{ScriptCall}
 use Rattle.client_script.specs.Script.{Placed, Script, asked_by, calls_of}
 use Rattle.core_serial.specs.Pool.{HasBank}
 use Rattle.core_turns.specs.Core.{Core, at_disk}
 use Rattle.schedule.specs.declared.client.Client.{Client}
 use Rattle.schedule.specs.declared.client.UnderWay.{UnderWay}
+use Rattle.schedule.specs.declared.progress.Progress.{Progress}
 use Rattle.schedule.specs.Clients.{AreAnswered, answered_of}
 use Rattle.schedule.specs.Coming.{IsSchedule, turns_of}
+use Rattle.schedule.specs.InTurn.{Cursor, replay_at, replay_by, turns_by}
+use Rattle.schedule.specs.Playing.{IsReady}
 use Rattle.schedule.specs.Replaying.{AreIdle, HaveBegun, IsAtRest, OnlyShared, blank_client, blank_clients}
 use Rattle.schedule.specs.Running.{IsGoing}
+use Rattle.schedule.proofs.Rooms.{room_at_first}
 use Rattle.schedule.proofs.Theirs.{none_some, some_is}
 
 -- Each blank client is.
@@ -81,6 +86,33 @@ pub shared_at_rest : (core : Core) → IsAtRest core → OnlyShared core.holds
 shared_at_rest core rest = subst OnlyShared (sym rest.holds)
     (record { each = λ hold listed. absurd (none_listed hold listed) })
 
+-- Before the first turn: clients that have begun no call, and room for all answers.
+pub ready_at_rest : (script : Script) (core : Core) (disk : Disk) (items : List Item) (journal : Journal)
+    (progress : Progress) → IsAtRest core → HasBank core.pool.uber core.pool.out disk
+    → ((index : ℕ) (entry : Entry) → CallAt items index entry → ⊥)
+    → journal.items ≡ items → progress.clients.items ≡ blank_clients script.clients
+    → 2 * length script.calls ≤ journal.room → IsReady script (turns_by core disk journal progress) journal.room
+ready_at_rest script core disk items journal progress rest bank none same blank room =
+    subst (λ (clients : List Client). IsReady script (turns_of (at_disk core disk) journal.items clients) journal.room)
+    (sym blank) (subst (λ (listed : List Item). IsReady script
+    (turns_of (at_disk core disk) listed (blank_clients script.clients)) journal.room) (sym same) (record {
+      schedule = schedule_at_rest script core disk items script.clients rest bank none;
+      shared = shared_at_rest core rest;
+      counted = length-replicate script.clients blank_client;
+      enough = room_at_first script script.clients journal.room room;
+    }))
+
+pub first_is : (script : Script) (core : Core) (disk : Disk) (items : List Item) (journal : Journal)
+    (progress : Progress) (cursor : Cursor)
+    → journal.items ≡ items → progress.clients.items ≡ blank_clients script.clients → progress.turns ≡ 0
+    → replay_by core disk journal progress cursor
+    ≡ replay_at (turns_of (at_disk core disk) items (blank_clients script.clients)) 0 cursor
+first_is script core disk items journal progress cursor same blank none = λ i. record {
+  turns = record { state = at_disk core disk; items = same i; clients = blank i };
+  cursor = cursor;
+  taken = none i;
+}
+
 -- A client that has calls is one of the script's.
 callers_few : (calls : List Placed) (caller clients : ℕ) → All (λ placed. placed.actor < clients) calls
     → 1 ≤ length (filter (λ placed. placed.actor == caller) calls) → caller < clients
@@ -115,9 +147,3 @@ complete_at_rest script items clients actors counted answered begun idle = recor
         (take_all (length script.calls) script.calls (omega arith)) in
         let count = ap (answered_of client.begun) (idle.each caller client there) in
         answered.every caller number client there (omega (arith, low, asked, of, enough, all, count))
-
--- What follows from two facts of an answer follows where it is `Ok`.
-pub ok_both : {V E : Type 0} (A B C : Type 0) (result : Result V E) → OnOk result A → OnOk result B → (A → B → C)
-    → OnOk result C
-ok_both A B C (Ok value) one other both = both one other
-ok_both A B C (Err error) one other both = tt

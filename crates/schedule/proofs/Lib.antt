@@ -38,4 +38,7 @@ pub mod OwnTurns
 pub mod Left
 pub mod Shared
 pub mod Replaying
+pub mod InTurn
+pub mod Playing
+pub mod Rooms
 pub mod AtRest

@@ -1,19 +1,18 @@
 -- Turns of the clients of a script, one after the other.
 use Rattle.std.proofs.Common.{◌≡◌, ◌≢◌, ◌⊎◌, inl, inr, ⊎_elim, ℕ, ◌+◌, ◌-◌, ◌<◌, ◌≤◌, List, [], ◌∷◌, length, Option, Some, None, zero, suc, refl, sym, ◌∙◌, ap, subst, arith, cond, eq-eqb, ne_eqb, slice_index_or, slice_set}
 use Rattle.std.specs.Prelude.{All, Contains, filter, is_some, slice_get, true, false, ◌==◌, ◌||◌}
-use Rattle.std.specs.List.{list_any}
 use Rattle.std.proofs.lemmas.Bool.{cases_eq, true≢false}
 use Rattle.std.proofs.lemmas.List.Elements.{All-filter, All-map, All-get_or}
 use Rattle.std.proofs.lemmas.List.{take_all}
 use Rattle.std.proofs.lemmas.List.Filters.{length-filter_more}
 use Rattle.std.proofs.lemmas.Option.{get_or_from_slice_get, slice_get-get_or, slice_get_within}
-use Rattle.core_state.specs.declared.item.Item.{Item}
+use Rattle.bank_trait.specs.Disk.{Lawful}
 use Rattle.client_script.specs.declared.call.ScriptCall.{ScriptCall}
 use Rattle.client_script.specs.InOrder.{InOrder, IsNextCall, given_of}
 use Rattle.client_script.specs.Script.{Placed, Script, IsAllowed, calls_of}
 use Rattle.core_turns.specs.declared.getting.GetRun.{GetRun}
 use Rattle.core_turns.specs.declared.putting.PutRun.{PutRun}
-use Rattle.core_turns.specs.Core.{Core, CoreState}
+use Rattle.core_turns.specs.Core.{Core, IsCore}
 use Rattle.core_blocks.specs.Blocks.{IsUnderWay}
 use Rattle.core_turns.specs.Getting.{HasTooManyOut, IsGetOf, IsRead}
 use Rattle.core_turns.specs.Putting.{IsPutOf}
@@ -26,15 +25,18 @@ use Rattle.schedule.specs.declared.client.Work.TheVariants as work
 use Rattle.schedule.specs.Clients.{Changes}
 use Rattle.schedule.specs.Comes.{Comes, TakesTurn}
 use Rattle.schedule.specs.Coming.{IsSchedule, Turns, turns_of}
+use Rattle.schedule.specs.InTurn.{IsCallOf, is_any_busy}
 use Rattle.schedule.specs.Left.{left_under, most_left, turns_left}
-use Rattle.schedule.specs.Replaying.{AreIdle, HasReplayed, HasTurn, BeginsOne, HaveBegun, HaveFewer, OnlyShared, TakesOne, left_at, left_in}
+use Rattle.schedule.specs.Playing.{HasRoom, IsReady}
+use Rattle.schedule.specs.Replaying.{AreIdle, HasTurn, BeginsOne, HaveBegun, HaveFewer, OnlyShared, TakesOne, left_at, left_in}
 use Rattle.schedule.specs.Running.{AreGoing, IsGoing, IsSync, IsWorkFor, IsWorkOf}
 use Rattle.schedule.specs.Turned.{MayGoOn, Station, Turned}
-use Rattle.schedule.proofs.Coming.{came_nowhere, came_on}
+use Rattle.schedule.proofs.Coming.{came_nowhere}
 use Rattle.schedule.proofs.Left.{at_most, most_at_most, some_left, turned_fewer}
 use Rattle.schedule.proofs.Shared.{turned_begins, turned_further, turned_shared}
 use Rattle.schedule.proofs.Theirs.{none_some, some_is}
 use Rattle.schedule.proofs.TurnLaw.{turned_comes}
+use Rattle.schedule.proofs.UsingLaw.{turn_uses}
 
 -- ---- before a turn
 
@@ -109,20 +111,43 @@ set_others (first ∷ xs) (suc place) x (suc other) apart =
     set_others xs place x other (λ same. apart (ap suc same))
 
 -- The client at a place is the one of that number,
-pub client_at : (clients : List Client) (place actor : ℕ) (client : Client) → place ≡ actor → place < length clients
+client_at : (clients : List Client) (place actor : ℕ) (client : Client) → place ≡ actor → place < length clients
     → slice_get clients actor ≡ Some (slice_index_or clients place client)
 client_at clients place actor client same low =
     subst (λ (n : ℕ). slice_get clients n ≡ Some (slice_index_or clients place client)) same
     (slice_get-get_or clients place client low)
 
+pub client_there : (clients : List Client) (place actor : ℕ) (client : Client) → place ≡ actor → place < length clients
+    → client ≡ slice_index_or clients place client → slice_get clients actor ≡ Some client
+client_there clients place actor client same low is =
+    client_at clients place actor client same low ∙ ap (λ (c : Client). Some c) (sym is)
+
 -- and changes there alone.
-pub changes_at : (clients : List Client) (place actor : ℕ) (client : Client) → place ≡ actor → place < length clients
+changes_at : (clients : List Client) (place actor : ℕ) (client : Client) → place ≡ actor → place < length clients
     → Changes clients (slice_set clients place client) actor client
 changes_at clients place actor client same low =
     subst (λ (n : ℕ). Changes clients (slice_set clients place client) n client) same (record {
       there = set_here clients place client low;
       others = set_others clients place client;
     })
+
+-- Where it had a turn, the others stay as they are.
+pub takes_turn : (script : Script) (place actor : ℕ) (before after : Station) (clients : List Client)
+    → IsSchedule script (turns_of before.state before.items clients) → slice_get clients actor ≡ Some before.client
+    → place ≡ actor → place < length clients → IsCore before.state.core
+    → Lawful before.state.disk × Lawful after.state.disk → Turned (calls_of script actor) actor before after
+    → TakesTurn script actor before after clients (slice_set clients place after.client)
+takes_turn script place actor before after clients schedule was same low is lawful turned =
+    let changes = changes_at clients place actor after.client same low in record {
+      schedule = schedule;
+      was = was;
+      changes = changes;
+      is = is;
+      lawful = lawful.0;
+      still_lawful = lawful.1;
+      space = λ uber entries stood. turn_uses script actor before after clients (slice_set clients place after.client)
+          schedule.going was changes is uber entries stood turned;
+    }
 
 -- Where no client has a call under way and devices enough are in, no commit is under way.
 none_commits : (script : Script) (core : Core) (clients : List Client) → AreGoing script core clients → AreIdle clients
@@ -152,10 +177,16 @@ module _ (script : Script) (actor : ℕ) (before after : Station) (clients news 
   pub turn_taken : HasTurn script actor (turns_of before.state before.items clients)
       (turns_of after.state after.items news)
   turn_taken = record {
-    replayed = record {
-      come = comes.come;
-      schedule = comes.schedule;
-      shared = turned_shared (calls_of script actor) actor before after turned shared;
+    come = comes.come;
+    is = record {
+      none = λ past. absurd (let low = slice_get_within clients actor before.client takes.was in omega (arith, past, low));
+      one = λ client is. (
+        after.client,
+        subst (λ (c : Client). Turned (calls_of script actor) actor
+            (record { state = before.state; items = before.items; client = c }) after)
+            (some_is (sym takes.was ∙ is)) turned,
+        takes.changes,
+      );
     };
     others = takes.changes.others;
     takes = λ client is. (
@@ -165,54 +196,42 @@ module _ (script : Script) (actor : ℕ) (before after : Station) (clients news 
     );
   }
 
+  -- It has begun no more calls than it has.
+  pub turn_few : after.client.begun ≤ length (calls_of script actor)
+  turn_few = comes.schedule.answered.few actor after.client takes.changes.there
+
+  -- The next turn may be taken then.
+  pub turn_ready : (left : ℕ) → length clients ≡ script.clients → length news ≡ length clients
+      → HasRoom script news left → IsReady script (turns_of after.state after.items news) left
+  turn_ready left counted same enough = record {
+    schedule = comes.schedule;
+    shared = turned_shared (calls_of script actor) actor before after turned shared;
+    counted = same ∙ counted;
+    enough = enough;
+  }
+
 -- There is no such client, and nothing was done.
-pub turn_none : (script : Script) (actor : ℕ) (turns : Turns) → IsSchedule script turns
-    → OnlyShared turns.state.core.holds → length turns.clients ≤ actor → HasTurn script actor turns turns
-turn_none script actor turns schedule shared past = record {
-  replayed = record { come = came_nowhere script turns; schedule = schedule; shared = shared };
+pub turn_none : (script : Script) (actor : ℕ) (turns : Turns) → length turns.clients ≤ actor
+    → HasTurn script actor turns turns
+turn_none script actor turns past = record {
+  come = came_nowhere script turns;
+  is = record {
+    none = λ after. refl;
+    one = λ client is. absurd (let low = slice_get_within turns.clients actor client is in omega (arith, past, low));
+  };
   others = λ other apart. refl;
   takes = λ client is. absurd (let low = slice_get_within turns.clients actor client is in omega (arith, past, low));
 }
 
--- ---- turns after turns
-
-pub replayed_none : (script : Script) (turns : Turns) → IsSchedule script turns → OnlyShared turns.state.core.holds
-    → HasReplayed script turns turns
-replayed_none script turns schedule shared =
-    record { come = came_nowhere script turns; schedule = schedule; shared = shared }
-
-pub replayed_then : (script : Script) (start middle now : Turns) → HasReplayed script start middle
-    → HasReplayed script middle now → HasReplayed script start now
-replayed_then script start middle now first second = record {
-  come = came_on script start middle now first.come second.come;
-  schedule = second.schedule;
-  shared = second.shared;
-}
-
--- Turns after which there is room for more items.
-pub replayed_room : (script : Script) (start : Turns) (state : CoreState) (items roomy : List Item)
-    (clients : List Client) → roomy ≡ items → HasReplayed script start (turns_of state items clients)
-    → HasReplayed script start (turns_of state roomy clients)
-replayed_room script start state items roomy clients same replayed =
-    subst (λ (l : List Item). HasReplayed script start (turns_of state l clients)) (sym same) replayed
-
--- ... and one more turn.
-pub replayed_turn : (script : Script) (actor : ℕ) (start : Turns) (state : CoreState) (items roomy : List Item)
-    (clients : List Client) (now : Turns) → roomy ≡ items → HasReplayed script start (turns_of state items clients)
-    → HasTurn script actor (turns_of state roomy clients) now → HasReplayed script start now
-replayed_turn script actor start state items roomy clients now same replayed turn =
-    replayed_then script start (turns_of state roomy clients) now
-    (replayed_room script start state items roomy clients same replayed) turn.replayed
-
 -- ---- rounds
 
 any_first : (first : Client) (clients : List Client) → first.under_way ≡ None
-    → list_any (λ (client : Client). is_some client.under_way) (first ∷ clients)
-    ≡ list_any (λ (client : Client). is_some client.under_way) clients
-any_first first clients idle = ap (λ (u : Option UnderWay). is_some u || list_any (λ (client : Client). is_some client.under_way) clients) idle
+    → is_any_busy (first ∷ clients)
+    ≡ is_any_busy clients
+any_first first clients idle = ap (λ (u : Option UnderWay). is_some u || is_any_busy clients) idle
 
 -- Where any client has a call under way, some have turns left,
-pub any_left : (clients : List Client) → list_any (λ (client : Client). is_some client.under_way) clients ≡ true
+pub any_left : (clients : List Client) → is_any_busy clients ≡ true
     → 1 ≤ most_left clients
 any_left [] is = absurd (true≢false (sym is))
 any_left (first ∷ clients) is =
@@ -228,7 +247,7 @@ any_left (first ∷ clients) is =
         omega (arith, some, same)
 
 -- and where none has, all are idle.
-pub none_busy_idle : (clients : List Client) → list_any (λ (client : Client). is_some client.under_way) clients ≡ false
+pub none_busy_idle : (clients : List Client) → is_any_busy clients ≡ false
     → AreIdle clients
 none_busy_idle [] is = record { each = λ index client there. absurd (none_some there) }
 none_busy_idle (first ∷ clients) is =
@@ -237,7 +256,7 @@ none_busy_idle (first ∷ clients) is =
     by : (under : Option UnderWay) → first.under_way ≡ under → (first.under_way ≡ None → AreIdle clients)
         → AreIdle (first ∷ clients)
     by (Some under) going later = absurd (true≢false (sym (ap
-        (λ (u : Option UnderWay). is_some u || list_any (λ (client : Client). is_some client.under_way) clients) going) ∙ is))
+        (λ (u : Option UnderWay). is_some u || is_any_busy clients) going) ∙ is))
     by None idle later = record { each = each_idle (later idle) }
       where
         each_idle : AreIdle clients → (index : ℕ) (client : Client) → slice_get (first ∷ clients) index ≡ Some client
@@ -403,6 +422,12 @@ given_more script given actor placed there = ⊎_elim
         ∙ ap (λ (p : Placed). given_of script given actor + cond (p.actor == actor) 1 0)
         (get_or_from_slice_get script.calls given placed placed there)
 
+-- It is one more of its client's.
+pub given_own : (script : Script) (given actor : ℕ) (placed : Placed) → slice_get script.calls given ≡ Some placed
+    → placed.actor ≡ actor → given_of script (given + 1) actor ≡ given_of script given actor + 1
+given_own script given actor placed there is =
+    elim (given_more script given actor placed there) [ inl own ↦ own.1 | inr other ↦ absurd (other.0 (sym is)) ]
+
 -- The next call was begun before, or is now.
 pub begun_more : (script : Script) (given : ℕ) (placed : Placed) (clients news : List Client)
     → slice_get script.calls given ≡ Some placed → HaveBegun script given clients
@@ -442,15 +467,6 @@ next_smaller script before after actor number call is next =
     let more = ap (λ (o : InOrder). o.given) next.one_more in
     omega (arith, low, same, more)
 
--- is one of the client's, where that hasn't begun it,
-pub next_left : (script : Script) (before after : InOrder) (actor number begun : ℕ) (call : ScriptCall)
-    → before.script ≡ script → IsNextCall before after actor number call → begun < number
-    → begun < length (calls_of script actor)
-next_left script before after actor number begun call is next low =
-    let within = slice_get_within (calls_of before.script actor) (number - 1) call next.of_client in
-    let same = ap (λ (s : Script). length (calls_of s actor)) is in
-    omega (arith, within, same, low)
-
 -- and is begun then: before this,
 pub next_begun : (script : Script) (before after : InOrder) (actor number : ℕ) (call : ScriptCall)
     (clients news : List Client) → before.script ≡ script → IsNextCall before after actor number call
@@ -485,3 +501,31 @@ next_taken script before after actor number call clients news is next begun begi
     let as_given = ap (λ (s : Script). given_of s before.given actor) is in
     omega (arith, more, its_begun, enough, counted, as_given))
     begins.others
+
+-- It is a call of the script,
+pub next_is_call : (script : Script) (before after : InOrder) (actor number : ℕ) (call : ScriptCall)
+    → before.script ≡ script → IsNextCall before after actor number call
+    → IsCallOf script before.given actor number
+next_is_call script before after actor number call is next = record {
+  placed = record { actor = actor; call = call };
+  there = ap (λ (s : Script). slice_get s.calls before.given) (sym is) ∙ next.there;
+  is = refl;
+  counted = next.counted ∙ ap (λ (s : Script). given_of s before.given actor + 1) is;
+}
+
+-- one of its client's,
+pub next_of_client : (script : Script) (before after : InOrder) (actor number : ℕ) (call : ScriptCall)
+    → before.script ≡ script → IsNextCall before after actor number call → number ≤ length (calls_of script actor)
+next_of_client script before after actor number call is next =
+    let within = slice_get_within (calls_of before.script actor) (number - 1) call next.of_client in
+    let same = ap (λ (s : Script). length (calls_of s actor)) is in
+    omega (arith, within, same)
+
+-- and no more were given than there are.
+pub next_few : (script : Script) (before after : InOrder) (actor number : ℕ) (call : ScriptCall)
+    → before.script ≡ script → IsNextCall before after actor number call → after.given ≤ length script.calls
+next_few script before after actor number call is next =
+    let low = slice_get_within before.script.calls before.given (record { actor = actor; call = call }) next.there in
+    let same = ap (λ (s : Script). length s.calls) is in
+    let more = ap (λ (o : InOrder). o.given) next.one_more in
+    omega (arith, low, same, more)

@@ -39,6 +39,8 @@ use Rattle.schedule.specs.declared.client.Client.{Client}
 use Rattle.schedule.specs.declared.whole_run.Ended.{Ended}
 use Rattle.schedule.specs.Caused.{FullIsCaused}
 use Rattle.schedule.specs.Coming.{HasCome, turns_of}
+use Rattle.schedule.specs.InTurn.{Cursor, InOrder, replay_at}
+use Rattle.schedule.specs.Playing.{EndsSo}
 use Rattle.schedule.specs.Replaying.{blank_clients}
 use Rattle.schedule.specs.Running.{Runs}
 use Rattle.schedule.specs.WholeRun.{TurnsKeep, HasTakenTurns}
@@ -188,11 +190,25 @@ module _ (script : Script) (old mid : Disk) (pool : Pool) (silent : ℕ) (items 
     }
 
   -- The calls of the script were carried out on the pool that the devices showed.
-  pub has_taken_turns : (ended : Ended) (turns : ℕ) → HasTakenTurns script old final.disk items
+  pub has_taken_turns : (ended : Ended) (turns : ℕ) (cursor : Cursor) → EndsSo script
+      (replay_at (turns_of (at_disk (resting pool) mid) (Group (first_item pool) ∷ []) (blank_clients script.clients))
+      0 (InOrder script.order))
+      (replay_at (turns_of final items clients) turns cursor) ended
+      → HasTakenTurns script old final.disk items
       (record { ended = ended; turns = turns; out = final.core.pool.out })
-  has_taken_turns ended turns = record {
+  has_taken_turns ended turns cursor ends = record {
     opened = item;
     there = come.listed 0 (Group item) refl;
+    taken = record {
+      start = at_disk (resting pool) mid;
+      rest = record { holds = refl; committing = refl; blocks = rest };
+      later = opened_later;
+      now = final;
+      disk = refl;
+      clients = clients;
+      cursor = cursor;
+      ends = ends;
+    };
     silent = silent;
     failed = failed_later old mid final.disk come.later silent failed;
     parity = pool.uber.parity;

@@ -7,6 +7,8 @@ pub mod Using
 pub mod Coming
 pub mod Turned
 pub mod Comes
-pub mod WholeRun
+pub mod InTurn
 pub mod Left
 pub mod Replaying
+pub mod Playing
+pub mod WholeRun

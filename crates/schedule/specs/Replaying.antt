@@ -8,7 +8,8 @@ use Rattle.client_script.specs.Script.{Script, calls_of}
 use Rattle.core_turns.specs.Core.{Core}
 use Rattle.schedule.specs.declared.client.Client.{Client}
 use Rattle.schedule.specs.declared.client.UnderWay.{UnderWay}
-use Rattle.schedule.specs.Coming.{HasCome, IsSchedule, Turns}
+use Rattle.schedule.specs.Coming.{HasCome, Turns}
+use Rattle.schedule.specs.InTurn.{IsTurnOf}
 use Rattle.schedule.specs.Left.{turns_left}
 
 -- No call is under way.
@@ -33,12 +34,6 @@ pub record OnlyShared (holds : List Hold) : Type 0 where
 pub record AreIdle (clients : List Client) : Type 0 where
   pub each : (index : ℕ) (client : Client) → slice_get clients index ≡ Some client → client.under_way ≡ None
 
--- Turns have come to a state in which the next turn may be taken.
-pub record HasReplayed (script : Script) (start now : Turns) : Type 0 where
-  pub come : HasCome script start now
-  pub schedule : IsSchedule script now
-  pub shared : OnlyShared now.state.core.holds
-
 -- A client took a turn: it has fewer left of a call that it had under way. Where no call is under way, its next one
 -- finds none in its way.
 pub record TakesOne (script : Script) (actor : ℕ) (before : Turns) (clients : List Client) (client now : Client)
@@ -50,9 +45,10 @@ pub record TakesOne (script : Script) (actor : ℕ) (before : Turns) (clients : 
   pub begins : AreIdle before.clients → client.begun < length (calls_of script actor)
       → now.begun ≡ client.begun + 1
 
--- A turn of a client comes to such a state, and the others stay as they were.
+-- A client had a turn, and the others stay as they were.
 pub record HasTurn (script : Script) (actor : ℕ) (before after : Turns) : Type 0 where
-  pub replayed : HasReplayed script before after
+  pub come : HasCome script before after
+  pub is : IsTurnOf script actor before after
   pub others : (other : ℕ) → other ≢ actor → slice_get after.clients other ≡ slice_get before.clients other
   pub takes : (client : Client) → slice_get before.clients actor ≡ Some client
       → (now : Client) × TakesOne script actor before after.clients client now

@@ -1,12 +1,13 @@
 -- What a run of turns keeps, from the opening of its pool to its end.
-use Rattle.std.specs.Prelude.{◌≡◌, ◌≢◌, ℕ, ◌<◌, ◌≤◌, List, ◌∷◌, ◌++◌, ◌^◌, Contains}
-use Rattle.bank_trait.specs.Disk.{Image, Disk}
+use Rattle.std.specs.Prelude.{◌≡◌, ◌≢◌, ℕ, ◌<◌, ◌≤◌, List, [], ◌∷◌, ◌++◌, Contains}
+use Rattle.bank_trait.specs.Disk.{Image, Disk, Later}
 use Rattle.bank_trait.specs.Regions.{TouchesOnly}
 use Rattle.uberblock_ring.specs.Devices.{count_of, IsWithin}
 use Rattle.core_state.specs.declared.answer.Answer.TheVariants as answer
 use Rattle.core_state.specs.declared.item.Entry.{Entry}
 use Rattle.core_state.specs.declared.item.Group.{Group as GroupItem}
 use Rattle.core_state.specs.declared.item.Item.{Item}
+use Rattle.core_state.specs.declared.item.Item.TheVariants.{Group}
 use Rattle.core_state.specs.Legal.{GroupAt, CallAt}
 use Rattle.core_state.specs.Journal.{IsLegalJournal}
 use Rattle.core_state.specs.Keeps.{Kept, Setting}
@@ -18,18 +19,20 @@ use Rattle.core_open.specs.Opens.{IsWithinBelow}
 use Rattle.core_open.specs.Regions.{IsOnBelow}
 use Rattle.client_script.specs.Script.{Script, asked_by, handed_by}
 use Rattle.core_serial.specs.Opening.{MayBegin}
+use Rattle.core_turns.specs.Core.{CoreState}
 use Rattle.serial_run.specs.Caused.{HasTooManyIds}
 use Rattle.serial_run.specs.Moments.{KeepsLast}
 use Rattle.serial_run.specs.NoSpace.{NoSpaceIsCaused}
 use Rattle.serial_run.specs.Widths.{HaveWidthOf}
 use Rattle.serial_run.specs.WholeRun.{BeginsAfter}
+use Rattle.schedule.specs.declared.client.Client.{Client}
 use Rattle.schedule.specs.declared.whole_run.Replayed.{Replayed}
+use Rattle.schedule.specs.Coming.{turns_of}
+use Rattle.schedule.specs.InTurn.{Cursor, InOrder, replay_at}
 use Rattle.schedule.specs.Moments.{KeepsTurnByTurn}
+use Rattle.schedule.specs.Playing.{EndsSo}
 use Rattle.schedule.specs.Recorded.{GroupsAreCounted}
-
--- most turns of a replay
-abbrev pub most_turns : ℕ
-most_turns = 2 ^ 62
+use Rattle.schedule.specs.Replaying.{IsAtRest, blank_clients}
 
 -- A run of turns began with one of the groups that the bank kept, and its journal is legal from that group's map on.
 -- Whatever a stop leaves, at any moment of the run, keeps some of the groups in a row: those kept before, the
@@ -60,14 +63,30 @@ pub record TurnsKeep (script : Script) (setting : Setting) (first : Kept) (later
       ((first ∷ later) ++ any_moment.groups.answered ++ any_moment.groups.begun)
   pub parity_is : first.uber.parity ≡ parity
 
+-- From a core at rest, a journal of the opening's group and clients that had begun no call, the turns were taken whose
+-- turn it was, as many as are told, and they ended as is told.
+pub record TakesItsTurns (script : Script) (opened : GroupItem) (old new : Disk) (items : List Item)
+    (replayed : Replayed) : Type 0 where
+  pub start : CoreState
+  pub rest : IsAtRest start.core
+  pub later : Later old start.disk
+  pub now : CoreState
+  pub disk : now.disk ≡ new
+  pub clients : List Client
+  pub cursor : Cursor
+  pub ends : EndsSo script
+      (replay_at (turns_of start (Group opened ∷ []) (blank_clients script.clients)) 0 (InOrder script.order))
+      (replay_at (turns_of now items clients) replayed.turns cursor) replayed.ended
+
 -- A script's calls were carried out turn by turn on the pool that the devices showed; the journal begins with a
--- group. Each device that is out at the end was out at the opening, or failed in the run. A call that tells of too
--- many devices lists devices that are out, more than there are parities. All that a run keeps it keeps where the
--- devices that were silent when the pool was looked for may fail, and those of the devices out that have to be borne,
--- no more than there are parities. No device is touched but those of the pool.
+-- group. Each turn was that of the client whose turn it was. Each device that is out at the end was out at the opening,
+-- or failed in the run. A call that tells of too many devices lists devices that are out, more than there are parities.
+-- All that a run keeps it keeps where the devices that were silent when the pool was looked for may fail, and those of
+-- the devices out that have to be borne, no more than there are parities. No device is touched but those of the pool.
 pub record HasTakenTurns (script : Script) (old new : Disk) (items : List Item) (replayed : Replayed) : Type 0 where
   pub opened : GroupItem
   pub there : GroupAt items 0 opened
+  pub taken : TakesItsTurns script opened old new items replayed
   pub silent : ℕ
   pub failed : HaveFailed old new silent
   pub parity : ℕ

@@ -7,6 +7,7 @@
 #![tactic(auto)]
 
 mod client;
+mod progress;
 mod replay;
 #[cfg(test)]
 mod replay_tests;
@@ -19,6 +20,6 @@ mod turning;
 mod whole_run;
 
 pub use client::{Client, UnderWay, Work};
-pub use replay::carry_out;
+pub use replay::{CarriedOut, carry_out};
 pub use station::take_turn;
 pub use whole_run::{Ended, Replayed, replay_pool};

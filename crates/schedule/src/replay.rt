@@ -1,6 +1,5 @@
 // The calls of a script, turn by turn.
-ghost use Rattle.std.specs.Prelude.{◌≡◌, ◌+◌, ◌<◌, ◌≤◌, ℕ, List, All, IfOk, OnOk, Some, None, is_some, length, slice_get, true, false};
-ghost use Rattle.std.specs.List.{list_any};
+ghost use Rattle.std.specs.Prelude.{◌≡◌, ◌+◌, ◌*◌, ◌<◌, ◌≤◌, ℕ, List, All, IfOk, OnOk, OnErr, Some, [], length, slice_get, true};
 ghost use Rattle.core_state.specs.declared.item.Entry.{Entry as EntryOf};
 ghost use Rattle.core_state.specs.Journal.{CallsAreRight, IsComplete};
 ghost use Rattle.core_state.specs.Legal.{CallAt};
@@ -8,16 +7,27 @@ ghost use Rattle.client_script.specs.Script.{IsAllowed, asked_by, calls_of};
 ghost use Rattle.core_serial.specs.Pool.{HasBank};
 ghost use Rattle.core_turns.specs.Core.{at_disk};
 ghost use Rattle.schedule.specs.declared.client.Client.{Client as ClientOf};
-ghost use Rattle.schedule.specs.Coming.{HasCome, IsSchedule, turns_of};
-ghost use Rattle.schedule.specs.Replaying.{AreIdle, BeginsOne, HasReplayed, HasTurn, HaveBegun, HaveFewer, IsAtRest, OnlyShared, blank_clients, left_at};
+ghost use Rattle.schedule.specs.declared.whole_run.Ended.TheVariants.{Whole};
+ghost use Rattle.schedule.specs.Coming.{HasCome, turns_of};
+ghost use Rattle.schedule.specs.InTurn.{Cursor, InOrder, InRest, InRound, IsCallOf, has_left_at, replay_at, replay_by, turns_by};
+ghost use Rattle.schedule.specs.Playing.{EndsSo, HasPlayed, HasRoom, HasStopped, IsReady};
+ghost use Rattle.schedule.specs.Replaying.{AreIdle, BeginsOne, HasTurn, HaveBegun, HaveFewer, IsAtRest, blank_clients};
 
-use crate::client::Client;
+use crate::progress::{Progress, UsedUp};
 use crate::station::take_turn;
+use crate::whole_run::Ended;
 use bank_trait::Bank;
 use client_script::Script;
 use core_state::Journal;
 use core_turns::Core;
 use std::alloc::{AllocError, Global};
+
+/// How the calls of a script were carried out, and in how many turns.
+#[derive(Clone, Copy, Debug, PartialEq, Eq)]
+pub struct CarriedOut {
+    pub ended: Ended,
+    pub turns: u64,
+}
 
 /// One turn of a client of the script, if there is one of this number.
 fn turn_of<B: Bank>(
@@ -26,21 +36,22 @@ fn turn_of<B: Bank>(
     core: &mut Core,
     script: &Script,
     journal: &mut Journal,
-    clients: &mut [Client],
+    progress: &mut Progress,
     actor: u8,
 )
     requires allowed { All (λ placed. IsAllowed placed.call) script.now.calls }
-    requires room { 2 ≤ journal.old.room }
-    requires schedule { IsSchedule script.now
-        (turns_of (at_disk core.old (B.disk bank.old)) journal.old.items clients.old) }
-    requires shared { OnlyShared core.old.holds }
+    requires ready { IsReady script.now
+        (turns_by core.old (B.disk bank.old) journal.old progress.old) journal.old.room }
     ensures turn { HasTurn script.now actor
-        (turns_of (at_disk core.old (B.disk bank.old)) journal.old.items clients.old)
-        (turns_of (at_disk core.new (B.disk bank.new)) journal.new.items clients.new) }
+        (turns_by core.old (B.disk bank.old) journal.old progress.old)
+        (turns_by core.new (B.disk bank.new) journal.new progress.new) }
+    ensures ready { IsReady script.now
+        (turns_by core.new (B.disk bank.new) journal.new progress.new) journal.new.room }
+    ensures turns { progress.new.turns ≡ progress.old.turns }
 {
     let place = usize::from(actor);
-    if place < clients.len() {
-        let client = &mut clients[place];
+    if place < progress.clients.len() {
+        let client = &mut progress.clients[place];
         take_turn(
             alloc,
             bank,
@@ -53,75 +64,86 @@ fn turn_of<B: Bank>(
     }
 }
 
+/// The same, counted, if it can be.
+fn count_turn_of<B: Bank>(
+    alloc: Global,
+    bank: &mut B,
+    core: &mut Core,
+    script: &Script,
+    journal: &mut Journal,
+    progress: &mut Progress,
+    actor: u8,
+) -> Result<(), UsedUp>
+    requires allowed { All (λ placed. IsAllowed placed.call) script.now.calls }
+    requires ready { IsReady script.now
+        (turns_by core.old (B.disk bank.old) journal.old progress.old) journal.old.room }
+    ensures turn { OnOk result (HasTurn script.now actor
+        (turns_by core.old (B.disk bank.old) journal.old progress.old)
+        (turns_by core.new (B.disk bank.new) journal.new progress.new)) }
+    ensures ready { OnOk result (IsReady script.now
+        (turns_by core.new (B.disk bank.new) journal.new progress.new) journal.new.room) }
+    ensures turns { OnOk result (progress.new.turns ≡ progress.old.turns + 1) }
+    ensures stopped { OnErr result ((cursor : Cursor) → HasStopped script.now
+        (replay_by core.old (B.disk bank.old) journal.old progress.old cursor)
+        (turns_by core.new (B.disk bank.new) journal.new progress.new) progress.new.turns journal.new.room) }
+{
+    progress.count()?;
+    turn_of(alloc, bank, core, script, journal, progress, actor);
+    Ok(())
+}
+
 /// One turn for each letter of the order.
 fn take_order<B: Bank>(
     alloc: Global,
     bank: &mut B,
     core: &mut Core,
     script: &Script,
-    order: &[u8],
     journal: &mut Journal,
-    clients: &mut [Client],
-) -> Result<(), AllocError>
+    progress: &mut Progress,
+) -> Result<(), UsedUp>
     requires allowed { All (λ placed. IsAllowed placed.call) script.now.calls }
-    requires schedule { IsSchedule script.now
-        (turns_of (at_disk core.old (B.disk bank.old)) journal.old.items clients.old) }
-    requires shared { OnlyShared core.old.holds }
-    ensures replayed { HasReplayed script.now
-        (turns_of (at_disk core.old (B.disk bank.old)) journal.old.items clients.old)
-        (turns_of (at_disk core.new (B.disk bank.new)) journal.new.items clients.new) }
+    requires ready { IsReady script.now
+        (turns_by core.old (B.disk bank.old) journal.old progress.old) journal.old.room }
+    ensures played { OnOk result (HasPlayed script.now
+        (replay_by core.old (B.disk bank.old) journal.old progress.old (InOrder script.now.order))
+        (replay_by core.new (B.disk bank.new) journal.new progress.new (InOrder [])) journal.new.room) }
+    ensures stopped { OnErr result (HasStopped script.now
+        (replay_by core.old (B.disk bank.old) journal.old progress.old (InOrder script.now.order))
+        (turns_by core.new (B.disk bank.new) journal.new progress.new) progress.new.turns journal.new.room) }
 {
-    for actor in order {
-        journal.reserve(2)?;
-        turn_of(alloc, bank, core, script, journal, clients, *actor);
+    for actor in script.order() {
+        count_turn_of(alloc, bank, core, script, journal, progress, *actor)?;
     }
     Ok(())
 }
 
-/// Whether the client of this number has a call under way.
-fn is_busy(clients: &[Client], actor: u8) -> bool
-    ensures busy { result ≡ true → 1 ≤ left_at clients.now actor }
-    ensures idle { result ≡ false → (client : ClientOf)
-        → slice_get clients.now actor ≡ Some client → client.under_way ≡ None }
-{
-    match clients.get(usize::from(actor)) {
-        Some(client) => client.under_way.is_some(),
-        None => false,
-    }
-}
-
-/// Whether any client has a call under way.
-fn is_any_busy(clients: &[Client]) -> bool
-    ensures { result ≡ list_any (λ client. is_some client.under_way) clients.now }
-{
-    clients.iter().any(|client| client.under_way.is_some())
-}
-
-/// One turn for a client, where it has a call under way.
+/// One turn for a client in a round, where it has a call under way.
 fn take_if_busy<B: Bank>(
     alloc: Global,
     bank: &mut B,
     core: &mut Core,
     script: &Script,
     journal: &mut Journal,
-    clients: &mut [Client],
+    progress: &mut Progress,
     actor: u8,
-) -> Result<(), AllocError>
+) -> Result<(), UsedUp>
     requires allowed { All (λ placed. IsAllowed placed.call) script.now.calls }
-    requires schedule { IsSchedule script.now
-        (turns_of (at_disk core.old (B.disk bank.old)) journal.old.items clients.old) }
-    requires shared { OnlyShared core.old.holds }
-    ensures replayed { HasReplayed script.now
-        (turns_of (at_disk core.old (B.disk bank.old)) journal.old.items clients.old)
-        (turns_of (at_disk core.new (B.disk bank.new)) journal.new.items clients.new) }
-    ensures fewer { OnOk result ((old : List ClientOf) → HaveFewer actor old clients.old
-        → HaveFewer (actor + 1) old clients.new) }
+    requires ready { IsReady script.now
+        (turns_by core.old (B.disk bank.old) journal.old progress.old) journal.old.room }
+    requires client { actor < script.now.clients }
+    ensures played { OnOk result (HasPlayed script.now
+        (replay_by core.old (B.disk bank.old) journal.old progress.old (InRound actor))
+        (replay_by core.new (B.disk bank.new) journal.new progress.new (InRound (actor + 1))) journal.new.room) }
+    ensures stopped { OnErr result (HasStopped script.now
+        (replay_by core.old (B.disk bank.old) journal.old progress.old (InRound actor))
+        (turns_by core.new (B.disk bank.new) journal.new progress.new) progress.new.turns journal.new.room) }
+    ensures fewer { OnOk result ((old : List ClientOf) → HaveFewer actor old progress.old.clients.items
+        → HaveFewer (actor + 1) old progress.new.clients.items) }
 {
-    if !is_busy(clients, actor) {
+    if !progress.is_busy(actor) {
         return Ok(());
     }
-    journal.reserve(2)?;
-    turn_of(alloc, bank, core, script, journal, clients, actor);
+    count_turn_of(alloc, bank, core, script, journal, progress, actor)?;
     Ok(())
 }
 
@@ -132,92 +154,83 @@ fn take_round<B: Bank>(
     core: &mut Core,
     script: &Script,
     journal: &mut Journal,
-    clients: &mut [Client],
-) -> Result<(), AllocError>
+    progress: &mut Progress,
+) -> Result<(), UsedUp>
     requires allowed { All (λ placed. IsAllowed placed.call) script.now.calls }
-    requires schedule { IsSchedule script.now
-        (turns_of (at_disk core.old (B.disk bank.old)) journal.old.items clients.old) }
-    requires shared { OnlyShared core.old.holds }
-    requires counted { length clients.old ≡ script.now.clients }
-    ensures replayed { HasReplayed script.now
-        (turns_of (at_disk core.old (B.disk bank.old)) journal.old.items clients.old)
-        (turns_of (at_disk core.new (B.disk bank.new)) journal.new.items clients.new) }
-    ensures fewer { OnOk result (HaveFewer script.now.clients clients.old clients.new) }
+    requires ready { IsReady script.now
+        (turns_by core.old (B.disk bank.old) journal.old progress.old) journal.old.room }
+    ensures played { OnOk result (HasPlayed script.now
+        (replay_by core.old (B.disk bank.old) journal.old progress.old (InRound 0))
+        (replay_by core.new (B.disk bank.new) journal.new progress.new (InRound script.now.clients)) journal.new.room) }
+    ensures stopped { OnErr result (HasStopped script.now
+        (replay_by core.old (B.disk bank.old) journal.old progress.old (InRound 0))
+        (turns_by core.new (B.disk bank.new) journal.new progress.new) progress.new.turns journal.new.room) }
+    ensures fewer { OnOk result (HaveFewer script.now.clients
+        progress.old.clients.items progress.new.clients.items) }
 {
     for actor in 0..script.clients() {
-        take_if_busy(alloc, bank, core, script, journal, clients, actor)?;
+        take_if_busy(alloc, bank, core, script, journal, progress, actor)?;
     }
     Ok(())
 }
 
-/// Rounds, until no call is under way.
+/// Rounds, once the order is over, until no call is under way.
 fn take_rounds<B: Bank>(
     alloc: Global,
     bank: &mut B,
     core: &mut Core,
     script: &Script,
     journal: &mut Journal,
-    clients: &mut [Client],
-) -> Result<(), AllocError>
+    progress: &mut Progress,
+) -> Result<(), UsedUp>
     requires allowed { All (λ placed. IsAllowed placed.call) script.now.calls }
-    requires schedule { IsSchedule script.now
-        (turns_of (at_disk core.old (B.disk bank.old)) journal.old.items clients.old) }
-    requires shared { OnlyShared core.old.holds }
-    requires counted { length clients.old ≡ script.now.clients }
-    ensures replayed { HasReplayed script.now
-        (turns_of (at_disk core.old (B.disk bank.old)) journal.old.items clients.old)
-        (turns_of (at_disk core.new (B.disk bank.new)) journal.new.items clients.new) }
-    ensures idle { OnOk result (AreIdle clients.new) }
+    requires ready { IsReady script.now
+        (turns_by core.old (B.disk bank.old) journal.old progress.old) journal.old.room }
+    ensures played { OnOk result (HasPlayed script.now
+        (replay_by core.old (B.disk bank.old) journal.old progress.old (InOrder []))
+        (replay_by core.new (B.disk bank.new) journal.new progress.new (InRest 0)) journal.new.room) }
+    ensures stopped { OnErr result (HasStopped script.now
+        (replay_by core.old (B.disk bank.old) journal.old progress.old (InOrder []))
+        (turns_by core.new (B.disk bank.new) journal.new progress.new) progress.new.turns journal.new.room) }
+    ensures idle { OnOk result (AreIdle progress.new.clients.items) }
 {
-    'rounds: while is_any_busy(clients) {
-        take_round(alloc, bank, core, script, journal, clients)?;
+    'rounds: while progress.is_any_busy() {
+        take_round(alloc, bank, core, script, journal, progress)?;
     }
     Ok(())
 }
 
-/// The next call of a client, from its first turn to its answer.
+/// A call of a client that hasn't begun it, from its first turn to its answer.
 fn take_call<B: Bank>(
     alloc: Global,
     bank: &mut B,
     core: &mut Core,
     script: &Script,
     journal: &mut Journal,
-    clients: &mut [Client],
+    progress: &mut Progress,
     actor: u8,
-) -> Result<(), AllocError>
+    number: u64,
+) -> Result<(), UsedUp>
     requires allowed { All (λ placed. IsAllowed placed.call) script.now.calls }
-    requires schedule { IsSchedule script.now
-        (turns_of (at_disk core.old (B.disk bank.old)) journal.old.items clients.old) }
-    requires shared { OnlyShared core.old.holds }
-    requires idle { AreIdle clients.old }
-    requires left { (client : ClientOf) → slice_get clients.old actor ≡ Some client
-        → client.begun < length (calls_of script.now actor) }
-    ensures replayed { HasReplayed script.now
-        (turns_of (at_disk core.old (B.disk bank.old)) journal.old.items clients.old)
-        (turns_of (at_disk core.new (B.disk bank.new)) journal.new.items clients.new) }
-    ensures begins { OnOk result (BeginsOne actor clients.old clients.new) }
-    ensures idle { OnOk result (AreIdle clients.new) }
+    requires ready { IsReady script.now
+        (turns_by core.old (B.disk bank.old) journal.old progress.old) journal.old.room }
+    requires idle { AreIdle progress.old.clients.items }
+    requires left { has_left_at progress.old.clients.items actor number ≡ true }
+    requires of_client { number ≤ length (calls_of script.now actor) }
+    ensures played { OnOk result ((given : ℕ) → IsCallOf script.now given actor number → HasPlayed script.now
+        (replay_by core.old (B.disk bank.old) journal.old progress.old (InRest given))
+        (replay_by core.new (B.disk bank.new) journal.new progress.new (InRest given)) journal.new.room) }
+    ensures stopped { OnErr result ((given : ℕ) → IsCallOf script.now given actor number → HasStopped script.now
+        (replay_by core.old (B.disk bank.old) journal.old progress.old (InRest given))
+        (turns_by core.new (B.disk bank.new) journal.new progress.new) progress.new.turns journal.new.room) }
+    ensures begins { OnOk result (BeginsOne actor progress.old.clients.items progress.new.clients.items) }
+    ensures idle { OnOk result (AreIdle progress.new.clients.items) }
 {
-    journal.reserve(2)?;
-    turn_of(alloc, bank, core, script, journal, clients, actor);
-    'turns: while is_busy(clients, actor) {
-        journal.reserve(2)?;
-        turn_of(alloc, bank, core, script, journal, clients, actor);
+    count_turn_of(alloc, bank, core, script, journal, progress, actor)?;
+    'turns: while progress.is_busy(actor) {
+        count_turn_of(alloc, bank, core, script, journal, progress, actor)?;
     }
     Ok(())
-}
-
-/// Whether the client of this number hasn't begun its call of that number, from 1.
-fn is_left(clients: &[Client], actor: u8, number: u64) -> bool
-    ensures left { result ≡ true → (client : ClientOf)
-        → slice_get clients.now actor ≡ Some client → client.begun < number }
-    ensures begun { result ≡ false → (client : ClientOf)
-        → slice_get clients.now actor ≡ Some client → number ≤ client.begun }
-{
-    match clients.get(usize::from(actor)) {
-        Some(client) => (client.begun as u64) < number,
-        None => false,
-    }
 }
 
 /// The calls that are left, each whole, in the order of their lines.
@@ -227,23 +240,34 @@ fn take_rest<B: Bank>(
     core: &mut Core,
     script: &Script,
     journal: &mut Journal,
-    clients: &mut [Client],
-) -> Result<(), AllocError>
+    progress: &mut Progress,
+) -> Result<(), UsedUp>
     requires allowed { All (λ placed. IsAllowed placed.call) script.now.calls }
-    requires schedule { IsSchedule script.now
-        (turns_of (at_disk core.old (B.disk bank.old)) journal.old.items clients.old) }
-    requires shared { OnlyShared core.old.holds }
-    requires idle { AreIdle clients.old }
-    ensures replayed { HasReplayed script.now
-        (turns_of (at_disk core.old (B.disk bank.old)) journal.old.items clients.old)
-        (turns_of (at_disk core.new (B.disk bank.new)) journal.new.items clients.new) }
-    ensures begun { OnOk result (HaveBegun script.now (length script.now.calls) clients.new) }
-    ensures idle { OnOk result (AreIdle clients.new) }
+    requires ready { IsReady script.now
+        (turns_by core.old (B.disk bank.old) journal.old progress.old) journal.old.room }
+    requires idle { AreIdle progress.old.clients.items }
+    ensures played { OnOk result (HasPlayed script.now
+        (replay_by core.old (B.disk bank.old) journal.old progress.old (InRest 0))
+        (replay_by core.new (B.disk bank.new) journal.new progress.new (InRest (length script.now.calls))) journal.new.room) }
+    ensures stopped { OnErr result (HasStopped script.now
+        (replay_by core.old (B.disk bank.old) journal.old progress.old (InRest 0))
+        (turns_by core.new (B.disk bank.new) journal.new progress.new) progress.new.turns journal.new.room) }
+    ensures begun { OnOk result (HaveBegun script.now (length script.now.calls) progress.new.clients.items) }
+    ensures idle { OnOk result (AreIdle progress.new.clients.items) }
 {
     let mut calls = script.calls_in_order();
     while let Some(next) = calls.next_call() {
-        if is_left(clients, next.actor, next.number) {
-            take_call(alloc, bank, core, script, journal, clients, next.actor)?;
+        if progress.has_left(next.actor, next.number) {
+            take_call(
+                alloc,
+                bank,
+                core,
+                script,
+                journal,
+                progress,
+                next.actor,
+                next.number,
+            )?;
         }
     }
     Ok(())
@@ -255,63 +279,83 @@ fn take_turns<B: Bank>(
     bank: &mut B,
     core: &mut Core,
     script: &Script,
-    order: &[u8],
     journal: &mut Journal,
-    clients: &mut [Client],
-) -> Result<(), AllocError>
+    progress: &mut Progress,
+) -> Result<(), UsedUp>
     requires allowed { All (λ placed. IsAllowed placed.call) script.now.calls }
-    requires schedule { IsSchedule script.now
-        (turns_of (at_disk core.old (B.disk bank.old)) journal.old.items clients.old) }
-    requires shared { OnlyShared core.old.holds }
-    requires counted { length clients.old ≡ script.now.clients }
-    ensures replayed { HasReplayed script.now
-        (turns_of (at_disk core.old (B.disk bank.old)) journal.old.items clients.old)
-        (turns_of (at_disk core.new (B.disk bank.new)) journal.new.items clients.new) }
-    ensures begun { OnOk result (HaveBegun script.now (length script.now.calls) clients.new) }
-    ensures idle { OnOk result (AreIdle clients.new) }
+    requires ready { IsReady script.now
+        (turns_by core.old (B.disk bank.old) journal.old progress.old) journal.old.room }
+    ensures played { OnOk result (HasPlayed script.now
+        (replay_by core.old (B.disk bank.old) journal.old progress.old (InOrder script.now.order))
+        (replay_by core.new (B.disk bank.new) journal.new progress.new (InRest (length script.now.calls))) journal.new.room) }
+    ensures stopped { OnErr result (HasStopped script.now
+        (replay_by core.old (B.disk bank.old) journal.old progress.old (InOrder script.now.order))
+        (turns_by core.new (B.disk bank.new) journal.new progress.new) progress.new.turns journal.new.room) }
+    ensures begun { OnOk result (HaveBegun script.now (length script.now.calls) progress.new.clients.items) }
+    ensures idle { OnOk result (AreIdle progress.new.clients.items) }
 {
-    take_order(alloc, bank, core, script, order, journal, clients)?;
-    take_rounds(alloc, bank, core, script, journal, clients)?;
-    take_rest(alloc, bank, core, script, journal, clients)
+    take_order(alloc, bank, core, script, journal, progress)?;
+    take_rounds(alloc, bank, core, script, journal, progress)?;
+    take_rest(alloc, bank, core, script, journal, progress)
 }
 
-/// Clients that have begun no call.
-fn blank(alloc: Global, count: u8) -> Result<Vec<Client>, AllocError>
-    ensures { IfOk result (λ clients. clients.items ≡ blank_clients count) }
+/// Clients that have begun no call, with room in the journal for the answers of all their calls, and for a group
+/// beside each.
+fn begin(alloc: Global, script: &Script, journal: &mut Journal) -> Result<Progress, AllocError>
+    ensures same { journal.new.items ≡ journal.old.items }
+    ensures clients { IfOk result (λ progress. progress.clients.items ≡ blank_clients script.now.clients) }
+    ensures turns { IfOk result (λ progress. progress.turns ≡ 0) }
+    ensures room { OnOk result (2 * length script.now.calls ≤ journal.new.room) }
 {
-    let mut clients = Vec::with_capacity(alloc, usize::from(count))?;
-    for _client in 0..count {
-        clients.push(Client::new())?;
-    }
-    Ok(clients)
+    let calls = script.in_line_order().len();
+    journal.reserve(2 * calls)?;
+    Progress::new(alloc, script.clients())
 }
 
 /// Carries out the calls of a script turn by turn. Each letter of the order is one turn of that client: the
 /// next of its call under way, or the first of its next call; one that finds another's call in its way, or
-/// has nothing left, does nothing. After the order the calls under way take one turn each in letter order,
-/// round after round, until all have ended; then the remaining calls are carried out one after the other,
-/// whole, in the order of their lines. Where memory is wanting for an answer the run ends there: calls under
-/// way stay unanswered.
+/// has nothing left, does nothing, and is a turn. After the order the calls under way take one turn each in letter
+/// order, round after round, until all have ended; then the remaining calls are carried out one after the other,
+/// whole, in the order of their lines. Room for all answers is made before the first turn, so that none is kept
+/// from being listed; where memory is wanting for that, nothing is done. After 2^62 turns no more is taken: calls
+/// under way stay as they are.
 pub fn carry_out<B: Bank>(
     alloc: Global,
     bank: &mut B,
     core: &mut Core,
     script: &Script,
-    order: &[u8],
     journal: &mut Journal,
-) -> Result<(), AllocError>
+) -> CarriedOut
     requires bank { HasBank core.old.pool.uber core.old.pool.out (B.disk bank.old) }
     requires rest { IsAtRest core.old }
     requires allowed { All (λ placed. IsAllowed placed.call) script.now.calls }
     requires actors { All (λ placed. placed.actor < script.now.clients) script.now.calls }
     requires none { (index : ℕ) (entry : EntryOf) → CallAt journal.old.items index entry → ⊥ }
-    ensures come { (clients : List ClientOf) × HasCome script.now
-        (turns_of (at_disk core.old (B.disk bank.old)) journal.old.items
-        (blank_clients script.now.clients))
-        (turns_of (at_disk core.new (B.disk bank.new)) journal.new.items clients) }
+    ensures taken { (clients : List ClientOf) × (cursor : Cursor) × HasCome script.now
+        (turns_of (at_disk core.old (B.disk bank.old)) journal.old.items (blank_clients script.now.clients))
+        (turns_of (at_disk core.new (B.disk bank.new)) journal.new.items clients)
+        × EndsSo script.now
+        (replay_at (turns_of (at_disk core.old (B.disk bank.old)) journal.old.items
+        (blank_clients script.now.clients)) 0 (InOrder script.now.order))
+        (replay_at (turns_of (at_disk core.new (B.disk bank.new)) journal.new.items clients) result.turns cursor)
+        result.ended }
     ensures calls { CallsAreRight (asked_by script.now) journal.new.items }
-    ensures complete { OnOk result (IsComplete (asked_by script.now) journal.new.items) }
+    ensures complete { result.ended ≡ Whole → IsComplete (asked_by script.now) journal.new.items }
 {
-    let mut clients = blank(alloc, script.clients())?;
-    take_turns(alloc, bank, core, script, order, journal, &mut clients)
+    let Ok(mut progress) = begin(alloc, script, journal) else {
+        return CarriedOut {
+            ended: Ended::NoMemory,
+            turns: 0,
+        };
+    };
+    match take_turns(alloc, bank, core, script, journal, &mut progress) {
+        Ok(()) => CarriedOut {
+            ended: Ended::Whole,
+            turns: progress.turns,
+        },
+        Err(UsedUp) => CarriedOut {
+            ended: Ended::Limit,
+            turns: progress.turns,
+        },
+    }
 }

@@ -5,16 +5,23 @@ use std::process::Abort;
 use std::test::Fail;
 use uberblock_ring::DeviceSet;
 
-/// Whether a script that is replayed on a new pool is told this.
-fn tells(rt: &impl Abort, alloc: Global, script: &[u8], wanted: &[u8]) -> Result<(), Fail> {
+/// Whether a script that is replayed on a new pool is told this, in so many turns.
+fn tells(
+    rt: &impl Abort,
+    alloc: Global,
+    script: &[u8],
+    turns: u64,
+    wanted: &[u8],
+) -> Result<(), Fail> {
     let mut bank = bank_of_nine(rt, alloc)?;
     let told = replay(alloc, &mut bank, script)?;
     assert_eq!(rt; told.text.as_slice(), wanted);
-    assert_eq!(rt; told.ended, finished(DeviceSet::empty()));
+    assert_eq!(rt; told.ended, finished(turns, DeviceSet::empty()));
     Ok(())
 }
 
-/// A put of one sector has four turns: its first, two writes, its last.
+/// A put of one sector has four turns: its first, two writes, its last. So has a read of it: its first, two columns, its
+/// last. Beside the order's eight turns there is a read after it.
 const TWO_PUTS: &[u8] = b"clients 2
 a puthex 7 61
 b puthex 7 62
@@ -30,10 +37,10 @@ const TWO_PUTS_TOLD: &[u8] = b"0 group 3 after 0
 
 #[test]
 fn of_two_puts_the_later_last_turn_wins(rt: HostRuntime) -> Result<(), Fail> {
-    tells(&rt, rt.alloc(), TWO_PUTS, TWO_PUTS_TOLD)
+    tells(&rt, rt.alloc(), TWO_PUTS, 8 + 4, TWO_PUTS_TOLD)
 }
 
-/// All writes of the put are made when the first read begins.
+/// All writes of the put are made when the first read begins, which has one turn, as it finds nothing.
 const BEFORE_THE_END: &[u8] = b"clients 2
 a puthex 7 61
 b get 7
@@ -49,10 +56,11 @@ const BEFORE_THE_END_TOLD: &[u8] = b"0 group 3 after 0
 
 #[test]
 fn a_put_is_there_from_its_last_turn_on(rt: HostRuntime) -> Result<(), Fail> {
-    tells(&rt, rt.alloc(), BEFORE_THE_END, BEFORE_THE_END_TOLD)
+    tells(&rt, rt.alloc(), BEFORE_THE_END, 5 + 4, BEFORE_THE_END_TOLD)
 }
 
-/// The second sync finds the first one under way, three times.
+/// The second sync finds the first one under way, three times; these are turns too. A sync of no block on three devices
+/// has 11 turns: its first, a sync, a write of the uberblock and a sync for each device, its last.
 const TWO_SYNCS: &[u8] = b"clients 2
 a sync
 b sync
@@ -68,11 +76,11 @@ const TWO_SYNCS_TOLD: &[u8] = b"0 group 3 after 0
 
 #[test]
 fn a_sync_waits_for_another(rt: HostRuntime) -> Result<(), Fail> {
-    tells(&rt, rt.alloc(), TWO_SYNCS, TWO_SYNCS_TOLD)
+    tells(&rt, rt.alloc(), TWO_SYNCS, 4 + 10 + 11, TWO_SYNCS_TOLD)
 }
 
-/// A sync of two blocks on three devices has 14 turns. The read begins once the first one is answered, and goes on
-/// after all else.
+/// A sync of two blocks has 14 turns: each device's index page is one write more. The read begins once the first sync is
+/// answered, and goes on after all else.
 const READ_OF_A_FREED_BLOCK: &[u8] = b"clients 2
 a put 1 512 0
 a put 2 512 1
@@ -106,6 +114,7 @@ fn a_read_answers_the_map_of_its_first_turn(rt: HostRuntime) -> Result<(), Fail>
         &rt,
         rt.alloc(),
         READ_OF_A_FREED_BLOCK,
+        22 + 1 + 23 + 3,
         READ_OF_A_FREED_BLOCK_TOLD,
     )
 }
@@ -135,13 +144,13 @@ const READ_TOLD: &[u8] = b"0 group 6 after 0
 fn a_group_has_the_map_of_its_syncs_first_turn(rt: HostRuntime) -> Result<(), Fail> {
     let alloc = rt.alloc();
     let mut bank = bank_of_nine(&rt, alloc)?;
-    for (script, wanted) in [
-        (PUT_BESIDE_A_SYNC, PUT_BESIDE_A_SYNC_TOLD),
-        (READ, READ_TOLD),
+    for (script, turns, wanted) in [
+        (PUT_BESIDE_A_SYNC, 5 + 10, PUT_BESIDE_A_SYNC_TOLD),
+        (READ, 1, READ_TOLD),
     ] {
         let told = replay(alloc, &mut bank, script)?;
         assert_eq!(rt; told.text.as_slice(), wanted);
-        assert_eq!(rt; told.ended, finished(DeviceSet::empty()));
+        assert_eq!(rt; told.ended, finished(turns, DeviceSet::empty()));
     }
     Ok(())
 }
@@ -173,7 +182,7 @@ fn puts_go_on_side_by_side_past_a_device_that_fails(rt: HostRuntime) -> Result<(
         let told = replay(alloc, &mut bank, SIDE_BY_SIDE)?;
         let out = DeviceSet::from_bits(1 << device);
         assert_eq!(rt; told.text.as_slice(), SIDE_BY_SIDE_TOLD, "without {device}");
-        assert_eq!(rt; told.ended, finished(out), "without {device}");
+        assert_eq!(rt; told.ended, finished(8 + 4 + 4, out), "without {device}");
     }
     Ok(())
 }

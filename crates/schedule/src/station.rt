@@ -1,5 +1,5 @@
 // A turn of one client.
-ghost use Rattle.std.specs.Prelude.{◌≡◌, ◌≤◌, ◌-◌, ℕ, None, Some, length, slice_get};
+ghost use Rattle.std.specs.Prelude.{◌≡◌, ◌≤◌, ◌<◌, ◌+◌, ◌-◌, ℕ, None, Some, length, slice_get};
 ghost use Rattle.bank_trait.specs.Disk.{Disk, Lawful};
 ghost use Rattle.client_script.specs.declared.call.ScriptCall.{ScriptCall as CallOf};
 ghost use Rattle.client_script.specs.Script.{IsAllowed};
@@ -7,6 +7,7 @@ ghost use Rattle.core_serial.specs.Pool.{HasBank};
 ghost use Rattle.core_turns.specs.Core.{IsCore};
 ghost use Rattle.serial_run.specs.Steps.{point_after, read_point};
 ghost use Rattle.schedule.specs.declared.client.UnderWay.{UnderWay as UnderWayOf};
+ghost use Rattle.schedule.specs.Playing.{UsesRoom, unanswered};
 ghost use Rattle.schedule.specs.Turned.{MayGoOn, Turned, entry_for, listed_with, station_of};
 
 use crate::client::{Client, UnderWay};
@@ -56,7 +57,8 @@ fn entry_for(call: &ScriptCall, actor: u8, number: usize, at: usize, answer: Ans
 /// Lists an answer, and before it the group that its call made, if it made one.
 fn list_answer(journal: &mut Journal, widths: &Reflow, at: usize, entry: Entry)
     requires room { 2 ≤ journal.old.room }
-    ensures { journal.new.items ≡ listed_with widths.now journal.old.items at entry entry.answer }
+    ensures items { journal.new.items ≡ listed_with widths.now journal.old.items at entry entry.answer }
+    ensures room { journal.old.room ≤ journal.new.room + 2 }
 {
     if let Answer::Synced { group } = entry.answer {
         journal.list(Item::Group(Group {
@@ -79,13 +81,14 @@ fn begin_next(
     client: &mut Client,
 )
     requires allowed { (number : ℕ) (call : CallOf) → slice_get calls.now number ≡ Some call → IsAllowed call }
-    requires room { 2 ≤ journal.old.room }
+    requires room { client.old.begun < length calls.now → 2 ≤ journal.old.room }
     requires idle { client.old.under_way ≡ None }
     ensures turned { (disk : Disk) → Turned calls.now actor
         (station_of core.old disk journal.old.items client.old)
         (station_of core.new disk journal.new.items client.new) }
     ensures bank { (disk : Disk) → HasBank core.old.pool.uber core.old.pool.out disk
         → HasBank core.new.pool.uber core.new.pool.out disk }
+    ensures room { UsesRoom journal.old.room journal.new.room client.old client.new }
 {
     let Some(call) = calls.get(client.begun) else {
         return;
@@ -116,7 +119,7 @@ pub fn take_turn<B: Bank>(
     client: &mut Client,
 )
     requires allowed { (number : ℕ) (call : CallOf) → slice_get calls.now number ≡ Some call → IsAllowed call }
-    requires room { 2 ≤ journal.old.room }
+    requires room { 1 ≤ unanswered (length calls.now) client.old → 2 ≤ journal.old.room }
     requires bank { HasBank core.old.pool.uber core.old.pool.out (B.disk bank.old) }
     requires few { client.old.begun ≤ length calls.now }
     requires begun { (under : UnderWayOf) → client.old.under_way ≡ Some under → 1 ≤ client.old.begun }
@@ -128,6 +131,7 @@ pub fn take_turn<B: Bank>(
     ensures is { IsCore core.old }
     ensures bank { HasBank core.new.pool.uber core.new.pool.out (B.disk bank.new) }
     ensures lawful { Lawful (B.disk bank.old) × Lawful (B.disk bank.new) }
+    ensures room { UsesRoom journal.old.room journal.new.room client.old client.new }
 {
     let widths = core.reflow();
     let Some(under_way) = client.under_way.take() else {

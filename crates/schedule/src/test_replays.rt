@@ -17,11 +17,11 @@ pub struct Told {
     pub text: MemSink,
 }
 
-/// How a replay ends that answers each call while these devices are out.
-pub fn finished(out: DeviceSet) -> Result<Replayed, OpenWhy> {
+/// How a replay ends that answers each call, in so many turns, while these devices are out.
+pub fn finished(turns: u64, out: DeviceSet) -> Result<Replayed, OpenWhy> {
     Ok(Replayed {
         ended: Ended::Whole,
-        turns: 0,
+        turns,
         out,
     })
 }

@@ -7,7 +7,8 @@ ghost use Rattle.client_script.specs.Script.{IsAllowed, asked_by};
 ghost use Rattle.core_serial.specs.Opening.{CutsOpening, LeavesUnopened};
 ghost use Rattle.serial_run.specs.WholeRun.{first_item};
 ghost use Rattle.schedule.specs.declared.whole_run.Ended.TheVariants.{Whole, Limit};
-ghost use Rattle.schedule.specs.WholeRun.{HasTakenTurns, most_turns};
+ghost use Rattle.schedule.specs.Playing.{most_turns};
+ghost use Rattle.schedule.specs.WholeRun.{HasTakenTurns};
 
 use crate::replay::carry_out;
 use bank_trait::Bank;
@@ -19,8 +20,8 @@ use core_turns::Core;
 use std::alloc::Global;
 use uberblock_ring::DeviceSet;
 
-/// How far a replay came: each call is answered; or room for the next call's answer was wanting; or no more
-/// turns can be counted.
+/// How far a replay came: each call is answered; or memory for the answers was wanting, and no turn was taken; or no
+/// more turns can be counted.
 #[derive(Clone, Copy, Debug, PartialEq, Eq)]
 pub enum Ended {
     Whole,
@@ -28,7 +29,8 @@ pub enum Ended {
     Limit,
 }
 
-/// How a replay ended, how many turns it took, and the devices that are out.
+/// How a replay ended, how many turns it took, those that found a call in their way too, and the devices that are
+/// out.
 #[derive(Clone, Copy, Debug, PartialEq, Eq)]
 pub struct Replayed {
     pub ended: Ended,
@@ -79,13 +81,10 @@ pub fn replay_pool<B: Bank>(
     let opened = open_pool(alloc, bank)?;
     journal.list(Item::Group(first_item(&opened.pool)));
     let mut core = Core::new(alloc, opened.pool);
-    let ended = match carry_out(alloc, bank, &mut core, script, script.order(), journal) {
-        Ok(()) => Ended::Whole,
-        Err(_) => Ended::NoMemory,
-    };
+    let carried_out = carry_out(alloc, bank, &mut core, script, journal);
     Ok(Replayed {
-        ended,
-        turns: 0,
+        ended: carried_out.ended,
+        turns: carried_out.turns,
         out: core.out(),
     })
 }

@@ -1,37 +1,76 @@
-use Rattle.std.proofs.Common.{List, length, sym, ◌∙◌, ap, subst}
-use Rattle.std.proofs.lemmas.List.{length-replicate}
-use Rattle.core_state.specs.Journal.{IsComplete}
+use Rattle.std.proofs.Common.{List, length, refl, sym, ap, subst}
+use Rattle.core_state.specs.declared.item.Item.{Item}
+use Rattle.core_state.specs.Journal.{CallsAreRight}
 use Rattle.client_script.specs.Script.{asked_by}
 use Rattle.core_turns.specs.Core.{at_disk}
-use Rattle.schedule.specs.declared.client.Client.{Client as ClientOf}
-use Rattle.schedule.specs.Coming.{IsSchedule, turns_of}
-use Rattle.schedule.specs.Replaying.{AreIdle, HaveBegun, blank_client, blank_clients}
-use Rattle.schedule.proofs.AtRest.{complete_at_rest, ok_both, schedule_at_rest}
+use Rattle.schedule.specs.Coming.{HasCome, turns_of}
+use Rattle.schedule.specs.InTurn.{InOrder, InRest, Replay, replay_at, turns_by}
+use Rattle.schedule.specs.Playing.{HasPlayed, HasStopped}
+use Rattle.schedule.specs.Replaying.{blank_clients}
+use Rattle.schedule.proofs.AtRest.{complete_at_rest, first_is, ready_at_rest, schedule_at_rest}
 use Rattle.schedule.proofs.Coming.{came_nowhere}
 use Rattle.schedule.proofs.replay.carry_out.Goals as goal
 
-pub returns-in_err-clients-clause-come : goal.returns-in_err-clients-clause-come
-returns-in_err-clients-clause-come g c = (
+pub returns-in_default-clause-taken : goal.returns-in_default-clause-taken
+returns-in_default-clause-taken g c = (
   blank_clients c.args.script.now.clients,
-  came_nowhere c.args.script.now
-      (turns_of (at_disk c.args.core.now (g.B.Bank.disk c.args.bank.now)) c.args.journal.now.items
-      (blank_clients c.args.script.now.clients)),
+  InOrder c.args.script.now.order,
+  subst (λ (items : List Item). HasCome c.args.script.now (turns_of (at_disk c.args.core.now (g.B.Bank.disk c.args.bank.now)) c.args.journal.now.items
+      (blank_clients c.args.script.now.clients))
+      (turns_of (at_disk c.args.core.now (g.B.Bank.disk c.args.bank.now)) items
+      (blank_clients c.args.script.now.clients))) (sym c.begin.ensures.same)
+      (came_nowhere c.args.script.now (turns_of (at_disk c.args.core.now (g.B.Bank.disk c.args.bank.now)) c.args.journal.now.items
+      (blank_clients c.args.script.now.clients))),
+  ap (λ (items : List Item). replay_at (turns_of (at_disk c.args.core.now (g.B.Bank.disk c.args.bank.now)) items
+      (blank_clients c.args.script.now.clients)) 0 (InOrder c.args.script.now.order)) c.begin.ensures.same,
 )
 
-pub take_turns-requires-clause-schedule : goal.take_turns-requires-clause-schedule
-take_turns-requires-clause-schedule g c =
-    subst (λ (clients : List ClientOf). IsSchedule c.args.script.now
-    (turns_of (at_disk c.args.core.now (g.B.Bank.disk c.args.bank.now)) c.args.journal.now.items clients))
-    (sym (c.deref_mut.ensures.value ∙ c.in_ok-clients.ensures ∙ ap blank_clients c.clients.ensures))
+pub returns-in_default-clause-calls : goal.returns-in_default-clause-calls
+returns-in_default-clause-calls g c =
+    subst (λ (items : List Item). CallsAreRight (asked_by c.args.script.now) items) (sym c.begin.ensures.same)
     (schedule_at_rest c.args.script.now c.args.core.now (g.B.Bank.disk c.args.bank.now) c.args.journal.now.items
-    c.args.script.now.clients c.requires.rest c.requires.bank c.requires.none)
+    c.args.script.now.clients c.requires.rest c.requires.bank c.requires.none).answered.right
 
-pub returns-clause-complete : goal.returns-clause-complete
-returns-clause-complete g c = ok_both (HaveBegun c.args.script.now (length c.args.script.now.calls) c.take_turns.new.clients)
-    (AreIdle c.take_turns.new.clients) (IsComplete (asked_by c.args.script.now) c.take_turns.new.journal.items)
-    c.take_turns.result c.take_turns.ensures.begun c.take_turns.ensures.idle
-    (complete_at_rest c.args.script.now c.take_turns.new.journal.items c.take_turns.new.clients c.requires.actors
-    (c.take_turns.auto.clients
-    ∙ ap length (c.deref_mut.ensures.value ∙ c.in_ok-clients.ensures ∙ ap blank_clients c.clients.ensures)
-    ∙ length-replicate c.args.script.now.clients blank_client)
-    c.take_turns.ensures.replayed.schedule.answered)
+pub take_turns-requires-clause-ready : goal.take_turns-requires-clause-ready
+take_turns-requires-clause-ready g c = ready_at_rest c.args.script.now c.args.core.now (g.B.Bank.disk c.args.bank.now)
+    c.args.journal.now.items c.begin.new.journal c.in-Ok.progress c.requires.rest c.requires.bank c.requires.none
+    c.begin.ensures.same c.in-Ok.ensures.clients c.in-Ok.ensures.room
+
+pub returns-in-Ok-take_turns-clause-taken : goal.returns-in-Ok-take_turns-clause-taken
+returns-in-Ok-take_turns-clause-taken g c =
+    let played = subst (λ (first : Replay). HasPlayed c.args.script.now first
+    (replay_at (turns_by c.take_turns.new.core (g.B.Bank.disk c.take_turns.new.bank) c.take_turns.new.journal c.take_turns.new.progress) c.take_turns.new.progress.turns (InRest (length c.args.script.now.calls)))
+    c.take_turns.new.journal.room)
+    (first_is c.args.script.now c.args.core.now (g.B.Bank.disk c.args.bank.now) c.args.journal.now.items
+    c.begin.new.journal c.in-Ok.progress (InOrder c.args.script.now.order) c.begin.ensures.same c.in-Ok.ensures.clients
+    c.in-Ok.ensures.turns) c.in-Ok-take_turns.ensures.played in (
+      c.take_turns.new.progress.clients.items,
+      InRest (length c.args.script.now.calls),
+      played.come,
+      (played.gone, refl, c.in-Ok-take_turns.ensures.idle),
+    )
+
+pub returns-in-Ok-take_turns-clause-calls : goal.returns-in-Ok-take_turns-clause-calls
+returns-in-Ok-take_turns-clause-calls g c = c.in-Ok-take_turns.ensures.played.ready.schedule.answered.right
+
+pub returns-in-Ok-take_turns-clause-complete : goal.returns-in-Ok-take_turns-clause-complete
+returns-in-Ok-take_turns-clause-complete g c = λ whole. complete_at_rest c.args.script.now c.take_turns.new.journal.items
+    c.take_turns.new.progress.clients.items c.requires.actors c.in-Ok-take_turns.ensures.played.ready.counted
+    c.in-Ok-take_turns.ensures.played.ready.schedule.answered c.in-Ok-take_turns.ensures.begun
+    c.in-Ok-take_turns.ensures.idle
+
+pub returns-clause-taken : goal.returns-clause-taken
+returns-clause-taken g c =
+    let stopped = subst (λ (first : Replay). HasStopped c.args.script.now first (turns_by c.take_turns.new.core (g.B.Bank.disk c.take_turns.new.bank) c.take_turns.new.journal c.take_turns.new.progress)
+    c.take_turns.new.progress.turns c.take_turns.new.journal.room)
+    (first_is c.args.script.now c.args.core.now (g.B.Bank.disk c.args.bank.now) c.args.journal.now.items
+    c.begin.new.journal c.in-Ok.progress (InOrder c.args.script.now.order) c.begin.ensures.same c.in-Ok.ensures.clients
+    c.in-Ok.ensures.turns) c.in-Err.ensures.stopped in (
+      c.take_turns.new.progress.clients.items,
+      stopped.cursor,
+      stopped.played.come,
+      (stopped.played.gone, stopped.most),
+    )
+
+pub returns-clause-calls : goal.returns-clause-calls
+returns-clause-calls g c = c.in-Err.ensures.stopped.played.ready.schedule.answered.right

@@ -1,15 +1,16 @@
-use Rattle.core_turns.specs.Core.{at_disk}
-use Rattle.schedule.specs.Coming.{turns_of}
-use Rattle.schedule.specs.Replaying.{BeginsOne, HasReplayed, left_at}
+use Rattle.std.proofs.Common.{ℕ}
+use Rattle.schedule.specs.InTurn.{InRest, IsCallOf, replay_by, turns_by}
+use Rattle.schedule.specs.Playing.{HasPlayed, IsReady}
+use Rattle.schedule.specs.Replaying.{BeginsOne, left_at}
 use Rattle.schedule.proofs.replay.take_call.Given as goal
 
 abbrev pub invariant-turns : goal.invariant-turns
 invariant-turns g l = record {
-  replayed : HasReplayed l.script
-      (turns_of (at_disk l.fn.core (g.B.Bank.disk l.fn.bank)) l.fn.journal.items l.fn.clients)
-      (turns_of (at_disk l.core (g.B.Bank.disk l.bank)) l.journal.items l.clients);
-  begins : BeginsOne l.actor l.fn.clients l.clients;
+  ready : IsReady l.script (turns_by l.core (g.B.Bank.disk l.bank) l.journal l.progress) l.journal.room;
+  played : (given : ℕ) → IsCallOf l.script given l.actor l.number → HasPlayed l.script (replay_by l.fn.core (g.B.Bank.disk l.fn.bank) l.fn.journal l.fn.progress (InRest given))
+      (replay_by l.core (g.B.Bank.disk l.bank) l.journal l.progress (InRest given)) l.journal.room;
+  begins : BeginsOne l.actor l.fn.progress.clients.items l.progress.clients.items;
 }
 
 abbrev pub decreases-turns : goal.decreases-turns
-decreases-turns g l = left_at l.clients l.actor
+decreases-turns g l = left_at l.progress.clients.items l.actor

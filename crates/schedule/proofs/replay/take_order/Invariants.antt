@@ -1,9 +1,10 @@
-use Rattle.core_turns.specs.Core.{at_disk}
-use Rattle.schedule.specs.Coming.{turns_of}
-use Rattle.schedule.specs.Replaying.{HasReplayed}
+use Rattle.std.proofs.Common.{drop}
+use Rattle.schedule.specs.InTurn.{InOrder, replay_by}
+use Rattle.schedule.specs.Playing.{HasPlayed}
 use Rattle.schedule.proofs.replay.take_order.Given as goal
 
 abbrev pub invariant-loop-actor : goal.invariant-loop-actor
-invariant-loop-actor g l = HasReplayed l.script
-    (turns_of (at_disk l.fn.core (g.B.Bank.disk l.fn.bank)) l.fn.journal.items l.fn.clients)
-    (turns_of (at_disk l.core (g.B.Bank.disk l.bank)) l.journal.items l.clients)
+invariant-loop-actor g l = HasPlayed l.script
+    (replay_by l.fn.core (g.B.Bank.disk l.fn.bank) l.fn.journal l.fn.progress (InOrder l.script.order))
+    (replay_by l.core (g.B.Bank.disk l.bank) l.journal l.progress (InOrder (drop l.actor-index l.script.order)))
+    l.journal.room

@@ -1,13 +1,12 @@
-use Rattle.core_turns.specs.Core.{at_disk}
-use Rattle.schedule.specs.Coming.{turns_of}
+use Rattle.std.proofs.Common.{[]}
+use Rattle.schedule.specs.InTurn.{InOrder, after_round, replay_by}
 use Rattle.schedule.specs.Left.{most_left}
-use Rattle.schedule.specs.Replaying.{HasReplayed}
+use Rattle.schedule.specs.Playing.{HasPlayed}
 use Rattle.schedule.proofs.replay.take_rounds.Given as goal
 
 abbrev pub invariant-rounds : goal.invariant-rounds
-invariant-rounds g l = HasReplayed l.script
-    (turns_of (at_disk l.fn.core (g.B.Bank.disk l.fn.bank)) l.fn.journal.items l.fn.clients)
-    (turns_of (at_disk l.core (g.B.Bank.disk l.bank)) l.journal.items l.clients)
+invariant-rounds g l = HasPlayed l.script (replay_by l.fn.core (g.B.Bank.disk l.fn.bank) l.fn.journal l.fn.progress (InOrder []))
+    (replay_by l.core (g.B.Bank.disk l.bank) l.journal l.progress (after_round l.progress.clients.items)) l.journal.room
 
 abbrev pub decreases-rounds : goal.decreases-rounds
-decreases-rounds g l = most_left l.clients
+decreases-rounds g l = most_left l.progress.clients.items

@@ -1,74 +1,95 @@
-use Rattle.std.proofs.Common.{◌≡◌, ◌≤◌, ◌-◌, List, Some, length, sym, subst, arith, slice_set, slice_index_or}
+use Rattle.std.proofs.Common.{◌≡◌, ◌<◌, ◌≤◌, ◌-◌, List, Some, length, sym, subst, arith, slice_set, length-set}
 use Rattle.std.specs.Prelude.{slice_get}
 use Rattle.client_script.specs.declared.call.ScriptCall.{ScriptCall as CallOf}
-use Rattle.core_turns.specs.Core.{at_disk}
-use Rattle.schedule.specs.Coming.{turns_of}
+use Rattle.client_script.specs.Script.{calls_of}
+use Rattle.schedule.specs.Comes.{TakesTurn}
+use Rattle.schedule.specs.InTurn.{turns_by}
+use Rattle.schedule.specs.Playing.{unanswered}
 use Rattle.schedule.specs.Turned.{Turned, station_of}
-use Rattle.schedule.proofs.Replaying.{allowed_of, changes_at, client_at, going_may, turn_none, turn_taken}
-use Rattle.schedule.proofs.UsingLaw.{turn_uses}
+use Rattle.schedule.proofs.Replaying.{allowed_of, client_there, going_may, turn_few, turn_none, takes_turn, turn_ready, turn_taken}
+use Rattle.schedule.proofs.Rooms.{room_after, room_left}
 use Rattle.schedule.proofs.replay.turn_of.Goals as goal
 
 pub take_turn-requires-clause-allowed : goal.take_turn-requires-clause-allowed
 take_turn-requires-clause-allowed g c = λ number call is. allowed_of c.args.script.now c.args.actor c.requires.allowed number call
     (subst (λ (calls : List CallOf). slice_get calls number ≡ Some call) c.calls.ensures is)
 
+pub take_turn-requires-clause-room : goal.take_turn-requires-clause-room
+take_turn-requires-clause-room g c = λ some. room_left c.args.script.now c.args.actor c.args.journal.now.room
+    c.args.progress.now.clients.items c.index_mut-client.result.now c.requires.ready.enough
+    (client_there c.args.progress.now.clients.items c.from-place.result c.args.actor c.index_mut-client.result.now
+    c.from-place.ensures (omega (arith, c.if-place-len.true, c.len.ensures, c.args.progress.now.clients.ok)) c.index_mut-client.ensures.value)
+    (subst (λ (calls : List CallOf). 1 ≤ unanswered (length calls) c.index_mut-client.result.now) c.calls.ensures some)
+
 pub take_turn-requires-clause-few : goal.take_turn-requires-clause-few
 take_turn-requires-clause-few g c =
-    let client = slice_index_or c.args.clients.now c.from-place.result c.index-clients-place.result in
-    subst (λ (calls : List CallOf). client.begun ≤ length calls) (sym c.calls.ensures)
-    (c.requires.schedule.answered.few c.args.actor client (client_at c.args.clients.now c.from-place.result c.args.actor
-    c.index-clients-place.result c.from-place.ensures c.if-place-clients.true))
+    subst (λ (calls : List CallOf). c.index_mut-client.result.now.begun ≤ length calls) (sym c.calls.ensures)
+    (c.requires.ready.schedule.answered.few c.args.actor c.index_mut-client.result.now
+    (client_there c.args.progress.now.clients.items c.from-place.result c.args.actor c.index_mut-client.result.now
+    c.from-place.ensures (omega (arith, c.if-place-len.true, c.len.ensures, c.args.progress.now.clients.ok)) c.index_mut-client.ensures.value))
 
 pub take_turn-requires-clause-begun : goal.take_turn-requires-clause-begun
-take_turn-requires-clause-begun g c = λ under going. c.requires.schedule.answered.some c.args.actor _ under
-    (client_at c.args.clients.now c.from-place.result c.args.actor c.index-clients-place.result c.from-place.ensures
-    c.if-place-clients.true) going
+take_turn-requires-clause-begun g c = λ under going. c.requires.ready.schedule.answered.some c.args.actor
+    c.index_mut-client.result.now under
+    (client_there c.args.progress.now.clients.items c.from-place.result c.args.actor c.index_mut-client.result.now
+    c.from-place.ensures (omega (arith, c.if-place-len.true, c.len.ensures, c.args.progress.now.clients.ok)) c.index_mut-client.ensures.value)
+    going
 
 pub take_turn-requires-clause-may : goal.take_turn-requires-clause-may
 take_turn-requires-clause-may g c = λ under call going is.
-    let client = slice_index_or c.args.clients.now c.from-place.result c.index-clients-place.result in
-    going_may c.args.script.now c.args.core.now c.args.clients.now c.args.actor client under call c.requires.schedule.going
+    let client = c.index_mut-client.result.now in
+    going_may c.args.script.now c.args.core.now c.args.progress.now.clients.items c.args.actor client under call
+    c.requires.ready.schedule.going
     (record {
-      there = client_at c.args.clients.now c.from-place.result c.args.actor c.index-clients-place.result c.from-place.ensures
-          c.if-place-clients.true;
+      there = (client_there c.args.progress.now.clients.items c.from-place.result c.args.actor c.index_mut-client.result.now
+          c.from-place.ensures (omega (arith, c.if-place-len.true, c.len.ensures, c.args.progress.now.clients.ok)) c.index_mut-client.ensures.value);
       under_way = going;
     })
     (subst (λ (calls : List CallOf). slice_get calls (client.begun - 1) ≡ Some call) c.calls.ensures is)
 
-pub returns-then-place-clients : goal.returns-then-place-clients
-returns-then-place-clients g c =
-    let client = slice_index_or c.args.clients.now c.from-place.result c.index-clients-place.result in
-    let before = station_of c.args.core.now (g.B.Bank.disk c.args.bank.now) c.args.journal.now.items client in
-    let after = station_of c.take_turn.new.core (g.B.Bank.disk c.take_turn.new.bank) c.take_turn.new.journal.items
-    c.take_turn.new.client in record {
-      turn = turn_taken c.args.script.now c.args.actor before after c.args.clients.now
-          (slice_set c.args.clients.now c.from-place.result c.take_turn.new.client)
-          (record {
-            schedule = c.requires.schedule;
-            was = client_at c.args.clients.now c.from-place.result c.args.actor c.index-clients-place.result c.from-place.ensures
-                c.if-place-clients.true;
-            changes = changes_at c.args.clients.now c.from-place.result c.args.actor c.take_turn.new.client c.from-place.ensures
-                c.if-place-clients.true;
-            is = c.take_turn.ensures.is;
-            lawful = c.take_turn.ensures.lawful.0;
-            still_lawful = c.take_turn.ensures.lawful.1;
-            space = λ uber entries stood. turn_uses c.args.script.now c.args.actor before after c.args.clients.now
-                (slice_set c.args.clients.now c.from-place.result c.take_turn.new.client) c.requires.schedule.going
-                (client_at c.args.clients.now c.from-place.result c.args.actor c.index-clients-place.result
-                c.from-place.ensures c.if-place-clients.true)
-                (changes_at c.args.clients.now c.from-place.result c.args.actor c.take_turn.new.client
-                c.from-place.ensures c.if-place-clients.true)
-                c.take_turn.ensures.is uber entries stood
-                (subst (λ (calls : List CallOf). Turned calls c.args.actor before after) c.calls.ensures
-                c.take_turn.ensures.turned);
-          })
-          c.requires.allowed c.requires.shared
-          (subst (λ (calls : List CallOf). Turned calls c.args.actor before after) c.calls.ensures c.take_turn.ensures.turned);
-    }
+pub returns-then-place-len-clause-turn : goal.returns-then-place-len-clause-turn
+returns-then-place-len-clause-turn g c =
+    let clients = c.args.progress.now.clients.items in
+    let client = c.index_mut-client.result.now in
+    let news = slice_set clients c.from-place.result c.take_turn.new.client in
+    let before = station_of c.args.core.now (g.B.Bank.disk c.args.bank.now) c.args.journal.now.items c.index_mut-client.result.now in
+    let after = station_of c.take_turn.new.core (g.B.Bank.disk c.take_turn.new.bank) c.take_turn.new.journal.items c.take_turn.new.client in
+    let low : c.from-place.result < length clients =
+    omega (arith, c.if-place-len.true, c.len.ensures, c.args.progress.now.clients.ok) in
+    let there : slice_get clients c.args.actor ≡ Some client =
+    client_there clients c.from-place.result c.args.actor client c.from-place.ensures low c.index_mut-client.ensures.value in
+    let turned : Turned (calls_of c.args.script.now c.args.actor) c.args.actor before after =
+    subst (λ (calls : List CallOf). Turned calls c.args.actor before after) c.calls.ensures c.take_turn.ensures.turned in
+    let takes : TakesTurn c.args.script.now c.args.actor before after clients news =
+    takes_turn c.args.script.now c.from-place.result c.args.actor before after clients c.requires.ready.schedule there
+    c.from-place.ensures low c.take_turn.ensures.is c.take_turn.ensures.lawful turned in
+    turn_taken c.args.script.now c.args.actor before after clients news takes c.requires.allowed c.requires.ready.shared turned
 
-pub returns-else-place-clients : goal.returns-else-place-clients
-returns-else-place-clients g c = record {
-  turn = turn_none c.args.script.now c.args.actor
-      (turns_of (at_disk c.args.core.now (g.B.Bank.disk c.args.bank.now)) c.args.journal.now.items c.args.clients.now)
-      c.requires.schedule c.requires.shared (omega (arith, c.if-place-clients.false, c.from-place.ensures));
-}
+pub returns-then-place-len-clause-ready : goal.returns-then-place-len-clause-ready
+returns-then-place-len-clause-ready g c =
+    let clients = c.args.progress.now.clients.items in
+    let client = c.index_mut-client.result.now in
+    let news = slice_set clients c.from-place.result c.take_turn.new.client in
+    let before = station_of c.args.core.now (g.B.Bank.disk c.args.bank.now) c.args.journal.now.items c.index_mut-client.result.now in
+    let after = station_of c.take_turn.new.core (g.B.Bank.disk c.take_turn.new.bank) c.take_turn.new.journal.items c.take_turn.new.client in
+    let low : c.from-place.result < length clients =
+    omega (arith, c.if-place-len.true, c.len.ensures, c.args.progress.now.clients.ok) in
+    let there : slice_get clients c.args.actor ≡ Some client =
+    client_there clients c.from-place.result c.args.actor client c.from-place.ensures low c.index_mut-client.ensures.value in
+    let turned : Turned (calls_of c.args.script.now c.args.actor) c.args.actor before after =
+    subst (λ (calls : List CallOf). Turned calls c.args.actor before after) c.calls.ensures c.take_turn.ensures.turned in
+    let takes : TakesTurn c.args.script.now c.args.actor before after clients news =
+    takes_turn c.args.script.now c.from-place.result c.args.actor before after clients c.requires.ready.schedule there
+    c.from-place.ensures low c.take_turn.ensures.is c.take_turn.ensures.lawful turned in
+    turn_ready c.args.script.now c.args.actor before after clients news takes c.requires.allowed c.requires.ready.shared turned
+    c.take_turn.new.journal.room c.requires.ready.counted (length-set clients c.from-place.result c.take_turn.new.client)
+    (room_after c.args.script.now c.from-place.result c.args.actor c.args.journal.now.room c.take_turn.new.journal.room
+    clients client c.take_turn.new.client c.from-place.ensures c.requires.ready.enough there
+    (c.requires.ready.schedule.answered.few c.args.actor client there)
+    (turn_few c.args.script.now c.args.actor before after clients news takes c.requires.allowed c.requires.ready.shared turned)
+    c.take_turn.ensures.room)
+
+pub returns-else-place-len-clause-turn : goal.returns-else-place-len-clause-turn
+returns-else-place-len-clause-turn g c = turn_none c.args.script.now c.args.actor
+    (turns_by c.args.core.now (g.B.Bank.disk c.args.bank.now) c.args.journal.now c.args.progress.now)
+    (omega (arith, c.if-place-len.false, c.from-place.ensures, c.len.ensures, c.args.progress.now.clients.ok))

@@ -1,5 +1,6 @@
-use Rattle.std.proofs.Common.{length, refl}
-use Rattle.std.proofs.lemmas.Option.{slice_get_read}
+use Rattle.std.proofs.Common.{◌+◌, length, refl, ap, arith}
+use Rattle.std.proofs.lemmas.Option.{slice_get_read, slice_get_within}
+use Rattle.schedule.specs.Clients.{answered_of}
 use Rattle.schedule.proofs.Stations.{begun_more, begun_busy, begun_done}
 use Rattle.schedule.proofs.station.begin_next.Goals as goal
 
@@ -27,3 +28,20 @@ returns-in-Done-clause-turned c = λ disk.
     c.in-Some.ensures.lookup.3.0 c.in-Some.ensures.lookup.1)
     c.in-Done.answer c.len-at.result c.entry_for.result c.list.new.self.items c.in-Done.ensures.begins c.len-at.ensures
     c.entry_for.ensures c.list.ensures.items
+
+pub list-requires : goal.list-requires
+list-requires c =
+    let low = slice_get_within c.args.calls.now c.args.client.now.begun c.in-Some.call.now
+    (slice_get_read c.args.calls.now (length c.args.calls.now) c.args.client.now.begun c.in-Some.call.now refl
+    c.in-Some.ensures.lookup.3.0 c.in-Some.ensures.lookup.1) in
+    let room = c.requires.room low in omega (arith, room)
+
+pub returns-in-More-clause-room : goal.returns-in-More-clause-room
+returns-in-More-clause-room c =
+    let none = ap (answered_of c.args.client.now.begun) c.requires.idle in omega (arith, none)
+
+pub returns-in-Done-clause-room : goal.returns-in-Done-clause-room
+returns-in-Done-clause-room c =
+    let none = ap (answered_of c.args.client.now.begun) c.requires.idle in
+    let still = ap (answered_of (c.args.client.now.begun + 1)) c.requires.idle in
+    let used = c.list.ensures.room in omega (arith, none, still, used)

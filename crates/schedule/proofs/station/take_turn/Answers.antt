@@ -1,6 +1,7 @@
-use Rattle.std.proofs.Common.{◌≤◌, ◌-◌, ◌∙◌, length, refl, sym, arith}
+use Rattle.std.proofs.Common.{◌≤◌, ◌-◌, ◌∙◌, length, refl, sym, ap, arith}
 use Rattle.std.proofs.lemmas.Option.{slice_get_read}
 use Rattle.core_turns.specs.Core.{at_disk}
+use Rattle.schedule.specs.Clients.{answered_of}
 use Rattle.schedule.specs.Turned.{station_of}
 use Rattle.schedule.proofs.Stations.{idle_turn, went_more, went_done}
 use Rattle.schedule.proofs.station.take_turn.Goals as goal
@@ -38,5 +39,38 @@ returns-in-Done-clause-turned g c =
     (slice_get_read c.args.calls.now (length c.args.calls.now) (c.args.client.now.begun - 1) c.index-calls-client.result refl
     (omega (arith, begun, few)) c.index-calls-client.is)
     c.go_on.ensures.goes_on c.in-Done.answer c.reflow-widths.result c.entry_for-entry.result c.list_answer.new.journal.items
-    c.take.new.self c.in-Done.ensures.goes c.reflow-widths.ensures.value c.entry_for-entry.ensures c.list_answer.ensures
+    c.take.new.self c.in-Done.ensures.goes c.reflow-widths.ensures.value c.entry_for-entry.ensures c.list_answer.ensures.items
     c.take.ensures.after
+
+pub begin_next-requires-clause-room : goal.begin_next-requires-clause-room
+begin_next-requires-clause-room g c = λ low.
+    let idle = sym c.take.ensures.value ∙ c.in_default.is in
+    let none = ap (answered_of c.args.client.now.begun) idle in
+    c.requires.room (omega (arith, none, low))
+
+pub list_answer-requires : goal.list_answer-requires
+list_answer-requires g c =
+    let going = sym c.take.ensures.value ∙ c.in-Some.is in
+    let begun : 1 ≤ c.args.client.now.begun = c.requires.begun c.in-Some.under_way going in
+    let few = c.requires.few in
+    let last = ap (answered_of c.args.client.now.begun) going in
+    record { room = c.requires.room (omega (arith, begun, few, last)) }
+
+pub returns-in_default-clause-room : goal.returns-in_default-clause-room
+returns-in_default-clause-room g c =
+    let idle = sym c.take.ensures.value ∙ c.in_default.is in
+    let was = ap (answered_of c.args.client.now.begun) idle in
+    let left = ap (answered_of c.args.client.now.begun) c.take.ensures.after in
+    let used = c.begin_next.ensures.room in omega (arith, was, left, used)
+
+pub returns-in-More-clause-room : goal.returns-in-More-clause-room
+returns-in-More-clause-room g c =
+    let last = ap (answered_of c.args.client.now.begun) (sym c.take.ensures.value ∙ c.in-Some.is) in omega (arith, last)
+
+pub returns-in-Done-clause-room : goal.returns-in-Done-clause-room
+returns-in-Done-clause-room g c =
+    let going = sym c.take.ensures.value ∙ c.in-Some.is in
+    let begun : 1 ≤ c.args.client.now.begun = c.requires.begun c.in-Some.under_way going in
+    let last = ap (answered_of c.args.client.now.begun) going in
+    let none = ap (answered_of c.args.client.now.begun) c.take.ensures.after in
+    let used = c.list_answer.ensures.room in omega (arith, begun, last, none, used)

@@ -1,6 +1,6 @@
 use Rattle.std.proofs.Common.{◌≡◌}
 use Rattle.schedule.specs.Replaying.{blank_clients}
-use Rattle.schedule.proofs.replay.blank.Given as goal
+use Rattle.schedule.proofs.progress.Progress.new.Given as goal
 
 abbrev pub invariant-loop-client : goal.invariant-loop-client
 invariant-loop-client l = l.clients.items ≡ blank_clients l._client

@@ -1,0 +1,198 @@
+-- Turns of a script, one after the other.
+use Rattle.std.proofs.Common.{◌≡◌, ℕ, ◌+◌, ◌<◌, ◌≤◌, List, [], ◌∷◌, length, drop, get_or, Some, None, refl, sym, ◌∙◌, ap, subst, arith}
+use Rattle.std.specs.Prelude.{true, false, slice_get, Result, Ok, Err, OnErr}
+use Rattle.std.proofs.lemmas.List.{drop_more}
+use Rattle.bank_trait.specs.Disk.{Disk}
+use Rattle.client_script.specs.InOrder.{given_of}
+use Rattle.client_script.specs.Script.{Script}
+use Rattle.core_state.specs.JournalRoom.{Journal}
+use Rattle.core_turns.specs.Core.{Core, at_disk}
+use Rattle.schedule.specs.declared.client.Client.{Client}
+use Rattle.schedule.specs.declared.progress.Progress.{Progress}
+use Rattle.schedule.specs.Coming.{Turns, turns_of}
+use Rattle.schedule.specs.InTurn.{Cursor, InOrder, InRest, InRound, IsCallOf, IsStepOf, Replay, after_round, cursor_after, has_left_at, is_any_busy, is_busy_at, replay_at, replay_by, rest_after, turn_at, turns_by}
+use Rattle.schedule.specs.Playing.{HasPlayed, HasStopped, IsReady, most_turns}
+use Rattle.schedule.specs.Replaying.{AreIdle, HasTurn, HaveBegun}
+use Rattle.schedule.proofs.Coming.{came_nowhere, came_on}
+use Rattle.schedule.proofs.InTurn.{begun_none_left, busy_in_rest, gone_more, gone_none, gone_then, idle_not_busy, left_in_rest, none_in_rest, none_in_round, past_not_busy, round_ends, round_goes, round_next, turn_in_round}
+use Rattle.schedule.proofs.Replaying.{given_own}
+
+-- What holds follows where an answer is `Err`.
+pub at_err : {V E : Type 0} (P : Type 0) (result : Result V E) → P → OnErr result P
+at_err P (Ok value) holds = tt
+at_err P (Err error) holds = holds
+
+-- No turn was taken yet.
+pub played_none : (script : Script) (now : Replay) (room : ℕ) → IsReady script now.turns room
+    → HasPlayed script now now room
+played_none script now room ready =
+    record { come = came_nowhere script now.turns; gone = gone_none script now; ready = ready }
+
+-- Turns go on after turns,
+pub played_then : (script : Script) (start middle now : Replay) (before after : ℕ)
+    → HasPlayed script start middle before → HasPlayed script middle now after → HasPlayed script start now after
+played_then script start middle now before after first second = record {
+  come = came_on script start.turns middle.turns now.turns first.come second.come;
+  gone = gone_then script start middle now first.gone second.gone;
+  ready = second.ready;
+}
+
+-- or no more can be counted.
+pub stopped_then : (script : Script) (start middle : Replay) (turns : Turns) (taken before after : ℕ)
+    → HasPlayed script start middle before → HasStopped script middle turns taken after
+    → HasStopped script start turns taken after
+stopped_then script start middle turns taken before after first second = record {
+  most = second.most;
+  cursor = second.cursor;
+  played = played_then script start middle (replay_at turns taken second.cursor) before after first second.played;
+}
+
+-- No more turns can be counted from the start on.
+pub stopped_same : (script : Script) (core : Core) (disk : Disk) (journal : Journal) (before after : Progress)
+    (cursor : Cursor) (room : ℕ) → after.clients.items ≡ before.clients.items → after.turns ≡ before.turns
+    → most_turns ≤ after.turns → IsReady script (turns_by core disk journal before) room
+    → HasStopped script (replay_by core disk journal before cursor) (turns_by core disk journal after) after.turns room
+stopped_same script core disk journal before after cursor room clients turns most ready =
+    subst (λ (taken : ℕ). HasStopped script (replay_by core disk journal before cursor)
+    (turns_by core disk journal after) taken room) (sym turns)
+    (subst (λ (its : List Client). HasStopped script (replay_by core disk journal before cursor)
+    (turns_of (at_disk core disk) journal.items its) before.turns room) (sym clients) (record {
+      most = subst (λ (taken : ℕ). most_turns ≤ taken) turns most;
+      cursor = cursor;
+      played = played_none script (replay_by core disk journal before cursor) room ready;
+    }))
+
+-- The client whose turn it is had it,
+pub played_turn : (script : Script) (start : Replay) (before after : Turns) (taken counted room left actor : ℕ)
+    (from to : Cursor) → HasPlayed script start (replay_at before taken from) room
+    → turn_at script before.clients from ≡ Some actor → cursor_after script before.clients from ≡ to
+    → HasTurn script actor before after → counted ≡ taken + 1 → IsReady script after left
+    → HasPlayed script start (replay_at after counted to) left
+played_turn script start before after taken counted room left actor from to played whose goes turn one ready = record {
+  come = came_on script start.turns before after played.come turn.come;
+  gone = gone_more script start (replay_at before taken from) (replay_at after counted to) played.gone (record {
+    turn = subst (IsStepOf script (replay_at before taken from) (replay_at after counted to)) (sym whose) (turn.is, one);
+    cursor = sym goes;
+  });
+  ready = ready;
+}
+
+-- or it is nobody's turn there.
+pub played_past : (script : Script) (start : Replay) (turns : Turns) (taken room : ℕ) (from to : Cursor)
+    → HasPlayed script start (replay_at turns taken from) room
+    → turn_at script turns.clients from ≡ None → cursor_after script turns.clients from ≡ to
+    → HasPlayed script start (replay_at turns taken to) room
+played_past script start turns taken room from to played whose goes = record {
+  come = played.come;
+  gone = gone_more script start (replay_at turns taken from) (replay_at turns taken to) played.gone (record {
+    turn = subst (IsStepOf script (replay_at turns taken from) (replay_at turns taken to)) (sym whose) (refl, refl);
+    cursor = sym goes;
+  });
+  ready = played.ready;
+}
+
+-- The same place said otherwise.
+pub played_at : (script : Script) (start : Replay) (turns : Turns) (taken room : ℕ) (from to : Cursor) → from ≡ to
+    → HasPlayed script start (replay_at turns taken from) room → HasPlayed script start (replay_at turns taken to) room
+played_at script start turns taken room from to same played =
+    subst (λ (c : Cursor). HasPlayed script start (replay_at turns taken c) room) same played
+
+-- The client of a letter of the order had its turn.
+pub played_letter : (script : Script) (start : Replay) (before after : Turns)
+    (taken counted room left actor index other : ℕ) → index < length script.order
+    → actor ≡ get_or script.order index other
+    → HasPlayed script start (replay_at before taken (InOrder (drop index script.order))) room
+    → HasTurn script actor before after → counted ≡ taken + 1 → IsReady script after left
+    → HasPlayed script start (replay_at after counted (InOrder (drop (index + 1) script.order))) left
+played_letter script start before after taken counted room left actor index other low is played turn one ready =
+    played_turn script start before after taken counted room left actor (InOrder (drop index script.order))
+    (InOrder (drop (index + 1) script.order)) played
+    (ap (λ (letters : List ℕ). turn_at script before.clients (InOrder letters)) next)
+    (ap (λ (letters : List ℕ). cursor_after script before.clients (InOrder letters)) next) turn one ready
+  where
+    next : drop index script.order ≡ actor ∷ drop (index + 1) script.order
+    next = drop_more script.order index other low
+        ∙ ap (λ (letter : ℕ). letter ∷ drop (index + 1) script.order) (sym is)
+
+-- A client had its turn in a round,
+pub played_in_round : (script : Script) (before after : Turns) (taken counted room left actor : ℕ)
+    → IsReady script before room → actor < script.clients → is_busy_at before.clients actor ≡ true
+    → HasTurn script actor before after → counted ≡ taken + 1 → IsReady script after left
+    → HasPlayed script (replay_at before taken (InRound actor)) (replay_at after counted (InRound (actor + 1))) left
+played_in_round script before after taken counted room left actor was low busy turn one ready =
+    played_turn script (replay_at before taken (InRound actor)) before after taken counted room left actor
+    (InRound actor) (InRound (actor + 1)) (played_none script (replay_at before taken (InRound actor)) room was)
+    (turn_in_round script before.clients actor busy) (round_goes script before.clients actor low) turn one ready
+
+-- or had none.
+pub passed_in_round : (script : Script) (now : Turns) (taken room actor : ℕ) → IsReady script now room
+    → actor < script.clients → is_busy_at now.clients actor ≡ false
+    → HasPlayed script (replay_at now taken (InRound actor)) (replay_at now taken (InRound (actor + 1))) room
+passed_in_round script now taken room actor ready low free =
+    played_past script (replay_at now taken (InRound actor)) now taken room (InRound actor) (InRound (actor + 1))
+    (played_none script (replay_at now taken (InRound actor)) room ready)
+    (none_in_round script now.clients actor free) (round_goes script now.clients actor low)
+
+-- The order is over.
+pub order_over : (script : Script) (now : Turns) (taken room : ℕ) → IsReady script now room
+    → HasPlayed script (replay_at now taken (InOrder [])) (replay_at now taken (after_round now.clients)) room
+order_over script now taken room ready =
+    played_past script (replay_at now taken (InOrder [])) now taken room (InOrder []) (after_round now.clients)
+    (played_none script (replay_at now taken (InOrder [])) room ready) refl refl
+
+-- After a round, where another one began, it is over too.
+pub round_over : (script : Script) (start : Replay) (middle now : Turns) (taken counted room left : ℕ)
+    → HasPlayed script start (replay_at middle taken (after_round middle.clients)) room
+    → is_any_busy middle.clients ≡ true
+    → HasPlayed script (replay_at middle taken (InRound 0)) (replay_at now counted (InRound script.clients)) left
+    → HasPlayed script start (replay_at now counted (after_round now.clients)) left
+round_over script start middle now taken counted room left so_far busy round =
+    played_past script start now counted left (InRound script.clients) (after_round now.clients)
+    (played_then script start (replay_at middle taken (InRound 0)) (replay_at now counted (InRound script.clients)) room left
+    (played_at script start middle taken room (after_round middle.clients) (InRound 0) (round_next middle.clients busy)
+    so_far) round)
+    (none_in_round script now.clients script.clients (past_not_busy now.clients script.clients
+    (let same = round.ready.counted in omega (arith, same))))
+    (round_ends script now.clients script.clients (omega arith))
+
+-- A call of the rest had a turn: the first,
+pub played_first : (script : Script) (before after : Turns) (taken counted room left given actor number : ℕ)
+    → IsReady script before room → IsCallOf script given actor number → is_busy_at before.clients actor ≡ false
+    → has_left_at before.clients actor number ≡ true
+    → HasTurn script actor before after → counted ≡ taken + 1 → IsReady script after left
+    → HasPlayed script (replay_at before taken (InRest given)) (replay_at after counted (InRest given)) left
+played_first script before after taken counted room left given actor number was is free more turn one ready =
+    let whose = left_in_rest script before.clients given actor number is free more in
+    played_turn script (replay_at before taken (InRest given)) before after taken counted room left actor
+    (InRest given) (InRest given) (played_none script (replay_at before taken (InRest given)) room was)
+    whose (ap (rest_after given) whose) turn one ready
+
+-- or a later one.
+pub played_later : (script : Script) (start : Replay) (before after : Turns)
+    (taken counted room left given actor number : ℕ) → IsCallOf script given actor number
+    → HasPlayed script start (replay_at before taken (InRest given)) room → is_busy_at before.clients actor ≡ true
+    → HasTurn script actor before after → counted ≡ taken + 1 → IsReady script after left
+    → HasPlayed script start (replay_at after counted (InRest given)) left
+played_later script start before after taken counted room left given actor number is played busy turn one ready =
+    let whose = busy_in_rest script before.clients given actor number is busy in
+    played_turn script start before after taken counted room left actor (InRest given) (InRest given) played
+    whose (ap (rest_after given) whose) turn one ready
+
+-- A call of the rest has ended, and the next one is looked at.
+pub rest_goes : (script : Script) (start : Replay) (now : Turns) (taken room given next actor number : ℕ)
+    → next ≡ given + 1 → IsCallOf script given actor number → AreIdle now.clients → HaveBegun script next now.clients
+    → HasPlayed script start (replay_at now taken (InRest given)) room
+    → HasPlayed script start (replay_at now taken (InRest next)) room
+rest_goes script start now taken room given next actor number one is idle begun played =
+    let none = none_in_rest script now.clients given actor number is (idle_not_busy now.clients actor idle)
+    (begun_none_left now.clients actor number (λ client there. enough client there)) in
+    played_past script start now taken room (InRest given) (InRest next) played none
+    (ap (rest_after given) none ∙ ap InRest (sym one))
+  where
+    enough : (client : Client) → slice_get now.clients actor ≡ Some client → number ≤ client.begun
+    enough client there =
+        let all = begun.each actor client there in
+        let more = given_own script given actor is.placed is.there is.is in
+        let same = ap (λ (n : ℕ). given_of script n actor) one in
+        let counted = is.counted in
+        omega (arith, all, more, same, counted)

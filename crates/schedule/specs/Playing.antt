@@ -1,0 +1,70 @@
+-- What stands while a script is carried out, and how that ends.
+use Rattle.std.specs.Prelude.{◌≡◌, ℕ, suc, ◌+◌, ◌-◌, ◌*◌, ◌≤◌, ◌^◌, List, [], ◌∷◌, length}
+use Rattle.client_script.specs.Script.{Script, calls_of}
+use Rattle.schedule.specs.declared.client.Client.{Client}
+use Rattle.schedule.specs.declared.whole_run.Ended.{Ended}
+use Rattle.schedule.specs.declared.whole_run.Ended.TheVariants.{Whole, NoMemory, Limit}
+use Rattle.schedule.specs.Clients.{answered_of}
+use Rattle.schedule.specs.Coming.{HasCome, IsSchedule, Turns}
+use Rattle.schedule.specs.InTurn.{Cursor, InRest, HasGone, Replay, replay_at}
+use Rattle.schedule.specs.Replaying.{AreIdle, OnlyShared}
+
+-- ---- room for answers
+
+-- how many of so many calls of a client aren't answered yet
+abbrev pub unanswered : ℕ → Client → ℕ
+unanswered calls client = calls - answered_of client.begun client.under_way
+
+-- how many calls of all clients aren't, by how many each has
+abbrev pub all_unanswered : (ℕ → ℕ) → List Client → ℕ
+all_unanswered calls [] = 0
+all_unanswered calls (client ∷ clients) =
+    unanswered (calls 0) client + all_unanswered (λ actor. calls (suc actor)) clients
+
+-- how many calls of a script each client has
+abbrev pub calls_by : Script → ℕ → ℕ
+calls_by script actor = length (calls_of script actor)
+
+-- A turn took room for a call's items where it answered that call, and none else.
+abbrev pub UsesRoom : ℕ → ℕ → Client → Client → Type 0
+UsesRoom before after old new = before + 2 * answered_of old.begun old.under_way
+    ≤ after + 2 * answered_of new.begun new.under_way
+
+-- There is room for an answer of each call that has none yet, and for the groups that syncs make.
+pub record HasRoom (script : Script) (clients : List Client) (room : ℕ) : Type 0 where
+  pub enough : 2 * all_unanswered (calls_by script) clients ≤ room
+
+-- ---- between turns
+
+-- What has to stand before a turn.
+pub record IsReady (script : Script) (turns : Turns) (room : ℕ) : Type 0 where
+  pub schedule : IsSchedule script turns
+  pub shared : OnlyShared turns.state.core.holds
+  pub counted : length turns.clients ≡ script.clients
+  pub enough : HasRoom script turns.clients room
+
+-- Turns have come to a state in which the next turn may be taken, and they are those of the script.
+pub record HasPlayed (script : Script) (start now : Replay) (room : ℕ) : Type 0 where
+  pub come : HasCome script start.turns now.turns
+  pub gone : HasGone script start now
+  pub ready : IsReady script now.turns room
+
+-- most turns of a replay
+abbrev pub most_turns : ℕ
+most_turns = 2 ^ 62
+
+-- Turns have come so far that no more can be counted.
+pub record HasStopped (script : Script) (start : Replay) (turns : Turns) (taken room : ℕ) : Type 0 where
+  pub most : most_turns ≤ taken
+  pub cursor : Cursor
+  pub played : HasPlayed script start (replay_at turns taken cursor) room
+
+-- ---- at the end
+
+-- How a replay ends: each call is answered; or memory was wanting before the first turn, and nothing was done; or no
+-- more turns can be counted.
+abbrev pub EndsSo : Script → Replay → Replay → Ended → Type 0
+EndsSo script start now Whole = HasGone script start now × (now.cursor ≡ InRest (length script.calls))
+    × AreIdle now.turns.clients
+EndsSo script start now NoMemory = now ≡ start
+EndsSo script start now Limit = HasGone script start now × (most_turns ≤ now.taken)

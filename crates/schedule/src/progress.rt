@@ -1,0 +1,77 @@
+// What a replay has come to.
+ghost use Rattle.std.specs.Prelude.{◌≡◌, ◌+◌, ◌≤◌, IfOk, OnOk, OnErr};
+ghost use Rattle.schedule.specs.InTurn.{has_left_at, is_any_busy, is_busy_at};
+ghost use Rattle.schedule.specs.Playing.{most_turns};
+ghost use Rattle.schedule.specs.Replaying.{blank_clients};
+
+use crate::client::Client;
+use std::alloc::{AllocError, Global};
+
+/// Most turns of a replay.
+const MOST_TURNS: u64 = 1 << 62;
+
+/// No more turns can be counted.
+#[derive(Clone, Copy, Debug, PartialEq, Eq)]
+pub struct UsedUp;
+
+/// What the clients of a replay have come to, and how many turns they took.
+#[derive(Drop)]
+pub struct Progress {
+    pub clients: Vec<Client>,
+    pub turns: u64,
+}
+
+impl Progress {
+    /// So many clients that have begun no call.
+    pub fn new(alloc: Global, count: u8) -> Result<Progress, AllocError>
+        ensures clients { IfOk result (λ progress. progress.clients.items ≡ blank_clients count) }
+        ensures turns { IfOk result (λ progress. progress.turns ≡ 0) }
+    {
+        let mut clients = Vec::with_capacity(alloc, usize::from(count))?;
+        for _client in 0..count {
+            clients.push(Client::new())?;
+        }
+        Ok(Progress { clients, turns: 0 })
+    }
+
+    /// Whether the client of this number has a call under way.
+    pub fn is_busy(&self, actor: u8) -> bool
+        ensures { result ≡ is_busy_at self.now.clients.items actor }
+    {
+        match self.clients.get(usize::from(actor)) {
+            Some(client) => client.under_way.is_some(),
+            None => false,
+        }
+    }
+
+    /// Whether any client has a call under way.
+    pub fn is_any_busy(&self) -> bool
+        ensures { result ≡ is_any_busy self.now.clients.items }
+    {
+        self.clients.iter().any(|client| client.under_way.is_some())
+    }
+
+    /// Whether the client of this number hasn't begun its call of that number, from 1.
+    pub fn has_left(&self, actor: u8, number: u64) -> bool
+        ensures { result ≡ has_left_at self.now.clients.items actor number }
+    {
+        match self.clients.get(usize::from(actor)) {
+            Some(client) => (client.begun as u64) < number,
+            None => false,
+        }
+    }
+
+    /// Counts a turn that is taken next, if it can be counted.
+    pub fn count(&mut self) -> Result<(), UsedUp>
+        ensures clients { self.new.clients.items ≡ self.old.clients.items }
+        ensures turns { OnOk result (self.new.turns ≡ self.old.turns + 1) }
+        ensures most { OnErr result (most_turns ≤ self.new.turns) }
+        ensures same { OnErr result (self.new.turns ≡ self.old.turns) }
+    {
+        if self.turns >= MOST_TURNS {
+            return Err(UsedUp);
+        }
+        self.turns += 1;
+        Ok(())
+    }
+}
