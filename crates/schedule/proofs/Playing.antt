@@ -71,7 +71,8 @@ pub played_turn : (script : Script) (start : Replay) (before after : Turns) (tak
 played_turn script start before after taken counted room left actor from to played whose goes turn one ready = record {
   come = came_on script start.turns before after played.come turn.come;
   gone = gone_more script start (replay_at before taken from) (replay_at after counted to) played.gone (record {
-    turn = subst (IsStepOf script (replay_at before taken from) (replay_at after counted to)) (sym whose) (turn.is, one);
+    turn = subst (IsStepOf script (replay_at before taken from) (replay_at after counted to)) (sym whose)
+        (turn.is, one);
     cursor = sym goes;
   });
   ready = ready;
@@ -148,7 +149,8 @@ pub round_over : (script : Script) (start : Replay) (middle now : Turns) (taken 
     → HasPlayed script start (replay_at now counted (after_round now.clients)) left
 round_over script start middle now taken counted room left so_far busy round =
     played_past script start now counted left (InRound script.clients) (after_round now.clients)
-    (played_then script start (replay_at middle taken (InRound 0)) (replay_at now counted (InRound script.clients)) room left
+    (played_then script start (replay_at middle taken (InRound 0)) (replay_at now counted (InRound script.clients))
+    room left
     (played_at script start middle taken room (after_round middle.clients) (InRound 0) (round_next middle.clients busy)
     so_far) round)
     (none_in_round script now.clients script.clients (past_not_busy now.clients script.clients

@@ -179,7 +179,8 @@ module _ (script : Script) (actor : ℕ) (before after : Station) (clients news 
   turn_taken = record {
     come = comes.come;
     is = record {
-      none = λ past. absurd (let low = slice_get_within clients actor before.client takes.was in omega (arith, past, low));
+      none = λ past.
+          absurd (let low = slice_get_within clients actor before.client takes.was in omega (arith, past, low));
       one = λ client is. (
         after.client,
         subst (λ (c : Client). Turned (calls_of script actor) actor

@@ -141,8 +141,8 @@ pub room_at_first : (script : Script) (count room : ℕ) → 2 * length script.c
     → HasRoom script (blank_clients count) room
 room_at_first script count room enough = record {
   enough =
-      let all = blank_unanswered script (calls_by script) 0 count (λ actor. let same : actor ≡ 0 + actor = omega arith in
-      ap (calls_by script) same) in
+      let all = blank_unanswered script (calls_by script) 0 count
+      (λ actor. let same : actor ≡ 0 + actor = omega arith in ap (calls_by script) same) in
       let few = calls_few script.calls 0 count in
       omega (arith, all, few, enough);
 }

@@ -1,9 +1,9 @@
 //! The calls of several clients, turn by turn, in the order that a script lists.
 //!
 //! Each client carries out its calls one after the other; a turn of a client is the first turn of its next
-//! call, or the next one of its call under way. Read `specs/WholeRun.antt` for what a run promises, then
-//! `specs/Running.antt`, `specs/Turned.antt` and `specs/Coming.antt` for how it goes on. Stands on
-//! `core_turns`, `client_script` and `serial_run`.
+//! call, or the next one of its call under way. Read `specs/WholeRun.antt` for what a run promises and
+//! `specs/InTurn.antt` for whose turn is next, then `specs/Running.antt`, `specs/Turned.antt` and
+//! `specs/Coming.antt` for how it goes on. Stands on `core_turns`, `client_script` and `serial_run`.
 #![tactic(auto)]
 
 mod client;

@@ -10,7 +10,7 @@ ghost use Rattle.schedule.specs.declared.client.Client.{Client as ClientOf};
 ghost use Rattle.schedule.specs.declared.whole_run.Ended.TheVariants.{Whole};
 ghost use Rattle.schedule.specs.Coming.{HasCome, turns_of};
 ghost use Rattle.schedule.specs.InTurn.{Cursor, InOrder, InRest, InRound, IsCallOf, has_left_at, replay_at, replay_by, turns_by};
-ghost use Rattle.schedule.specs.Playing.{EndsSo, HasPlayed, HasRoom, HasStopped, IsReady};
+ghost use Rattle.schedule.specs.Playing.{EndsSo, HasPlayed, HasStopped, IsReady};
 ghost use Rattle.schedule.specs.Replaying.{AreIdle, BeginsOne, HasTurn, HaveBegun, HaveFewer, IsAtRest, blank_clients};
 
 use crate::progress::{Progress, UsedUp};
@@ -64,7 +64,7 @@ fn turn_of<B: Bank>(
     }
 }
 
-/// The same, counted, if it can be.
+/// One turn of a client of the script, counted, if it can be.
 fn count_turn_of<B: Bank>(
     alloc: Global,
     bank: &mut B,
@@ -248,7 +248,8 @@ fn take_rest<B: Bank>(
     requires idle { AreIdle progress.old.clients.items }
     ensures played { OnOk result (HasPlayed script.now
         (replay_by core.old (B.disk bank.old) journal.old progress.old (InRest 0))
-        (replay_by core.new (B.disk bank.new) journal.new progress.new (InRest (length script.now.calls))) journal.new.room) }
+        (replay_by core.new (B.disk bank.new) journal.new progress.new (InRest (length script.now.calls)))
+        journal.new.room) }
     ensures stopped { OnErr result (HasStopped script.now
         (replay_by core.old (B.disk bank.old) journal.old progress.old (InRest 0))
         (turns_by core.new (B.disk bank.new) journal.new progress.new) progress.new.turns journal.new.room) }
@@ -287,7 +288,8 @@ fn take_turns<B: Bank>(
         (turns_by core.old (B.disk bank.old) journal.old progress.old) journal.old.room }
     ensures played { OnOk result (HasPlayed script.now
         (replay_by core.old (B.disk bank.old) journal.old progress.old (InOrder script.now.order))
-        (replay_by core.new (B.disk bank.new) journal.new progress.new (InRest (length script.now.calls))) journal.new.room) }
+        (replay_by core.new (B.disk bank.new) journal.new progress.new (InRest (length script.now.calls)))
+        journal.new.room) }
     ensures stopped { OnErr result (HasStopped script.now
         (replay_by core.old (B.disk bank.old) journal.old progress.old (InOrder script.now.order))
         (turns_by core.new (B.disk bank.new) journal.new progress.new) progress.new.turns journal.new.room) }

@@ -20,8 +20,8 @@ fn tells(
     Ok(())
 }
 
-/// A put of one sector has four turns: its first, two writes, its last. So has a read of it: its first, two columns, its
-/// last. Beside the order's eight turns there is a read after it.
+/// A put of one sector has four turns: its first, two writes, its last. So has a read of it: its first, two columns,
+/// its last. After the order's eight turns there is a read.
 const TWO_PUTS: &[u8] = b"clients 2
 a puthex 7 61
 b puthex 7 62
@@ -79,8 +79,8 @@ fn a_sync_waits_for_another(rt: HostRuntime) -> Result<(), Fail> {
     tells(&rt, rt.alloc(), TWO_SYNCS, 4 + 10 + 11, TWO_SYNCS_TOLD)
 }
 
-/// A sync of two blocks has 14 turns: each device's index page is one write more. The read begins once the first sync is
-/// answered, and goes on after all else.
+/// A sync of two blocks has 14 turns: each device's index page is one write more. The read begins once the first sync
+/// is answered, and goes on after all else.
 const READ_OF_A_FREED_BLOCK: &[u8] = b"clients 2
 a put 1 512 0
 a put 2 512 1

@@ -108,7 +108,8 @@ fn begin_next(
 }
 
 /// One turn of a client: the next of its call under way, or the first of its next call. Nothing is done
-/// where that finds another's call in its way, or the client has no call left.
+/// where that finds another's call in its way, or the client has no call left. Takes room in the journal where a
+/// call is answered, and for two items at most.
 pub fn take_turn<B: Bank>(
     alloc: Global,
     bank: &mut B,
