@@ -7,11 +7,17 @@
 #![tactic(auto)]
 
 mod client;
+#[cfg(test)]
+mod legal_check;
+#[cfg(test)]
+mod order_tests;
 mod progress;
 mod replay;
 #[cfg(test)]
 mod replay_tests;
 mod station;
+#[cfg(test)]
+mod test_plans;
 #[cfg(test)]
 mod test_replays;
 #[cfg(test)]

@@ -1,4 +1,6 @@
 // Replays on banks in memory, and what they say.
+ghost use Rattle.std.specs.Prelude.{◌≡◌, []};
+
 use crate::{Ended, Replayed, replay_pool};
 use bank_mem::{MemBank, MemSink};
 use bank_trait::Bank;
@@ -34,12 +36,24 @@ pub fn bank_of_nine(rt: &impl Abort, alloc: Global) -> Result<MemBank, Fail> {
     Ok(bank)
 }
 
+/// Replays the script of this text, and lists what is answered in a journal of no items.
+pub fn replay_into(
+    alloc: Global,
+    bank: &mut MemBank,
+    script: &[u8],
+    journal: &mut Journal,
+) -> Result<Result<Replayed, OpenWhy>, Fail>
+    requires empty { journal.old.items ≡ [] }
+{
+    let script = parse(alloc, script)?;
+    journal.reserve(1)?;
+    Ok(replay_pool(alloc, bank, &script, journal))
+}
+
 /// Replays the script of this text.
 pub fn replay(alloc: Global, bank: &mut MemBank, script: &[u8]) -> Result<Told, Fail> {
-    let script = parse(alloc, script)?;
     let mut journal = Journal::new(alloc);
-    journal.reserve(1)?;
-    let ended = replay_pool(alloc, bank, &script, &mut journal);
+    let ended = replay_into(alloc, bank, script, &mut journal)?;
     let mut text = MemSink::with_room(alloc, 1 << 20, &[])?;
     print_journal(&journal, &mut text)?;
     Ok(Told { ended, text })
