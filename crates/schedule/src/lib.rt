@@ -15,6 +15,8 @@ mod progress;
 mod replay;
 #[cfg(test)]
 mod replay_tests;
+#[cfg(test)]
+mod room_tests;
 mod station;
 #[cfg(test)]
 mod test_plans;
