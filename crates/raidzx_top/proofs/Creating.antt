@@ -18,6 +18,8 @@ use Rattle.core_state.specs.Keeps.{Setting}
 use Rattle.core_state.specs.Shown.{Shape, Shows}
 use Rattle.uberblock_ring.specs.Uberblock.{first_uber}
 use Rattle.client_script.specs.Written.{IsAdded, IsPartAdded}
+use Rattle.raidzx_top.specs.declared.carrying.Manner.{Manner}
+use Rattle.raidzx_top.specs.declared.carrying.Manner.TheVariants as manner
 use Rattle.raidzx_top.specs.declared.status.Status.{Status}
 use Rattle.raidzx_top.specs.declared.status.Status.TheVariants as status
 use Rattle.raidzx_top.specs.declared.words.NewPool.{NewPool}
@@ -26,11 +28,12 @@ use Rattle.raidzx_top.specs.declared.words.ServedCommand.TheVariants as served
 use Rattle.raidzx_top.specs.Words.{Command, Create}
 use Rattle.raidzx_top.specs.Spelled.{SpellsCreate, IsServedAs, command_of}
 use Rattle.raidzx_top.specs.Call.{ReadsScript, Call}
+use Rattle.raidzx_top.specs.Carrying.{served_by}
 use Rattle.raidzx_top.specs.Causes.{NoneRose, IsCaused, IsCause, HaveRisen, IsTooSmall, IsFoundImage, ComesWhere, IsOrNoMemory}
 use Rattle.raidzx_top.specs.RunText.{IsLineFor, TextIsRight, create_text, status_line}
 use Rattle.raidzx_top.specs.Promises.{CreatePromises, IsNewSetting, IsQuiet, RunIsKept, RunCompletes, CallPromises, IsCarriedOut}
 use Rattle.raidzx_top.specs.Making.{IsSmallFor, HasFailedOn, Makes, IsSaid, EndsCreate}
-use Rattle.raidzx_top.proofs.Spelling.{one_create, create_no_run, create_spells}
+use Rattle.raidzx_top.proofs.Spelling.{one_create, create_no_script, create_spells}
 use Rattle.raidzx_top.proofs.Refusing.{said_right}
 
 -- A set of one device has no other.
@@ -109,15 +112,19 @@ module _ (call : Call) (made : NewPool) (served_as : IsServedAs call.words (serv
   below_width given is only =
       subst (λ (n : NewPool). TouchesOnly (IsOnBelow n.width) call.old call.new) (same given is) only
 
-  no_run : RunIsKept call
-  no_run = record {
-    opened = λ run. absurd (create_no_run call.words made served_as run);
-    unopened = λ run. absurd (create_no_run call.words made served_as run);
-    carried_out = λ run. absurd (create_no_run call.words made served_as run);
+  -- no script is asked for
+  no_script : {A : Type 0} → (how : Manner) → IsServedAs call.words (served_by how) → A
+  no_script how is = absurd (create_no_script call.words made how served_as is)
+
+  no_run : (how : Manner) → RunIsKept how call
+  no_run how = record {
+    opened = λ is. no_script how is;
+    unopened = λ is. no_script how is;
+    carried_out = λ is. no_script how is;
   }
 
-  no_smooth : RunCompletes call
-  no_smooth smooth = absurd (create_no_run call.words made served_as smooth.served)
+  no_smooth : (how : Manner) → RunCompletes how call
+  no_smooth how smooth = no_script how smooth.served
 
   too_small : IsSmallFor made call.old
       → IsTooSmall call (Create made.parity made.width made.id)
@@ -141,7 +148,8 @@ module _ (call : Call) (made : NewPool) (served_as : IsServedAs call.words (serv
     where
       each : (command : ServedCommand) → IsServedAs call.words command
           → IsCause call (command_of command) call.status
-      each served.Run served_run = absurd (create_no_run call.words made served_as served_run)
+      each served.Run served_run = no_script manner.Whole served_run
+      each served.Replay served_replay = no_script manner.ByTurns served_replay
       each (served.Create m) served_m =
           subst (λ (n : NewPool). IsCause call (Create n.parity n.width n.id) call.status)
           (same m served_m)
@@ -151,27 +159,30 @@ module _ (call : Call) (made : NewPool) (served_as : IsServedAs call.words (serv
   comes : (IsSmallFor made call.old → IsOrNoMemory call status.TooSmall) → ComesWhere call
   comes small = record {
     usage = λ none. absurd (none (served.Create made, served_as));
-    limit = λ command bytes is read over. no_script command is read.0;
-    fault = λ command bytes line is read at. no_script command is read.0;
+    limit = λ command bytes is read over. reads_none command is read.0;
+    fault = λ command bytes line is read at. reads_none command is read.0;
     too_small = where_small;
     no_pool = λ command finds. absurd (finds_none finds.image command finds.given finds.served finds.command_is finds.found);
   }
     where
-      no_script : {A : Type 0} → (command : ServedCommand) → IsServedAs call.words command
+      reads_none : {A : Type 0} → (command : ServedCommand) → IsServedAs call.words command
           → ReadsScript (command_of command) → A
-      no_script (served.Create m) is reads = absurd reads
-      no_script served.Run is reads = absurd (create_no_run call.words made served_as is)
+      reads_none (served.Create m) is reads = absurd reads
+      reads_none served.Run is reads = no_script manner.Whole is
+      reads_none served.Replay is reads = no_script manner.ByTurns is
 
       finds_none : (image : Image) (command : Command) (given : ServedCommand) → IsServedAs call.words given
           → command_of given ≡ command → IsFoundImage call command image → ⊥
       finds_none image command (served.Create m) is it found =
           (subst (λ (c : Command). IsFoundImage call c image) (sym it) found).is
-      finds_none image command served.Run is it found = create_no_run call.words made served_as is
+      finds_none image command served.Run is it found = no_script manner.Whole is
+      finds_none image command served.Replay is it found = no_script manner.ByTurns is
 
       where_small : (command : ServedCommand) → IsServedAs call.words command
           → IsTooSmall call (command_of command)
           → IsOrNoMemory call status.TooSmall
-      where_small served.Run is less = absurd (create_no_run call.words made served_as is)
+      where_small served.Run is less = no_script manner.Whole is
+      where_small served.Replay is less = no_script manner.ByTurns is
       where_small (served.Create m) is less = small (is_small
           (subst (λ (n : NewPool). IsTooSmall call (Create n.parity n.width n.id))
           (sym (same m is)) less))
@@ -228,8 +239,9 @@ module _ (call : Call) (made : NewPool) (served_as : IsServedAs call.words (serv
     comes = comes (λ small. absurd (makes.0 small));
     refused = λ none not. absurd (not (⊎_elim (λ d. inl (is ∙ d)) (λ f. inr (is ∙ f.0)) done));
     quiet = λ none. absurd (none (served.Create made, served_as));
-    turns = quiet_call.turns;
-    run = no_run;
+    turns = λ no_replay. quiet_call.turns;
+    run = no_run manner.Whole;
+    replay = no_run manner.ByTurns;
     completes = no_smooth;
     create = record {
       quiet = λ m served_m. quiet_call;
@@ -297,8 +309,9 @@ module _ (call : Call) (made : NewPool) (served_as : IsServedAs call.words (serv
         (subst (λ (s : Status). IsLineFor s given) (sym is) line)
         (λ done. no_done (sym is ∙ done)) said;
     quiet = λ none. absurd (none (served.Create made, served_as));
-    turns = quiet_call.turns;
-    run = no_run;
+    turns = λ no_replay. quiet_call.turns;
+    run = no_run manner.Whole;
+    replay = no_run manner.ByTurns;
     completes = no_smooth;
     create = record {
       quiet = λ m served_m. quiet_call;

@@ -4,7 +4,8 @@ pub mod Spelling
 pub mod Refusing
 pub mod Creating
 pub mod Telling
-pub mod Carrying
+pub mod Reading
+pub mod Carried
 pub mod RunParts
 pub mod RunRefused
 pub mod RunAnswers

@@ -2,10 +2,13 @@
 use Rattle.std.proofs.Common.{◌≡◌, ℕ, ◌<◌, ◌≤◌, List, [], ◌∷◌, length, Some, refl, sym, ◌∙◌, ap, arith}
 use Rattle.std.proofs.lemmas.Fmt.{decimal_injective}
 use Rattle.std.specs.Prelude.{◌^◌, slice_get, codes, decimal, ◌++◌}
+use Rattle.raidzx_top.specs.Carrying.{served_by}
 use Rattle.raidzx_top.specs.Words.{with_value}
+use Rattle.raidzx_top.specs.declared.carrying.Manner.{Manner}
+use Rattle.raidzx_top.specs.declared.carrying.Manner.TheVariants as manner
 use Rattle.raidzx_top.specs.declared.words.NewPool.{NewPool}
 use Rattle.raidzx_top.specs.declared.words.ServedCommand.TheVariants as served
-use Rattle.raidzx_top.specs.Spelled.{SpellsCreate, SpellsRun, IsServedAs, IsServed}
+use Rattle.raidzx_top.specs.Spelled.{SpellsCreate, SpellsAlone, IsServedAs, IsServed}
 
 -- A list of eight words, told by their places.
 eight : (words : List (List ℕ)) (b c d e f g h : List ℕ) → length words ≡ 8
@@ -107,28 +110,53 @@ two [] name long is = absurd (omega (arith, long))
 two (w ∷ []) name long is = absurd (omega (arith, long))
 two (w ∷ name' ∷ x ∷ words) name long is = absurd (omega (arith, long))
 
-pub run_is_served : (words : List (List ℕ)) → SpellsRun words → IsServedAs words served.Run
-run_is_served words is =
-    let list = two words (codes "run") is.count is.name in
+-- the word that asks for a script to be carried out in this manner
+abbrev pub word_of : Manner → List ℕ
+word_of manner.Whole = codes "run"
+word_of manner.ByTurns = codes "replay"
+
+pub alone_is_served : (words : List (List ℕ)) (how : Manner) → SpellsAlone (word_of how) words
+    → IsServedAs words (served_by how)
+alone_is_served words manner.Whole is =
+    let list = two words (codes "run") is.count is.word in
+    record { first = list.0; rest = _; words_are = list.1; spelled = refl; in_range = tt }
+alone_is_served words manner.ByTurns is =
+    let list = two words (codes "replay") is.count is.word in
     record { first = list.0; rest = _; words_are = list.1; spelled = refl; in_range = tt }
 
-pub run_spells : (words : List (List ℕ)) → IsServedAs words served.Run → SpellsRun words
-run_spells words is =
+pub served_alone : (words : List (List ℕ)) (how : Manner) → IsServedAs words (served_by how)
+    → SpellsAlone (word_of how) words
+served_alone words manner.Whole is =
     let all : words ≡ is.first ∷ codes "run" ∷ [] =
     is.words_are ∙ ap (λ (l : List (List ℕ)). is.first ∷ l) is.spelled in
-    record { count = ap length all; name = ap (λ (l : List (List ℕ)). slice_get l 1) all }
+    record { count = ap length all; word = ap (λ (l : List (List ℕ)). slice_get l 1) all }
+served_alone words manner.ByTurns is =
+    let all : words ≡ is.first ∷ codes "replay" ∷ [] =
+    is.words_are ∙ ap (λ (l : List (List ℕ)). is.first ∷ l) is.spelled in
+    record { count = ap length all; word = ap (λ (l : List (List ℕ)). slice_get l 1) all }
 
--- Words that ask for a run make no pool.
-pub create_no_run : (words : List (List ℕ)) (s : NewPool) → IsServedAs words (served.Create s)
-    → IsServedAs words served.Run → ⊥
-create_no_run words s create run =
+-- Words that ask for a script to be carried out make no pool.
+pub create_no_script : (words : List (List ℕ)) (s : NewPool) (how : Manner) → IsServedAs words (served.Create s)
+    → IsServedAs words (served_by how) → ⊥
+create_no_script words s how create alone =
     let eight_words = (create_spells words s create).count in
-    let two_words = (run_spells words run).count in
+    let two_words = (served_alone words how alone).count in
     omega (arith, eight_words, two_words)
 
-pub none_served : (words : List (List ℕ)) → (SpellsRun words → ⊥)
+-- A run is no replay.
+pub run_no_replay : (words : List (List ℕ)) → IsServedAs words served.Run → IsServedAs words served.Replay → ⊥
+run_no_replay words run replay =
+    let same : codes "run" ≡ codes "replay" =
+    some_injective (codes "run") (codes "replay")
+    (sym (served_alone words manner.Whole run).word ∙ (served_alone words manner.ByTurns replay).word) in
+    let long : 3 ≡ 6 = ap length same in
+    omega (arith, long)
+
+pub none_served : (words : List (List ℕ)) → (SpellsAlone (codes "run") words → ⊥)
+    → (SpellsAlone (codes "replay") words → ⊥)
     → ((s : NewPool) → SpellsCreate words s → ⊥)
     → IsServed words
     → ⊥
-none_served words no_run no_create (served.Create s, is) = no_create s (create_spells words s is)
-none_served words no_run no_create (served.Run, is) = no_run (run_spells words is)
+none_served words no_run no_replay no_create (served.Create s, is) = no_create s (create_spells words s is)
+none_served words no_run no_replay no_create (served.Run, is) = no_run (served_alone words manner.Whole is)
+none_served words no_run no_replay no_create (served.Replay, is) = no_replay (served_alone words manner.ByTurns is)

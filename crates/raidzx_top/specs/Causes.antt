@@ -11,16 +11,13 @@ use Rattle.core_state.specs.Choosing.{IsNotPool}
 use Rattle.core_state.specs.Create.{IsCreated, rows_for}
 use Rattle.core_open.specs.Causes.{IsShownChoice, AreTooMany}
 use Rattle.client_script.specs.Script.{IsOverLimit, IsFaultAt}
+pub use Rattle.schedule.specs.WholeRun.{most_turns}
 use Rattle.raidzx_top.specs.declared.status.Status.{Status}
 use Rattle.raidzx_top.specs.declared.status.Status.TheVariants as status
 use Rattle.raidzx_top.specs.Words.{Command, Create, Load}
 use Rattle.raidzx_top.specs.declared.words.ServedCommand.{ServedCommand}
 use Rattle.raidzx_top.specs.Spelled.{IsServed, IsServedAs, command_of}
 use Rattle.raidzx_top.specs.Call.{Call, HoldsImage, Opens, ReadsScript, size_of, shape_of}
-
--- most turns of a run, and the greatest group
-abbrev pub most_turns : ℕ
-most_turns = 2 ^ 62
 
 -- A device has failed in this call, or none has.
 abbrev pub HasRisen : Call → ℕ → Type 0
@@ -66,8 +63,8 @@ HaveFailed call command listed =
     × ((image : Image) → IsFoundImage call command image
     → IsNotPool (shape_of call.old) listed image)))
 
--- An opening finds a group too near the greatest, a call was refused for that, or the turns were
--- used up.
+-- An opening finds a group too near the greatest, which is as great as the most turns; a call was refused for
+-- that; or the turns were used up.
 abbrev pub MeetsLimit : Call → Command → Type 0
 MeetsLimit call command =
     (Opens command × (call.journal ≡ [])

@@ -1,9 +1,11 @@
 -- How a call ends.
 use Rattle.std.specs.Prelude.{◌≡◌}
+use Rattle.raidzx_top.specs.declared.carrying.Manner.{Manner}
 use Rattle.raidzx_top.specs.declared.status.Status.TheVariants as status
 use Rattle.raidzx_top.specs.declared.words.NewPool.{NewPool}
 use Rattle.raidzx_top.specs.declared.words.ServedCommand.TheVariants as served
 use Rattle.raidzx_top.specs.Call.{Call}
+use Rattle.raidzx_top.specs.Carrying.{served_by}
 use Rattle.raidzx_top.specs.Making.{EndsCreate, IsSaid}
 use Rattle.raidzx_top.specs.Promises.{IsQuiet}
 use Rattle.raidzx_top.specs.Running.{EndsRun}
@@ -27,12 +29,12 @@ pub record EndsAsCreate (call : Call) : Type 0 where
   pub ends : EndsCreate made call.old call.new call.sink.bytes call.sink_after.bytes
       call.sink.faults call.sink_after.faults call.status
 
--- They asked for a run.
+-- They asked for a run or a replay.
 pub record EndsAsRun (call : Call) : Type 0 where
-  pub served_as : IsServedAs call.words served.Run
-  pub turns : call.turns ≡ 0
-  pub ends : EndsRun call.source call.source_after call.sink call.sink_after call.old call.new
-      call.journal call.status
+  pub manner : Manner
+  pub served_as : IsServedAs call.words (served_by manner)
+  pub ends : EndsRun manner call.source call.source_after call.sink call.sink_after call.old
+      call.new call.journal call.status call.turns
 
 -- how a call ends
 pub data Ends (call : Call) : Type 0 where

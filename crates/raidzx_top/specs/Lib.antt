@@ -7,6 +7,7 @@ pub mod Causes
 pub mod Answers
 pub mod RunJournal
 pub mod RunText
+pub mod Carrying
 pub mod Promises
 pub mod Making
 pub mod Running

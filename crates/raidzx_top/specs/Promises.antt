@@ -1,6 +1,6 @@
--- What a call promises: what a new pool is, what a run answers and keeps at each moment and in the end, and
--- what is written.
-use Rattle.std.specs.Prelude.{◌≡◌, ◌≢◌, ◌⊎◌, ℕ, ◌≤◌, List, [], ◌++◌, Some, Bool, false, ⊤}
+-- What a call promises: what a new pool is, what a run or a replay answers and keeps at each moment and in the
+-- end, and what is written.
+use Rattle.std.specs.Prelude.{◌≡◌, ◌≢◌, ◌⊎◌, ℕ, ◌≤◌, List, [], ◌++◌, Some, ⊤}
 use Rattle.bank_trait.specs.Causes.{Rose}
 use Rattle.bank_trait.specs.Disk.{Image, Unchanged}
 use Rattle.bank_trait.specs.Regions.{Tells, TouchesOnly}
@@ -21,18 +21,22 @@ use Rattle.core_open.specs.Opens.{IsUnhindered, LeavesOthers}
 use Rattle.core_serial.specs.Opening.{CutsOpening, MayBegin}
 use Rattle.client_script.specs.Script.{Script, IsScript, asked_by}
 use Rattle.client_script.specs.Texts.{journal_text}
-use Rattle.serial_run.specs.WholeRun.{HasRun}
+use Rattle.raidzx_top.specs.declared.carrying.Carried.{Carried}
+use Rattle.raidzx_top.specs.declared.carrying.Manner.{Manner}
+use Rattle.raidzx_top.specs.declared.carrying.Manner.TheVariants as manner
+use Rattle.raidzx_top.specs.declared.running.Trouble.TheVariants as trouble
 use Rattle.raidzx_top.specs.declared.status.Status.{Status}
 use Rattle.raidzx_top.specs.declared.status.Status.TheVariants as status
-use Rattle.raidzx_top.specs.Words.{Create, Run}
+use Rattle.raidzx_top.specs.Words.{Create}
 use Rattle.raidzx_top.specs.declared.words.NewPool.{NewPool}
 use Rattle.raidzx_top.specs.declared.words.ServedCommand.TheVariants as served
-use Rattle.raidzx_top.specs.Spelled.{IsServedAs}
+use Rattle.raidzx_top.specs.Spelled.{IsServedAs, command_of}
 use Rattle.raidzx_top.specs.Call.{Call, HoldsImage, shape_of}
-use Rattle.raidzx_top.specs.Causes.{NoneRose, IsTooSmall, MeetsLimit, IsNoCommand, IsCaused, ComesWhere}
+use Rattle.raidzx_top.specs.Carrying.{CarriesOut, served_by, turns_of}
+use Rattle.raidzx_top.specs.Causes.{NoneRose, IsTooSmall, MeetsLimit, IsNoCommand, IsCaused, ComesWhere, most_turns}
 use Rattle.raidzx_top.specs.RunJournal.{NoneWantsMemory}
 use Rattle.raidzx_top.specs.RunText.{IsWritten, TextIsRight, create_text, status_line}
-use Rattle.raidzx_top.specs.Running.{IsStatusOf, after_fault}
+use Rattle.raidzx_top.specs.Running.{IsStatusOf, StoppedFor, after_fault}
 
 -- a setting in which a new pool stands: its devices, and failures of no more of them than its parity
 pub record IsNewSetting (call : Call) (parity id : ℕ) (setting : Setting) : Type 0 where
@@ -79,40 +83,42 @@ pub record CreateIsKept (call : Call) : Type 0 where
   pub untouched : (call.status ≡ status.Usage) ⊎ (call.status ≡ status.TooSmall)
       → call.new ≡ call.old
 
--- The status of a run that opened its pool is the first of want of memory, a limit, a failed sink and too
+-- The status of a script that was carried out is the first of want of memory, a limit, a failed sink and too
 -- many failed devices that it met; else it is Done. The text ends with the line that it has where no sink
 -- fails.
-pub record StatusIsRight (call : Call) (out : ℕ) : Type 0 where
-  pub finished : Bool
+pub record StatusIsRight (call : Call) (carried : Carried) : Type 0 where
   pub line : Status
-  pub line_is : IsStatusOf finished out call.journal line
+  pub line_is : IsStatusOf carried call.journal line
   pub given : (call.status ≡ line)
       ⊎ ((call.status ≡ after_fault line) × Rose call.sink.faults call.sink_after.faults)
   pub written : (held : List ℕ) → call.sink.bytes ≡ Some held
       → IsWritten call held (journal_text call.journal ++ status_line line)
 
--- what a run that opened its pool promises
-pub record RunPromises (call : Call) : Type 0 where
+-- what a run that opened its pool promises, or a replay: its calls are carried out whole, or turn by turn
+pub record RunPromises (manner : Manner) (call : Call) : Type 0 where
   -- The script that was read,
   pub script : Script
   pub script_is : (bytes : List ℕ) → call.source.bytes ≡ Some bytes → IsScript bytes script
-  -- and the devices that are out in the end.
-  pub out : ℕ
+  -- and how its calls ended.
+  pub carried : Carried
   -- The journal is legal for the script, and what it tells is kept, at each moment and in the end.
-  pub run : HasRun script call.old call.new call.journal out
-  -- Each call is answered, unless memory was wanting, and then the status tells so.
-  pub complete : call.status ≢ status.NoMemory → IsComplete (asked_by script) call.journal
+  pub run : CarriesOut manner script call.old call.new call.journal carried
+  pub turns : call.turns ≡ turns_of carried
+  -- Each call is answered, unless memory was wanting, and then the status tells so, or the turns were used up.
+  pub complete : call.status ≢ status.NoMemory → (StoppedFor carried trouble.Limit → ⊥)
+      → IsComplete (asked_by script) call.journal
   pub memory : call.status ≢ status.NoMemory → NoneWantsMemory call.journal
+  pub used_up : StoppedFor carried trouble.Limit → most_turns ≤ call.turns
   -- A call that tells of too many failed devices lists devices that are out or have failed.
   pub too_many : (index listed : ℕ) (entry : Entry) → CallAt call.journal index entry
       → entry.answer ≡ answer.TooManyFailed listed
       → (image : Image) → HoldsImage call.old image
       → AreTooMany call.old call.new image listed
   pub text : TextIsRight call (journal_text call.journal)
-  pub status_is : StatusIsRight call out
+  pub status_is : StatusIsRight call carried
 
--- what a run that opened no pool leaves: what was there, but for counts of faults; or an opening that was
--- cut short, for want of memory or as too many devices failed
+-- what a run or a replay that opened no pool leaves: what was there, but for counts of faults; or an opening
+-- that was cut short, for want of memory or as too many devices failed
 pub record LeavesNone (call : Call) : Type 0 where
   pub untouched : (call.status ≡ status.NoMemory → ⊥)
       → ((out : ℕ) → call.status ≡ status.TooManyFailed out → ⊥)
@@ -120,18 +126,21 @@ pub record LeavesNone (call : Call) : Type 0 where
   pub cut : (call.new ≡ call.old) ⊎ CutsOpening call.old call.new
   -- Devices that are not of the pool that the devices show are left alone.
   pub others : (call.new ≡ call.old) ⊎ LeavesOthers call.old call.new
+  pub turns : call.turns ≡ 0
 
--- what a call of `run` promises
-pub record RunIsKept (call : Call) : Type 0 where
-  pub opened : IsServedAs call.words served.Run → call.journal ≢ [] → RunPromises call
-  pub unopened : IsServedAs call.words served.Run → call.journal ≡ [] → LeavesNone call
+-- what a call of `run` or of `replay` promises
+pub record RunIsKept (manner : Manner) (call : Call) : Type 0 where
+  pub opened : IsServedAs call.words (served_by manner) → call.journal ≢ []
+      → RunPromises manner call
+  pub unopened : IsServedAs call.words (served_by manner) → call.journal ≡ [] → LeavesNone call
   -- One that was carried out has opened its pool.
-  pub carried_out : IsServedAs call.words served.Run → IsCarriedOut call → call.journal ≢ []
+  pub carried_out : IsServedAs call.words (served_by manner) → IsCarriedOut call
+      → call.journal ≢ []
 
--- Nothing was in a run's way: the source told a script, the bank keeps groups of which none is too near
--- the greatest number, no device is out, and nothing failed.
-pub record IsSmooth (call : Call) : Type 0 where
-  pub served : IsServedAs call.words served.Run
+-- Nothing was in the way of a run or a replay: the source told a script, the bank keeps groups of which none is
+-- too near the greatest number, no device is out, and nothing failed.
+pub record IsSmooth (manner : Manner) (call : Call) : Type 0 where
+  pub served : IsServedAs call.words (served_by manner)
   pub bytes : List ℕ
   pub told : call.source.bytes ≡ Some bytes
   pub script : Script
@@ -163,10 +172,10 @@ CopiesOn call = (index : ℕ) (entry : Entry) (width group : ℕ) → CallAt cal
     × (copied.answer ≡ answer.Completed wide) × (width ≤ wide)
 
 -- Then the status is Done and each answer is smooth; or memory was wanting, or a group met the greatest
--- number.
-pub record CompletesAll (call : Call) : Type 0 where
+-- number, or the turns were used up.
+pub record CompletesAll (manner : Manner) (call : Call) : Type 0 where
   pub status_is : (call.status ≡ status.Done) ⊎ ((call.status ≡ status.NoMemory)
-      ⊎ ((call.status ≡ status.Limit) × MeetsLimit call (Run false false)))
+      ⊎ ((call.status ≡ status.Limit) × MeetsLimit call (command_of (served_by manner))))
   pub answers : (index : ℕ) (entry : Entry) → CallAt call.journal index entry
       → IsSmoothAnswer entry.answer
 
@@ -177,9 +186,9 @@ pub record CreateCompletes (call : Call) : Type 0 where
       → NoneRose call → (Rose call.sink.faults call.sink_after.faults → ⊥)
       → call.status ≡ status.Done
 
--- A run that has nothing in its way completes.
-abbrev pub RunCompletes : Call → Type 0
-RunCompletes call = IsSmooth call → CompletesAll call
+-- A run or a replay that has nothing in its way completes.
+abbrev pub RunCompletes : Manner → Call → Type 0
+RunCompletes manner call = IsSmooth manner call → CompletesAll manner call
 
 -- what every call promises
 pub record CallPromises (call : Call) : Type 0 where
@@ -191,12 +200,13 @@ pub record CallPromises (call : Call) : Type 0 where
   pub refused : call.journal ≡ [] → (IsCarriedOut call → ⊥) → TextIsRight call []
   -- words that are no command do nothing
   pub quiet : IsNoCommand call → IsQuiet call
-  -- calls are carried out whole, and no turn is made
-  pub turns : call.turns ≡ 0
+  -- no turn is taken but by a replay: calls are carried out whole
+  pub turns : (IsServedAs call.words served.Replay → ⊥) → call.turns ≡ 0
   -- a new pool is kept, and what was written is the text
   pub create : CreateIsKept call
-  -- what a run answers is right and kept, and what was written is the text
-  pub run : RunIsKept call
+  -- what a run answers is right and kept, and what was written is the text; so it is with a replay
+  pub run : RunIsKept manner.Whole call
+  pub replay : RunIsKept manner.ByTurns call
   -- what has nothing in its way is carried out
   pub complete : CreateCompletes call
-  pub completes : RunCompletes call
+  pub completes : (manner : Manner) → RunCompletes manner call

@@ -1,5 +1,5 @@
--- How a run ends: its script is read, its pool opened, its calls answered, its text written.
-use Rattle.std.specs.Prelude.{◌≡◌, ◌⊎◌, ℕ, ◌<◌, ◌≤◌, List, [], ◌++◌, Some, Bool, true, false, IsTrue, All, Result, Ok, Err}
+-- How a run or a replay ends: its script is read, its pool opened, its calls answered, its text written.
+use Rattle.std.specs.Prelude.{◌≡◌, ◌⊎◌, ℕ, ◌<◌, ◌≤◌, List, [], ◌++◌, Some, false, All, Result, Ok, Err}
 use Rattle.bank_trait.specs.Causes.{Rose}
 use Rattle.bank_trait.specs.Disk.{Disk}
 use Rattle.core_state.specs.declared.answer.Answer.{Answer}
@@ -19,13 +19,17 @@ use Rattle.client_script.specs.Texts.{journal_text}
 use Rattle.client_script.specs.Written.{IsAdded, IsPartAdded}
 use Rattle.client_script.specs.declared.refused.ReadRefused.{ReadRefused}
 use Rattle.client_script.specs.declared.refused.ReadRefused.TheVariants as read
-use Rattle.serial_run.specs.WholeRun.{HasRun}
-use Rattle.serial_run.specs.declared.whole_run.Ran.{Ran}
+use Rattle.schedule.specs.WholeRun.{most_turns}
+use Rattle.schedule.specs.declared.whole_run.Ended.TheVariants as ended
+use Rattle.raidzx_top.specs.declared.carrying.Carried.{Carried}
+use Rattle.raidzx_top.specs.declared.carrying.Carried.TheVariants as carried
+use Rattle.raidzx_top.specs.declared.carrying.Manner.{Manner}
 use Rattle.raidzx_top.specs.declared.running.Trouble.{Trouble}
 use Rattle.raidzx_top.specs.declared.running.Trouble.TheVariants as trouble
 use Rattle.raidzx_top.specs.declared.status.Status.{Status}
 use Rattle.raidzx_top.specs.declared.status.Status.TheVariants as status
 use Rattle.raidzx_top.specs.Call.{Stream}
+use Rattle.raidzx_top.specs.Carrying.{CarriesOut, out_of, turns_of}
 use Rattle.raidzx_top.specs.Exit.{read_status, why_status}
 use Rattle.raidzx_top.specs.Making.{IsSaid}
 use Rattle.raidzx_top.specs.RunText.{status_line}
@@ -65,8 +69,8 @@ pub record IsUnopened (old new : Disk) (why : OpenWhy) : Type 0 where
   pub others : LeavesOthers old new
   pub opens : IsForMemory old new why
 
--- A run that was refused before its pool was open: there was no script, no room for its journal, or no
--- pool.
+-- A run or a replay that was refused before its pool was open: there was no script, no room for its journal, or
+-- no pool.
 pub data IsRefused (source source_after : Stream) (old new : Disk) (given : Status) : Type 0 where
   Unread : (why : ReadRefused) → IsUnread source source_after why → new ≡ old
       → given ≡ read_status why → IsRefused source source_after old new given
@@ -76,18 +80,30 @@ pub data IsRefused (source source_after : Stream) (old new : Disk) (given : Stat
       → IsUnopened old new why → given ≡ why_status why
       → IsRefused source source_after old new given
 
--- The script was carried out on the pool, as far as there was room for its answers.
-pub record HasCarried (source source_after : Stream) (old new : Disk) (items : List Item)
-    (ran : Ran) : Type 0 where
-  pub script : Script
-  pub read : HasRead source source_after script
-  pub run : HasRun script old new items ran.out
-  pub complete : IsTrue ran.finished → IsComplete (asked_by script) items
+-- Calls were left unanswered for this trouble: room for the next answer was wanting, or no more turns could be
+-- counted.
+abbrev pub StoppedFor : Carried → Trouble → Type 0
+StoppedFor (carried.Run ran) trouble.NoMemory = ran.finished ≡ false
+StoppedFor (carried.Replay replayed) trouble.NoMemory = replayed.ended ≡ ended.NoMemory
+StoppedFor (carried.Replay replayed) trouble.Limit = replayed.ended ≡ ended.Limit
+StoppedFor given other = ⊥
 
-abbrev pub EndsCarrying : Stream → Stream → Disk → Disk → List Item → Result Ran Status → Type 0
-EndsCarrying source source_after old new items (Ok ran) =
-    HasCarried source source_after old new items ran
-EndsCarrying source source_after old new items (Err given) =
+-- A script was carried out on the pool in this manner. Each call is answered, but where memory was wanting or no
+-- more turns could be counted.
+pub record HasCarried (manner : Manner) (script : Script) (old new : Disk) (items : List Item)
+    (given : Carried) : Type 0 where
+  pub run : CarriesOut manner script old new items given
+  pub complete : (StoppedFor given trouble.NoMemory → ⊥) → (StoppedFor given trouble.Limit → ⊥)
+      → IsComplete (asked_by script) items
+  pub used_up : StoppedFor given trouble.Limit → most_turns ≤ turns_of given
+
+-- A script was read and carried out, or there was none, or no pool.
+abbrev pub EndsCarrying : Manner → Stream → Stream → Disk → Disk → List Item
+    → Result Carried Status → Type 0
+EndsCarrying manner source source_after old new items (Ok given) =
+    (script : Script) × HasRead source source_after script
+    × HasCarried manner script old new items given
+EndsCarrying manner source source_after old new items (Err given) =
     (items ≡ []) × IsRefused source source_after old new given
 
 -- The answer tells of this trouble.
@@ -106,24 +122,23 @@ abbrev pub AnswersSo : List Item → Trouble → Type 0
 AnswersSo items trouble =
     (index : ℕ) × (entry : Entry) × CallAt items index entry × IsTold trouble entry.answer
 
--- Every call was answered, and none tells of want of memory.
-abbrev pub HadMemory : Bool → List Item → Type 0
-HadMemory finished items = (finished ≡ true) × (AnswersSo items trouble.NoMemory → ⊥)
+-- Some call met this trouble: it was left unanswered for it, or answered so.
+abbrev pub HasMet : Carried → List Item → Trouble → Type 0
+HasMet given items met = StoppedFor given met ⊎ AnswersSo items met
 
--- The status of a run whose text is written: the first of want of memory, a limit and too many failed
--- devices that some call met.
-abbrev pub IsStatusOf : Bool → ℕ → List Item → Status → Type 0
-IsStatusOf finished out items status.NoMemory =
-    (finished ≡ false) ⊎ AnswersSo items trouble.NoMemory
-IsStatusOf finished out items status.Limit =
-    HadMemory finished items × AnswersSo items trouble.Limit
-IsStatusOf finished out items (status.TooManyFailed listed) = (listed ≡ out)
-    × HadMemory finished items × (AnswersSo items trouble.Limit → ⊥)
-    × AnswersSo items trouble.TooManyFailed
-IsStatusOf finished out items status.Done =
-    HadMemory finished items × (AnswersSo items trouble.Limit → ⊥)
-    × (AnswersSo items trouble.TooManyFailed → ⊥)
-IsStatusOf finished out items other = ⊥
+-- The status of a script that was carried out and whose text is written: the first of want of memory, a limit
+-- and too many failed devices that some call met.
+abbrev pub IsStatusOf : Carried → List Item → Status → Type 0
+IsStatusOf given items status.NoMemory = HasMet given items trouble.NoMemory
+IsStatusOf given items status.Limit =
+    (HasMet given items trouble.NoMemory → ⊥) × HasMet given items trouble.Limit
+IsStatusOf given items (status.TooManyFailed listed) = (listed ≡ out_of given)
+    × (HasMet given items trouble.NoMemory → ⊥) × (HasMet given items trouble.Limit → ⊥)
+    × HasMet given items trouble.TooManyFailed
+IsStatusOf given items status.Done =
+    (HasMet given items trouble.NoMemory → ⊥) × (HasMet given items trouble.Limit → ⊥)
+    × (HasMet given items trouble.TooManyFailed → ⊥)
+IsStatusOf given items other = ⊥
 
 -- the status where the text wasn't written whole
 abbrev pub after_fault : Status → Status
@@ -131,7 +146,7 @@ after_fault status.NoMemory = status.NoMemory
 after_fault status.Limit = status.Limit
 after_fault other = status.SinkFault
 
--- The text of a run was written, or the sink failed on the way.
+-- The journal's text and the line of a status were written, or the sink failed on the way.
 abbrev pub EndsTelling : Stream → Stream → List Item → Status → Status → Type 0
 EndsTelling sink sink_after items line given =
     ((given ≡ line)
@@ -139,24 +154,29 @@ EndsTelling sink sink_after items line given =
     ⊎ ((given ≡ after_fault line) × Rose sink.faults sink_after.faults
     × IsPartAdded sink.bytes sink_after.bytes (journal_text items ++ status_line line))
 
--- A run that was refused said so.
+-- A run or a replay that was refused said so, and took no turn.
 pub record WasRefused (source source_after sink sink_after : Stream) (old new : Disk)
-    (items : List Item) (given : Status) : Type 0 where
+    (items : List Item) (given : Status) (turns : ℕ) : Type 0 where
   pub none : items ≡ []
+  pub no_turns : turns ≡ 0
   pub refused : IsRefused source source_after old new given
   pub said : IsSaid sink.bytes sink_after.bytes sink.faults sink_after.faults (status_line given)
 
--- One that opened its pool told its journal, and its status.
-pub record WasCarriedOut (source source_after sink sink_after : Stream) (old new : Disk)
-    (items : List Item) (given : Status) : Type 0 where
-  pub ran : Ran
-  pub carried : HasCarried source source_after old new items ran
+-- One that opened its pool told its journal, its status, and how many turns it took.
+pub record WasCarriedOut (manner : Manner) (source source_after sink sink_after : Stream)
+    (old new : Disk) (items : List Item) (given : Status) (turns : ℕ) : Type 0 where
+  pub script : Script
+  pub read : HasRead source source_after script
+  pub carried : Carried
+  pub done : HasCarried manner script old new items carried
+  pub turns_are : turns ≡ turns_of carried
   pub line : Status
-  pub line_is : IsStatusOf ran.finished ran.out items line
+  pub line_is : IsStatusOf carried items line
   pub told : EndsTelling sink sink_after items line given
 
--- How a run ends.
-abbrev pub EndsRun : Stream → Stream → Stream → Stream → Disk → Disk → List Item → Status → Type 0
-EndsRun source source_after sink sink_after old new items given =
-    WasRefused source source_after sink sink_after old new items given
-    ⊎ WasCarriedOut source source_after sink sink_after old new items given
+-- how a run or a replay ends
+abbrev pub EndsRun : Manner → Stream → Stream → Stream → Stream → Disk → Disk → List Item → Status
+    → ℕ → Type 0
+EndsRun manner source source_after sink sink_after old new items given turns =
+    WasRefused source source_after sink sink_after old new items given turns
+    ⊎ WasCarriedOut manner source source_after sink sink_after old new items given turns

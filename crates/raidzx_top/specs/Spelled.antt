@@ -1,6 +1,6 @@
 -- The commands that are carried out, and their words one by one.
 use Rattle.std.specs.Prelude.{◌≡◌, ℕ, ◌^◌, ◌<◌, List, length, slice_get, Some, false, codes, decimal}
-use Rattle.raidzx_top.specs.Words.{Command, Create, Run, IsCommand, IsSize}
+use Rattle.raidzx_top.specs.Words.{Command, Create, Run, Replay, IsCommand, IsSize}
 use Rattle.raidzx_top.specs.declared.words.NewPool.{NewPool}
 use Rattle.raidzx_top.specs.declared.words.ServedCommand.{ServedCommand}
 use Rattle.raidzx_top.specs.declared.words.ServedCommand.TheVariants as served
@@ -18,15 +18,16 @@ pub record SpellsCreate (words : List (List ℕ)) (s : NewPool) : Type 0 where
   pub size : IsSize s.parity s.width
   pub id : s.id < 2 ^ 64
 
--- The words after the first ask for a run.
-pub record SpellsRun (words : List (List ℕ)) : Type 0 where
+-- The words after the first are this one alone.
+pub record SpellsAlone (name : List ℕ) (words : List (List ℕ)) : Type 0 where
   pub count : length words ≡ 2
-  pub name : slice_get words 1 ≡ Some (codes "run")
+  pub word : slice_get words 1 ≡ Some name
 
 -- the command that is carried out; a run has neither a copier nor a scrubber yet
 abbrev pub command_of : ServedCommand → Command
 command_of (served.Create s) = Create s.parity s.width s.id
 command_of served.Run = Run false false
+command_of served.Replay = Replay
 
 -- The words are this command, which is carried out.
 abbrev pub IsServedAs : List (List ℕ) → ServedCommand → Type 0

@@ -1,9 +1,10 @@
 //! The top call: what it answers, when, and what it keeps.
 //!
 //! Read `specs/Words.antt` for the commands, `specs/Causes.antt` for each status, `specs/Answers.antt`
-//! for each answer of the journal, and `specs/Promises.antt` for what a run keeps.
+//! for each answer of the journal, and `specs/Promises.antt` for what a run and a replay keep.
 #![tactic(auto)]
 
+mod carrying;
 #[cfg(test)]
 mod create_tests;
 #[cfg(test)]
@@ -12,6 +13,8 @@ mod images;
 #[cfg(test)]
 mod lost_block_tests;
 mod making;
+#[cfg(test)]
+mod replay_tests;
 mod report;
 #[cfg(test)]
 mod run_tests;

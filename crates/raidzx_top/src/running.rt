@@ -1,17 +1,18 @@
-// Carrying out `run`.
+// Carrying out `run` and `replay`.
 ghost use Rattle.std.specs.Prelude.{◌≡◌, ◌↔◌, [], IsTrue};
 ghost use Rattle.raidzx_top.specs.Call.{stream_of};
-ghost use Rattle.raidzx_top.specs.Running.{AnswersSo, EndsCarrying, EndsRun, EndsTelling, IsStatusOf, IsTold, ItemTells};
+ghost use Rattle.raidzx_top.specs.Running.{AnswersSo, EndsCarrying, EndsRun, EndsTelling, HasMet, IsStatusOf, IsTold, ItemTells, StoppedFor};
 
+use crate::carrying::{Carried, Manner, carry_calls};
 use crate::report::{refuse, write_run};
-use crate::status::Status;
+use crate::status::{Ending, Status};
 use bank_trait::{Bank, Sink, Source};
 use client_script::read_script;
 use core_state::{Answer, Item, Journal};
-use serial_run::{Ran, run_pool};
+use schedule::Ended;
 use std::alloc::Global;
 
-/// What an answer may tell that the status tells too.
+/// What an answer may tell, or the end of a script, that the status tells too.
 #[derive(Clone, Copy, Debug, PartialEq, Eq)]
 pub enum Trouble {
     NoMemory,
@@ -39,7 +40,7 @@ fn item_tells(item: &Item, trouble: Trouble) -> bool
 }
 
 /// Whether some call was answered with this trouble.
-fn met(journal: &Journal, trouble: Trouble) -> bool
+fn answers_so(journal: &Journal, trouble: Trouble) -> bool
     ensures { IsTrue result ↔ AnswersSo journal.now.items trouble }
 {
     for item in journal.as_slice() {
@@ -50,16 +51,40 @@ fn met(journal: &Journal, trouble: Trouble) -> bool
     false
 }
 
-/// The status of a run that opened its pool, where its text is written.
-fn status_of(ran: &Ran, journal: &Journal) -> Status
-    ensures { IsStatusOf ran.now.finished ran.now.out journal.now.items result }
+/// Whether calls were left unanswered for this trouble.
+fn stopped_for(carried: &Carried, trouble: Trouble) -> bool
+    ensures { IsTrue result ↔ StoppedFor carried.now trouble }
 {
-    if !ran.finished || met(journal, Trouble::NoMemory) {
+    match carried {
+        Carried::Run(ran) => match trouble {
+            Trouble::NoMemory => !ran.finished,
+            Trouble::Limit | Trouble::TooManyFailed => false,
+        },
+        Carried::Replay(replayed) => match trouble {
+            Trouble::NoMemory => matches!(replayed.ended, Ended::NoMemory),
+            Trouble::Limit => matches!(replayed.ended, Ended::Limit),
+            Trouble::TooManyFailed => false,
+        },
+    }
+}
+
+/// Whether some call met this trouble.
+fn met(carried: &Carried, journal: &Journal, trouble: Trouble) -> bool
+    ensures { IsTrue result ↔ HasMet carried.now journal.now.items trouble }
+{
+    stopped_for(carried, trouble) || answers_so(journal, trouble)
+}
+
+/// The status of a script that was carried out, where its text is written.
+fn status_of(carried: &Carried, journal: &Journal) -> Status
+    ensures { IsStatusOf carried.now journal.now.items result }
+{
+    if met(carried, journal, Trouble::NoMemory) {
         Status::NoMemory
-    } else if met(journal, Trouble::Limit) {
+    } else if met(carried, journal, Trouble::Limit) {
         Status::Limit
-    } else if met(journal, Trouble::TooManyFailed) {
-        Status::TooManyFailed { out: ran.out }
+    } else if met(carried, journal, Trouble::TooManyFailed) {
+        Status::TooManyFailed { out: carried.out() }
     } else {
         Status::Done
     }
@@ -68,22 +93,23 @@ fn status_of(ran: &Ran, journal: &Journal) -> Status
 /// Reads the script, and carries it out on the pool that the devices show.
 fn carry_script<B: Bank, S: Source>(
     alloc: Global,
+    manner: Manner,
     bank: &mut B,
     source: &mut S,
     journal: &mut Journal,
-) -> Result<Ran, Status>
+) -> Result<Carried, Status>
     requires empty { journal.old.items ≡ [] }
-    ensures { EndsCarrying (stream_of (S.left source.old) (S.faults source.old))
+    ensures { EndsCarrying manner (stream_of (S.left source.old) (S.faults source.old))
         (stream_of (S.left source.new) (S.faults source.new))
         (B.disk bank.old) (B.disk bank.new) journal.new.items result }
 {
     let script = read_script(alloc, source)?;
     journal.reserve(1)?;
-    let ran = run_pool(alloc, bank, &script, journal)?;
-    Ok(ran)
+    let carried = carry_calls(alloc, manner, bank, &script, journal)?;
+    Ok(carried)
 }
 
-/// Writes the text of a run. A failed write is told where neither memory nor a limit is.
+/// Writes the text of a script that was carried out. A failed write is told where neither memory nor a limit is.
 fn tell<K: Sink>(out: &mut K, journal: &Journal, status: Status) -> Status
     ensures { EndsTelling (stream_of (K.held out.old) (K.faults out.old))
         (stream_of (K.held out.new) (K.faults out.new)) journal.now.items status result }
@@ -97,27 +123,31 @@ fn tell<K: Sink>(out: &mut K, journal: &Journal, status: Status) -> Status
     }
 }
 
-/// Reads a script from a source, opens the pool that the devices show, and carries the script out on it.
-/// Writes what was answered, and the line of the status.
+/// Reads a script from a source, opens the pool that the devices show, and carries the script out on it, its
+/// calls whole or turn by turn. Writes what was answered, and the line of the status.
 pub fn run<B: Bank, S: Source, K: Sink>(
     alloc: Global,
+    manner: Manner,
     bank: &mut B,
     source: &mut S,
     out: &mut K,
     journal: &mut Journal,
-) -> Status
+) -> Ending
     requires empty { journal.old.items ≡ [] }
-    ensures { EndsRun (stream_of (S.left source.old) (S.faults source.old))
+    ensures { EndsRun manner (stream_of (S.left source.old) (S.faults source.old))
         (stream_of (S.left source.new) (S.faults source.new))
         (stream_of (K.held out.old) (K.faults out.old))
         (stream_of (K.held out.new) (K.faults out.new))
-        (B.disk bank.old) (B.disk bank.new) journal.new.items result }
+        (B.disk bank.old) (B.disk bank.new) journal.new.items result.status result.turns }
 {
-    match carry_script(alloc, bank, source, journal) {
-        Ok(ran) => {
-            let status = status_of(&ran, journal);
-            tell(out, journal, status)
+    match carry_script(alloc, manner, bank, source, journal) {
+        Ok(carried) => {
+            let status = status_of(&carried, journal);
+            Ending {
+                status: tell(out, journal, status),
+                turns: carried.turns(),
+            }
         }
-        Err(status) => refuse(out, status),
+        Err(status) => Ending::without_turns(refuse(out, status)),
     }
 }

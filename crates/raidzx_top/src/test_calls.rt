@@ -8,6 +8,8 @@ use std::test::Fail;
 pub const MAKE_NINE: &str = "raidzx create --parity 1 --width 3 --id 9";
 
 pub const RUN: &str = "raidzx run";
+
+pub const REPLAY: &str = "raidzx replay";
 /// The calls on each device that make a pool: 32 zeros, a sync, the uberblock, a sync.
 pub const MAKING: u64 = 35;
 /// The calls on each device that open a new pool: 32 reads, a sync of what stands, an uberblock, a sync.

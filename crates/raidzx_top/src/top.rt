@@ -6,10 +6,11 @@ ghost use Rattle.raidzx_top.specs.Ending.{Ends};
 ghost use Rattle.raidzx_top.specs.Promises.{CallPromises};
 ghost use Rattle.raidzx_top.specs.Words.{IsSize};
 
+use crate::carrying::Manner;
 use crate::making::make_pool;
 use crate::report::{refuse, write_created};
 use crate::running::run;
-use crate::status::Status;
+use crate::status::{Ending, Status};
 use crate::words::{NewPool, ServedCommand, read_command};
 use bank_trait::{Bank, Sink, Source};
 use core_open::data_rows;
@@ -17,7 +18,7 @@ use core_state::Journal;
 use std::alloc::Global;
 
 /// How a call ended, the bank, what was answered (nothing where no pool was opened), and how many turns
-/// were made.
+/// were taken: none but by `replay`.
 #[derive(Drop)]
 pub struct Outcome<B> {
     pub status: Status,
@@ -49,7 +50,7 @@ fn carry_out<B: Bank, S: Source, K: Sink>(
     script: &mut S,
     out: &mut K,
     journal: &mut Journal,
-) -> Status
+) -> Ending
     requires empty { journal.old.items ≡ [] }
     ensures { Ends (call_of (map string_bytes words.now)
         (B.disk bank.old) (B.disk bank.new)
@@ -57,12 +58,13 @@ fn carry_out<B: Bank, S: Source, K: Sink>(
         (stream_of (S.left script.new) (S.faults script.new))
         (stream_of (K.held out.old) (K.faults out.old))
         (stream_of (K.held out.new) (K.faults out.new))
-        result journal.new.items 0) }
+        result.status journal.new.items result.turns) }
 {
     match read_command(words) {
-        None => refuse(out, Status::Usage),
-        Some(ServedCommand::Create(made)) => create_pool(bank, &made, out),
-        Some(ServedCommand::Run) => run(alloc, bank, script, out, journal),
+        None => Ending::without_turns(refuse(out, Status::Usage)),
+        Some(ServedCommand::Create(made)) => Ending::without_turns(create_pool(bank, &made, out)),
+        Some(ServedCommand::Run) => run(alloc, Manner::Whole, bank, script, out, journal),
+        Some(ServedCommand::Replay) => run(alloc, Manner::ByTurns, bank, script, out, journal),
     }
 }
 
@@ -85,11 +87,11 @@ pub fn raidzx<B: Bank, S: Source, K: Sink>(
 {
     let mut bank = bank;
     let mut journal = Journal::new(alloc);
-    let status = carry_out(alloc, words, &mut bank, script, out, &mut journal);
+    let ending = carry_out(alloc, words, &mut bank, script, out, &mut journal);
     Outcome {
-        status,
+        status: ending.status,
         bank,
         journal,
-        turns: 0,
+        turns: ending.turns,
     }
 }

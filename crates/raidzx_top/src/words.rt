@@ -1,7 +1,7 @@
 // The command words.
 ghost use Rattle.std.specs.Prelude.{◌≡◌, ◌+◌, ◌^◌, ◌<◌, ◌≤◌, ◌↔◌, ℕ, length, slice_get, Some, IsTrue, IfSome, IfNone, decimal, map, string_bytes};
 ghost use Rattle.raidzx_top.specs.Words.{IsSize};
-ghost use Rattle.raidzx_top.specs.Spelled.{SpellsCreate, SpellsRun, IsServedAs, IsServed};
+ghost use Rattle.raidzx_top.specs.Spelled.{SpellsCreate, SpellsAlone, IsServedAs, IsServed};
 ghost use Rattle.raidzx_top.specs.declared.words.NewPool.{NewPool as NewPoolOf};
 
 use itoa::Buffer;
@@ -19,6 +19,7 @@ pub struct NewPool {
 pub enum ServedCommand {
     Create(NewPool),
     Run,
+    Replay,
 }
 
 /// The number that a word spells: decimal, without sign or leading zeros.
@@ -102,14 +103,14 @@ fn create(words: &[String]) -> Option<NewPool>
     new_pool(parity, width, id)
 }
 
-/// Whether the words ask for a run.
-fn is_run(words: &[String]) -> bool
-    ensures { IsTrue result ↔ SpellsRun (map string_bytes words.now) }
+/// Whether the words after the first are this one alone.
+fn is_alone(words: &[String], name: &str) -> bool
+    ensures { IsTrue result ↔ SpellsAlone name.now (map string_bytes words.now) }
 {
-    let [_, name] = words else {
+    let [_, word] = words else {
         return false;
     };
-    is_word(name, "run")
+    is_word(word, name)
 }
 
 /// The command that the words spell, if it is one that is carried out. The first word is not looked at.
@@ -117,8 +118,11 @@ pub fn read_command(words: &[String]) -> Option<ServedCommand>
     ensures some { IfSome result (IsServedAs (map string_bytes words.now)) }
     ensures none { IfNone result (IsServed (map string_bytes words.now) → ⊥) }
 {
-    if is_run(words) {
+    if is_alone(words, "run") {
         return Some(ServedCommand::Run);
+    }
+    if is_alone(words, "replay") {
+        return Some(ServedCommand::Replay);
     }
     match create(words) {
         Some(numbers) => Some(ServedCommand::Create(numbers)),

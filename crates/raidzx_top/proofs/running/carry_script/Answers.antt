@@ -2,7 +2,7 @@ use Rattle.std.proofs.Common.{refl, ◌∙◌}
 use Rattle.std.proofs.lemmas.Result.{err_from_is_err_and}
 use Rattle.raidzx_top.specs.Call.{Stream, stream_of}
 use Rattle.raidzx_top.specs.Running.{Unread, Roomless, Unopened}
-use Rattle.raidzx_top.proofs.Carrying.{was_read, was_unread}
+use Rattle.raidzx_top.proofs.Reading.{was_read, was_unread}
 use Rattle.raidzx_top.proofs.running.carry_script.Goals as goal
 
 pub returns-in_err-script : goal.returns-in_err-script
@@ -30,24 +30,18 @@ returns-in_err-reserve g c =
           told.every_fault told.every_limit) refl refl,
     )
 
-pub returns-in_err-ran : goal.returns-in_err-ran
-returns-in_err-ran g c =
+pub returns-in_err-carried : goal.returns-in_err-carried
+returns-in_err-carried g c =
     let source : Stream = stream_of (g.S.Source.left c.args.source.now) (g.S.Source.faults c.args.source.now) in
     let after : Stream = stream_of (g.S.Source.left c.read_script.new.source) (g.S.Source.faults c.read_script.new.source) in
     let script = c.in_ok-script.script in
     let told = c.in_ok-script.ensures in
-    let why = c.in_err-ran.field-0.0 in
-    let given = err_from_is_err_and c.from_residual-in_err-ran.result c.from_residual-in_err-ran.ensures.1 in
+    let why = c.in_err-carried.field-0.0 in
+    let given = err_from_is_err_and c.from_residual-in_err-carried.result c.from_residual-in_err-carried.ensures.1 in
     rw (given.1, given.2) (
-      c.in_err-ran.ensures.nothing,
+      c.in_err-carried.ensures.nothing,
       Unopened script (was_read source after script told.ok told.allowed told.actors told.every_script
-          told.every_fault told.every_limit) why (record {
-            cause = c.in_err-ran.ensures.cause;
-            cut = c.in_err-ran.ensures.cut;
-            untouched = c.in_err-ran.ensures.untouched;
-            others = c.in_err-ran.ensures.others;
-            opens = c.in_err-ran.ensures.opens;
-          }) refl,
+          told.every_fault told.every_limit) why c.in_err-carried.ensures.unopened refl,
     )
 
 pub returns : goal.returns
@@ -55,11 +49,9 @@ returns g c =
     let source : Stream = stream_of (g.S.Source.left c.args.source.now) (g.S.Source.faults c.args.source.now) in
     let after : Stream = stream_of (g.S.Source.left c.read_script.new.source) (g.S.Source.faults c.read_script.new.source) in
     let script = c.in_ok-script.script in
-    let told = c.in_ok-script.ensures in
-    record {
-      script = script;
-      read = was_read source after script told.ok told.allowed told.actors told.every_script told.every_fault
-          told.every_limit;
-      run = c.in_ok-ran.ensures.run;
-      complete = c.in_ok-ran.ensures.complete;
-    }
+    let told = c.in_ok-script.ensures in (
+      script,
+      was_read source after script told.ok told.allowed told.actors told.every_script told.every_fault
+          told.every_limit,
+      c.in_ok-carried.ensures.done,
+    )

@@ -1,32 +1,43 @@
 use Rattle.std.proofs.Common.{refl, subst}
 use Rattle.std.specs.Prelude.{map, string_bytes}
+use Rattle.raidzx_top.specs.declared.carrying.Manner.TheVariants as manner
 use Rattle.raidzx_top.specs.declared.words.ServedCommand.{ServedCommand}
 use Rattle.raidzx_top.specs.Ending.{AsUsage, AsCreate, AsRun}
 use Rattle.raidzx_top.specs.Spelled.{IsServedAs}
 use Rattle.raidzx_top.proofs.top.carry_out.Goals as goal
 
 pub returns-in-None : goal.returns-in-None
-returns-in-None g c = AsUsage (record {
+returns-in-None g c = rw (c.without_turns.ensures.status, c.without_turns.ensures.turns) (AsUsage (record {
   quiet = record { unread = refl; journal = c.requires.empty; turns = refl };
   none = c.in-None.ensures.none;
   status_is = c.refuse.ensures.same;
   same = refl;
   said = c.refuse.ensures.said;
-})
+}))
 
 pub returns-in-Some-Create : goal.returns-in-Some-Create
-returns-in-Some-Create g c = AsCreate (record {
-  quiet = record { unread = refl; journal = c.requires.empty; turns = refl };
-  made = c.in-Some-Create.made;
-  served_as = subst (λ (given : ServedCommand). IsServedAs (map string_bytes c.args.words.now) given)
-      c.in-Some-Create.field-0-is c.in-Some-Create.ensures.some;
-  ends = c.create_pool.ensures;
-})
+returns-in-Some-Create g c =
+    let ending = c.without_turns-in-Some-Create.ensures in
+    rw (ending.status, ending.turns) (AsCreate (record {
+      quiet = record { unread = refl; journal = c.requires.empty; turns = refl };
+      made = c.in-Some-Create.made;
+      served_as = subst (λ (given : ServedCommand). IsServedAs (map string_bytes c.args.words.now) given)
+          c.in-Some-Create.field-0-is c.in-Some-Create.ensures.some;
+      ends = c.create_pool.ensures;
+    }))
 
 pub returns-in-Some-Run : goal.returns-in-Some-Run
 returns-in-Some-Run g c = AsRun (record {
+  manner = manner.Whole;
   served_as = subst (λ (given : ServedCommand). IsServedAs (map string_bytes c.args.words.now) given)
       c.in-Some-Run.field-0-is c.in-Some-Run.ensures.some;
-  turns = refl;
   ends = c.run.ensures;
+})
+
+pub returns-in-Some-Replay : goal.returns-in-Some-Replay
+returns-in-Some-Replay g c = AsRun (record {
+  manner = manner.ByTurns;
+  served_as = subst (λ (given : ServedCommand). IsServedAs (map string_bytes c.args.words.now) given)
+      c.in-Some-Replay.field-0-is c.in-Some-Replay.ensures.some;
+  ends = c.run-in-Some-Replay.ensures;
 })

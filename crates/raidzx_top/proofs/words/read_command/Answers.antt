@@ -1,8 +1,12 @@
-use Rattle.raidzx_top.proofs.Spelling.{create_is_served, run_is_served}
+use Rattle.raidzx_top.specs.declared.carrying.Manner.TheVariants as manner
+use Rattle.raidzx_top.proofs.Spelling.{create_is_served, alone_is_served}
 use Rattle.raidzx_top.proofs.words.read_command.Goals as goal
 
 pub returns-in-Some-clause-some : goal.returns-in-Some-clause-some
 returns-in-Some-clause-some c = create_is_served _ _ c.in-Some.ensures.some
 
-pub returns-then-is_run-clause-some : goal.returns-then-is_run-clause-some
-returns-then-is_run-clause-some c = run_is_served _ (c.is_run.ensures.0 c.if-is_run.true)
+pub returns-then-is_alone-clause-some : goal.returns-then-is_alone-clause-some
+returns-then-is_alone-clause-some c = alone_is_served _ manner.Whole (c.is_alone.ensures.0 c.if-is_alone.true)
+
+pub returns-then-is_alone-2-clause-some : goal.returns-then-is_alone-2-clause-some
+returns-then-is_alone-2-clause-some c = alone_is_served _ manner.ByTurns (c.is_alone-2.ensures.0 c.if-is_alone-2.true)

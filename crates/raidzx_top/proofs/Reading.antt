@@ -1,4 +1,4 @@
--- How reading a script and carrying it out ends.
+-- How reading a script ends.
 use Rattle.std.proofs.Common.{◌≡◌, ◌⊎◌, inl, inr, ⊎_elim, ℕ, ◌<◌, ◌≤◌, List, Some, Result, Ok, Err, refl}
 use Rattle.std.specs.Prelude.{All}
 use Rattle.client_script.specs.FromSource.{IsNotReadFor, IsReadUnlessNoMemory}
