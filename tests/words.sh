@@ -21,6 +21,8 @@ expect 'a parity of four' 1 usage disk0 disk1 disk2 -- create --parity 4 --width
 expect 'a number with a leading zero' 1 usage disk0 disk1 disk2 -- create --parity 1 --width 03 --id 9
 expect 'options in another order' 1 usage disk0 disk1 disk2 -- create --width 3 --parity 1 --id 9
 expect 'a word too many' 1 usage disk0 disk1 disk2 -- create --parity 1 --width 3 --id 9 now
+expect 'a word too many after a command without options' 1 usage disk0 disk1 disk2 -- replay now
+expect 'replay reads a script' 2 'script line 1' "${memory[@]}" -- replay
 same 'refused words leave the devices alone' disk0 before
 expect 'a word that is no text' 1 usage $'\xff' disk1 -- create --parity 1 --width 2 --id 9
 
