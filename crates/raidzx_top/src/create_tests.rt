@@ -106,7 +106,7 @@ fn words_that_are_no_command_are_usage_and_change_nothing(rt: HostRuntime) -> Re
         "raidzx run run",
         "raidzx run --attach",
         "raidzx run --scrub",
-        "raidzx replay",
+        "raidzx replay --attach",
         "raidzx status",
         "raidzx scrub",
         "raidzx load --seed 1 --blocks 2",

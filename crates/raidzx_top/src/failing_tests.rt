@@ -1,6 +1,6 @@
 // Devices, sinks and sources that fail.
 use crate::Status;
-use crate::test_calls::{MAKE_NINE, MAKING, OPENING, RUN, bank_of_nine, call, call_with};
+use crate::test_calls::{MAKE_NINE, MAKING, OPENING, REPLAY, RUN, bank_of_nine, call, call_with};
 use bank_mem::{MemBank, MemSink, MemSource};
 use std::alloc::Global;
 use std::test::Fail;
@@ -194,13 +194,14 @@ fn a_device_that_answers_again_gives_what_was_synced_with_the_others_lost(
 fn a_sink_that_fails_has_a_front_of_the_text(rt: HostRuntime) -> Result<(), Fail> {
     let alloc = rt.alloc();
     // (the words, the sink's room, which of its writes fails, the status, what it has)
-    let rows: [(&str, u64, u64, Status, &[u8]); 7] = [
+    let rows: [(&str, u64, u64, Status, &[u8]); 8] = [
         (RUN, 10, 9, Status::SinkFault, b"0 group 3 "),
         (RUN, 1000, 0, Status::SinkFault, b""),
+        (REPLAY, 10, 9, Status::SinkFault, b"0 group 3 "),
         (MAKE_NINE, 10, 9, Status::SinkFault, b"pool 9 par"),
         (MAKE_NINE, 1000, 0, Status::SinkFault, b""),
-        ("raidzx replay", 2, 9, Status::Usage, b"us"),
-        ("raidzx replay", 1000, 0, Status::Usage, b""),
+        ("raidzx status", 2, 9, Status::Usage, b"us"),
+        ("raidzx status", 1000, 0, Status::Usage, b""),
         (
             "raidzx create --parity 1 --width 4 --id 9",
             0,
@@ -235,10 +236,11 @@ fn what_was_synced_stands_although_it_was_not_told(rt: HostRuntime) -> Result<()
 fn a_source_that_fails_is_told_and_changes_nothing(rt: HostRuntime) -> Result<(), Fail> {
     let alloc = rt.alloc();
     // (the words, which read fails, the status, the text)
-    let rows: [(&str, u64, Status, &[u8]); 3] = [
+    let rows: [(&str, u64, Status, &[u8]); 4] = [
         (RUN, 0, Status::SourceFault, b"source fault\n"),
         (RUN, 1, Status::SourceFault, b"source fault\n"),
-        ("raidzx replay", 0, Status::Usage, b"usage\n"),
+        (REPLAY, 0, Status::SourceFault, b"source fault\n"),
+        ("raidzx status", 0, Status::Usage, b"usage\n"),
     ];
     for (words, number, status, text) in rows {
         let bank = bank_of_nine(alloc)?;
