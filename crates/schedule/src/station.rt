@@ -5,7 +5,6 @@ ghost use Rattle.client_script.specs.declared.call.ScriptCall.{ScriptCall as Cal
 ghost use Rattle.client_script.specs.Script.{IsAllowed};
 ghost use Rattle.core_serial.specs.Pool.{HasBank};
 ghost use Rattle.core_turns.specs.Core.{IsCore};
-ghost use Rattle.serial_run.specs.Steps.{point_after, read_point};
 ghost use Rattle.schedule.specs.declared.client.UnderWay.{UnderWay as UnderWayOf};
 ghost use Rattle.schedule.specs.Playing.{UsesRoom, unanswered};
 ghost use Rattle.schedule.specs.Turned.{MayGoOn, Turned, entry_for, listed_with, station_of};
@@ -14,31 +13,11 @@ use crate::client::{Client, UnderWay};
 use crate::turning::{begin_call, go_on};
 use bank_trait::Bank;
 use client_script::ScriptCall;
-use core_state::{Answer, Entry, Group, Item, Journal, Kind};
+use core_state::{Answer, Entry, Group, Item, Journal};
 use core_turns::{Core, Turn};
 use reflow_mark::Reflow;
+use serial_run::point_after;
 use std::alloc::Global;
-
-/// The point of the journal that a read speaks of which began after so many items: the map as it was then,
-/// unless it was cut short.
-fn read_point(at: usize, answer: &Answer) -> Option<u64>
-    ensures { result ≡ read_point at answer.now }
-{
-    match answer {
-        Answer::TooManyFailed { out: _ } | Answer::NoMemory => None,
-        _ => Some(at as u64),
-    }
-}
-
-/// Calls that aren't reads speak of none.
-fn point_after(kind: Kind, at: usize, answer: &Answer) -> Option<u64>
-    ensures { result ≡ point_after kind at answer.now }
-{
-    match kind {
-        Kind::Get | Kind::Sum => read_point(at, answer),
-        _ => None,
-    }
-}
 
 /// The entry of a call of this number, which began after so many items.
 fn entry_for(call: &ScriptCall, actor: u8, number: usize, at: usize, answer: Answer) -> Entry

@@ -5,7 +5,6 @@ ghost use Rattle.core_open.specs.Causes.{IsOpenCause};
 ghost use Rattle.core_open.specs.Opens.{IsForMemory, LeavesOthers};
 ghost use Rattle.client_script.specs.Script.{IsAllowed, asked_by};
 ghost use Rattle.core_serial.specs.Opening.{CutsOpening, LeavesUnopened};
-ghost use Rattle.serial_run.specs.WholeRun.{first_item};
 ghost use Rattle.schedule.specs.declared.whole_run.Ended.TheVariants.{Whole, Limit};
 ghost use Rattle.schedule.specs.Playing.{most_turns};
 ghost use Rattle.schedule.specs.WholeRun.{HasTakenTurns};
@@ -14,9 +13,10 @@ use crate::replay::carry_out;
 use bank_trait::Bank;
 use client_script::Script;
 use core_open::OpenWhy;
-use core_serial::{Pool, open_pool};
-use core_state::{Group, Item, Journal};
+use core_serial::open_pool;
+use core_state::{Item, Journal};
 use core_turns::Core;
+use serial_run::first_item;
 use std::alloc::Global;
 use uberblock_ring::DeviceSet;
 
@@ -36,20 +36,6 @@ pub struct Replayed {
     pub ended: Ended,
     pub turns: u64,
     pub out: DeviceSet,
-}
-
-/// The item of the group that a pool was opened with.
-fn first_item(pool: &Pool) -> Group
-    ensures { result ≡ first_item pool.now }
-{
-    let uber = pool.uber();
-    let reflow = uber.reflow();
-    Group {
-        group: uber.group(),
-        after: 0,
-        from: reflow.from,
-        to: reflow.to,
-    }
 }
 
 /// Opens the pool that the devices show and carries out the calls of a script's clients on it turn by turn: first

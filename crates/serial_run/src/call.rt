@@ -12,8 +12,8 @@ use core_serial::Pool;
 use core_state::{Answer, Entry, Group, Item, Journal, Kind};
 use std::alloc::Global;
 
-/// The point of the journal that a read speaks of, after so many items: the map as it is, unless it was
-/// cut short.
+/// The point of the journal that a read speaks of which began after so many items: the map as it was then, unless it
+/// was cut short.
 fn read_point(items: usize, answer: &Answer) -> Option<u64>
     ensures { result ≡ read_point items answer.now }
 {
@@ -23,8 +23,9 @@ fn read_point(items: usize, answer: &Answer) -> Option<u64>
     }
 }
 
+/// The point of the journal that the entry of a call speaks of, which was answered so and began after so many items.
 /// Calls that aren't reads speak of none.
-fn point_after(kind: Kind, items: usize, answer: &Answer) -> Option<u64>
+pub fn point_after(kind: Kind, items: usize, answer: &Answer) -> Option<u64>
     ensures { result ≡ point_after kind items answer.now }
 {
     match kind {

@@ -20,5 +20,6 @@ mod test_runs;
 mod tests;
 mod whole_run;
 
+pub use call::point_after;
 pub use run::run_script;
-pub use whole_run::{Ran, run_pool};
+pub use whole_run::{Ran, first_item, run_pool};

@@ -25,7 +25,7 @@ pub struct Ran {
 }
 
 /// The item of the group that a pool was opened with.
-fn first_item(pool: &Pool) -> Group
+pub fn first_item(pool: &Pool) -> Group
     ensures { result ≡ first_item pool.now }
 {
     let uber = pool.uber();
