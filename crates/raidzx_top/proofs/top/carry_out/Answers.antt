@@ -16,9 +16,8 @@ returns-in-None g c = rw (c.without_turns.ensures.status, c.without_turns.ensure
 }))
 
 pub returns-in-Some-Create : goal.returns-in-Some-Create
-returns-in-Some-Create g c =
-    let ending = c.without_turns-in-Some-Create.ensures in
-    rw (ending.status, ending.turns) (AsCreate (record {
+returns-in-Some-Create g c = rw (c.without_turns-in-Some-Create.ensures.status, c.without_turns-in-Some-Create.ensures.turns)
+    (AsCreate (record {
       quiet = record { unread = refl; journal = c.requires.empty; turns = refl };
       made = c.in-Some-Create.made;
       served_as = subst (λ (given : ServedCommand). IsServedAs (map string_bytes c.args.words.now) given)
