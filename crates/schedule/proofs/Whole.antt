@@ -202,6 +202,8 @@ module _ (script : Script) (old mid : Disk) (pool : Pool) (silent : ℕ) (items 
     taken = record {
       start = at_disk (resting pool) mid;
       rest = record { holds = refl; committing = refl; blocks = rest };
+      opened_is = refl;
+      bank = bank;
       later = opened_later;
       now = final;
       disk = refl;

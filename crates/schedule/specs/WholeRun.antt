@@ -19,12 +19,13 @@ use Rattle.core_open.specs.Opens.{IsWithinBelow}
 use Rattle.core_open.specs.Regions.{IsOnBelow}
 use Rattle.client_script.specs.Script.{Script, asked_by, handed_by}
 use Rattle.core_serial.specs.Opening.{MayBegin}
+use Rattle.core_serial.specs.Pool.{HasBank}
 use Rattle.core_turns.specs.Core.{CoreState}
 use Rattle.serial_run.specs.Caused.{HasTooManyIds}
 use Rattle.serial_run.specs.Moments.{KeepsLast}
 use Rattle.serial_run.specs.NoSpace.{NoSpaceIsCaused}
 use Rattle.serial_run.specs.Widths.{HaveWidthOf}
-use Rattle.serial_run.specs.WholeRun.{BeginsAfter}
+use Rattle.serial_run.specs.WholeRun.{BeginsAfter, first_item}
 use Rattle.schedule.specs.declared.client.Client.{Client}
 use Rattle.schedule.specs.declared.whole_run.Replayed.{Replayed}
 use Rattle.schedule.specs.Coming.{turns_of}
@@ -63,12 +64,14 @@ pub record TurnsKeep (script : Script) (setting : Setting) (first : Kept) (later
       ((first ∷ later) ++ any_moment.groups.answered ++ any_moment.groups.begun)
   pub parity_is : first.uber.parity ≡ parity
 
--- From a core at rest, a journal of the opening's group and clients that had begun no call, the turns were taken whose
--- turn it was, as many as are told, and they ended as is told.
+-- From a core at rest whose pool is of the opening's group, a journal of that group and clients that had begun no call,
+-- the turns were taken whose turn it was, as many as are told, and they ended as is told.
 pub record TakesItsTurns (script : Script) (opened : GroupItem) (old new : Disk) (items : List Item)
     (replayed : Replayed) : Type 0 where
   pub start : CoreState
   pub rest : IsAtRest start.core
+  pub opened_is : opened ≡ first_item start.core.pool
+  pub bank : HasBank start.core.pool.uber start.core.pool.out start.disk
   pub later : Later old start.disk
   pub now : CoreState
   pub disk : now.disk ≡ new
