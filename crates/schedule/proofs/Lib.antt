@@ -37,7 +37,9 @@ pub mod Whole
 pub mod OwnTurns
 pub mod Left
 pub mod Shared
-pub mod Replaying
+pub mod TurnTaken
+pub mod RoundTaken
+pub mod CallTaken
 pub mod InTurn
 pub mod Playing
 pub mod Rooms

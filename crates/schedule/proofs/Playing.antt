@@ -15,7 +15,7 @@ use Rattle.schedule.specs.Playing.{HasPlayed, HasStopped, IsReady, most_turns}
 use Rattle.schedule.specs.Replaying.{AreIdle, HasTurn, HaveBegun}
 use Rattle.schedule.proofs.Coming.{came_nowhere, came_on}
 use Rattle.schedule.proofs.InTurn.{begun_none_left, busy_in_rest, gone_more, gone_none, gone_then, idle_not_busy, left_in_rest, none_in_rest, none_in_round, past_not_busy, round_ends, round_goes, round_next, turn_in_round}
-use Rattle.schedule.proofs.Replaying.{given_own}
+use Rattle.schedule.proofs.CallTaken.{given_own}
 
 -- What holds follows where an answer is `Err`.
 pub at_err : {V E : Type 0} (P : Type 0) (result : Result V E) → P → OnErr result P

@@ -2,7 +2,7 @@ use Rattle.std.proofs.Common.{sym, ◌∙◌, arith}
 use Rattle.schedule.specs.InTurn.{InRest, replay_by, turns_by}
 use Rattle.schedule.proofs.InTurn.{busy_left, idle_not_busy, left_begun, not_busy_idle}
 use Rattle.schedule.proofs.Playing.{at_err, played_first, played_later, stopped_then}
-use Rattle.schedule.proofs.Replaying.{begins_more, begins_one, idle_again, turn_fewer}
+use Rattle.schedule.proofs.CallTaken.{begins_more, begins_one, idle_again, turn_fewer}
 use Rattle.schedule.proofs.replay.take_call.Goals as goal
 
 pub returns-in_err-count_turn_of-clause-stopped : goal.returns-in_err-count_turn_of-clause-stopped

@@ -2,7 +2,7 @@ use Rattle.std.proofs.Common.{sym, ◌∙◌}
 use Rattle.schedule.specs.InTurn.{InRound, turns_by}
 use Rattle.schedule.proofs.InTurn.{busy_left, not_busy_idle}
 use Rattle.schedule.proofs.Playing.{at_err, passed_in_round, played_in_round}
-use Rattle.schedule.proofs.Replaying.{fewer_idle, fewer_turn}
+use Rattle.schedule.proofs.RoundTaken.{fewer_idle, fewer_turn}
 use Rattle.schedule.proofs.replay.take_if_busy.Goals as goal
 
 pub returns-then-not-is_busy-clause-played : goal.returns-then-not-is_busy-clause-played

@@ -4,7 +4,7 @@ use Rattle.schedule.specs.InTurn.{InRest, replay_by, turns_by}
 use Rattle.schedule.specs.Replaying.{HaveBegun}
 use Rattle.schedule.proofs.InTurn.{none_left_begun}
 use Rattle.schedule.proofs.Playing.{at_err, played_at, played_none, played_then, rest_goes, stopped_then}
-use Rattle.schedule.proofs.Replaying.{begun_none, next_begun, next_few, next_is_call, next_of_client, next_smaller, next_taken}
+use Rattle.schedule.proofs.CallTaken.{begun_none, next_begun, next_few, next_is_call, next_of_client, next_smaller, next_taken}
 use Rattle.schedule.proofs.replay.take_rest.Goals as goal
 
 pub loop-next-init : goal.loop-next-init

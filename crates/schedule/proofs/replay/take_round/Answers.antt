@@ -1,7 +1,7 @@
 use Rattle.std.proofs.Common.{◌+◌}
 use Rattle.schedule.specs.InTurn.{InRound, replay_by, turns_by}
 use Rattle.schedule.proofs.Playing.{at_err, played_none, played_then, stopped_then}
-use Rattle.schedule.proofs.Replaying.{fewer_none}
+use Rattle.schedule.proofs.RoundTaken.{fewer_none}
 use Rattle.schedule.proofs.replay.take_round.Goals as goal
 
 pub loop-actor-init : goal.loop-actor-init

@@ -2,7 +2,7 @@ use Rattle.std.proofs.Common.{[], sym, ◌∙◌, arith}
 use Rattle.schedule.specs.InTurn.{InOrder, InRest, InRound, after_round, replay_by, turns_by}
 use Rattle.schedule.proofs.InTurn.{rest_next, round_next}
 use Rattle.schedule.proofs.Playing.{at_err, order_over, played_at, round_over, stopped_then}
-use Rattle.schedule.proofs.Replaying.{any_left, none_busy_idle, round_fewer}
+use Rattle.schedule.proofs.RoundTaken.{any_left, none_busy_idle, round_fewer}
 use Rattle.schedule.proofs.replay.take_rounds.Goals as goal
 
 pub rounds-init : goal.rounds-init

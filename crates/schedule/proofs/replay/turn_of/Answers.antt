@@ -6,7 +6,7 @@ use Rattle.schedule.specs.Comes.{TakesTurn}
 use Rattle.schedule.specs.InTurn.{turns_by}
 use Rattle.schedule.specs.Playing.{unanswered}
 use Rattle.schedule.specs.Turned.{Turned, station_of}
-use Rattle.schedule.proofs.Replaying.{allowed_of, client_there, going_may, turn_few, turn_none, takes_turn, turn_ready, turn_taken}
+use Rattle.schedule.proofs.TurnTaken.{allowed_of, client_there, going_may, turn_few, turn_none, takes_turn, turn_ready, turn_taken}
 use Rattle.schedule.proofs.Rooms.{room_after, room_left}
 use Rattle.schedule.proofs.replay.turn_of.Goals as goal
 

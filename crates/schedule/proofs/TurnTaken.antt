@@ -1,0 +1,219 @@
+-- One turn of a client of a script: what it needs before, and what stands after it.
+use Rattle.std.proofs.Common.{◌≡◌, ◌≢◌, ⊎_elim, ℕ, ◌-◌, ◌<◌, ◌≤◌, List, [], ◌∷◌, length, Some, zero, suc, refl, sym, ◌∙◌, ap, subst, arith, slice_index_or, slice_set}
+use Rattle.std.specs.Prelude.{All, Contains, filter, slice_get, ◌==◌}
+use Rattle.std.proofs.lemmas.List.Elements.{All-filter, All-map, All-get_or}
+use Rattle.std.proofs.lemmas.Option.{get_or_from_slice_get, slice_get-get_or, slice_get_within}
+use Rattle.bank_trait.specs.Disk.{Lawful}
+use Rattle.client_script.specs.declared.call.ScriptCall.{ScriptCall}
+use Rattle.client_script.specs.Script.{Placed, Script, IsAllowed, calls_of}
+use Rattle.core_turns.specs.declared.getting.GetRun.{GetRun}
+use Rattle.core_turns.specs.declared.putting.PutRun.{PutRun}
+use Rattle.core_turns.specs.Core.{Core, IsCore}
+use Rattle.core_blocks.specs.Blocks.{IsUnderWay}
+use Rattle.core_turns.specs.Getting.{HasTooManyOut, IsGetOf, IsRead}
+use Rattle.core_turns.specs.Putting.{IsPutOf}
+use Rattle.core_turns.specs.UnderWay.{Call, Putting, Reading}
+use Rattle.core_turns.proofs.Calls.{range_listed}
+use Rattle.schedule.specs.declared.client.Client.{Client}
+use Rattle.schedule.specs.declared.client.UnderWay.{UnderWay}
+use Rattle.schedule.specs.declared.client.Work.{Work}
+use Rattle.schedule.specs.declared.client.Work.TheVariants as work
+use Rattle.schedule.specs.Clients.{Changes}
+use Rattle.schedule.specs.Comes.{Comes, TakesTurn}
+use Rattle.schedule.specs.Coming.{IsSchedule, Turns, turns_of}
+use Rattle.schedule.specs.Playing.{HasRoom, IsReady}
+use Rattle.schedule.specs.Replaying.{AreIdle, HasTurn, OnlyShared, TakesOne}
+use Rattle.schedule.specs.Running.{AreGoing, IsGoing, IsSync, IsWorkFor, IsWorkOf}
+use Rattle.schedule.specs.Turned.{MayGoOn, Station, Turned}
+use Rattle.schedule.proofs.Coming.{came_nowhere}
+use Rattle.schedule.proofs.Left.{turned_fewer}
+use Rattle.schedule.proofs.Shared.{turned_begins, turned_further, turned_shared}
+use Rattle.schedule.proofs.Theirs.{none_some, some_is}
+use Rattle.schedule.proofs.TurnLaw.{turned_comes}
+use Rattle.schedule.proofs.UsingLaw.{turn_uses}
+
+-- ---- before a turn
+
+all_at : {X : Type 0} (P : X → Type 0) (xs : List X) (index : ℕ) (x : X) → All P xs → slice_get xs index ≡ Some x → P x
+all_at P xs index x all is = subst P (get_or_from_slice_get xs index x x is)
+    (All-get_or P xs index x (slice_get_within xs index x is) all)
+
+-- Each call of a client is allowed.
+pub allowed_of : (script : Script) (actor : ℕ) → All (λ placed. IsAllowed placed.call) script.calls
+    → (number : ℕ) (call : ScriptCall) → slice_get (calls_of script actor) number ≡ Some call → IsAllowed call
+allowed_of script actor allowed number call is = all_at IsAllowed (calls_of script actor) number call
+    (All-map IsAllowed (λ (placed : Placed). placed.call)
+    (filter (λ (placed : Placed). placed.actor == actor) script.calls)
+    (All-filter (λ (placed : Placed). placed.actor == actor) (λ (placed : Placed). IsAllowed placed.call) script.calls
+    allowed))
+    is
+
+-- A call under way is one of the core, and what the script asks for.
+pub going_may : (script : Script) (core : Core) (clients : List Client) (index : ℕ) (client : Client) (under : UnderWay)
+    (call : ScriptCall) → AreGoing script core clients → IsGoing clients index client under
+    → slice_get (calls_of script index) (client.begun - 1) ≡ Some call → MayGoOn core call under.work
+going_may script core clients index client under call going is asked =
+    may under.work refl (subst (λ (c : ScriptCall). IsWorkFor c under.work) (some_is (sym found.1 ∙ asked)) found.2)
+  where
+    found : (its : ScriptCall) × (slice_get (calls_of script index) (client.begun - 1) ≡ Some its)
+        × IsWorkFor its under.work
+    found = going.asked index client under is
+
+    held : (IsSync under.work → ⊥) → (its : Call) × Contains going.calls its × IsWorkOf under.work its
+    held no_sync = let its = going.theirs.every index client under is no_sync in (its.0, its.1, its.2)
+
+    may : (does : Work) → under.work ≡ does → IsWorkFor call does → MayGoOn core call does
+    may (work.Put run) same for =
+        let its = held (λ sync. subst IsSync same sync) in
+        putting its.0 its.1 (subst (λ (d : Work). IsWorkOf d its.0) same its.2)
+      where
+        putting : (its : Call) → Contains going.calls its → IsWorkOf (work.Put run) its → MayGoOn core call (work.Put run)
+        putting (Putting other content) listed is_its = (
+          subst (λ (r : PutRun). IsPutOf core r) (sym is_its) (going.are.each (Putting other content) listed),
+          subst (λ (r : PutRun). IsUnderWay core.pool.blocks r.range) (sym is_its)
+              (going.are.under.each other.range (range_listed going.calls other content listed)),
+          for.2,
+        )
+        putting (Reading other content) listed is_its = absurd is_its
+    may (work.Read run) same for =
+        let its = held (λ sync. subst IsSync same sync) in
+        reading its.0 its.1 (subst (λ (d : Work). IsWorkOf d its.0) same its.2)
+      where
+        reading : (its : Call) → Contains going.calls its → IsWorkOf (work.Read run) its
+            → MayGoOn core call (work.Read run)
+        reading (Putting other content) listed is_its = absurd is_its
+        reading (Reading other content) listed is_its = subst (λ (r : GetRun). IsRead r.kind × IsGetOf core r) (sym is_its)
+            (going.are.each (Reading other content) listed)
+    may (work.Sync run) same for = (going.syncs index client under run is same).0
+
+-- ---- after a turn
+
+-- Where one place of a list is set, it has that, and the others are as they were.
+set_here : {X : Type 0} (xs : List X) (place : ℕ) (x : X) → place < length xs
+    → slice_get (slice_set xs place x) place ≡ Some x
+set_here [] place x low = absurd (omega (arith, low))
+set_here (first ∷ xs) zero x low = refl
+set_here (first ∷ xs) (suc place) x low = set_here xs place x (omega (arith, low))
+
+set_others : {X : Type 0} (xs : List X) (place : ℕ) (x : X) (other : ℕ) → other ≢ place
+    → slice_get (slice_set xs place x) other ≡ slice_get xs other
+set_others [] place x other apart = refl
+set_others (first ∷ xs) zero x zero apart = absurd (apart refl)
+set_others (first ∷ xs) zero x (suc other) apart = refl
+set_others (first ∷ xs) (suc place) x zero apart = refl
+set_others (first ∷ xs) (suc place) x (suc other) apart =
+    set_others xs place x other (λ same. apart (ap suc same))
+
+-- The client at a place is the one of that number,
+client_at : (clients : List Client) (place actor : ℕ) (client : Client) → place ≡ actor → place < length clients
+    → slice_get clients actor ≡ Some (slice_index_or clients place client)
+client_at clients place actor client same low =
+    subst (λ (n : ℕ). slice_get clients n ≡ Some (slice_index_or clients place client)) same
+    (slice_get-get_or clients place client low)
+
+pub client_there : (clients : List Client) (place actor : ℕ) (client : Client) → place ≡ actor → place < length clients
+    → client ≡ slice_index_or clients place client → slice_get clients actor ≡ Some client
+client_there clients place actor client same low is =
+    client_at clients place actor client same low ∙ ap (λ (c : Client). Some c) (sym is)
+
+-- and changes there alone.
+changes_at : (clients : List Client) (place actor : ℕ) (client : Client) → place ≡ actor → place < length clients
+    → Changes clients (slice_set clients place client) actor client
+changes_at clients place actor client same low =
+    subst (λ (n : ℕ). Changes clients (slice_set clients place client) n client) same (record {
+      there = set_here clients place client low;
+      others = set_others clients place client;
+    })
+
+-- Where it had a turn, the others stay as they are.
+pub takes_turn : (script : Script) (place actor : ℕ) (before after : Station) (clients : List Client)
+    → IsSchedule script (turns_of before.state before.items clients) → slice_get clients actor ≡ Some before.client
+    → place ≡ actor → place < length clients → IsCore before.state.core
+    → Lawful before.state.disk × Lawful after.state.disk → Turned (calls_of script actor) actor before after
+    → TakesTurn script actor before after clients (slice_set clients place after.client)
+takes_turn script place actor before after clients schedule was same low is lawful turned =
+    let changes = changes_at clients place actor after.client same low in record {
+      schedule = schedule;
+      was = was;
+      changes = changes;
+      is = is;
+      lawful = lawful.0;
+      still_lawful = lawful.1;
+      space = λ uber entries stood. turn_uses script actor before after clients (slice_set clients place after.client)
+          schedule.going was changes is uber entries stood turned;
+    }
+
+-- Where no client has a call under way and devices enough are in, no commit is under way.
+none_commits : (script : Script) (core : Core) (clients : List Client) → AreGoing script core clients → AreIdle clients
+    → (HasTooManyOut core → ⊥) → (other : ℕ) → core.committing ≡ Some other → ⊥
+none_commits script core clients going idle few other is = ⊎_elim few
+    (λ found. none_some (sym (idle.each other found.0 found.3.there) ∙ found.3.under_way))
+    (going.one other is)
+
+-- A client of the script took a turn.
+module _ (script : Script) (actor : ℕ) (before after : Station) (clients news : List Client)
+    (takes : TakesTurn script actor before after clients news)
+    (allowed : All (λ placed. IsAllowed placed.call) script.calls) (shared : OnlyShared before.state.core.holds)
+    (turned : Turned (calls_of script actor) actor before after) where
+  comes : Comes script before after clients news
+  comes = turned_comes script actor before after clients news takes (allowed_of script actor allowed) turned
+
+  takes_one : TakesOne script actor (turns_of before.state before.items clients) news before.client after.client
+  takes_one = record {
+    there = takes.changes.there;
+    further = turned_further (calls_of script actor) actor before after turned;
+    fewer = λ under going. turned_fewer (calls_of script actor) actor before after under turned going;
+    begins = λ idle low. turned_begins (calls_of script actor) actor before after turned shared
+        (none_commits script before.state.core clients takes.schedule.going idle)
+        (idle.each actor before.client takes.was) low;
+  }
+
+  pub turn_taken : HasTurn script actor (turns_of before.state before.items clients)
+      (turns_of after.state after.items news)
+  turn_taken = record {
+    come = comes.come;
+    is = record {
+      none = λ past.
+          absurd (let low = slice_get_within clients actor before.client takes.was in omega (arith, past, low));
+      one = λ client is. (
+        after.client,
+        subst (λ (c : Client). Turned (calls_of script actor) actor
+            (record { state = before.state; items = before.items; client = c }) after)
+            (some_is (sym takes.was ∙ is)) turned,
+        takes.changes,
+      );
+    };
+    others = takes.changes.others;
+    takes = λ client is. (
+      after.client,
+      subst (λ (c : Client). TakesOne script actor (turns_of before.state before.items clients) news c after.client)
+          (some_is (sym takes.was ∙ is)) takes_one,
+    );
+  }
+
+  -- It has begun no more calls than it has.
+  pub turn_few : after.client.begun ≤ length (calls_of script actor)
+  turn_few = comes.schedule.answered.few actor after.client takes.changes.there
+
+  -- The next turn may be taken then.
+  pub turn_ready : (left : ℕ) → length clients ≡ script.clients → length news ≡ length clients
+      → HasRoom script news left → IsReady script (turns_of after.state after.items news) left
+  turn_ready left counted same enough = record {
+    schedule = comes.schedule;
+    shared = turned_shared (calls_of script actor) actor before after turned shared;
+    counted = same ∙ counted;
+    enough = enough;
+  }
+
+-- There is no such client, and nothing was done.
+pub turn_none : (script : Script) (actor : ℕ) (turns : Turns) → length turns.clients ≤ actor
+    → HasTurn script actor turns turns
+turn_none script actor turns past = record {
+  come = came_nowhere script turns;
+  is = record {
+    none = λ after. refl;
+    one = λ client is. absurd (let low = slice_get_within turns.clients actor client is in omega (arith, past, low));
+  };
+  others = λ other apart. refl;
+  takes = λ client is. absurd (let low = slice_get_within turns.clients actor client is in omega (arith, past, low));
+}
