@@ -46,7 +46,7 @@ use Rattle.schedule.specs.Comes.{TakesTurn, Comes}
 use Rattle.schedule.proofs.Theirs.{some_is, none_some}
 use Rattle.schedule.proofs.Answered.{answered, answers_same, answers_call}
 use Rattle.schedule.proofs.Going.{at_once}
-use Rattle.schedule.proofs.TurnRuns.{answers_at_once}
+use Rattle.schedule.proofs.RunsEnd.{answers_at_once}
 use Rattle.schedule.proofs.Fulls.{full_same, full_other, put_alone}
 use Rattle.schedule.proofs.Coming.{came_nowhere, came_turn, told_same, told_entry}
 

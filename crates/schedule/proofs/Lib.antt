@@ -9,7 +9,9 @@ pub mod Theirs
 pub mod Answered
 pub mod Running
 pub mod Fulls
-pub mod TurnRuns
+pub mod RunsGoOn
+pub mod RunsBegin
+pub mod RunsEnd
 pub mod Using
 pub mod UsingTurns
 pub mod UsingEnds

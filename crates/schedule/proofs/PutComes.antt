@@ -34,7 +34,8 @@ use Rattle.schedule.proofs.Theirs.{some_is, none_some}
 use Rattle.schedule.proofs.Fulls.{full_put}
 use Rattle.schedule.proofs.Answered.{answered}
 use Rattle.schedule.proofs.Going.{begins as going_begins, at_once as going_at_once}
-use Rattle.schedule.proofs.TurnRuns.{begins as runs_begins, answers_at_once as runs_at_once}
+use Rattle.schedule.proofs.RunsBegin.{begins as runs_begins}
+use Rattle.schedule.proofs.RunsEnd.{answers_at_once as runs_at_once}
 use Rattle.schedule.proofs.TurnComes.{gains_first, goes_on_with_none, calls_of_others, stands_knows, answered_idle, answered_going, runs_waits, comes_same, comes_answered}
 use Rattle.schedule.proofs.Puts.{Refuses, put_no_sync, put_refused, rearranged_uber, rearranged_committing, rearranged_commits, rearranged_many, rearranged_goes, unstored_plain, unstored_answers, unstored_map}
 

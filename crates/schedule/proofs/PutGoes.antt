@@ -38,7 +38,8 @@ use Rattle.schedule.specs.Comes.{TakesTurn, Comes}
 use Rattle.schedule.proofs.RightNext.{IsPlain, put_right}
 use Rattle.schedule.proofs.Theirs.{none_some, some_is}
 use Rattle.schedule.proofs.Going.{goes as going_goes, ends as going_ends}
-use Rattle.schedule.proofs.TurnRuns.{GoesOnSince, goes_on as runs_goes_on, ends as runs_ends}
+use Rattle.schedule.proofs.RunsGoOn.{GoesOnSince, goes_on as runs_goes_on}
+use Rattle.schedule.proofs.RunsEnd.{ends as runs_ends}
 use Rattle.schedule.proofs.TurnComes.{gains_first, going_under, stands_knows, answered_going, comes_same, comes_answered}
 use Rattle.schedule.proofs.Puts.{IsAmong, IsUnstored, TellsOut, put_no_sync, put_among, rearranged_uber, rearranged_committing, rearranged_commits, rearranged_many, tells_out, unstored_plain, unstored_answers, unstored_listed, unstored_map}
 

@@ -39,7 +39,9 @@ use Rattle.schedule.proofs.Below.{below_end}
 use Rattle.schedule.proofs.Theirs.{actor_of, some_is, none_some}
 use Rattle.schedule.proofs.Fulls.{put_alone, read_no_put}
 use Rattle.schedule.proofs.Going.{goes, begins as going_begins, ends as going_ends}
-use Rattle.schedule.proofs.TurnRuns.{goes_on, begins as runs_begins, ends as runs_ends}
+use Rattle.schedule.proofs.RunsGoOn.{goes_on}
+use Rattle.schedule.proofs.RunsBegin.{begins as runs_begins}
+use Rattle.schedule.proofs.RunsEnd.{ends as runs_ends}
 use Rattle.schedule.proofs.ReadAnswers.{EndsRead, listed_read, map_read, right_read, refused_of, refused_right, read_ends_so}
 use Rattle.schedule.proofs.ComesBy.{LeavesPool, gains_first, gains_of, leaves_pool, commit_still, leaves_commit, leaves_many, turn_still, stands_knows, its_own, none_of_its, answered_idle, answered_going, RunsOn, first_entry, comes_nowhere, comes_on, comes_answered, comes_at_once}
 

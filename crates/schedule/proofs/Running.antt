@@ -1,7 +1,7 @@
 -- What stands between two turns stands after a client's next one.
-use Rattle.std.proofs.Common.{◌≡◌, ◌≢◌, inl, inr, ⊎_elim, ℕ, ◌<◌, ◌≤◌, List, [], ◌∷◌, ◌++◌, length, Some, sym, ◌∙◌, ap, arith, length-append}
+use Rattle.std.proofs.Common.{◌≡◌, ◌≢◌, inl, inr, ⊎_elim, ℕ, ◌<◌, ◌≤◌, List, [], ◌∷◌, ◌++◌, length, Some, sym, ◌∙◌, ap, subst, arith, length-append}
 use Rattle.std.specs.Prelude.{Contains, slice_get}
-use Rattle.std.proofs.lemmas.Bool.{cases_lt}
+use Rattle.std.proofs.lemmas.Bool.{cases_eq, cases_lt}
 use Rattle.core_state.specs.declared.item.Entry.{Entry}
 use Rattle.core_state.specs.declared.item.Group.{Group as GroupItem}
 use Rattle.core_state.specs.declared.item.Item.{Item}
@@ -18,9 +18,10 @@ use Rattle.schedule.specs.declared.client.Client.{Client}
 use Rattle.schedule.specs.declared.client.UnderWay.{UnderWay}
 use Rattle.schedule.specs.declared.client.Work.{Work}
 use Rattle.schedule.specs.declared.client.Work.TheVariants as work
+use Rattle.schedule.specs.Clients.{Changes}
 use Rattle.schedule.specs.Recorded.{IsBegunAt}
-use Rattle.schedule.specs.Running.{IsSync, IsSyncOf, HasContent, IsClient}
-use Rattle.schedule.proofs.Theirs.{actor_of}
+use Rattle.schedule.specs.Running.{IsGoing, IsSync, IsSyncOf, HasContent, IsClient}
+use Rattle.schedule.proofs.Theirs.{actor_of, going_here, going_was}
 
 -- What a call is about stays as the journal grows.
 pub content_grown : (world : World) (items more : List Item) (call : ScriptCall) (at : ℕ) (held : Call) → at ≤ length items
@@ -82,6 +83,25 @@ client_stays world script items item begun onward calls nexts index client under
   sync = sync is.sync;
   content = λ call held asked has its. is.content call held asked (among held has its) its;
 }
+
+-- Where one client has changed, each is right whose call is under way: that one, and the others as they were.
+pub each_client : (world : World) (script : Script) (items : List Item) (item : GroupItem) (begun : List Kept)
+    (calls : List Call) (clients news : List Client) (index : ℕ) (client : Client) → Changes clients news index client
+    → ((under : UnderWay) → client.under_way ≡ Some under
+    → IsClient world script items item begun calls index client under)
+    → ((other : ℕ) (its : Client) (under : UnderWay) → other ≢ index → IsGoing clients other its under
+    → IsClient world script items item begun calls other its under)
+    → (other : ℕ) (its : Client) (under : UnderWay) → IsGoing news other its under
+    → IsClient world script items item begun calls other its under
+each_client world script items item begun calls clients news index client changes here others other its under is = ⊎_elim
+    (λ (same : other ≡ index).
+    let found = going_here clients news index client changes its under
+    (subst (λ (n : ℕ). IsGoing news n its under) same is) in
+    subst (λ (n : ℕ). IsClient world script items item begun calls n its under) (sym same)
+    (subst (λ (c : Client). IsClient world script items item begun calls index c under) found.0 (here under found.1)))
+    (λ (apart : other ≢ index).
+    others other its under apart (going_was clients news index client changes other its under apart is))
+    (cases_eq other index)
 
 -- A new entry is none of another caller's.
 pub entry_apart : (items : List Item) (entry : Entry) (index : ℕ) → entry.caller ≢ index → (place : ℕ) (other : Entry)

@@ -39,7 +39,8 @@ use Rattle.schedule.proofs.Theirs.{some_is, none_some}
 use Rattle.schedule.proofs.Answered.{answered, answers_same, answers_call}
 use Rattle.schedule.proofs.Begun.{begun_now}
 use Rattle.schedule.proofs.Going.{commits_on, at_once}
-use Rattle.schedule.proofs.TurnRuns.{commit_begins, answers_at_once}
+use Rattle.schedule.proofs.RunsBegin.{commit_begins}
+use Rattle.schedule.proofs.RunsEnd.{answers_at_once}
 use Rattle.schedule.proofs.Fulls.{FullStays, full_same, full_other, put_alone}
 use Rattle.schedule.proofs.Coming.{came_nowhere, came_turn, told_same, told_entry}
 use Rattle.schedule.proofs.Syncs.{clients_same, state_is, turn_still, run_of, groups_know, no_commit, refused_tells, refused_map, refused_answers, refused_right}

@@ -42,7 +42,8 @@ use Rattle.schedule.proofs.Answered.{answered, answers_same, answers_call, answe
 use Rattle.schedule.proofs.Fulls.{full_synced}
 use Rattle.schedule.proofs.Going.{commits_on, commit_ends as going_ends, one_sync}
 use Rattle.schedule.proofs.Running.{group_apart}
-use Rattle.schedule.proofs.TurnRuns.{commit_goes_on, commit_ends, commit_is_cut}
+use Rattle.schedule.proofs.RunsGoOn.{commit_goes_on}
+use Rattle.schedule.proofs.RunsEnd.{commit_ends, commit_is_cut}
 use Rattle.schedule.proofs.Syncs.{groups_know, its_commit}
 use Rattle.schedule.proofs.SyncComes.{StandsOn, came_still, came_listed, came_answered}
 

@@ -1,6 +1,6 @@
 -- The calls under way are the clients' works still, where one client has changed.
 use Rattle.std.proofs.Common.{◌≡◌, ◌≢◌, ⊎_elim, ℕ, List, Option, Some, None, sym, ◌∙◌, ap, subst}
-use Rattle.std.specs.Prelude.{AllPairs, Contains}
+use Rattle.std.specs.Prelude.{AllPairs, Contains, slice_get}
 use Rattle.std.proofs.lemmas.Bool.{cases_eq}
 use Rattle.space_alloc.specs.Space.{Gains}
 use Rattle.core_blocks.proofs.Lists.{gains_old, gains_item, gains_cases, pairs_beside}
@@ -32,6 +32,19 @@ apart_back (Reading run content) (Reading next held) clear = tt
 
 pub beside_back : (one other : Call) → AreBeside one other → AreBeside other one
 beside_back one other are = record { actors = λ same. are.actors (sym same); apart = apart_back one other are.apart }
+
+-- A client that has no call under way goes on with none,
+pub none_going : (clients : List Client) (index : ℕ) (client : Client) → slice_get clients index ≡ Some client
+    → client.under_way ≡ None → (its : Client) (under : UnderWay) → IsGoing clients index its under → ⊥
+none_going clients index client was idle its under is =
+    none_some (sym idle ∙ ap (λ (c : Client). c.under_way) (some_is (sym was ∙ is.there)) ∙ is.under_way)
+
+-- and one that has, with that one.
+pub going_under : (clients : List Client) (index : ℕ) (client : Client) (under : UnderWay)
+    → slice_get clients index ≡ Some client → client.under_way ≡ Some under → (its : Client) (its_under : UnderWay)
+    → IsGoing clients index its its_under → its_under ≡ under
+going_under clients index client under was is its its_under going =
+    some_is (sym going.under_way ∙ ap (λ (c : Client). c.under_way) (sym (some_is (sym was ∙ going.there))) ∙ is)
 
 module _ (old new : List Client) (index : ℕ) (client : Client) (changes : Changes old new index client) where
   -- Other clients go on with their calls.
