@@ -1,5 +1,5 @@
 -- The calls of a script that a journal answers, as clients go on.
-use Rattle.std.proofs.Common.{◌≡◌, ◌≢◌, ◌⊎◌, inl, inr, ⊎_elim, ℕ, ◌+◌, ◌-◌, ◌<◌, ◌≤◌, List, [], ◌∷◌, ◌++◌, length, Some, sym, ◌∙◌, ap, subst, arith}
+use Rattle.std.proofs.Common.{◌≡◌, ◌≢◌, ◌⊎◌, inl, inr, ⊎_elim, ℕ, ◌+◌, ◌-◌, ◌<◌, ◌≤◌, List, [], ◌∷◌, ◌++◌, length, Some, None, sym, ◌∙◌, ap, subst, arith}
 use Rattle.std.specs.Prelude.{slice_get, option_map}
 use Rattle.std.proofs.lemmas.Bool.{cases_eq, cases_lt}
 use Rattle.std.proofs.lemmas.Option.{slice_get-map}
@@ -26,6 +26,15 @@ same_call one other is = cc
 -- how many calls of a client were answered
 abbrev pub answered : Client → ℕ
 answered client = answered_of client.begun client.under_way
+
+-- All that it has begun were,
+pub answered_idle : (client : Client) → client.under_way ≡ None → answered client ≡ client.begun
+answered_idle client idle = ap (answered_of client.begun) idle
+
+-- but for the one under way.
+pub answered_going : {under : UnderWay} (client : Client) → client.under_way ≡ Some under
+    → answered client ≡ client.begun - 1
+answered_going client going = ap (answered_of client.begun) going
 
 -- A new group answers nothing more.
 pub answers_group : (script : Script) (clients : List Client) (items : List Item) (group : GroupItem)

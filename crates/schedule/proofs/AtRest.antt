@@ -1,5 +1,5 @@
 -- Where a run begins, and where it ends with all calls answered.
-use Rattle.std.proofs.Common.{◌≡◌, ◌≢◌, ⊎_elim, ℕ, ◌+◌, ◌*◌, ◌<◌, ◌≤◌, List, [], ◌∷◌, length, Some, zero, suc, sym, ◌∙◌, ap, subst, arith, ne_eqb, slice_index_or}
+use Rattle.std.proofs.Common.{◌≡◌, ◌≢◌, ⊎_elim, ℕ, ◌+◌, ◌*◌, ◌<◌, ◌≤◌, List, [], ◌∷◌, length, Some, suc, sym, ◌∙◌, ap, subst, arith, ne_eqb, slice_index_or}
 use Rattle.std.specs.Prelude.{All, filter, slice_get, ◌==◌}
 use Rattle.std.proofs.lemmas.Bool.{cases_eq}
 use Rattle.std.proofs.lemmas.List.{length-map, length-replicate, take_all}
@@ -16,28 +16,15 @@ use Rattle.client_script.specs.Script.{Placed, Script, asked_by, calls_of}
 use Rattle.core_serial.specs.Pool.{HasBank}
 use Rattle.core_turns.specs.Core.{Core, at_disk}
 use Rattle.schedule.specs.declared.client.Client.{Client}
-use Rattle.schedule.specs.declared.client.UnderWay.{UnderWay}
 use Rattle.schedule.specs.declared.progress.Progress.{Progress}
 use Rattle.schedule.specs.Clients.{AreAnswered, answered_of}
 use Rattle.schedule.specs.Coming.{IsSchedule, turns_of}
 use Rattle.schedule.specs.InTurn.{Cursor, replay_at, replay_by, turns_by}
 use Rattle.schedule.specs.Playing.{IsReady}
 use Rattle.schedule.specs.Replaying.{AreIdle, HaveBegun, IsAtRest, OnlyShared, blank_client, blank_clients}
-use Rattle.schedule.specs.Running.{IsGoing}
 use Rattle.schedule.proofs.Rooms.{room_at_first}
-use Rattle.schedule.proofs.Theirs.{none_some, some_is}
-
--- Each blank client is.
-blank_at : (count index : ℕ) (client : Client) → slice_get (blank_clients count) index ≡ Some client
-    → client ≡ blank_client
-blank_at zero index client is = absurd (none_some is)
-blank_at (suc count) zero client is = sym (some_is is)
-blank_at (suc count) (suc index) client is = blank_at count index client is
-
-none_going : (count index : ℕ) (client : Client) (under : UnderWay) → IsGoing (blank_clients count) index client under
-    → ⊥
-none_going count index client under going =
-    none_some (ap (λ (c : Client). c.under_way) (sym (blank_at count index client going.there)) ∙ going.under_way)
+use Rattle.schedule.proofs.Theirs.{none_some}
+use Rattle.schedule.proofs.Opened.{blank_is, none_of_blank}
 
 -- A core at rest, clients that have begun no call, and a journal that answers none are a schedule.
 pub schedule_at_rest : (script : Script) (core : Core) (disk : Disk) (items : List Item) (count : ℕ) → IsAtRest core
@@ -54,10 +41,10 @@ schedule_at_rest script core disk items count rest bank none = record {
     };
     theirs = record {
       of = λ call listed. absurd (none_listed call listed);
-      every = λ index client under going no_sync. absurd (none_going count index client under going);
+      every = λ index client under going no_sync. absurd (none_of_blank count index client under going);
     };
-    asked = λ index client under going. absurd (none_going count index client under going);
-    syncs = λ index client under run going is. absurd (none_going count index client under going);
+    asked = λ index client under going. absurd (none_of_blank count index client under going);
+    syncs = λ index client under run going is. absurd (none_of_blank count index client under going);
     one = λ actor is. absurd (none_some (sym rest.committing ∙ is));
   };
   answered = record {
@@ -66,9 +53,9 @@ schedule_at_rest script core disk items count rest bank none = record {
       order = λ index later one other before first second. absurd (none index one first);
     };
     few = λ caller client there.
-        let blank = ap (λ (c : Client). c.begun) (blank_at count caller client there) in omega (arith, blank);
+        let blank = ap (λ (c : Client). c.begun) (blank_is count caller client there) in omega (arith, blank);
     some = λ caller client under there going.
-        absurd (none_going count caller client under (record { there = there; under_way = going }));
+        absurd (none_of_blank count caller client under (record { there = there; under_way = going }));
     each = λ index entry there. absurd (none index entry there);
     every = λ caller number client there low. absurd (none_begun caller number client there low);
   };
@@ -78,7 +65,7 @@ schedule_at_rest script core disk items count rest bank none = record {
     none_begun : (caller number : ℕ) (client : Client) → slice_get (blank_clients count) caller ≡ Some client
         → number < answered_of client.begun client.under_way → ⊥
     none_begun caller number client there low =
-        let blank = blank_at count caller client there in
+        let blank = blank_is count caller client there in
         let few = subst (λ (c : Client). number < answered_of c.begun c.under_way) blank low in
         omega (arith, few)
 

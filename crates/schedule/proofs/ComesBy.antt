@@ -1,13 +1,12 @@
 -- What a turn comes to, put together from its parts.
-use Rattle.std.proofs.Common.{◌≡◌, ◌≢◌, ⊎_elim, ℕ, suc, ◌+◌, ◌-◌, ◌<◌, ◌≤◌, List, [], ◌∷◌, ◌++◌, length, Option, Some, None, refl, sym, ◌∙◌, ap, subst, arith}
-use Rattle.std.specs.Prelude.{Contains, slice_get}
+use Rattle.std.proofs.Common.{◌≡◌, ◌≢◌, ⊎_elim, ℕ, ◌+◌, ◌<◌, ◌≤◌, List, [], ◌∷◌, ◌++◌, length, Some, None, refl, sym, ◌∙◌, ap, subst, arith}
+use Rattle.std.specs.Prelude.{slice_get}
 use Rattle.std.proofs.lemmas.Bool.{cases_eq}
 use Rattle.std.proofs.lemmas.List.{append-nil}
 use Rattle.std.proofs.lemmas.Option.{slice_get_within}
 use Rattle.bank_trait.specs.Disk.{Disk, Later}
 use Rattle.bank_trait.specs.Regions.{TouchesOnly}
 use Rattle.range_locks.specs.declared.hold.Hold.{Hold}
-use Rattle.space_alloc.specs.Space.{Gains}
 use Rattle.uberblock_ring.specs.Devices.{count_of, IsWithin}
 use Rattle.uberblock_ring.specs.Uberblock.{Uber}
 use Rattle.core_state.specs.declared.answer.Answer.{Answer}
@@ -16,70 +15,37 @@ use Rattle.core_state.specs.declared.answer.Kind.TheVariants as kind
 use Rattle.core_state.specs.declared.item.Entry.{Entry}
 use Rattle.core_state.specs.declared.item.Item.{Item}
 use Rattle.core_state.specs.declared.item.Item.TheVariants.{Call as CallItem}
-use Rattle.core_state.specs.Map.{Map, map_of, map_after_answer}
+use Rattle.core_state.specs.Map.{map_of, map_after_answer}
 use Rattle.core_state.specs.Legal.{IsAnswerOf}
-use Rattle.core_state.specs.Keeps.{Kept, Setting}
-use Rattle.core_state.specs.Certain.{Knows}
 use Rattle.core_state.specs.CoreState.{World}
 use Rattle.core_blocks.specs.Blocks.{Blocks}
-use Rattle.core_blocks.proofs.Lists.{none_listed, listed_cases}
 use Rattle.core_client.specs.Outs.{point_of, OnlyFailedGoOut}
 use Rattle.core_commit.specs.CommitTurns.{CommitRun}
 use Rattle.core_commit.specs.Spared.{IsOnInUse}
-use Rattle.core_commit.proofs.Beside.{committing_cut}
 use Rattle.client_script.specs.declared.call.ScriptCall.{ScriptCall}
 use Rattle.client_script.specs.Script.{Script, calls_of, handed_by}
 use Rattle.core_turns.specs.Core.{Core, CoreState}
 use Rattle.core_turns.specs.Getting.{HasTooManyOut}
 use Rattle.core_turns.specs.Committing.{IsCommitOf}
-use Rattle.core_turns.specs.UnderWay.{Call, AreCallsOf, Stands, TurnGoesOn}
+use Rattle.core_turns.specs.UnderWay.{AreCallsOf, Stands, TurnGoesOn}
 use Rattle.core_turns.specs.declared.turn.Turn.TheVariants.{Done}
 use Rattle.core_turns.proofs.Commits.{turn_bank, turn_nowhere}
 use Rattle.schedule.specs.declared.client.Client.{Client}
 use Rattle.schedule.specs.declared.client.UnderWay.{UnderWay}
-use Rattle.schedule.specs.Clients.{AreAnswered, answered_of}
+use Rattle.schedule.specs.Clients.{AreAnswered}
 use Rattle.schedule.specs.Coming.{turns_of}
-use Rattle.schedule.specs.Running.{IsGoing, AreGoing, Runs}
+use Rattle.schedule.specs.Running.{AreGoing, Runs}
 use Rattle.schedule.specs.Recorded.{IsRightNext}
 use Rattle.schedule.specs.Turned.{Station, LeavesBegun, entry_for}
 use Rattle.schedule.specs.Comes.{TakesTurn, Comes}
-use Rattle.schedule.proofs.Theirs.{some_is, none_some}
-use Rattle.schedule.proofs.Answered.{answered, answers_same, answers_call}
+use Rattle.schedule.proofs.Theirs.{none_some, none_going}
+use Rattle.schedule.proofs.Answered.{answered, answers_same, answers_call, answered_idle}
 use Rattle.schedule.proofs.Going.{at_once}
 use Rattle.schedule.proofs.RunsEnd.{answers_at_once}
 use Rattle.schedule.proofs.Fulls.{full_same, full_other, put_alone}
 use Rattle.schedule.proofs.Coming.{came_nowhere, came_turn, told_same, told_entry}
-
--- ---- lists
-
--- An item comes first.
-pub gains_first : {T : Type 0} (item : T) (items : List T) → Gains items (item ∷ items) item
-gains_first item items = record { before = []; after = items; was = refl; is = refl }
-
--- What a list contains splits it.
-pub gains_of : {T : Type 0} (item : T) (items : List T) → Contains items item → (left : List T) × Gains left items item
-gains_of item [] listed = absurd (none_listed item listed)
-gains_of {T} item (first ∷ items) listed = ⊎_elim
-    (λ same. (items, subst (Gains items (first ∷ items)) same (gains_first first items)))
-    (λ rest. let found = gains_of item items rest in (
-      first ∷ found.0,
-      record {
-        before = first ∷ found.1.before;
-        after = found.1.after;
-        was = ap (λ (l : List T). first ∷ l) found.1.was;
-        is = ap (λ (l : List T). first ∷ l) found.1.is;
-      },
-    ))
-    (listed_cases first item items listed)
-
--- Lists with the same items at the same places are one.
-same_list : {T : Type 0} (one other : List T) → ((index : ℕ) → slice_get one index ≡ slice_get other index)
-    → one ≡ other
-same_list [] [] same = refl
-same_list [] (item ∷ items) same = absurd (none_some (same 0))
-same_list (item ∷ items) [] same = absurd (none_some (sym (same 0)))
-same_list (item ∷ items) (first ∷ others) same =
-    λ i. some_is (same 0) i ∷ same_list items others (λ index. same (suc index)) i
+use Rattle.schedule.proofs.Lists.{same_list}
+use Rattle.schedule.proofs.Syncs.{groups_know}
 
 -- ---- turns that call no device
 
@@ -142,38 +108,6 @@ turn_still before after leaves disk = let none = turn_nowhere before in record {
   only = subst (TouchesOnly (IsOnInUse before.core.pool.uber.reflow.to before.core.pool.out) before.disk) (sym disk)
       none.only;
 }
-
--- What is known of the groups, whether a commit is under way or not.
-pub stands_knows : (setting : Setting) (last : Kept) (begun : List Kept) (map : Map) (calls : List Call)
-    (commit : Option CommitRun) (state : CoreState) → Stands setting last begun map calls commit state
-    → Knows setting last begun state.disk
-stands_knows setting last begun map calls None state stands = stands.groups.knows
-stands_knows setting last begun map calls (Some run) state stands =
-    subst (λ (l : List Kept). Knows setting last l state.disk) (sym stands.groups.begun_is)
-    (committing_cut setting last stands.groups.next run (point_of state.core.pool.out state.disk) stands.groups.come)
-
--- ---- the client whose turn it is
-
-module _ (clients : List Client) (index : ℕ) (old : Client) (was : slice_get clients index ≡ Some old) where
-  -- It has no call under way but its own,
-  pub its_own : (under : UnderWay) → old.under_way ≡ Some under → (its : Client) (its_under : UnderWay)
-      → IsGoing clients index its its_under → its_under ≡ under
-  its_own under old_is its its_under is =
-      some_is (sym is.under_way ∙ ap (λ (c : Client). c.under_way) (sym (some_is (sym was ∙ is.there))) ∙ old_is)
-
-  -- and none where that has none.
-  pub none_of_its : old.under_way ≡ None → (its : Client) (its_under : UnderWay)
-      → IsGoing clients index its its_under → ⊥
-  none_of_its idle its its_under is =
-      none_some (sym idle ∙ ap (λ (c : Client). c.under_way) (some_is (sym was ∙ is.there)) ∙ is.under_way)
-
--- How many of its calls were answered.
-pub answered_idle : (client : Client) → client.under_way ≡ None → answered client ≡ client.begun
-answered_idle client idle = ap (answered_of client.begun) idle
-
-pub answered_going : {under : UnderWay} (client : Client) → client.under_way ≡ Some under
-    → answered client ≡ client.begun - 1
-answered_going client going = ap (answered_of client.begun) going
 
 -- ---- what a turn comes to
 
@@ -285,7 +219,7 @@ module _ (script : Script) (actor : ℕ) (before after : Station) (clients news 
         takes.changes takes.was takes.schedule.going leaves.committing
         (leaves_commit before.state.core after.state.core leaves)
         (leaves_many before.state.core after.state.core leaves)
-        (λ its its_under its_going sync. none_of_its clients actor before.client takes.was idle its its_under its_going)
+        (λ its its_under its_going sync. none_going clients actor before.client takes.was idle its its_under its_going)
         (λ its_under its. absurd (none_some (sym ended ∙ its))) idle ended are
 
     pub comes_at_once : AreCallsOf after.state.core takes.schedule.going.calls
@@ -304,6 +238,5 @@ module _ (script : Script) (actor : ℕ) (before after : Station) (clients news 
         let now = stands world origin runs in
         answers_at_once world script origin before.state after.state before.items clients news actor before.client
         after.client takes.changes takes.was runs (first_entry call actor before given) refl ended leaves.uber disk
-        (stands_knows world.setting runs.last runs.begun (map_of world.handed world.opening before.items) runs.calls
-        runs.commit before.state runs.stands)
+        (groups_know world.setting runs.last runs.begun runs.calls runs.commit before.state runs.stands.groups)
         now.0 of idle now.1)

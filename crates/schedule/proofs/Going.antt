@@ -16,7 +16,7 @@ use Rattle.schedule.specs.declared.client.Work.{Work}
 use Rattle.schedule.specs.declared.client.Work.TheVariants as work
 use Rattle.schedule.specs.Clients.{Changes}
 use Rattle.schedule.specs.Running.{IsGoing, IsWorkOf, IsWorkFor, IsSync, AreGoing}
-use Rattle.schedule.proofs.Theirs.{actor_of, some_is, none_some, going_on, going_was, going_here, theirs_goes, theirs_begins, theirs_ends, theirs_stays}
+use Rattle.schedule.proofs.Theirs.{actor_of, some_is, none_some, going_on, going_was, going_here, theirs_goes, theirs_begins, theirs_ends, theirs_stays, none_going, going_under}
 
 -- a sync is one
 is_sync : (does : Work) (run : CommitRun) → does ≡ work.Sync run → IsSync does
@@ -29,16 +29,6 @@ module _ (script : Script) (core now : Core) (clients news : List Client) (index
   abbrev IsAsked : ℕ → Client → UnderWay → Type 0
   IsAsked caller its under = (call : ScriptCall) × (slice_get (calls_of script caller) (its.begun - 1) ≡ Some call)
       × IsWorkFor call under.work
-
-  -- The client's own call under way, before.
-  its_is : (under : UnderWay) → old.under_way ≡ Some under → (its : Client) (its_under : UnderWay)
-      → IsGoing clients index its its_under → its_under ≡ under
-  its_is under old_is its its_under is =
-      some_is (sym is.under_way ∙ ap (λ (c : Client). c.under_way) (sym (some_is (sym was ∙ is.there))) ∙ old_is)
-
-  was_idle : old.under_way ≡ None → (its : Client) (its_under : UnderWay) → IsGoing clients index its its_under → ⊥
-  was_idle idle its its_under is =
-      none_some (sym idle ∙ ap (λ (c : Client). c.under_way) (some_is (sym was ∙ is.there)) ∙ is.under_way)
 
   -- The others' calls are asked for still, and so is this client's.
   asked_on : ((under : UnderWay) → client.under_way ≡ Some under → IsAsked index client under)
@@ -115,7 +105,7 @@ module _ (script : Script) (core now : Core) (clients news : List Client) (index
     begins calls call under asked idle client_is is for gained its work_of are = record {
       calls = calls;
       are = are;
-      theirs = theirs_begins clients news index client changes going.calls calls call under (was_idle idle) client_is gained
+      theirs = theirs_begins clients news index client changes going.calls calls call under (none_going clients index old was idle) client_is gained
           its work_of going.theirs;
       asked = asked_on (λ its_under under_is. (
         asked,
@@ -145,7 +135,7 @@ module _ (script : Script) (core now : Core) (clients news : List Client) (index
       calls = going.calls;
       are = are;
       theirs = theirs_stays clients news index client changes going.calls
-          (λ its under is. absurd (was_idle idle its under is))
+          (λ its under is. absurd (none_going clients index old was idle its under is))
           (λ under under_is. absurd (none_some (sym ended ∙ under_is))) going.theirs;
       asked = asked_on (λ its_under under_is. absurd (none_some (sym ended ∙ under_is)));
       syncs = syncs_on;
@@ -210,7 +200,7 @@ module _ (script : Script) (core now : Core) (clients news : List Client) (index
     calls = going.calls;
     are = are;
     theirs = theirs_stays clients news index client changes going.calls
-        (λ its its_under is. subst (λ (u : UnderWay). IsSync u.work) (sym (its_is under old_is its its_under is))
+        (λ its its_under is. subst (λ (u : UnderWay). IsSync u.work) (sym (going_under clients index old under was old_is its its_under is))
         (is_sync under.work run does_is))
         (λ its_under under_is. absurd (none_some (sym ended ∙ under_is))) going.theirs;
     asked = asked_on (λ its_under under_is. absurd (none_some (sym ended ∙ under_is)));

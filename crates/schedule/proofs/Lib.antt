@@ -6,6 +6,7 @@ pub mod Recording
 pub mod Beginning
 pub mod Begun
 pub mod Theirs
+pub mod Lists
 pub mod Answered
 pub mod Running
 pub mod Fulls

@@ -41,9 +41,9 @@ blank_is (suc count) zero client there = same there
 blank_is (suc count) (suc index) client there = blank_is count index client there
 
 -- and has none under way.
-pub none_going : (count index : ℕ) (client : Client) (under : UnderWay)
+pub none_of_blank : (count index : ℕ) (client : Client) (under : UnderWay)
     → IsGoing (blank_clients count) index client under → ⊥
-none_going count index client under going =
+none_of_blank count index client under going =
     none_some (sym (ap (λ (c : Client). c.under_way) (blank_is count index client going.there)) ∙ going.under_way)
 
 module _ {setting : Setting} {first : Kept} {later : List Kept} {pool : Pool} {old mid : Disk} (handed : Handed)
@@ -96,8 +96,8 @@ module _ {setting : Setting} {first : Kept} {later : List Kept} {pool : Pool} {o
     stands = stands_first bank rest;
     theirs = record {
       of = λ call has. absurd (contains_none call has);
-      every = λ index client under going. absurd (none_going count index client under going);
+      every = λ index client under going. absurd (none_of_blank count index client under going);
     };
-    sync = λ index client under going. absurd (none_going count index client under going);
-    each = λ index client under going. absurd (none_going count index client under going);
+    sync = λ index client under going. absurd (none_of_blank count index client under going);
+    each = λ index client under going. absurd (none_of_blank count index client under going);
   }

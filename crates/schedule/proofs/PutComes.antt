@@ -30,14 +30,16 @@ use Rattle.schedule.specs.Coming.{turns_of}
 use Rattle.schedule.specs.Turned.{Station, LeavesBegun, entry_for}
 use Rattle.schedule.specs.Comes.{TakesTurn, Comes}
 use Rattle.schedule.proofs.RightNext.{put_right}
-use Rattle.schedule.proofs.Theirs.{some_is, none_some}
+use Rattle.schedule.proofs.Theirs.{some_is, none_some, none_going, calls_of_others}
 use Rattle.schedule.proofs.Fulls.{full_put}
-use Rattle.schedule.proofs.Answered.{answered}
+use Rattle.schedule.proofs.Answered.{answered, answered_idle, answered_going}
 use Rattle.schedule.proofs.Going.{begins as going_begins, at_once as going_at_once}
 use Rattle.schedule.proofs.RunsBegin.{begins as runs_begins}
 use Rattle.schedule.proofs.RunsEnd.{answers_at_once as runs_at_once}
-use Rattle.schedule.proofs.TurnComes.{gains_first, goes_on_with_none, calls_of_others, stands_knows, answered_idle, answered_going, runs_waits, comes_same, comes_answered}
+use Rattle.schedule.proofs.TurnComes.{runs_waits, comes_same, comes_answered}
 use Rattle.schedule.proofs.Puts.{Refuses, put_no_sync, put_refused, rearranged_uber, rearranged_committing, rearranged_commits, rearranged_many, rearranged_goes, unstored_plain, unstored_answers, unstored_map}
+use Rattle.schedule.proofs.Lists.{gains_first}
+use Rattle.schedule.proofs.Syncs.{groups_know}
 
 module _ (script : Script) (actor : ℕ) (before after : Station) (clients news : List Client)
     (takes : TakesTurn script actor before after clients news) (call : ScriptCall) (id : ℕ)
@@ -57,7 +59,7 @@ module _ (script : Script) (actor : ℕ) (before after : Station) (clients news 
   going = takes.schedule.going
 
   was_no_sync : (its : Client) (under : UnderWay) → IsGoing clients actor its under → IsSync under.work → ⊥
-  was_no_sync its under is sync = goes_on_with_none clients actor before.client takes.was idle its under is
+  was_no_sync its under is sync = none_going clients actor before.client takes.was idle its under is
 
   within : before.client.begun < length (calls_of script actor)
   within = slice_get_within (calls_of script actor) before.client.begun call next
@@ -93,10 +95,10 @@ module _ (script : Script) (actor : ℕ) (before after : Station) (clients news 
         (λ its_under is. put_no_sync its_under.work run (ap (λ (u : UnderWay). u.work) (some_is (sym is ∙ under_is))))
         calls (Putting run content) under call idle under_is (ap (slice_get (calls_of script actor)) one_less ∙ next)
         (asked, id_is ∙ ap Some (sym begins.range.id_is), sym begins.len_is)
-        (gains_first going.calls (Putting run content)) its refl
+        (gains_first (Putting run content) going.calls) its refl
         (put_begins_calls going.calls calls old now actor id (length content) run content going.are begins
         (calls_of_others clients actor before.client takes.was idle going.calls going.theirs)
-        (gains_first going.calls (Putting run content)))
+        (gains_first (Putting run content) going.calls))
 
     begins_stands : (world : World) (origin : Disk)
         → (runs : Runs world script origin before.state before.items clients)
@@ -109,17 +111,17 @@ module _ (script : Script) (actor : ℕ) (before after : Station) (clients news 
         (put_begins_stands world.setting runs.last runs.begun map runs.calls calls runs.commit old now before.state.disk
         actor id (length content) run content runs.stands begins refl are
         (calls_of_others clients actor before.client takes.was idle runs.calls runs.theirs)
-        (gains_first runs.calls (Putting run content)))
+        (gains_first (Putting run content) runs.calls))
 
     pub put_begins : Comes script before after clients news
     put_begins = comes_same script actor before after clients news takes
         (rearranged_goes before.state after.state change disk) begins_going leaves.0 (omega (arith, begun_is, within))
         (λ its_under is. omega (arith, begun_is))
-        (answered_going after.client under under_is ∙ one_less ∙ sym (answered_idle before.client idle))
+        (answered_going after.client under_is ∙ one_less ∙ sym (answered_idle before.client idle))
         (λ world origin handed runs. runs_begins world script origin before.state after.state before.items clients news
         actor before.client after.client takes.changes takes.was runs idle (Putting run content ∷ runs.calls)
         (Putting run content) (work.Put run) (rearranged_uber old now change) disk leaves.1 (λ sync. sync)
-        (gains_first runs.calls (Putting run content)) its refl
+        (gains_first (Putting run content) runs.calls) its refl
         (λ other is. ap (λ (c : ScriptCall). fill_bytes c.fill) (some_is (sym next ∙ is)))
         (begins_stands world origin runs))
 
@@ -179,7 +181,7 @@ module _ (script : Script) (actor : ℕ) (before after : Station) (clients news 
       let map = map_of world.handed world.opening before.items in
       runs_at_once world script origin before.state after.state before.items clients news actor before.client
       after.client takes.changes takes.was runs entry refl ended (rearranged_uber old now change) disk
-      (stands_knows world.setting runs.last runs.begun runs.calls runs.commit before.state runs.stands.groups)
+      (groups_know world.setting runs.last runs.begun runs.calls runs.commit before.state runs.stands.groups)
       (put_right world before.items entry asked (unstored_plain given refuses.unstored))
       (subst (λ (k : Kind). IsAnswerOf k given) (sym asked) (unstored_answers given refuses.unstored)) idle
       (subst (λ (m : Map). Stands world.setting runs.last runs.begun m runs.calls runs.commit after.state)

@@ -36,12 +36,15 @@ use Rattle.schedule.specs.Running.{IsGoing, IsWorkFor, IsSync, AreGoing, Runs}
 use Rattle.schedule.specs.Turned.{Station, EndsPutting, GoesOnPutting, IsFilledIn, LeavesGoing, entry_for, listed_for}
 use Rattle.schedule.specs.Comes.{TakesTurn, Comes}
 use Rattle.schedule.proofs.RightNext.{IsPlain, put_right}
-use Rattle.schedule.proofs.Theirs.{none_some, some_is}
+use Rattle.schedule.proofs.Theirs.{none_some, some_is, going_under}
 use Rattle.schedule.proofs.Going.{goes as going_goes, ends as going_ends}
 use Rattle.schedule.proofs.RunsGoOn.{GoesOnSince, goes_on as runs_goes_on}
 use Rattle.schedule.proofs.RunsEnd.{ends as runs_ends}
-use Rattle.schedule.proofs.TurnComes.{gains_first, going_under, stands_knows, answered_going, comes_same, comes_answered}
+use Rattle.schedule.proofs.TurnComes.{comes_same, comes_answered}
 use Rattle.schedule.proofs.Puts.{IsAmong, IsUnstored, TellsOut, put_no_sync, put_among, rearranged_uber, rearranged_committing, rearranged_commits, rearranged_many, tells_out, unstored_plain, unstored_answers, unstored_listed, unstored_map}
+use Rattle.schedule.proofs.Lists.{gains_first}
+use Rattle.schedule.proofs.Answered.{answered_going}
+use Rattle.schedule.proofs.Syncs.{groups_know}
 
 -- ---- a put is filled in
 
@@ -61,7 +64,7 @@ fills_calls left calls core call run filled content (inl same) len_is are gains 
     (calls, subst (λ (r : PutRun). Gains left calls (Putting r content)) (sym same) gains, are)
 fills_calls left calls core call run filled content (inr (none, fills)) len_is are gains =
     let nexts : List Call = Putting filled content ∷ left in
-    let first = gains_first left (Putting filled content) in (
+    let first = gains_first (Putting filled content) left in (
       nexts,
       first,
       put_fills_calls left calls nexts core run filled (fill_bytes call.fill) content fills len_is are gains
@@ -79,7 +82,7 @@ fills_stands setting last begun map left calls commit state call run filled cont
 fills_stands setting last begun map left calls commit state call run filled content (inr (none, fills)) is stands
     gains =
     let nexts : List Call = Putting filled content ∷ left in
-    let first = gains_first left (Putting filled content) in (
+    let first = gains_first (Putting filled content) left in (
       nexts,
       first,
       put_fills_stands setting last begun map left calls nexts commit state run filled content
@@ -261,7 +264,7 @@ module _ (script : Script) (actor : ℕ) (before after : Station) (clients news 
     goes_going =
         let filled = filled_calls puts.filled puts.fills in
         let nexts : List Call = Putting next among.content ∷ among.left in
-        let first = gains_first among.left (Putting next among.content) in
+        let first = gains_first (Putting next among.content) among.left in
         going_goes script old now clients news actor before.client after.client takes.changes takes.was going
         (ap (λ (core : Core). core.committing) writes.rest) commits_on (λ many. absurd (writes.few many)) was_no_sync
         (λ its_under its_is. put_no_sync its_under.work next
@@ -279,7 +282,7 @@ module _ (script : Script) (actor : ℕ) (before after : Station) (clients news 
         let filled = filled_stands world origin runs puts.filled puts.fills in
         let map = map_of world.handed world.opening before.items in
         let nexts : List Call = Putting next mine.content ∷ mine.left in
-        let first = gains_first mine.left (Putting next mine.content) in
+        let first = gains_first (Putting next mine.content) mine.left in
         let since : GoesOnSince world runs.last runs.begun before.state.disk after.state.disk =
         put_writes_since world.setting runs.last runs.begun map mine.left filled.0 before.state after.state puts.filled
         next mine.content takes.is takes.lawful writes filled.1 runs.commit filled.2 in
@@ -297,8 +300,8 @@ module _ (script : Script) (actor : ℕ) (before after : Station) (clients news 
         let some = takes.schedule.answered.some actor before.client under takes.was under_is in
         comes_same script actor before after clients news takes goes goes_going leaves.0 (omega (arith, begun_is, few))
         (λ its_under its_is. omega (arith, begun_is, some))
-        (answered_going after.client next_under next_under_is ∙ ap (λ (begun : ℕ). begun - 1) begun_is
-        ∙ sym (answered_going before.client under under_is))
+        (answered_going after.client next_under_is ∙ ap (λ (begun : ℕ). begun - 1) begun_is
+        ∙ sym (answered_going before.client under_is))
         (λ world origin handed runs. goes_runs world origin runs)
 
   -- the entry of its answer
@@ -322,7 +325,7 @@ module _ (script : Script) (actor : ℕ) (before after : Station) (clients news 
         → Comes script before after clients news
     ends_with listed are stands =
         let some = takes.schedule.answered.some actor before.client under takes.was under_is in
-        let count = answered_going before.client under under_is in
+        let count = answered_going before.client under_is in
         comes_answered script actor before after clients news takes goes
         (going_ends script old now clients news actor before.client after.client takes.changes takes.was going
         (rearranged_committing old now change) (rearranged_commits old now change) (rearranged_many old now change)
@@ -334,7 +337,7 @@ module _ (script : Script) (actor : ℕ) (before after : Station) (clients news 
         let mine = among_runs world origin runs in
         runs_ends world script origin before.state after.state before.items clients news actor before.client
         after.client takes.changes takes.was runs (entry given) refl ended (rearranged_uber old now change) disk
-        (stands_knows world.setting runs.last runs.begun runs.calls runs.commit before.state runs.stands.groups)
+        (groups_know world.setting runs.last runs.begun runs.calls runs.commit before.state runs.stands.groups)
         (put_right world before.items (entry given) asked_for.0 plain)
         (subst (λ (k : Kind). IsAnswerOf k given) (sym asked_for.0) answers)
         mine.left (Putting run mine.content) under under_is no_sync mine.gains mine.its

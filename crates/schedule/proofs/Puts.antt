@@ -29,7 +29,7 @@ use Rattle.schedule.specs.Running.{IsWorkOf, IsSync, AreTheirs}
 use Rattle.schedule.specs.Turned.{listed_for}
 use Rattle.schedule.proofs.RightNext.{IsPlain}
 use Rattle.schedule.proofs.Theirs.{actor_of}
-use Rattle.schedule.proofs.TurnComes.{gained}
+use Rattle.schedule.proofs.Lists.{gains_of}
 
 -- ---- among the calls under way
 
@@ -58,7 +58,7 @@ put_among clients calls actor client under run theirs was going does_is =
     let found = theirs.every actor client under (record { there = was; under_way = going })
     (put_no_sync under.work run does_is) in
     let is = put_is run found.0 (subst (λ (w : Work). IsWorkOf w found.0) does_is found.2) in
-    let split = gained (Putting run is.0) calls (subst (Contains calls) is.1 found.1) in record {
+    let split = gains_of (Putting run is.0) calls (subst (Contains calls) is.1 found.1) in record {
       content = is.0;
       left = split.0;
       gains = split.1;

@@ -1,5 +1,5 @@
 -- What the turns of reads come to.
-use Rattle.std.proofs.Common.{◌≡◌, ◌≢◌, ℕ, ◌+◌, ◌-◌, List, [], ◌∷◌, ◌++◌, length, Option, Some, None, refl, sym, ◌∙◌, ap, subst, arith}
+use Rattle.std.proofs.Common.{◌≡◌, ℕ, ◌+◌, ◌-◌, List, [], ◌∷◌, ◌++◌, length, Option, Some, None, refl, sym, ◌∙◌, ap, subst, arith}
 use Rattle.std.specs.Prelude.{Contains, slice_get, option_and_then}
 use Rattle.std.proofs.lemmas.Option.{slice_get_within}
 use Rattle.bank_trait.specs.Disk.{Disk}
@@ -34,16 +34,18 @@ use Rattle.schedule.specs.declared.client.Work.TheVariants as work
 use Rattle.schedule.specs.Running.{AreGoing, IsGoing, IsWorkOf, IsSync, IsWorkFor, AreTheirs}
 use Rattle.schedule.specs.Turned.{Station, GoesOnReading, EndsReading, LeavesBegun, LeavesGoing, entry_for}
 use Rattle.schedule.specs.Comes.{TakesTurn, Comes}
-use Rattle.schedule.proofs.Answered.{answered}
+use Rattle.schedule.proofs.Answered.{answered, answered_idle, answered_going}
 use Rattle.schedule.proofs.Below.{below_end}
-use Rattle.schedule.proofs.Theirs.{actor_of, some_is, none_some}
+use Rattle.schedule.proofs.Theirs.{actor_of, some_is, none_some, none_going, calls_of_others, going_under}
 use Rattle.schedule.proofs.Fulls.{put_alone, read_no_put}
 use Rattle.schedule.proofs.Going.{goes, begins as going_begins, ends as going_ends}
 use Rattle.schedule.proofs.RunsGoOn.{goes_on}
 use Rattle.schedule.proofs.RunsBegin.{begins as runs_begins}
 use Rattle.schedule.proofs.RunsEnd.{ends as runs_ends}
 use Rattle.schedule.proofs.ReadAnswers.{EndsRead, listed_read, map_read, right_read, refused_of, refused_right, read_ends_so}
-use Rattle.schedule.proofs.ComesBy.{LeavesPool, gains_first, gains_of, leaves_pool, commit_still, leaves_commit, leaves_many, turn_still, stands_knows, its_own, none_of_its, answered_idle, answered_going, RunsOn, first_entry, comes_nowhere, comes_on, comes_answered, comes_at_once}
+use Rattle.schedule.proofs.ComesBy.{LeavesPool, leaves_pool, commit_still, leaves_commit, leaves_many, turn_still, RunsOn, first_entry, comes_nowhere, comes_on, comes_answered, comes_at_once}
+use Rattle.schedule.proofs.Lists.{gains_first, gains_of}
+use Rattle.schedule.proofs.Syncs.{groups_know}
 
 -- The calls under way have the client's read, of some bytes.
 record HasRead (calls : List Call) (actor : ℕ) (run : GetRun) : Type 0 where
@@ -70,17 +72,10 @@ module _ (script : Script) (actor : ℕ) (before after : Station) (clients news 
 
   -- A client that has no call under way.
   module _ (idle : before.client.under_way ≡ None) where
-    -- Those under way are others',
-    apart : (calls : List Call) → AreTheirs clients calls → (held : Call) → Contains calls held → actor_of held ≢ actor
-    apart calls theirs held listed same =
-        let found = theirs.of held listed in
-        none_of_its clients actor before.client takes.was idle found.0 found.1
-        (subst (λ (n : ℕ). IsGoing clients n found.0 found.1) same found.2)
-
-    -- and none is its sync.
+    -- None is its sync.
     was_none : (its : Client) (its_under : UnderWay) → IsGoing clients actor its its_under → IsSync its_under.work → ⊥
     was_none its its_under its_going sync =
-        none_of_its clients actor before.client takes.was idle its its_under its_going
+        none_going clients actor before.client takes.was idle its its_under its_going
 
   module _ (id : ℕ) (run : GetRun) (is : IsRead call.kind) (id_is : call.id ≡ Some id)
       (idle : before.client.under_way ≡ None)
@@ -116,7 +111,7 @@ module _ (script : Script) (actor : ℕ) (before after : Station) (clients news 
         (let begun = ap (λ (c : Client). c.begun) left.1 in omega (arith, begun)) ∙ next)
         (sym begins.2, id_is ∙ ap Some (sym entry_id)) (gains_first (Reading run []) was.calls) its_actor refl
         (get_begins_calls before.state.core after.state.core actor id call.kind run [] was.calls
-        (Reading run [] ∷ was.calls) is takes.is begins (apart idle was.calls was.theirs)
+        (Reading run [] ∷ was.calls) is takes.is begins (calls_of_others clients actor before.client takes.was idle was.calls was.theirs)
         (gains_first (Reading run []) was.calls) was.are)
 
     runs_on : RunsOn script before after clients news before.items
@@ -124,7 +119,7 @@ module _ (script : Script) (actor : ℕ) (before after : Station) (clients news 
         let map = map_of world.handed world.opening before.items in
         let found = get_begins_stands world.setting runs.last runs.begun map runs.commit before.state.core
         after.state.core before.state.disk actor id call.kind run runs.calls is takes.is begins
-        (apart idle runs.calls runs.theirs) runs.stands in
+        (calls_of_others clients actor before.client takes.was idle runs.calls runs.theirs) runs.stands in
         let calls = Reading run found.0 ∷ runs.calls in
         runs_begins world script origin before.state after.state before.items clients news actor before.client
         after.client takes.changes takes.was runs idle calls (Reading run found.0) (work.Read run) leaves.uber disk
@@ -199,7 +194,7 @@ module _ (script : Script) (actor : ℕ) (before after : Station) (clients news 
 
     was_read : (its : Client) (its_under : UnderWay) → IsGoing clients actor its its_under → IsSync its_under.work → ⊥
     was_read its its_under its_going sync = not_sync (subst (λ (u : UnderWay). IsSync u.work)
-        (its_own clients actor before.client takes.was under under_is its its_under its_going) sync)
+        (going_under clients actor before.client under takes.was under_is its its_under its_going) sync)
 
     -- Its read is among the calls under way.
     among : (calls : List Call) → AreTheirs clients calls → HasRead calls actor run
@@ -341,7 +336,7 @@ module _ (script : Script) (actor : ℕ) (before after : Station) (clients news 
         (gains_item has.left runs.calls (Reading run has.content) has.gains) has.its in
         runs_ends world script origin before.state after.state before.items clients news actor before.client
         after.client takes.changes takes.was runs entry refl ended ends.leaves.uber ending.disk
-        (stands_knows world.setting runs.last runs.begun map runs.calls runs.commit before.state runs.stands)
+        (groups_know world.setting runs.last runs.begun runs.calls runs.commit before.state runs.stands.groups)
         (right_read world before.items call actor before.client.begun under.at given call_read mine.at.0 mine.at.1
         mine.after
         (subst (λ (held : Option (List ℕ)). IsReadRight held call.kind given)

@@ -30,13 +30,13 @@ use Rattle.core_turns.proofs.CommitStands.{commit_begins_calls, commit_begins_st
 use Rattle.schedule.specs.declared.client.Client.{Client}
 use Rattle.schedule.specs.declared.client.UnderWay.{UnderWay}
 use Rattle.schedule.specs.declared.client.Work.TheVariants as work
-use Rattle.schedule.specs.Clients.{AreAnswered, answered_of}
+use Rattle.schedule.specs.Clients.{AreAnswered}
 use Rattle.schedule.specs.Running.{IsGoing, IsSync, AreGoing, Runs}
 use Rattle.schedule.specs.Coming.{Turns, HasCome, IsSchedule, KeepsUsing, turns_of}
 use Rattle.schedule.specs.Turned.{Station, LeavesBegun, entry_for}
 use Rattle.schedule.specs.Comes.{TakesTurn, Comes}
-use Rattle.schedule.proofs.Theirs.{some_is, none_some}
-use Rattle.schedule.proofs.Answered.{answered, answers_same, answers_call}
+use Rattle.schedule.proofs.Theirs.{none_some, none_going}
+use Rattle.schedule.proofs.Answered.{answered, answers_same, answers_call, answered_idle}
 use Rattle.schedule.proofs.Begun.{begun_now}
 use Rattle.schedule.proofs.Going.{commits_on, at_once}
 use Rattle.schedule.proofs.RunsBegin.{commit_begins}
@@ -96,16 +96,7 @@ module _ (script : Script) (before after : Station) (clients news : List Client)
 
 module _ (script : Script) (actor : ℕ) (before after : Station) (clients news : List Client) (call : ScriptCall)
     (takes : TakesTurn script actor before after clients news) where
-  -- A client that has no call under way: none is going,
-  none_going : before.client.under_way ≡ None → (its : Client) (under : UnderWay) → IsGoing clients actor its under → ⊥
-  none_going idle its under is = none_some
-      (sym idle ∙ ap (λ (c : Client). c.under_way) (some_is (sym takes.was ∙ is.there)) ∙ is.under_way)
-
-  -- all that it has begun are answered,
-  answered_idle : before.client.under_way ≡ None → answered before.client ≡ before.client.begun
-  answered_idle idle = ap (answered_of before.client.begun) idle
-
-  -- and one more is there.
+  -- One more call is there.
   one_more : slice_get (calls_of script actor) before.client.begun ≡ Some call
       → before.client.begun + 1 ≤ length (calls_of script actor)
   one_more next =
@@ -149,7 +140,7 @@ module _ (script : Script) (actor : ℕ) (before after : Station) (clients news 
       going : AreGoing script after.state.core news
       going = commits_on script before.state.core after.state.core clients news actor before.client after.client
           takes.changes takes.was takes.schedule.going under run call none_syncs
-          (λ its its_under is. absurd (none_going idle its its_under is))
+          (λ its its_under is. absurd (none_going clients actor before.client takes.was idle its its_under is))
           (ap (λ (c : Client). c.under_way) leaves.1) refl
           (ap (λ (c : Client). slice_get (calls_of script actor) (c.begun - 1)) leaves.1
           ∙ ap (slice_get (calls_of script actor)) number ∙ next) (asked, no_id) begins.5
@@ -161,7 +152,7 @@ module _ (script : Script) (actor : ℕ) (before after : Station) (clients news 
       answered_still = answers_same script clients news actor before.client after.client before.items takes.changes
           takes.was (let few = one_more next in omega (arith, few, begun_is))
           (λ its_under is. omega (arith, begun_is)) takes.schedule.answered
-          (ap answered leaves.1 ∙ number ∙ sym (answered_idle idle))
+          (ap answered leaves.1 ∙ number ∙ sym (answered_idle before.client idle))
 
       on : StandsOn script before after clients news before.items
       on world origin within runs =
@@ -245,16 +236,16 @@ module _ (script : Script) (actor : ℕ) (before after : Station) (clients news 
       going : AreGoing script before.state.core news
       going = at_once script before.state.core before.state.core clients news actor before.client after.client
           takes.changes takes.was takes.schedule.going refl (λ run of. of) (λ many. many)
-          (λ its its_under is sync. none_going idle its its_under is)
+          (λ its its_under is sync. none_going clients actor before.client takes.was idle its its_under is)
           (λ its_under is sync. none_some (sym ended ∙ is)) idle ended takes.schedule.going.are
 
       answered_more : AreAnswered script news (before.items ++ CallItem entry ∷ [])
       answered_more = answers_call script clients news actor before.client after.client before.items takes.changes
           takes.was (let few = one_more next in omega (arith, few, begun_is))
           (λ its_under is. absurd (none_some (sym ended ∙ is))) takes.schedule.answered call entry
-          (ap answered leaves.1 ∙ ap (λ (n : ℕ). n + 1) (sym (answered_idle idle)))
-          (ap (slice_get (calls_of script actor)) (answered_idle idle) ∙ next) refl
-          (ap (λ (n : ℕ). n + 1) (sym (answered_idle idle))) refl refl
+          (ap answered leaves.1 ∙ ap (λ (n : ℕ). n + 1) (sym (answered_idle before.client idle)))
+          (ap (slice_get (calls_of script actor)) (answered_idle before.client idle) ∙ next) refl
+          (ap (λ (n : ℕ). n + 1) (sym (answered_idle before.client idle))) refl refl
 
       on : StandsOn script before after clients news (before.items ++ CallItem entry ∷ [])
       on world origin within runs =

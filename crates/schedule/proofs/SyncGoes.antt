@@ -31,14 +31,14 @@ use Rattle.core_turns.proofs.CommitStands.{commit_steps_calls, commit_steps_stan
 use Rattle.schedule.specs.declared.client.Client.{Client}
 use Rattle.schedule.specs.declared.client.UnderWay.{UnderWay}
 use Rattle.schedule.specs.declared.client.Work.TheVariants as work
-use Rattle.schedule.specs.Clients.{AreAnswered, answered_of}
+use Rattle.schedule.specs.Clients.{AreAnswered}
 use Rattle.schedule.specs.Running.{IsGoing, IsSync, IsWorkFor, AreGoing, Runs}
 use Rattle.schedule.specs.Coming.{turns_of}
 use Rattle.schedule.specs.Turned.{Station, LeavesGoing, entry_for, group_for}
 use Rattle.schedule.specs.Comes.{TakesTurn, Comes}
 use Rattle.schedule.proofs.RightNext.{sync_cut_right}
-use Rattle.schedule.proofs.Theirs.{some_is, none_some}
-use Rattle.schedule.proofs.Answered.{answered, answers_same, answers_call, answers_group}
+use Rattle.schedule.proofs.Theirs.{some_is, none_some, going_under}
+use Rattle.schedule.proofs.Answered.{answered, answers_same, answers_call, answers_group, answered_going}
 use Rattle.schedule.proofs.Fulls.{full_synced}
 use Rattle.schedule.proofs.Going.{commits_on, commit_ends as going_ends, one_sync}
 use Rattle.schedule.proofs.Running.{group_apart}
@@ -65,7 +65,7 @@ module _ (script : Script) (actor : ℕ) (before after : Station) (clients news 
     -- what it has under way is one,
     is_sync : (its : Client) (its_under : UnderWay) → IsGoing clients actor its its_under → IsSync its_under.work
     is_sync its its_under is = subst (λ (u : UnderWay). IsSync u.work)
-        (some_is (sym was_under ∙ ap (λ (c : Client). c.under_way) (some_is (sym takes.was ∙ is.there)) ∙ is.under_way))
+        (sym (going_under clients actor before.client under takes.was was_under its its_under is))
         (subst IsSync (sym does_is) tt)
 
     -- its run is the core's commit,
@@ -82,10 +82,6 @@ module _ (script : Script) (actor : ℕ) (before after : Station) (clients news 
     -- begun and not answered yet,
     some_begun : 1 ≤ before.client.begun
     some_begun = takes.schedule.answered.some actor before.client under takes.was was_under
-
-    -- with all before it answered,
-    answered_going : answered before.client ≡ before.client.begun - 1
-    answered_going = ap (answered_of before.client.begun) was_under
 
     -- and the commit that stands.
     its_stands : {world : World} {origin : Disk} (runs : Runs world script origin before.state before.items clients)
@@ -126,7 +122,7 @@ module _ (script : Script) (actor : ℕ) (before after : Station) (clients news 
             takes.was
             (let few = takes.schedule.answered.few actor before.client takes.was in omega (arith, few, begun_is))
             (λ its_under is. let some = some_begun in omega (arith, some, begun_is)) takes.schedule.answered
-            (ap answered leaves.1 ∙ sym answered_going)
+            (ap answered leaves.1 ∙ sym (answered_going before.client was_under))
 
         on : StandsOn script before after clients news before.items
         on world origin within runs =
@@ -149,14 +145,14 @@ module _ (script : Script) (actor : ℕ) (before after : Station) (clients news 
         (let few = takes.schedule.answered.few actor before.client takes.was in omega (arith, few, begun_is))
         (λ its_under is. absurd (none_some (sym (ap (λ (c : Client). c.under_way) leaves.1) ∙ is))) were call
         (entry_for call actor before.client.begun under.at given)
-        (ap answered leaves.1 ∙ number) (ap (slice_get (calls_of script actor)) answered_going ∙ next_is) refl number
+        (ap answered leaves.1 ∙ number) (ap (slice_get (calls_of script actor)) (answered_going before.client was_under) ∙ next_is) refl number
         refl refl
       where
         begun_is : after.client.begun ≡ before.client.begun
         begun_is = ap (λ (c : Client). c.begun) leaves.1
 
         number : before.client.begun ≡ answered before.client + 1
-        number = let some = some_begun in let so_many = answered_going in omega (arith, some, so_many)
+        number = let some = some_begun in let so_many = (answered_going before.client was_under) in omega (arith, some, so_many)
 
     -- Its group is answered, and listed before it.
     synced : (number : ℕ) → AnswersGroup before.state run after.state number → TurnGoesOn before.state after.state

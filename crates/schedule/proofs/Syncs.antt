@@ -1,5 +1,5 @@
 -- A sync among the calls under way: its commit is the core's, and what it may be answered in its first turn.
-use Rattle.std.proofs.Common.{◌≡◌, ◌≢◌, ⊎_elim, ℕ, suc, List, [], ◌∷◌, length, Option, Some, None, refl, sym, ◌∙◌, ap, subst, arith}
+use Rattle.std.proofs.Common.{◌≡◌, ◌≢◌, ⊎_elim, ℕ, List, length, Option, Some, None, refl, sym, ◌∙◌, ap, subst, arith}
 use Rattle.std.specs.Prelude.{slice_get}
 use Rattle.std.proofs.lemmas.Bool.{cases_eq}
 use Rattle.bank_trait.specs.Disk.{Later}
@@ -38,18 +38,9 @@ use Rattle.schedule.specs.Recorded.{IsRightNext}
 use Rattle.schedule.specs.Running.{IsGoing, IsSync, IsTheirs}
 use Rattle.schedule.proofs.RightNext.{IsStopped, sync_cut_right, sync_limit_right}
 use Rattle.schedule.proofs.Theirs.{some_is, none_some}
+use Rattle.schedule.proofs.Lists.{same_list}
 
 -- ---- where nothing was done
-
--- Lists that have the same at each place are the same.
-same_list : {A : Type 0} (xs ys : List A) → ((place : ℕ) → slice_get xs place ≡ slice_get ys place) → xs ≡ ys
-same_list [] [] same = refl
-same_list [] (y ∷ ys) same = let none = same 0 in cc
-same_list (x ∷ xs) [] same = let none = same 0 in cc
-same_list (x ∷ xs) (y ∷ ys) same =
-    let first : x ≡ y = some_is (same 0) in
-    let rest : xs ≡ ys = same_list xs ys (λ place. same (suc place)) in
-    λ i. first i ∷ rest i
 
 -- A client stays as it is, and so do all.
 pub clients_same : (old new : List Client) (index : ℕ) (before client : Client) → Changes old new index client

@@ -46,6 +46,15 @@ pub going_under : (clients : List Client) (index : ℕ) (client : Client) (under
 going_under clients index client under was is its its_under going =
     some_is (sym going.under_way ∙ ap (λ (c : Client). c.under_way) (sym (some_is (sym was ∙ going.there))) ∙ is)
 
+-- Where it has none, all calls under way are others'.
+pub calls_of_others : (clients : List Client) (index : ℕ) (client : Client) → slice_get clients index ≡ Some client
+    → client.under_way ≡ None → (calls : List Call) → AreTheirs clients calls → (call : Call) → Contains calls call
+    → actor_of call ≢ index
+calls_of_others clients index client was idle calls theirs call listed its =
+    let found = theirs.of call listed in
+    none_going clients index client was idle found.0 found.1
+    (subst (λ (n : ℕ). IsGoing clients n found.0 found.1) its found.2)
+
 module _ (old new : List Client) (index : ℕ) (client : Client) (changes : Changes old new index client) where
   -- Other clients go on with their calls.
   pub going_on : (other : ℕ) (its : Client) (under : UnderWay) → other ≢ index → IsGoing old other its under

@@ -1,85 +1,35 @@
 -- What a turn comes to, once it is known what it did to the calls under way and to what stood.
-use Rattle.std.proofs.Common.{◌≡◌, ⊎_elim, ℕ, ◌+◌, ◌-◌, ◌≤◌, List, [], ◌∷◌, ◌++◌, length, Option, Some, None, refl, sym, ◌∙◌, ap, subst, arith}
-use Rattle.std.specs.Prelude.{◌≢◌, Contains, slice_get}
+use Rattle.std.proofs.Common.{◌≡◌, ⊎_elim, ℕ, ◌+◌, ◌≤◌, List, [], ◌∷◌, ◌++◌, length, Some, None, refl, sym, ◌∙◌, ap, subst, arith}
+use Rattle.std.specs.Prelude.{◌≢◌, slice_get}
 use Rattle.std.proofs.lemmas.Bool.{cases_eq}
 use Rattle.std.proofs.lemmas.List.{append-nil}
 use Rattle.std.proofs.lemmas.Option.{slice_get_within}
 use Rattle.bank_trait.specs.Disk.{Disk}
-use Rattle.space_alloc.specs.Space.{Gains}
 use Rattle.uberblock_ring.specs.Uberblock.{Uber}
 use Rattle.core_state.specs.declared.answer.Answer.{Answer}
 use Rattle.core_state.specs.declared.answer.Answer.TheVariants as answer
 use Rattle.core_state.specs.declared.item.Item.{Item}
 use Rattle.core_state.specs.declared.item.Item.TheVariants.{Call as CallItem}
 use Rattle.core_state.specs.Map.{map_of}
-use Rattle.core_state.specs.Keeps.{Kept, Setting}
-use Rattle.core_state.specs.Certain.{Knows}
 use Rattle.core_state.specs.CoreState.{World}
-use Rattle.core_blocks.proofs.Lists.{none_listed, listed_cases}
-use Rattle.core_client.specs.Outs.{point_of}
-use Rattle.core_commit.specs.CommitTurns.{CommitRun}
-use Rattle.core_commit.proofs.Beside.{committing_cut}
 use Rattle.client_script.specs.declared.call.ScriptCall.{ScriptCall}
 use Rattle.client_script.specs.Script.{Script, calls_of, handed_by}
 use Rattle.core_turns.specs.Core.{CoreState}
 use Rattle.core_turns.specs.Getting.{HasTooManyOut}
-use Rattle.core_turns.specs.UnderWay.{Call, GroupsStand, Stands, TurnGoesOn}
+use Rattle.core_turns.specs.UnderWay.{Stands, TurnGoesOn}
 use Rattle.core_turns.proofs.Commits.{turn_bank}
 use Rattle.schedule.specs.declared.client.Client.{Client}
 use Rattle.schedule.specs.declared.client.UnderWay.{UnderWay}
-use Rattle.schedule.specs.Clients.{AreAnswered, Changes, answered_of}
+use Rattle.schedule.specs.Clients.{AreAnswered, Changes}
 use Rattle.schedule.specs.Recorded.{Recorded}
-use Rattle.schedule.specs.Running.{IsGoing, AreTheirs, AreGoing, Runs}
+use Rattle.schedule.specs.Running.{IsGoing, AreGoing, Runs}
 use Rattle.schedule.specs.Coming.{Turns, turns_of}
 use Rattle.schedule.specs.Turned.{Station, entry_for}
 use Rattle.schedule.specs.Comes.{TakesTurn, Comes}
-use Rattle.schedule.proofs.Theirs.{actor_of, some_is, none_some, going_was, going_here, theirs_stays, sync_stays}
-use Rattle.schedule.proofs.Answered.{answered, answers_same, answers_call}
+use Rattle.schedule.proofs.Theirs.{none_some, going_was, going_here, theirs_stays, sync_stays, none_going}
+use Rattle.schedule.proofs.Answered.{answered, answers_same, answers_call, answered_idle}
 use Rattle.schedule.proofs.Fulls.{HasManyAt, full_same, full_answer}
 use Rattle.schedule.proofs.Coming.{came_turn, told_same, told_entry}
-
--- ---- lists of calls
-
--- An item is put first.
-pub gains_first : {T : Type 0} (items : List T) (first : T) → Gains items (first ∷ items) first
-gains_first items first = record { before = []; after = items; was = refl; is = refl }
-
--- What a list contains was put into what is left of it.
-pub gained : {T : Type 0} (item : T) (items : List T) → Contains items item → (left : List T) × Gains left items item
-gained item [] listed = absurd (none_listed item listed)
-gained {T} item (first ∷ items) listed = ⊎_elim
-    (λ same. (items, subst (λ (other : T). Gains items (first ∷ items) other) same (gains_first items first)))
-    (λ rest. let found = gained item items rest in (
-      first ∷ found.0,
-      record {
-        before = first ∷ found.1.before;
-        after = found.1.after;
-        was = ap (λ (l : List T). first ∷ l) found.1.was;
-        is = ap (λ (l : List T). first ∷ l) found.1.is;
-      },
-    ))
-    (listed_cases first item items listed)
-
-module _ (clients : List Client) (actor : ℕ) (client : Client) (was : slice_get clients actor ≡ Some client)
-    (idle : client.under_way ≡ None) where
-  -- A client that has no call under way goes on with none,
-  pub goes_on_with_none : (its : Client) (under : UnderWay) → IsGoing clients actor its under → ⊥
-  goes_on_with_none its under is =
-      none_some (sym idle ∙ ap (λ (c : Client). c.under_way) (some_is (sym was ∙ is.there)) ∙ is.under_way)
-
-  -- so all calls under way are others'.
-  pub calls_of_others : (calls : List Call) → AreTheirs clients calls → (call : Call) → Contains calls call
-      → actor_of call ≢ actor
-  calls_of_others calls theirs call listed its =
-      let found = theirs.of call listed in
-      goes_on_with_none found.0 found.1 (subst (λ (n : ℕ). IsGoing clients n found.0 found.1) its found.2)
-
--- A client's call under way is the one that it has.
-pub going_under : (clients : List Client) (actor : ℕ) (client : Client) (under : UnderWay)
-    → slice_get clients actor ≡ Some client → client.under_way ≡ Some under → (its : Client) (its_under : UnderWay)
-    → IsGoing clients actor its its_under → its_under ≡ under
-going_under clients actor client under was is its its_under going =
-    some_is (sym going.under_way ∙ ap (λ (c : Client). c.under_way) (sym (some_is (sym was ∙ going.there))) ∙ is)
 
 -- ---- what stands
 
@@ -106,10 +56,10 @@ module _ (world : World) (script : Script) (origin : Disk) (before after : CoreS
         (subst (Recorded world origin items runs.last runs.begun before.core.pool.uber) (sym disk) runs.recorded);
     stands = stands;
     theirs = theirs_stays clients news index client changes runs.calls
-        (λ its under is. absurd (goes_on_with_none clients index old was idle its under is))
+        (λ its under is. absurd (none_going clients index old was idle its under is))
         (λ under is. absurd (none_here under is)) runs.theirs;
     sync = sync_stays clients news index client changes runs.commit
-        (λ its under is sync. goes_on_with_none clients index old was idle its under is)
+        (λ its under is sync. none_going clients index old was idle its under is)
         (λ under is sync. none_here under is) runs.sync;
     each = λ other its under is. ⊎_elim
         (λ (same : other ≡ index). absurd (none_here under (going_here clients news index client changes its under
@@ -118,25 +68,6 @@ module _ (world : World) (script : Script) (origin : Disk) (before after : CoreS
         (going_was clients news index client changes other its under apart is))
         (cases_eq other index);
   }
-
--- What is certain of the last group and of one begun, with a commit under way or without.
-pub stands_knows : (setting : Setting) (last : Kept) (begun : List Kept) (calls : List Call) (commit : Option CommitRun)
-    (state : CoreState) → GroupsStand setting last begun calls commit state → Knows setting last begun state.disk
-stands_knows setting last begun calls None state groups = groups.knows
-stands_knows setting last begun calls (Some run) state groups =
-    subst (λ (l : List Kept). Knows setting last l state.disk) (sym groups.begun_is)
-    (committing_cut setting last groups.next run (point_of state.core.pool.out state.disk) groups.come)
-
--- ---- how many calls were answered
-
--- All that were begun,
-pub answered_idle : (client : Client) → client.under_way ≡ None → answered client ≡ client.begun
-answered_idle client idle = ap (answered_of client.begun) idle
-
--- but for the one under way.
-pub answered_going : (client : Client) (under : UnderWay) → client.under_way ≡ Some under
-    → answered client ≡ client.begun - 1
-answered_going client under going = ap (answered_of client.begun) going
 
 -- ---- a turn
 

@@ -1,5 +1,5 @@
 -- A run of turns from the opening of its pool to its end.
-use Rattle.std.proofs.Common.{◌≡◌, inl, inr, ⊎_elim, ℕ, ◌≤◌, List, [], ◌∷◌, ◌++◌, Option, Some, None, Bool, true, false, refl, sym, ◌∙◌, ap, subst, arith}
+use Rattle.std.proofs.Common.{◌≡◌, inl, inr, ⊎_elim, ℕ, ◌≤◌, List, [], ◌∷◌, ◌++◌, Bool, true, false, refl, sym, ◌∙◌, ap, arith}
 use Rattle.std.specs.Prelude.{Contains}
 use Rattle.bank_trait.specs.Causes.{Rose}
 use Rattle.bank_trait.specs.Disk.{Image, Disk, Later, Lawful}
@@ -13,13 +13,10 @@ use Rattle.core_state.specs.declared.item.Item.{Item}
 use Rattle.core_state.specs.declared.item.Item.TheVariants.{Group}
 use Rattle.core_state.specs.Journal.{CallsAreRight}
 use Rattle.core_state.specs.Keeps.{Kept, Setting}
-use Rattle.core_state.specs.Certain.{Knows}
 use Rattle.core_state.specs.CoreState.{World}
 use Rattle.core_blocks.specs.Blocks.{AreUnderWay}
 use Rattle.core_client.specs.Outs.{point_of, OnlyFailedGoOut}
-use Rattle.core_commit.specs.CommitTurns.{CommitRun}
 use Rattle.core_commit.specs.Spared.{IsOnInUse}
-use Rattle.core_commit.proofs.Beside.{committing_cut}
 use Rattle.core_open.specs.Causes.{IsShownChoice, IsOutFor, AreOutFor, AreOutOf}
 use Rattle.core_open.specs.Failing.{HaveFailed}
 use Rattle.core_open.specs.Holds.{HoldsImage}
@@ -34,7 +31,6 @@ use Rattle.serial_run.specs.WholeRun.{BeginsAfter, first_item}
 use Rattle.serial_run.proofs.NoSpaceOpened.{no_space_alike}
 use Rattle.serial_run.proofs.Widths.{opened_width, widths_of_one}
 use Rattle.core_turns.specs.Core.{CoreState, at_disk}
-use Rattle.core_turns.specs.UnderWay.{Call, GroupsStand}
 use Rattle.schedule.specs.declared.client.Client.{Client}
 use Rattle.schedule.specs.declared.whole_run.Ended.{Ended}
 use Rattle.schedule.specs.Caused.{FullIsCaused}
@@ -49,16 +45,7 @@ use Rattle.schedule.proofs.Opened.{resting, opened_world, runs_first}
 use Rattle.schedule.proofs.OpenedBirths.{opened_births}
 use Rattle.schedule.proofs.Recording.{recorded_throughout, recorded_keeps}
 use Rattle.schedule.proofs.UsingOpened.{uses_first}
-
--- The devices know the last group, and the one that was begun after it, whether its commit is under way or was cut
--- short.
-groups_known : (setting : Setting) (last : Kept) (begun : List Kept) (calls : List Call) (commit : Option CommitRun)
-    (state : CoreState) → GroupsStand setting last begun calls commit state
-    → Knows setting last begun state.disk
-groups_known setting last begun calls None state stands = stands.knows
-groups_known setting last begun calls (Some run) state stands =
-    subst (λ (l : List Kept). Knows setting last l state.disk) (sym stands.begun_is)
-    (committing_cut setting last stands.next run (point_of state.core.pool.out state.disk) stands.come)
+use Rattle.schedule.proofs.Syncs.{groups_know}
 
 -- What failed earlier has failed later,
 module _ (old mid new : Disk) (later : Later mid new) where
@@ -136,7 +123,7 @@ module _ (script : Script) (old mid : Disk) (pool : Pool) (silent : ℕ) (items 
     at_end : (kept : KeepsLast setting (handed_by script) begins.opened.chosen.map items final.disk)
         × ((group : Kept) → Contains (kept.last ∷ kept.begun) group → Contains run_groups group)
     at_end = recorded_keeps runs.recorded
-        (groups_known setting runs.last runs.begun runs.calls runs.commit final runs.stands.groups)
+        (groups_know setting runs.last runs.begun runs.calls runs.commit final runs.stands.groups)
 
     -- The journal begins with the group that renews the chosen one.
     begins_after : BeginsAfter begins.opened.chosen items
