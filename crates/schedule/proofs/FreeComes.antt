@@ -24,7 +24,9 @@ use Rattle.schedule.specs.Turned.{Station, Frees, LeavesBegun}
 use Rattle.schedule.specs.Comes.{TakesTurn, Comes}
 use Rattle.schedule.proofs.RightNext.{IsPlain, free_right}
 use Rattle.schedule.proofs.Theirs.{none_some}
-use Rattle.schedule.proofs.ComesBy.{LeavesPool, leaves_pool, first_entry, comes_at_once}
+use Rattle.schedule.proofs.LeavesPool.{LeavesPool, leaves_pool}
+use Rattle.schedule.proofs.TurnComes.{first_entry, comes_at_once}
+use Rattle.schedule.proofs.Fulls.{put_alone}
 
 -- The pool stays,
 frees_pool : (old new : Core) (id : ℕ) (given : Answer) → FreesBlock old new id given → LeavesPool old new
@@ -84,7 +86,7 @@ module _ (script : Script) (actor : ℕ) (before after : Station) (clients news 
       (subst (λ (k : Kind). IsAnswerOf k given) (sym asked) of.0)
       (λ out tells. let many = subst (FreesBlock before.state.core after.state.core id) tells frees.frees in
       (many.0, many.1))
-      (λ put. free_no_put (sym asked ∙ put))
+      (λ full. absurd (put_alone kind.Free given free_no_put of.0 full))
       (frees_calls before.state.core after.state.core id given takes.schedule.going.calls frees.frees frees.under
       takes.schedule.going.are)
       (λ world origin runs.

@@ -20,13 +20,13 @@ pub mod UsingLaw
 pub mod Coming
 pub mod Going
 pub mod Syncs
+pub mod LeavesPool
+pub mod TurnComes
 pub mod SyncComes
 pub mod SyncGoes
-pub mod TurnComes
 pub mod Puts
 pub mod PutComes
 pub mod PutGoes
-pub mod ComesBy
 pub mod ReadAnswers
 pub mod ReadComes
 pub mod FreeComes

@@ -20,26 +20,25 @@ use Rattle.core_turns.specs.declared.turn.Turn.TheVariants.{More, Busy, Done}
 use Rattle.core_turns.specs.Core.{Core, at_disk}
 use Rattle.core_turns.specs.Putting.{BeginsPutTurn, IsPutRefused, LeavesBlocks}
 use Rattle.core_turns.specs.UnderWay.{Call, Putting, Stands}
-use Rattle.core_turns.proofs.PutCalls.{Rearranges, begins_rearranges, leaves_rearranges, put_begins_calls, put_refused_calls}
+use Rattle.core_turns.proofs.PutCalls.{begins_rearranges, leaves_rearranges, put_begins_calls, put_refused_calls}
 use Rattle.core_turns.proofs.PutStands.{put_begins_stands, put_refused_stands}
 use Rattle.schedule.specs.declared.client.Client.{Client}
 use Rattle.schedule.specs.declared.client.UnderWay.{UnderWay}
 use Rattle.schedule.specs.declared.client.Work.TheVariants as work
 use Rattle.schedule.specs.Running.{IsGoing, IsSync, AreGoing, Runs}
 use Rattle.schedule.specs.Coming.{turns_of}
-use Rattle.schedule.specs.Turned.{Station, LeavesBegun, entry_for}
+use Rattle.schedule.specs.Turned.{Station, LeavesBegun}
 use Rattle.schedule.specs.Comes.{TakesTurn, Comes}
 use Rattle.schedule.proofs.RightNext.{put_right}
 use Rattle.schedule.proofs.Theirs.{some_is, none_some, none_going, calls_of_others}
 use Rattle.schedule.proofs.Fulls.{full_put}
 use Rattle.schedule.proofs.Answered.{answered, answered_idle, answered_going}
 use Rattle.schedule.proofs.Going.{begins as going_begins, at_once as going_at_once}
-use Rattle.schedule.proofs.RunsBegin.{begins as runs_begins}
-use Rattle.schedule.proofs.RunsEnd.{answers_at_once as runs_at_once}
-use Rattle.schedule.proofs.TurnComes.{runs_waits, comes_same, comes_answered}
-use Rattle.schedule.proofs.Puts.{Refuses, put_no_sync, put_refused, rearranged_uber, rearranged_committing, rearranged_commits, rearranged_many, rearranged_goes, unstored_plain, unstored_answers, unstored_map}
+use Rattle.schedule.proofs.RunsBegin.{begins as runs_begins, waits as runs_waits}
+use Rattle.schedule.proofs.TurnComes.{comes_on, comes_at_once, first_entry}
+use Rattle.schedule.proofs.Puts.{Refuses, put_no_sync, put_refused, unstored_plain, unstored_answers, unstored_map, rearranged_leaves}
 use Rattle.schedule.proofs.Lists.{gains_first}
-use Rattle.schedule.proofs.Syncs.{groups_know}
+use Rattle.schedule.proofs.LeavesPool.{LeavesPool, leaves_commit, leaves_many, turn_still}
 
 module _ (script : Script) (actor : ℕ) (before after : Station) (clients news : List Client)
     (takes : TakesTurn script actor before after clients news) (call : ScriptCall) (id : ℕ)
@@ -80,8 +79,8 @@ module _ (script : Script) (actor : ℕ) (before after : Station) (clients news 
     one_less : after.client.begun - 1 ≡ before.client.begun
     one_less = omega (arith, begun_is)
 
-    change : Rearranges old now
-    change = begins_rearranges old now actor id (length content) run begins
+    change : LeavesPool old now
+    change = rearranged_leaves old now (begins_rearranges old now actor id (length content) run begins)
 
     its : run.hold.actor ≡ actor
     its = ap (λ (h : Hold). h.actor) begins.hold_is
@@ -90,7 +89,7 @@ module _ (script : Script) (actor : ℕ) (before after : Station) (clients news 
     begins_going =
         let calls : List Call = Putting run content ∷ going.calls in
         going_begins script old now clients news actor before.client after.client takes.changes takes.was going
-        (rearranged_committing old now change) (rearranged_commits old now change) (rearranged_many old now change)
+        change.committing (leaves_commit old now change) (leaves_many old now change)
         was_no_sync
         (λ its_under is. put_no_sync its_under.work run (ap (λ (u : UnderWay). u.work) (some_is (sym is ∙ under_is))))
         calls (Putting run content) under call idle under_is (ap (slice_get (calls_of script actor)) one_less ∙ next)
@@ -114,13 +113,13 @@ module _ (script : Script) (actor : ℕ) (before after : Station) (clients news 
         (gains_first (Putting run content) runs.calls))
 
     pub put_begins : Comes script before after clients news
-    put_begins = comes_same script actor before after clients news takes
-        (rearranged_goes before.state after.state change disk) begins_going leaves.0 (omega (arith, begun_is, within))
-        (λ its_under is. omega (arith, begun_is))
+    put_begins = comes_on script actor before after clients news takes
+        (turn_still before.state after.state change.uber change.out disk) leaves.0
         (answered_going after.client under_is ∙ one_less ∙ sym (answered_idle before.client idle))
-        (λ world origin handed runs. runs_begins world script origin before.state after.state before.items clients news
-        actor before.client after.client takes.changes takes.was runs idle (Putting run content ∷ runs.calls)
-        (Putting run content) (work.Put run) (rearranged_uber old now change) disk leaves.1 (λ sync. sync)
+        (omega (arith, begun_is, within)) (λ its_under is. omega (arith, begun_is)) begins_going
+        (λ world origin handed fits runs. runs_begins world script origin before.state after.state before.items clients
+        news actor before.client after.client takes.changes takes.was runs idle (Putting run content ∷ runs.calls)
+        (Putting run content) (work.Put run) change.uber disk leaves.1 (λ sync. sync)
         (gains_first (Putting run content) runs.calls) its refl
         (λ other is. ap (λ (c : ScriptCall). fill_bytes c.fill) (some_is (sym next ∙ is)))
         (begins_stands world origin runs))
@@ -143,18 +142,18 @@ module _ (script : Script) (actor : ℕ) (before after : Station) (clients news 
       → LeavesBegun actor call before after (Busy by)
       → Comes script before after clients news
   put_waits by waits leaves =
-      let change = leaves_rearranges old now waits.1 in
+      let change = rearranged_leaves old now (leaves_rearranges old now waits.1) in
       let still : after.client.under_way ≡ None = ap (λ (c : Client). c.under_way) leaves.1 ∙ idle in
       let begun_is : after.client.begun ≡ before.client.begun = ap (λ (c : Client). c.begun) leaves.1 in
-      comes_same script actor before after clients news takes (rearranged_goes before.state after.state change disk)
+      comes_on script actor before after clients news takes
+      (turn_still before.state after.state change.uber change.out disk) leaves.0 (ap answered leaves.1)
+      (omega (arith, begun_is, within)) (λ its_under is. absurd (none_some (sym still ∙ is)))
       (going_at_once script old now clients news actor before.client after.client takes.changes takes.was going
-      (rearranged_committing old now change) (rearranged_commits old now change) (rearranged_many old now change)
+      change.committing (leaves_commit old now change) (leaves_many old now change)
       was_no_sync (λ its_under is. absurd (none_some (sym still ∙ is))) idle still
       (put_refused_calls going.calls old now waits.1 going.are))
-      leaves.0 (omega (arith, begun_is, within)) (λ its_under is. absurd (none_some (sym still ∙ is)))
-      (ap answered leaves.1)
-      (λ world origin handed runs. runs_waits world script origin before.state after.state before.items clients news
-      actor before.client after.client takes.changes takes.was runs idle still (rearranged_uber old now change) disk
+      (λ world origin handed fits runs. runs_waits world script origin before.state after.state before.items clients news
+      actor before.client after.client takes.changes takes.was runs idle still change.uber disk
       (refused_stands waits.1 world origin runs))
 
   -- One is refused: too many devices are out, the table is full, no run of free sectors fits, or memory is wanting.
@@ -164,26 +163,17 @@ module _ (script : Script) (actor : ℕ) (before after : Station) (clients news 
       → Comes script before after clients news
   put_at_once given is leaves =
       let refuses : Refuses old now given = put_refused old now id (length content) given is in
-      let change = leaves_rearranges old now refuses.leaves in
-      let ended : after.client.under_way ≡ None = ap (λ (c : Client). c.under_way) leaves.1 in
-      let entry : Entry = entry_for call actor (before.client.begun + 1) (length before.items) given in
-      let count = answered_idle before.client idle in
-      comes_answered script actor before after clients news takes (rearranged_goes before.state after.state change disk)
-      (going_at_once script old now clients news actor before.client after.client takes.changes takes.was going
-      (rearranged_committing old now change) (rearranged_commits old now change) (rearranged_many old now change)
-      was_no_sync (λ its_under its. absurd (none_some (sym ended ∙ its))) idle ended
-      (put_refused_calls going.calls old now refuses.leaves going.are))
-      call (before.client.begun + 1) (length before.items) given (omega (arith, count))
-      (ap (slice_get (calls_of script actor)) count ∙ next) leaves.0 leaves.1 refuses.tells
+      let entry : Entry = first_entry call actor before given in
+      comes_at_once script actor before after clients news takes call given idle next
+      (rearranged_leaves old now (leaves_rearranges old now refuses.leaves)) disk leaves
+      (subst (λ (k : Kind). IsAnswerOf k given) (sym asked) (unstored_answers given refuses.unstored)) refuses.tells
       (λ full. full_put script (turns_of before.state before.items clients) takes.schedule actor before.client.begun call
       id next asked id_is (subst (IsPutRefused old now id (length content)) full is).1)
-      (λ world origin handed runs.
-      let map = map_of world.handed world.opening before.items in
-      runs_at_once world script origin before.state after.state before.items clients news actor before.client
-      after.client takes.changes takes.was runs entry refl ended (rearranged_uber old now change) disk
-      (groups_know world.setting runs.last runs.begun runs.calls runs.commit before.state runs.stands.groups)
-      (put_right world before.items entry asked (unstored_plain given refuses.unstored))
-      (subst (λ (k : Kind). IsAnswerOf k given) (sym asked) (unstored_answers given refuses.unstored)) idle
-      (subst (λ (m : Map). Stands world.setting runs.last runs.begun m runs.calls runs.commit after.state)
-      (sym (unstored_map world.handed map entry given refuses.unstored))
-      (refused_stands refuses.leaves world origin runs)))
+      (put_refused_calls takes.schedule.going.calls old now refuses.leaves takes.schedule.going.are)
+      (λ world origin runs. (
+        put_right world before.items entry asked (unstored_plain given refuses.unstored),
+        subst (λ (m : Map). Stands world.setting runs.last runs.begun m runs.calls runs.commit after.state)
+            (sym (unstored_map world.handed (map_of world.handed world.opening before.items) entry given
+            refuses.unstored))
+            (refused_stands refuses.leaves world origin runs),
+      ))

@@ -24,9 +24,8 @@ use Rattle.core_turns.specs.declared.putting.PutRun.{PutRun}
 use Rattle.core_turns.specs.declared.turn.Turn.TheVariants.{More, Done}
 use Rattle.core_turns.specs.Core.{Core, CoreState, at_disk}
 use Rattle.core_turns.specs.Putting.{EndsPut, FillsPut, GivesUp, GivesUpTurn, IsStoppedPut, StoresBlock, WritesOne}
-use Rattle.core_turns.specs.Committing.{IsCommitOf}
 use Rattle.core_turns.specs.UnderWay.{Call, Putting, AreCallsOf, Stands, TurnGoesOn}
-use Rattle.core_turns.proofs.PutCalls.{Rearranges, ends_rearranges, gives_up_rearranges, put_ends_calls, put_fills_calls, put_gives_up_calls, put_writes_calls}
+use Rattle.core_turns.proofs.PutCalls.{ends_rearranges, gives_up_rearranges, put_ends_calls, put_fills_calls, put_gives_up_calls, put_writes_calls}
 use Rattle.core_turns.proofs.PutStands.{put_ends_stands, put_fills_stands, put_gives_up_stands}
 use Rattle.core_turns.proofs.PutWrites.{put_writes_stands, put_writes_since}
 use Rattle.schedule.specs.declared.client.Client.{Client}
@@ -40,11 +39,12 @@ use Rattle.schedule.proofs.Theirs.{none_some, some_is, going_under}
 use Rattle.schedule.proofs.Going.{goes as going_goes, ends as going_ends}
 use Rattle.schedule.proofs.RunsGoOn.{GoesOnSince, goes_on as runs_goes_on}
 use Rattle.schedule.proofs.RunsEnd.{ends as runs_ends}
-use Rattle.schedule.proofs.TurnComes.{comes_same, comes_answered}
-use Rattle.schedule.proofs.Puts.{IsAmong, IsUnstored, TellsOut, put_no_sync, put_among, rearranged_uber, rearranged_committing, rearranged_commits, rearranged_many, tells_out, unstored_plain, unstored_answers, unstored_listed, unstored_map}
+use Rattle.schedule.proofs.TurnComes.{comes_on, comes_answered}
+use Rattle.schedule.proofs.Puts.{IsAmong, IsUnstored, TellsOut, put_no_sync, put_among, tells_out, unstored_plain, unstored_answers, unstored_listed, unstored_map, rearranged_leaves}
 use Rattle.schedule.proofs.Lists.{gains_first}
 use Rattle.schedule.proofs.Answered.{answered_going}
 use Rattle.schedule.proofs.Syncs.{groups_know}
+use Rattle.schedule.proofs.LeavesPool.{LeavesPool, commit_still, leaves_commit, leaves_many}
 
 -- ---- a put is filled in
 
@@ -251,22 +251,17 @@ module _ (script : Script) (actor : ℕ) (before after : Station) (clients news 
       asked_for.2 ∙ sym len_is,
     )
 
-    commits_on : (commit : CommitRun) → IsCommitOf old commit → IsCommitOf now commit
-    commits_on commit of = subst (λ (core : Core). IsCommitOf core commit) (sym writes.rest) (record {
-      actor = of.actor;
-      under_way = of.under_way;
-      number = of.number;
-      uber_is = of.uber_is;
-      lists = λ device listed. goes.out.still device (of.lists device listed);
-    })
-
     goes_going : AreGoing script now news
     goes_going =
         let filled = filled_calls puts.filled puts.fills in
         let nexts : List Call = Putting next among.content ∷ among.left in
         let first = gains_first (Putting next among.content) among.left in
         going_goes script old now clients news actor before.client after.client takes.changes takes.was going
-        (ap (λ (core : Core). core.committing) writes.rest) commits_on (λ many. absurd (writes.few many)) was_no_sync
+        (ap (λ (core : Core). core.committing) writes.rest)
+        (λ commit. commit_still old now commit (ap (λ (core : Core). core.pool.uber) writes.rest)
+        (ap (λ (core : Core). core.begun) writes.rest) (ap (λ (core : Core). core.committing) writes.rest)
+        goes.out.still)
+        (λ many. absurd (writes.few many)) was_no_sync
         (λ its_under its_is. put_no_sync its_under.work next
         (ap (λ (u : UnderWay). u.work) (some_is (sym its_is ∙ next_under_is))))
         among.left nexts (Putting run among.content) (Putting next among.content) next_under call next_under_is
@@ -298,18 +293,18 @@ module _ (script : Script) (actor : ℕ) (before after : Station) (clients news 
     put_goes_on =
         let few = takes.schedule.answered.few actor before.client takes.was in
         let some = takes.schedule.answered.some actor before.client under takes.was under_is in
-        comes_same script actor before after clients news takes goes goes_going leaves.0 (omega (arith, begun_is, few))
-        (λ its_under its_is. omega (arith, begun_is, some))
+        comes_on script actor before after clients news takes goes leaves.0
         (answered_going after.client next_under_is ∙ ap (λ (begun : ℕ). begun - 1) begun_is
         ∙ sym (answered_going before.client under_is))
-        (λ world origin handed runs. goes_runs world origin runs)
+        (omega (arith, begun_is, few)) (λ its_under its_is. omega (arith, begun_is, some)) goes_going
+        (λ world origin handed fits runs. goes_runs world origin runs)
 
   -- the entry of its answer
   abbrev entry : Answer → Entry
   entry given = entry_for call actor before.client.begun under.at given
 
   -- It ends, and its entry alone is listed.
-  module _ (given : Answer) (disk : after.state.disk ≡ before.state.disk) (change : Rearranges old now)
+  module _ (given : Answer) (disk : after.state.disk ≡ before.state.disk) (change : LeavesPool old now)
       (plain : IsPlain given) (answers : IsAnswerOf kind.Put given) (tells : TellsOut old given)
       (other : given ≢ answer.Full)
       (leaves : LeavesGoing actor call before after under (Done given)) where
@@ -326,17 +321,17 @@ module _ (script : Script) (actor : ℕ) (before after : Station) (clients news 
     ends_with listed are stands =
         let some = takes.schedule.answered.some actor before.client under takes.was under_is in
         let count = answered_going before.client under_is in
-        comes_answered script actor before after clients news takes goes
+        comes_answered script actor before after clients news takes call before.client.begun under.at given
+        (omega (arith, count, some)) (ap (slice_get (calls_of script actor)) count ∙ is) goes listed leaves.1 tells
+        (λ full. absurd (other full))
         (going_ends script old now clients news actor before.client after.client takes.changes takes.was going
-        (rearranged_committing old now change) (rearranged_commits old now change) (rearranged_many old now change)
+        change.committing (leaves_commit old now change) (leaves_many old now change)
         was_no_sync (λ its_under its_is. absurd (none_some (sym ended ∙ its_is))) among.left
         (Putting run among.content) ended among.gains among.its are)
-        call before.client.begun under.at given (omega (arith, count, some))
-        (ap (slice_get (calls_of script actor)) count ∙ is) listed leaves.1 tells (λ full. absurd (other full))
-        (λ world origin handed runs.
+        (λ world origin handed fits runs.
         let mine = among_runs world origin runs in
         runs_ends world script origin before.state after.state before.items clients news actor before.client
-        after.client takes.changes takes.was runs (entry given) refl ended (rearranged_uber old now change) disk
+        after.client takes.changes takes.was runs (entry given) refl ended change.uber disk
         (groups_know world.setting runs.last runs.begun runs.calls runs.commit before.state runs.stands.groups)
         (put_right world before.items (entry given) asked_for.0 plain)
         (subst (λ (k : Kind). IsAnswerOf k given) (sym asked_for.0) answers)
@@ -350,7 +345,7 @@ module _ (script : Script) (actor : ℕ) (before after : Station) (clients news 
         → Comes script before after clients news
     put_stored given_is stores whole =
         let among_filled = filled_calls filled fills in
-        ends_with given disk (ends_rearranges old now filled stores) (subst IsPlain (sym given_is) tt)
+        ends_with given disk (rearranged_leaves old now (ends_rearranges old now filled stores)) (subst IsPlain (sym given_is) tt)
         (subst (IsAnswerOf kind.Put) (sym given_is) refl)
         (λ listed told. absurd (apart listed (sym given_is ∙ told))) (λ full. no_full (sym given_is ∙ full)) leaves
         (leaves.0 ∙ subst (λ (a : Answer). listed_for old before.items under.at (entry given) a
@@ -392,7 +387,7 @@ module _ (script : Script) (actor : ℕ) (before after : Station) (clients news 
     put_given_up : IsGivenUp old now filled given → Comes script before after clients news
     put_given_up given_up =
         let among_filled = filled_calls filled fills in
-        ends_with given disk (gives_up_rearranges old now filled given_up.gives_up)
+        ends_with given disk (rearranged_leaves old now (gives_up_rearranges old now filled given_up.gives_up))
         (unstored_plain given given_up.unstored) (unstored_answers given given_up.unstored) given_up.tells
         given_up.other leaves
         (leaves.0 ∙ unstored_listed old before.items under.at (entry given) given given_up.unstored)

@@ -1,7 +1,6 @@
 -- A client's put among the calls under way, what its turns leave of the core, and what its answers mean.
 use Rattle.std.proofs.Common.{◌≡◌, ℕ, List, [], ◌∷◌, ◌++◌, Some, refl, sym, ◌∙◌, ap, subst}
 use Rattle.std.specs.Prelude.{Contains, slice_get, ⊤}
-use Rattle.bank_trait.specs.Disk.{Disk}
 use Rattle.space_alloc.specs.Space.{Gains}
 use Rattle.core_state.specs.declared.answer.Answer.{Answer}
 use Rattle.core_state.specs.declared.answer.Answer.TheVariants as answer
@@ -12,14 +11,11 @@ use Rattle.core_state.specs.declared.item.Item.TheVariants.{Call as CallItem}
 use Rattle.core_state.specs.Map.{Map, Handed, map_after_answer}
 use Rattle.core_state.specs.Legal.{IsAnswerOf}
 use Rattle.core_blocks.proofs.Usage.{adds_none}
-use Rattle.core_commit.specs.CommitTurns.{CommitRun}
 use Rattle.core_turns.specs.declared.putting.PutRun.{PutRun}
-use Rattle.core_turns.specs.Core.{Core, CoreState, at_disk}
+use Rattle.core_turns.specs.Core.{Core}
 use Rattle.core_turns.specs.Getting.{HasTooManyOut}
 use Rattle.core_turns.specs.Putting.{IsPutRefused, LeavesBlocks}
-use Rattle.core_turns.specs.Committing.{IsCommitOf}
-use Rattle.core_turns.specs.UnderWay.{Call, Putting, Reading, TurnGoesOn}
-use Rattle.core_turns.proofs.Commits.{turn_nowhere}
+use Rattle.core_turns.specs.UnderWay.{Call, Putting, Reading}
 use Rattle.core_turns.proofs.PutCalls.{Rearranges}
 use Rattle.schedule.specs.declared.client.Client.{Client}
 use Rattle.schedule.specs.declared.client.UnderWay.{UnderWay}
@@ -30,6 +26,7 @@ use Rattle.schedule.specs.Turned.{listed_for}
 use Rattle.schedule.proofs.RightNext.{IsPlain}
 use Rattle.schedule.proofs.Theirs.{actor_of}
 use Rattle.schedule.proofs.Lists.{gains_of}
+use Rattle.schedule.proofs.LeavesPool.{LeavesPool, leaves_pool}
 
 -- ---- among the calls under way
 
@@ -67,44 +64,9 @@ put_among clients calls actor client under run theirs was going does_is =
 
 -- ---- turns that call no device
 
--- Where only blocks and holds are others, all else of the core goes on.
-module _ (old new : Core) (change : Rearranges old new) where
-  pub rearranged_uber : new.pool.uber ≡ old.pool.uber
-  rearranged_uber = ap (λ (core : Core). core.pool.uber) change.rest
-
-  pub rearranged_committing : new.committing ≡ old.committing
-  rearranged_committing = ap (λ (core : Core). core.committing) change.rest
-
-  pub rearranged_commits : (run : CommitRun) → IsCommitOf old run → IsCommitOf new run
-  rearranged_commits run of = subst (λ (core : Core). IsCommitOf core run) (sym change.rest) (record {
-    actor = of.actor;
-    under_way = of.under_way;
-    number = of.number;
-    uber_is = of.uber_is;
-    lists = of.lists;
-  })
-
-  pub rearranged_many : HasTooManyOut old → HasTooManyOut new
-  rearranged_many many = subst HasTooManyOut (sym change.rest) many
-
--- Such a turn calls no device.
-pub rearranged_goes : (before after : CoreState) → Rearranges before.core after.core → after.disk ≡ before.disk
-    → TurnGoesOn before after
-rearranged_goes before after change disk =
-    let blocks = after.core.pool.blocks in
-    let holds = after.core.holds in
-    let still = turn_nowhere before in
-    subst (λ (core : Core). TurnGoesOn before (at_disk core after.disk)) (sym change.rest)
-    (subst (λ (d : Disk). TurnGoesOn before
-    (at_disk (record before.core { pool = record before.core.pool { blocks = blocks }; holds = holds }) d)) (sym disk)
-    (record {
-      parity = still.parity;
-      widths = still.widths;
-      births = still.births;
-      later = still.later;
-      out = still.out;
-      only = still.only;
-    }))
+-- Where only blocks and holds are others, all else of the core is left.
+pub rearranged_leaves : (old new : Core) → Rearranges old new → LeavesPool old new
+rearranged_leaves old new change = leaves_pool old new new.pool.blocks new.holds change.rest
 
 -- ---- answers
 

@@ -32,7 +32,7 @@ use Rattle.core_turns.proofs.GetStands.{get_solves_calls, get_stops_calls, get_e
 use Rattle.schedule.specs.Recorded.{IsRightNext, AllBelow}
 use Rattle.schedule.specs.Turned.{EndsReading, entry_for, listed_for}
 use Rattle.schedule.proofs.RightNext.{read_right, read_cut_right}
-use Rattle.schedule.proofs.ComesBy.{LeavesPool, leaves_pool}
+use Rattle.schedule.proofs.LeavesPool.{LeavesPool, leaves_pool}
 use Rattle.schedule.proofs.Lists.{gains_first}
 
 -- ---- answers

@@ -43,7 +43,8 @@ use Rattle.schedule.proofs.RunsGoOn.{goes_on}
 use Rattle.schedule.proofs.RunsBegin.{begins as runs_begins}
 use Rattle.schedule.proofs.RunsEnd.{ends as runs_ends}
 use Rattle.schedule.proofs.ReadAnswers.{EndsRead, listed_read, map_read, right_read, refused_of, refused_right, read_ends_so}
-use Rattle.schedule.proofs.ComesBy.{LeavesPool, leaves_pool, commit_still, leaves_commit, leaves_many, turn_still, RunsOn, first_entry, comes_nowhere, comes_on, comes_answered, comes_at_once}
+use Rattle.schedule.proofs.LeavesPool.{LeavesPool, leaves_pool, commit_still, leaves_commit, leaves_many, turn_still}
+use Rattle.schedule.proofs.TurnComes.{RunsOn, first_entry, comes_nowhere, comes_on, comes_answered, comes_at_once}
 use Rattle.schedule.proofs.Lists.{gains_first, gains_of}
 use Rattle.schedule.proofs.Syncs.{groups_know}
 
@@ -132,7 +133,7 @@ module _ (script : Script) (actor : ℕ) (before after : Station) (clients news 
     -- A read begins.
     pub read_begins : Comes script before after clients news
     read_begins = comes_on script actor before after clients news takes
-        (turn_still before.state after.state leaves disk) left.0
+        (turn_still before.state after.state leaves.uber leaves.out disk) left.0
         (let one = answered_going after.client under_is in let other = answered_idle before.client idle in
         omega (arith, one, other, begun))
         (let low = slice_get_within (calls_of script actor) before.client.begun call next in omega (arith, low, begun))
@@ -161,7 +162,8 @@ module _ (script : Script) (actor : ℕ) (before after : Station) (clients news 
         comes_at_once script actor before after clients news takes call given idle next
         (leaves_pool before.state.core after.state.core before.state.core.pool.blocks before.state.core.holds begins.0)
         disk left of
-        (λ out tells. subst (IsGetRefused before.state.core id) tells begins.1) (read_no_put call.kind is)
+        (λ out tells. subst (IsGetRefused before.state.core id) tells begins.1)
+        (λ full. absurd (put_alone call.kind given (read_no_put call.kind is) of full))
         (subst (λ (c : Core). AreCallsOf c takes.schedule.going.calls) (sym begins.0) takes.schedule.going.are)
         (λ world origin runs.
         let map = map_of world.handed world.opening before.items in
@@ -352,4 +354,5 @@ module _ (script : Script) (actor : ℕ) (before after : Station) (clients news 
         (its_number under run work_is under_is)
         (ap (slice_get (calls_of script actor)) (answered_going before.client under_is) ∙ is) turn
         (left.0 ∙ listed_read before.state.core before.items under.at entry call.kind given call_read given_is)
-        left.1 ends.too_many (put_alone call.kind given (read_no_put call.kind call_read) given_is) end_going end_runs
+        left.1 ends.too_many
+        (λ full. absurd (put_alone call.kind given (read_no_put call.kind call_read) given_is full)) end_going end_runs

@@ -1,4 +1,4 @@
--- What stood before a turn of one client stands after it, where it begins a call or a commit.
+-- What stood before a turn of one client stands after it, where it begins a call or a commit, or waits.
 use Rattle.std.proofs.Common.{◌≡◌, ◌≢◌, ⊎_elim, ℕ, ◌+◌, ◌-◌, ◌<◌, ◌≤◌, List, [], ◌∷◌, length, Some, None, refl, sym, ◌∙◌, ap, subst, arith}
 use Rattle.std.specs.Prelude.{Contains, slice_get}
 use Rattle.std.proofs.lemmas.Option.{slice_get_within}
@@ -26,7 +26,7 @@ use Rattle.schedule.specs.declared.client.Work.TheVariants as work
 use Rattle.schedule.specs.Clients.{Changes}
 use Rattle.schedule.specs.Recorded.{Recorded, IsBegunAt}
 use Rattle.schedule.specs.Running.{IsGoing, IsWorkOf, IsSync, HasContent, IsClient, IsTheirs, Runs}
-use Rattle.schedule.proofs.Theirs.{actor_of, some_is, theirs_begins, theirs_stays, sync_stays, none_going}
+use Rattle.schedule.proofs.Theirs.{actor_of, some_is, theirs_begins, theirs_stays, sync_stays, none_going, none_some}
 use Rattle.schedule.proofs.Running.{one_latest, client_stays, sync_free, each_client}
 use Rattle.schedule.proofs.Recording.{recorded_begins}
 
@@ -49,6 +49,31 @@ module _ (world : World) (script : Script) (origin : Disk) (before after : CoreS
   module _ (idle : old.under_way ≡ None) where
     was_idle : (its : Client) (its_under : UnderWay) → IsGoing clients index its its_under → ⊥
     was_idle = none_going clients index old was idle
+
+    -- A call waits, and leaves what stood.
+    pub waits : client.under_way ≡ None → after.core.pool.uber ≡ before.core.pool.uber → after.disk ≡ before.disk
+        → Stands world.setting runs.last runs.begun map runs.calls runs.commit after
+        → Runs world script origin after items news
+    waits idle_still uber disk stands = record {
+      last = runs.last;
+      begun = runs.begun;
+      calls = runs.calls;
+      commit = runs.commit;
+      item = runs.item;
+      latest = runs.latest;
+      recorded = subst (λ (u : Uber). Recorded world origin items runs.last runs.begun u after.disk) (sym uber)
+          (subst (Recorded world origin items runs.last runs.begun before.core.pool.uber) (sym disk) runs.recorded);
+      stands = stands;
+      theirs = theirs_stays clients news index client changes runs.calls
+          (λ its its_under is. absurd (was_idle its its_under is))
+          (λ its_under is. absurd (none_some (sym idle_still ∙ is))) runs.theirs;
+      sync = sync_stays clients news index client changes runs.commit
+          (λ its its_under is sync. was_idle its its_under is)
+          (λ its_under is sync. none_some (sym idle_still ∙ is)) runs.sync;
+      each = each_client world script items runs.item runs.begun runs.calls clients news index client changes
+          (λ its_under is. absurd (none_some (sym idle_still ∙ is)))
+          (λ other its its_under apart is. runs.each other its its_under is);
+    }
 
     -- A put or a read begins, which calls no device.
     module _ (calls : List Call) (call : Call) (does : Work) (uber : after.core.pool.uber ≡ before.core.pool.uber)

@@ -22,7 +22,7 @@ use Rattle.schedule.specs.declared.client.Work.{Work}
 use Rattle.schedule.specs.declared.client.Work.TheVariants as work
 use Rattle.schedule.specs.Comes.{TakesTurn, Comes}
 use Rattle.schedule.specs.Turned.{Station, Begins, Waits, AnswersAtOnce, BeginsCall, GoesOnBy, LeavesBegun, LeavesGoing, HasTableOf, Turned, Nothing, Began, Went}
-use Rattle.schedule.proofs.ComesBy.{comes_nowhere}
+use Rattle.schedule.proofs.TurnComes.{comes_nowhere}
 use Rattle.schedule.proofs.FreeComes.{free_at_once}
 use Rattle.schedule.proofs.PutComes.{put_begins, put_waits, put_at_once}
 use Rattle.schedule.proofs.PutGoes.{put_goes_on, put_ends}
