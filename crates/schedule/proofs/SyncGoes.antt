@@ -38,14 +38,14 @@ use Rattle.schedule.specs.Turned.{Station, LeavesGoing, entry_for, group_for}
 use Rattle.schedule.specs.Comes.{TakesTurn, Comes}
 use Rattle.schedule.proofs.RightNext.{sync_cut_right}
 use Rattle.schedule.proofs.Theirs.{some_is, none_some, going_under}
-use Rattle.schedule.proofs.Answered.{answered, answers_same, answers_call, answers_group, answered_going}
+use Rattle.schedule.proofs.Answered.{answered, answers_call, answers_group, answered_going}
 use Rattle.schedule.proofs.Fulls.{full_synced}
 use Rattle.schedule.proofs.Going.{commits_on, commit_ends as going_ends, one_sync}
 use Rattle.schedule.proofs.Running.{group_apart}
 use Rattle.schedule.proofs.RunsGoOn.{commit_goes_on}
 use Rattle.schedule.proofs.RunsEnd.{commit_ends, commit_is_cut}
 use Rattle.schedule.proofs.Syncs.{groups_know, its_commit}
-use Rattle.schedule.proofs.SyncComes.{StandsOn, came_still, came_listed, came_answered}
+use Rattle.schedule.proofs.TurnComes.{RunsOn, came_listed, comes_on, comes_answered}
 
 module _ (script : Script) (actor : ℕ) (before after : Station) (clients news : List Client) (call : ScriptCall)
     (takes : TakesTurn script actor before after clients news) where
@@ -96,14 +96,10 @@ module _ (script : Script) (actor : ℕ) (before after : Station) (clients news 
         → TurnGoesOn before.state after.state
         → LeavesGoing actor call before after under (More (work.Sync next))
         → Comes script before after clients news
-    goes_on next steps goes leaves = record {
-      come = came_still script before after clients news takes.space goes leaves.0 on;
-      schedule = record {
-        going = going;
-        answered = subst (AreAnswered script news) (sym leaves.0) answered_still;
-        bank = turn_bank before.state after.state goes takes.schedule.bank;
-      };
-    }
+    goes_on next steps goes leaves = comes_on script actor before after clients news takes goes leaves.0
+        (ap answered leaves.1 ∙ sym (answered_going before.client was_under))
+        (let few = takes.schedule.answered.few actor before.client takes.was in omega (arith, few, begun_is))
+        (λ its_under is. let some = some_begun in omega (arith, some, begun_is)) going on
       where
         begun_is : after.client.begun ≡ before.client.begun
         begun_is = ap (λ (c : Client). c.begun) leaves.1
@@ -117,15 +113,8 @@ module _ (script : Script) (actor : ℕ) (before after : Station) (clients news 
             (commit_steps_calls before.state after.state takes.schedule.going.calls run next steps
             takes.schedule.going.are)
 
-        answered_still : AreAnswered script news before.items
-        answered_still = answers_same script clients news actor before.client after.client before.items takes.changes
-            takes.was
-            (let few = takes.schedule.answered.few actor before.client takes.was in omega (arith, few, begun_is))
-            (λ its_under is. let some = some_begun in omega (arith, some, begun_is)) takes.schedule.answered
-            (ap answered leaves.1 ∙ sym (answered_going before.client was_under))
-
-        on : StandsOn script before after clients news before.items
-        on world origin within runs =
+        on : RunsOn script before after clients news before.items
+        on world origin handed within runs =
             let map : Map = map_of world.handed world.opening before.items in
             let borne = within (few_out before.state.core steps.0) in
             commit_goes_on world script origin before.state after.state before.items clients news actor before.client
@@ -136,6 +125,13 @@ module _ (script : Script) (actor : ℕ) (before after : Station) (clients news 
             (commit_steps_stands world.setting runs.last runs.begun map runs.calls before.state after.state run next
             steps borne (its_stands runs))
 
+    -- It is the one after those answered.
+    its_number : before.client.begun ≡ answered before.client + 1
+    its_number =
+        let some = some_begun in
+        let so_many = answered_going before.client was_under in
+        omega (arith, some, so_many)
+
     -- With its entry the journal answers one call more.
     answered_end : (given : Answer) (items : List Item) → LeavesGoing actor call before after under (Done given)
         → AreAnswered script clients items
@@ -145,22 +141,19 @@ module _ (script : Script) (actor : ℕ) (before after : Station) (clients news 
         (let few = takes.schedule.answered.few actor before.client takes.was in omega (arith, few, begun_is))
         (λ its_under is. absurd (none_some (sym (ap (λ (c : Client). c.under_way) leaves.1) ∙ is))) were call
         (entry_for call actor before.client.begun under.at given)
-        (ap answered leaves.1 ∙ number) (ap (slice_get (calls_of script actor)) (answered_going before.client was_under) ∙ next_is) refl number
+        (ap answered leaves.1 ∙ its_number) (ap (slice_get (calls_of script actor)) (answered_going before.client was_under) ∙ next_is) refl its_number
         refl refl
       where
         begun_is : after.client.begun ≡ before.client.begun
         begun_is = ap (λ (c : Client). c.begun) leaves.1
-
-        number : before.client.begun ≡ answered before.client + 1
-        number = let some = some_begun in let so_many = (answered_going before.client was_under) in omega (arith, some, so_many)
 
     -- Its group is answered, and listed before it.
     synced : (number : ℕ) → AnswersGroup before.state run after.state number → TurnGoesOn before.state after.state
         → LeavesGoing actor call before after under (Done (answer.Synced number))
         → Comes script before after clients news
     synced number answers goes leaves = record {
-      come = came_listed script before after clients news takes.space (Group group ∷ CallItem entry ∷ []) goes (leaves.0 ∙ both)
-          told (subst (StandsOn script before after clients news) both on)
+      come = came_listed script actor before after clients news takes (Group group ∷ CallItem entry ∷ []) goes
+          (leaves.0 ∙ both) told (subst (RunsOn script before after clients news) both on)
           (full_synced script (turns_of before.state before.items clients) (turns_of after.state after.items news) group
           entry leaves.0 (λ full. no_full full));
       schedule = record {
@@ -211,8 +204,8 @@ module _ (script : Script) (actor : ℕ) (before after : Station) (clients news 
             (commit_ends_calls before.state after.state takes.schedule.going.calls run number of_core.0 answers
             takes.schedule.going.are)
 
-        on : StandsOn script before after clients news ((before.items ++ Group group ∷ []) ++ CallItem entry ∷ [])
-        on world origin within runs =
+        on : RunsOn script before after clients news ((before.items ++ Group group ∷ []) ++ CallItem entry ∷ [])
+        on world origin handed within runs =
             let map : Map = map_of world.handed world.opening before.items in
             let stands = its_stands runs in
             let next : Kept = stands.groups.next in
@@ -241,16 +234,11 @@ module _ (script : Script) (actor : ℕ) (before after : Station) (clients news 
         → TurnGoesOn before.state after.state
         → LeavesGoing actor call before after under (Done (answer.TooManyFailed out))
         → Comes script before after clients news
-    cut out steps goes leaves = record {
-      come = came_answered script before after clients news takes.space entry goes leaves.0
-          (λ listed is. (steps.0, same_out (sym is) ∙ steps.1)) (λ full. no_full full) on;
-      schedule = record {
-        going = subst (λ (s : CoreState). AreGoing script s.core news) (sym steps.2) going;
-        answered = subst (AreAnswered script news) (sym leaves.0)
-            (answered_end (answer.TooManyFailed out) before.items leaves takes.schedule.answered);
-        bank = turn_bank before.state after.state goes takes.schedule.bank;
-      };
-    }
+    cut out steps goes leaves = comes_answered script actor before after clients news takes call before.client.begun
+        under.at (answer.TooManyFailed out) its_number
+        (ap (slice_get (calls_of script actor)) (answered_going before.client was_under) ∙ next_is) goes leaves.0
+        leaves.1 (λ listed is. (steps.0, same_out (sym is) ∙ steps.1)) (λ full. absurd (no_full full))
+        (subst (λ (s : CoreState). AreGoing script s.core news) (sym steps.2) going) on
       where
         entry : Entry
         entry = entry_for call actor before.client.begun under.at (answer.TooManyFailed out)
@@ -269,8 +257,8 @@ module _ (script : Script) (actor : ℕ) (before after : Station) (clients news 
             takes.changes takes.was takes.schedule.going under run was_under does_is ended only (λ its is. steps.0)
             takes.schedule.going.are
 
-        on : StandsOn script before after clients news (before.items ++ CallItem entry ∷ [])
-        on world origin within runs =
+        on : RunsOn script before after clients news (before.items ++ CallItem entry ∷ [])
+        on world origin handed within runs =
             let map : Map = map_of world.handed world.opening before.items in
             commit_is_cut world script origin before.state after.state before.items clients news actor before.client
             after.client takes.changes takes.was runs entry refl ended

@@ -1,11 +1,6 @@
 -- A sync among the calls under way: its commit is the core's, and what it may be answered in its first turn.
-use Rattle.std.proofs.Common.{◌≡◌, ◌≢◌, ⊎_elim, ℕ, List, length, Option, Some, None, refl, sym, ◌∙◌, ap, subst, arith}
+use Rattle.std.proofs.Common.{◌≡◌, ℕ, List, length, Option, Some, None, refl, sym, ◌∙◌, ap, subst, arith}
 use Rattle.std.specs.Prelude.{slice_get}
-use Rattle.std.proofs.lemmas.Bool.{cases_eq}
-use Rattle.bank_trait.specs.Disk.{Later}
-use Rattle.bank_trait.specs.Regions.{TouchesOnly}
-use Rattle.bank_trait.proofs.Moments.{later_refl}
-use Rattle.bank_trait.proofs.Touches.{touches_none}
 use Rattle.core_state.specs.declared.answer.Answer.{Answer}
 use Rattle.core_state.specs.declared.answer.Answer.TheVariants as answer
 use Rattle.core_state.specs.declared.answer.Kind.{Kind}
@@ -17,59 +12,22 @@ use Rattle.core_state.specs.Map.{Map, Handed, map_after_answer}
 use Rattle.core_state.specs.Legal.{IsGroupBefore, IsAnswerOf}
 use Rattle.core_state.specs.Keeps.{Kept, Setting}
 use Rattle.core_state.specs.Certain.{Knows}
-use Rattle.core_state.specs.Committing.{Point}
 use Rattle.core_state.specs.CoreState.{World}
-use Rattle.core_client.specs.Outs.{point_of, OnlyFailedGoOut}
-use Rattle.core_client.proofs.Outs.{outs_none}
+use Rattle.core_client.specs.Outs.{point_of}
 use Rattle.core_commit.specs.CommitTurns.{CommitRun}
-use Rattle.core_commit.specs.Spared.{IsOnInUse}
 use Rattle.core_commit.proofs.Beside.{committing_cut}
-use Rattle.core_serial.specs.Pool.{Pool}
 use Rattle.core_turns.specs.Core.{Core, CoreState}
 use Rattle.core_turns.specs.Getting.{HasTooManyOut}
 use Rattle.core_turns.specs.Committing.{IsSyncRefused}
-use Rattle.core_turns.specs.UnderWay.{Call, GroupsStand, TurnGoesOn}
+use Rattle.core_turns.specs.UnderWay.{Call, GroupsStand}
 use Rattle.schedule.specs.declared.client.Client.{Client}
 use Rattle.schedule.specs.declared.client.UnderWay.{UnderWay}
 use Rattle.schedule.specs.declared.client.Work.{Work}
 use Rattle.schedule.specs.declared.client.Work.TheVariants as work
-use Rattle.schedule.specs.Clients.{Changes}
 use Rattle.schedule.specs.Recorded.{IsRightNext}
 use Rattle.schedule.specs.Running.{IsGoing, IsSync, IsTheirs}
 use Rattle.schedule.proofs.RightNext.{IsStopped, sync_cut_right, sync_limit_right}
 use Rattle.schedule.proofs.Theirs.{some_is, none_some}
-use Rattle.schedule.proofs.Lists.{same_list}
-
--- ---- where nothing was done
-
--- A client stays as it is, and so do all.
-pub clients_same : (old new : List Client) (index : ℕ) (before client : Client) → Changes old new index client
-    → slice_get old index ≡ Some before → client ≡ before → new ≡ old
-clients_same old new index before client changes was same = same_list new old (λ place. ⊎_elim
-    (λ (here : place ≡ index). subst (λ (n : ℕ). slice_get new n ≡ slice_get old n) (sym here)
-    (changes.there ∙ ap Some same ∙ sym was))
-    (λ (apart : place ≢ index). changes.others place apart)
-    (cases_eq place index))
-
--- A state is its core and its disk.
-pub state_is : (one other : CoreState) → one.core ≡ other.core → one.disk ≡ other.disk → one ≡ other
-state_is one other core disk = λ i. record { core = core i; disk = disk i }
-
--- A turn that leaves the pool and calls no device.
-pub turn_still : (before after : CoreState) → after.core.pool ≡ before.core.pool → after.disk ≡ before.disk
-    → TurnGoesOn before after
-turn_still before after pool disk = record {
-  parity = ap (λ (p : Pool). p.uber.parity) pool;
-  widths = ap (λ (p : Pool). p.uber.reflow) pool;
-  births = ap (λ (p : Pool). p.uber.births) pool;
-  later = subst (Later before.disk) (sym disk) (later_refl before.disk);
-  out = subst (OnlyFailedGoOut here) (λ i. point_of (sym pool i).out (sym disk i)) (outs_none here);
-  only = subst (TouchesOnly (IsOnInUse before.core.pool.uber.reflow.to before.core.pool.out) before.disk) (sym disk)
-      (touches_none (IsOnInUse before.core.pool.uber.reflow.to before.core.pool.out) before.disk);
-}
-  where
-    here : Point
-    here = point_of before.core.pool.out before.disk
 
 -- ---- the core's commit
 
