@@ -183,11 +183,6 @@ module _ (script : Script) (before after : Turns) where
       subst (FullIsCaused script world.opening) (sym items)
       (full_entry script world.opening before.items last (λ is. many is world origin handed runs) caused)
 
-  -- another one,
-  pub full_other : (last : Entry) → after.items ≡ before.items ++ CallItem last ∷ [] → last.answer ≢ answer.Full
-      → FullStays script before after
-  full_other last items other = full_answer last items (λ is. absurd (other is))
-
   -- and one that lists a group before the answer to the sync that made it.
   pub full_synced : (group : GroupItem) (last : Entry)
       → after.items ≡ (before.items ++ Group group ∷ []) ++ CallItem last ∷ [] → last.answer ≢ answer.Full

@@ -105,7 +105,8 @@ module _ (script : Script) (core now : Core) (clients news : List Client) (index
     begins calls call under asked idle client_is is for gained its work_of are = record {
       calls = calls;
       are = are;
-      theirs = theirs_begins clients news index client changes going.calls calls call under (none_going clients index old was idle) client_is gained
+      theirs = theirs_begins clients news index client changes going.calls calls call under
+          (none_going clients index old was idle) client_is gained
           its work_of going.theirs;
       asked = asked_on (λ its_under under_is. (
         asked,
@@ -200,7 +201,8 @@ module _ (script : Script) (core now : Core) (clients news : List Client) (index
     calls = going.calls;
     are = are;
     theirs = theirs_stays clients news index client changes going.calls
-        (λ its its_under is. subst (λ (u : UnderWay). IsSync u.work) (sym (going_under clients index old under was old_is its its_under is))
+        (λ its its_under is. subst (λ (u : UnderWay). IsSync u.work)
+        (sym (going_under clients index old under was old_is its its_under is))
         (is_sync under.work run does_is))
         (λ its_under under_is. absurd (none_some (sym ended ∙ under_is))) going.theirs;
     asked = asked_on (λ its_under under_is. absurd (none_some (sym ended ∙ under_is)));

@@ -26,6 +26,7 @@ pub mod SyncComes
 pub mod SyncGoes
 pub mod Puts
 pub mod PutComes
+pub mod PutEnds
 pub mod PutGoes
 pub mod ReadAnswers
 pub mod ReadComes

@@ -112,7 +112,8 @@ module _ (script : Script) (actor : ℕ) (before after : Station) (clients news 
         (let begun = ap (λ (c : Client). c.begun) left.1 in omega (arith, begun)) ∙ next)
         (sym begins.2, id_is ∙ ap Some (sym entry_id)) (gains_first (Reading run []) was.calls) its_actor refl
         (get_begins_calls before.state.core after.state.core actor id call.kind run [] was.calls
-        (Reading run [] ∷ was.calls) is takes.is begins (calls_of_others clients actor before.client takes.was idle was.calls was.theirs)
+        (Reading run [] ∷ was.calls) is takes.is begins
+        (calls_of_others clients actor before.client takes.was idle was.calls was.theirs)
         (gains_first (Reading run []) was.calls) was.are)
 
     runs_on : RunsOn script before after clients news before.items

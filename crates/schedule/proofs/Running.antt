@@ -40,7 +40,8 @@ begun_grown world items more item after next begun = record {
   widths = begun.widths;
 }
 
-sync_grown : (world : World) (items more : List Item) (item : GroupItem) (begun : List Kept) (at : ℕ) (does : Work)
+-- What a sync knows of its group stays as the journal grows.
+pub sync_grown : (world : World) (items more : List Item) (item : GroupItem) (begun : List Kept) (at : ℕ) (does : Work)
     → IsSyncOf world items item begun at does → IsSyncOf world (items ++ more) item begun at does
 sync_grown world items more item begun at (work.Sync run) (next, is, was) =
     (next, is, begun_grown world items more item at next was)
@@ -93,7 +94,8 @@ pub each_client : (world : World) (script : Script) (items : List Item) (item : 
     → IsClient world script items item begun calls other its under)
     → (other : ℕ) (its : Client) (under : UnderWay) → IsGoing news other its under
     → IsClient world script items item begun calls other its under
-each_client world script items item begun calls clients news index client changes here others other its under is = ⊎_elim
+each_client world script items item begun calls clients news index client changes here others other its under is =
+    ⊎_elim
     (λ (same : other ≡ index).
     let found = going_here clients news index client changes its under
     (subst (λ (n : ℕ). IsGoing news n its under) same is) in
@@ -126,10 +128,6 @@ group_apart items group place other there =
   where
     never : Group group ≡ CallItem other → ⊥
     never is = cc
-
-pub sync_more : (world : World) (items more : List Item) (item : GroupItem) (begun : List Kept) (at : ℕ) (does : Work)
-    → IsSyncOf world items item begun at does → IsSyncOf world (items ++ more) item begun at does
-sync_more world items more item begun at does is = sync_grown world items more item begun at does is
 
 pub head_is : {A : Type 0} {one two : A} → one ∷ [] ≡ two ∷ [] → one ≡ two
 head_is same = cc

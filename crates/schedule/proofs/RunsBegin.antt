@@ -118,7 +118,8 @@ module _ (world : World) (script : Script) (origin : Disk) (before after : CoreS
       each_begun : (other : ℕ) (its_client : Client) (its_under : UnderWay) → IsGoing news other its_client its_under
           → IsClient world script items runs.item runs.begun calls other its_client its_under
       each_begun = each_client world script items runs.item runs.begun calls clients news index client changes
-          (λ its_under is. subst (λ (u : UnderWay). IsClient world script items runs.item runs.begun calls index client u)
+          (λ its_under is. subst
+          (λ (u : UnderWay). IsClient world script items runs.item runs.begun calls index client u)
           (some_is (sym begun_work ∙ is)) here_begun)
           (λ other its its_under apart is.
           client_stays world script items runs.item runs.begun runs.begun runs.calls calls other its its_under
@@ -139,7 +140,8 @@ module _ (world : World) (script : Script) (origin : Disk) (before after : CoreS
             (record { at = length items; work = does }) was_idle begun_work gained its work_of runs.theirs;
         sync = sync_stays clients news index client changes runs.commit
             (λ other its_under is sync. was_idle other its_under is)
-            (λ its_under is sync. not_sync (subst (λ (u : UnderWay). IsSync u.work) (some_is (sym is ∙ begun_work)) sync))
+            (λ its_under is sync. not_sync
+            (subst (λ (u : UnderWay). IsSync u.work) (some_is (sym is ∙ begun_work)) sync))
             runs.sync;
         each = each_begun;
       }
@@ -159,8 +161,9 @@ module _ (world : World) (script : Script) (origin : Disk) (before after : CoreS
       begun_sync = ap (λ (c : Client). c.under_way) client_is
 
       recorded_none : Recorded world origin items runs.last [] before.core.pool.uber before.disk
-      recorded_none = subst (λ (l : List Kept). Recorded world origin items runs.last l before.core.pool.uber before.disk)
-          none_begun runs.recorded
+      recorded_none = subst
+          (λ (l : List Kept). Recorded world origin items runs.last l before.core.pool.uber before.disk) none_begun
+          runs.recorded
 
       item_none : recorded_none.item ≡ runs.recorded.item
       item_none = one_latest items (length items) recorded_none.item runs.recorded.item recorded_none.latest

@@ -29,7 +29,7 @@ use Rattle.schedule.specs.Clients.{Changes}
 use Rattle.schedule.specs.Recorded.{Recorded, IsRightNext, IsBegunAt}
 use Rattle.schedule.specs.Running.{IsGoing, IsSync, IsSyncOf, IsClient, Runs}
 use Rattle.schedule.proofs.Theirs.{actor_of, none_some, sync_gone, theirs_ends, theirs_stays, sync_stays, none_going, going_under}
-use Rattle.schedule.proofs.Running.{one_latest, head_is, client_grown, entry_apart, group_apart, sync_more, sync_free, each_client}
+use Rattle.schedule.proofs.Running.{one_latest, head_is, client_grown, entry_apart, group_apart, sync_grown, sync_free, each_client}
 use Rattle.schedule.proofs.Recording.{recorded_answers, recorded_ends}
 
 module _ (world : World) (script : Script) (origin : Disk) (before after : CoreState) (items : List Item)
@@ -65,7 +65,7 @@ module _ (world : World) (script : Script) (origin : Disk) (before after : CoreS
         (λ other its its_under apart is.
         client_grown world script items (CallItem entry ∷ []) runs.item runs.item runs.begun runs.begun runs.calls calls
         other its its_under (among other apart)
-        (sync_more world items (CallItem entry ∷ []) runs.item runs.begun its_under.at its_under.work)
+        (sync_grown world items (CallItem entry ∷ []) runs.item runs.begun its_under.at its_under.work)
         (entry_apart items entry other (λ same. apart (sym same ∙ caller)))
         (runs.each other its its_under is))
 
@@ -75,7 +75,8 @@ module _ (world : World) (script : Script) (origin : Disk) (before after : CoreS
     -- A put or a read that was under way ends.
     pub ends : (left : List Call) (call : Call) (under : UnderWay) → old.under_way ≡ Some under
         → (IsSync under.work → ⊥) → Gains left runs.calls call → actor_of call ≡ index
-        → Stands world.setting runs.last runs.begun (map_after_answer world.handed map entry entry.answer) left runs.commit after
+        → Stands world.setting runs.last runs.begun (map_after_answer world.handed map entry entry.answer) left
+        runs.commit after
         → Runs world script origin after grown news
     ends left call under old_is not_sync lost its stands = record {
       last = runs.last;
@@ -205,8 +206,8 @@ module _ (world : World) (script : Script) (origin : Disk) (before after : CoreS
         (λ its_under is. absurd (end_none its_under is))
         (λ other its its_under apart is.
         let not_sync : IsSync its_under.work → ⊥ = λ sync. apart (only other its its_under is sync) in
-        client_grown world script (items ++ Group group ∷ []) (CallItem entry ∷ []) group group [] [] runs.calls runs.calls
-        other its its_under (λ held had its_held. had)
+        client_grown world script (items ++ Group group ∷ []) (CallItem entry ∷ []) group group [] [] runs.calls
+        runs.calls other its its_under (λ held had its_held. had)
         (λ sync. sync_free world with_both group [] its_under.at its_under.work not_sync)
         (entry_apart (items ++ Group group ∷ []) entry other (λ same. apart (sym same ∙ caller)))
         (client_grown world script items (Group group ∷ []) runs.item group runs.begun [] runs.calls runs.calls

@@ -43,8 +43,7 @@ module _ (world : World) (script : Script) (origin : Disk) (before after : CoreS
       (since : GoesOnSince world runs.last runs.begun before.disk after.disk) where
     recorded_on : Recorded world origin items runs.last runs.begun after.core.pool.uber after.disk
     recorded_on = subst (λ (u : Uber). Recorded world origin items runs.last runs.begun u after.disk) (sym uber)
-        (recorded_goes runs.recorded
-        later since)
+        (recorded_goes runs.recorded later since)
 
     -- A put or a read goes on.
     module _ (left nexts : List Call) (call next : Call) (under : UnderWay) (does : Work)
@@ -73,8 +72,8 @@ module _ (world : World) (script : Script) (origin : Disk) (before after : CoreS
             (λ (same : next ≡ held). subst (λ (c : Call). HasContent world items asked under.at c) same
             (content asked (mine.content asked call (ap (λ (n : ℕ). slice_get (calls_of script index) (n - 1))
             (sym (ap (λ (c : Client). c.begun) client_is)) ∙ is) (gains_item left runs.calls call lost) its)))
-            (λ (had : Contains left held). absurd ((pairs_beside AreBeside beside_back runs.calls left call held lost runs.stands.are.beside
-            had).actors (its ∙ sym its_held)))
+            (λ (had : Contains left held). absurd ((pairs_beside AreBeside beside_back runs.calls left call held lost
+            runs.stands.are.beside had).actors (its ∙ sym its_held)))
             (gains_cases left nexts next held gained listed);
       }
 
@@ -88,7 +87,8 @@ module _ (world : World) (script : Script) (origin : Disk) (before after : CoreS
       each : (other : ℕ) (its_client : Client) (its_under : UnderWay) → IsGoing news other its_client its_under
           → IsClient world script items runs.item runs.begun nexts other its_client its_under
       each = each_client world script items runs.item runs.begun nexts clients news index client changes
-          (λ its_under is. subst (λ (u : UnderWay). IsClient world script items runs.item runs.begun nexts index client u)
+          (λ its_under is. subst
+          (λ (u : UnderWay). IsClient world script items runs.item runs.begun nexts index client u)
           (some_is (sym going ∙ is)) here)
           (λ other its its_under apart is.
           client_stays world script items runs.item runs.begun runs.begun runs.calls nexts other its its_under
@@ -108,7 +108,8 @@ module _ (world : World) (script : Script) (origin : Disk) (before after : CoreS
             (record { at = under.at; work = does }) going lost gained its still_its work_of runs.stands.are.beside
             runs.theirs;
         sync = sync_stays clients news index client changes runs.commit
-            (λ other its_under is sync. not_sync (subst (λ (u : UnderWay). IsSync u.work) (going_under clients index old under was old_is other its_under is) sync))
+            (λ other its_under is sync. not_sync (subst (λ (u : UnderWay). IsSync u.work)
+            (going_under clients index old under was old_is other its_under is) sync))
             (λ its_under is sync. still_not (subst (λ (u : UnderWay). IsSync u.work) (some_is (sym is ∙ going)) sync))
             runs.sync;
         each = each;
@@ -135,7 +136,8 @@ module _ (world : World) (script : Script) (origin : Disk) (before after : CoreS
         after = my_sync.after;
         sync = subst (IsSyncOf world items runs.item runs.begun under.at) does_is my_sync.sync;
         content = λ asked held is listed its_held. my_sync.content asked held
-            (ap (λ (n : ℕ). slice_get (calls_of script index) (n - 1)) (sym (ap (λ (c : Client). c.begun) client_is)) ∙ is)
+            (ap (λ (n : ℕ). slice_get (calls_of script index) (n - 1))
+            (sym (ap (λ (c : Client). c.begun) client_is)) ∙ is)
             listed its_held;
       }
 
@@ -158,7 +160,8 @@ module _ (world : World) (script : Script) (origin : Disk) (before after : CoreS
         recorded = recorded_on;
         stands = stands;
         theirs = theirs_stays clients news index client changes runs.calls
-            (λ other its_under is. subst (λ (u : UnderWay). IsSync u.work) (sym (going_under clients index old under was old_is other its_under is))
+            (λ other its_under is. subst (λ (u : UnderWay). IsSync u.work)
+            (sym (going_under clients index old under was old_is other its_under is))
             (subst IsSync (sym does_is) tt))
             (λ its_under is. subst (λ (u : UnderWay). IsSync u.work) (some_is (sym syncing ∙ is)) tt)
             runs.theirs;

@@ -141,7 +141,8 @@ module _ (script : Script) (actor : ℕ) (before after : Station) (clients news 
         (let few = takes.schedule.answered.few actor before.client takes.was in omega (arith, few, begun_is))
         (λ its_under is. absurd (none_some (sym (ap (λ (c : Client). c.under_way) leaves.1) ∙ is))) were call
         (entry_for call actor before.client.begun under.at given)
-        (ap answered leaves.1 ∙ its_number) (ap (slice_get (calls_of script actor)) (answered_going before.client was_under) ∙ next_is) refl its_number
+        (ap answered leaves.1 ∙ its_number)
+        (ap (slice_get (calls_of script actor)) (answered_going before.client was_under) ∙ next_is) refl its_number
         refl refl
       where
         begun_is : after.client.begun ≡ before.client.begun

@@ -74,73 +74,17 @@ module _ (old new : List Client) (index : ℕ) (client : Client) (changes : Chan
       let same = some_is (sym changes.there ∙ going.there) in
       (same, ap (λ (c : Client). c.under_way) same ∙ going.under_way)
 
-  -- A call of the client's goes on.
-  pub theirs_goes : (left calls nexts : List Call) (call next : Call) (under : UnderWay)
-      → client.under_way ≡ Some under → Gains left calls call → Gains left nexts next
-      → actor_of call ≡ index → actor_of next ≡ index → IsWorkOf under.work next
-      → AllPairs AreBeside calls → AreTheirs old calls → AreTheirs new nexts
-  theirs_goes left calls nexts call next under going was is was_its is_its work_of beside theirs = record {
+  -- The client has this call under way, and the others have theirs.
+  theirs_now : (calls left nexts : List Call) (next : Call) (under : UnderWay) → client.under_way ≡ Some under
+      → Gains left nexts next → actor_of next ≡ index → IsWorkOf under.work next
+      → ((other : Call) → Contains left other → (actor_of other ≢ index) × Contains calls other)
+      → ((other : Call) → Contains calls other → actor_of other ≢ index → Contains left other)
+      → AreTheirs old calls → AreTheirs new nexts
+  theirs_now calls left nexts next under going is its work_of others had theirs = record {
     of = λ other listed. ⊎_elim
         (λ same. subst Its same here)
-        (λ had. there other had)
+        (λ among. there other among)
         (gains_cases left nexts next other is listed);
-    every = λ other its its_under its_going held. ⊎_elim
-        (λ same. mine other its its_under same its_going)
-        (λ apart. theirs_too other its its_under apart its_going held)
-        (cases_eq other index);
-  }
-    where
-      Its : Call → Type 0
-      Its other = (its : Client) × (its_under : UnderWay) × IsGoing new (actor_of other) its its_under
-          × IsWorkOf its_under.work other
-
-      here : Its next
-      here = (
-        client,
-        under,
-        subst (λ (n : ℕ). IsGoing new n client under) (sym is_its) (record { there = changes.there; under_way = going }),
-        work_of,
-      )
-
-      there : (other : Call) → Contains left other → Its other
-      there other had =
-          let found = theirs.of other (gains_old left calls call other was had) in
-          let apart : actor_of other ≢ index = λ same.
-          (pairs_beside AreBeside beside_back calls left call other was beside had).actors (was_its ∙ sym same) in
-          (found.0, found.1, going_on (actor_of other) found.0 found.1 apart found.2, found.3)
-
-      mine : (other : ℕ) (its : Client) (its_under : UnderWay) → other ≡ index → IsGoing new other its its_under
-          → (held : Call) × Contains nexts held × IsWorkOf its_under.work held × (actor_of held ≡ other)
-      mine other its its_under same its_going =
-          let found = going_here its its_under (subst (λ (n : ℕ). IsGoing new n its its_under) same its_going) in
-          let same_under : under ≡ its_under = some_is (sym going ∙ found.1) in (
-            next,
-            gains_item left nexts next is,
-            subst (λ (u : UnderWay). IsWorkOf u.work next) same_under work_of,
-            is_its ∙ sym same,
-          )
-
-      theirs_too : (other : ℕ) (its : Client) (its_under : UnderWay) → other ≢ index → IsGoing new other its its_under
-          → (IsSync its_under.work → ⊥)
-          → (held : Call) × Contains nexts held × IsWorkOf its_under.work held × (actor_of held ≡ other)
-      theirs_too other its its_under apart its_going held =
-          let found = theirs.every other its its_under (going_was other its its_under apart its_going) held in
-          let had : Contains left found.0 = ⊎_elim
-          (λ (same : call ≡ found.0). absurd (apart (sym found.3 ∙ ap actor_of (sym same) ∙ was_its)))
-          (λ (had : Contains left found.0). had)
-          (gains_cases left calls call found.0 was found.1) in
-          (found.0, gains_old left nexts next found.0 is had, found.2, found.3)
-
-  -- A call of the client's begins.
-  pub theirs_begins : (left calls : List Call) (call : Call) (under : UnderWay)
-      → ((its : Client) (was : UnderWay) → IsGoing old index its was → ⊥)
-      → client.under_way ≡ Some under → Gains left calls call → actor_of call ≡ index → IsWorkOf under.work call
-      → AreTheirs old left → AreTheirs new calls
-  theirs_begins left calls call under idle going is its work_of theirs = record {
-    of = λ other listed. ⊎_elim
-        (λ same. subst Its same here)
-        (λ had. there other had)
-        (gains_cases left calls call other is listed);
     every = λ other its_client its_under its_going held. ⊎_elim
         (λ same. mine other its_client its_under same its_going)
         (λ apart. theirs_too other its_client its_under apart its_going held)
@@ -148,10 +92,10 @@ module _ (old new : List Client) (index : ℕ) (client : Client) (changes : Chan
   }
     where
       Its : Call → Type 0
-      Its other = (its : Client) × (its_under : UnderWay) × IsGoing new (actor_of other) its its_under
+      Its other = (its_client : Client) × (its_under : UnderWay) × IsGoing new (actor_of other) its_client its_under
           × IsWorkOf its_under.work other
 
-      here : Its call
+      here : Its next
       here = (
         client,
         under,
@@ -160,31 +104,64 @@ module _ (old new : List Client) (index : ℕ) (client : Client) (changes : Chan
       )
 
       there : (other : Call) → Contains left other → Its other
-      there other had =
-          let found = theirs.of other had in
-          let apart : actor_of other ≢ index = λ same.
-          idle found.0 found.1 (subst (λ (n : ℕ). IsGoing old n found.0 found.1) same found.2) in
-          (found.0, found.1, going_on (actor_of other) found.0 found.1 apart found.2, found.3)
+      there other among =
+          let was = others other among in
+          let found = theirs.of other was.1 in
+          (found.0, found.1, going_on (actor_of other) found.0 found.1 was.0 found.2, found.3)
 
       mine : (other : ℕ) (its_client : Client) (its_under : UnderWay) → other ≡ index
           → IsGoing new other its_client its_under
-          → (held : Call) × Contains calls held × IsWorkOf its_under.work held × (actor_of held ≡ other)
+          → (held : Call) × Contains nexts held × IsWorkOf its_under.work held × (actor_of held ≡ other)
       mine other its_client its_under same its_going =
           let found = going_here its_client its_under
           (subst (λ (n : ℕ). IsGoing new n its_client its_under) same its_going) in
           let same_under : under ≡ its_under = some_is (sym going ∙ found.1) in (
-            call,
-            gains_item left calls call is,
-            subst (λ (u : UnderWay). IsWorkOf u.work call) same_under work_of,
+            next,
+            gains_item left nexts next is,
+            subst (λ (u : UnderWay). IsWorkOf u.work next) same_under work_of,
             its ∙ sym same,
           )
 
       theirs_too : (other : ℕ) (its_client : Client) (its_under : UnderWay) → other ≢ index
           → IsGoing new other its_client its_under → (IsSync its_under.work → ⊥)
-          → (held : Call) × Contains calls held × IsWorkOf its_under.work held × (actor_of held ≡ other)
+          → (held : Call) × Contains nexts held × IsWorkOf its_under.work held × (actor_of held ≡ other)
       theirs_too other its_client its_under apart its_going held =
-          let found = theirs.every other its_client its_under (going_was other its_client its_under apart its_going) held in
-          (found.0, gains_old left calls call found.0 is found.1, found.2, found.3)
+          let found = theirs.every other its_client its_under
+          (going_was other its_client its_under apart its_going) held in
+          let among = had found.0 found.1 (λ same. apart (sym found.3 ∙ same)) in
+          (found.0, gains_old left nexts next found.0 is among, found.2, found.3)
+
+  -- A call of the client's goes on.
+  pub theirs_goes : (left calls nexts : List Call) (call next : Call) (under : UnderWay)
+      → client.under_way ≡ Some under → Gains left calls call → Gains left nexts next
+      → actor_of call ≡ index → actor_of next ≡ index → IsWorkOf under.work next
+      → AllPairs AreBeside calls → AreTheirs old calls → AreTheirs new nexts
+  theirs_goes left calls nexts call next under going was is was_its is_its work_of beside theirs =
+      theirs_now calls left nexts next under going is is_its work_of
+      (λ other among. (
+        (λ same. (pairs_beside AreBeside beside_back calls left call other was beside among).actors (was_its ∙ sym same)),
+        gains_old left calls call other was among,
+      ))
+      (λ other listed apart. ⊎_elim
+      (λ (same : call ≡ other). absurd (apart (ap actor_of (sym same) ∙ was_its)))
+      (λ (among : Contains left other). among)
+      (gains_cases left calls call other was listed))
+      theirs
+
+  -- A call of the client's begins.
+  pub theirs_begins : (left calls : List Call) (call : Call) (under : UnderWay)
+      → ((its : Client) (was : UnderWay) → IsGoing old index its was → ⊥)
+      → client.under_way ≡ Some under → Gains left calls call → actor_of call ≡ index → IsWorkOf under.work call
+      → AreTheirs old left → AreTheirs new calls
+  theirs_begins left calls call under idle going is its work_of theirs =
+      theirs_now left left calls call under going is its work_of
+      (λ other among. (
+        (λ same.
+            let found = theirs.of other among in
+            idle found.0 found.1 (subst (λ (n : ℕ). IsGoing old n found.0 found.1) same found.2)),
+        among,
+      ))
+      (λ other among apart. among) theirs
 
   -- A call of the client's ends.
   pub theirs_ends : (left calls : List Call) (call : Call) → client.under_way ≡ None → Gains left calls call
