@@ -104,7 +104,8 @@ given_own script given actor placed there is =
 -- The next call was begun before, or is now.
 pub begun_more : (script : Script) (given : ℕ) (placed : Placed) (clients news : List Client)
     → slice_get script.calls given ≡ Some placed → HaveBegun script given clients
-    → ((client : Client) → slice_get news placed.actor ≡ Some client → given_of script given placed.actor + 1 ≤ client.begun)
+    → ((client : Client) → slice_get news placed.actor ≡ Some client
+    → given_of script given placed.actor + 1 ≤ client.begun)
     → ((other : ℕ) → other ≢ placed.actor → slice_get news other ≡ slice_get clients other)
     → HaveBegun script (given + 1) news
 begun_more script given placed clients news there begun now others = record {

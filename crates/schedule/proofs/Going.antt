@@ -18,9 +18,19 @@ use Rattle.schedule.specs.Clients.{Changes}
 use Rattle.schedule.specs.Running.{IsGoing, IsWorkOf, IsWorkFor, IsSync, AreGoing}
 use Rattle.schedule.proofs.Theirs.{actor_of, some_is, none_some, going_on, going_was, going_here, theirs_goes, theirs_begins, theirs_ends, theirs_stays, none_going, going_under}
 
--- a sync is one
+-- A work is a sync
 is_sync : (does : Work) (run : CommitRun) → does ≡ work.Sync run → IsSync does
 is_sync does run is = subst IsSync (sym is) tt
+
+-- with its run,
+pub run_of : (does : Work) → IsSync does → (run : CommitRun) × (does ≡ work.Sync run)
+run_of (work.Sync run) sync = (run, refl)
+run_of (work.Put run) sync = absurd sync
+run_of (work.Read run) sync = absurd sync
+
+-- which is the only one.
+pub run_is : {one two : CommitRun} → work.Sync one ≡ work.Sync two → one ≡ two
+run_is same = cc
 
 module _ (script : Script) (core now : Core) (clients news : List Client) (index : ℕ) (old client : Client)
     (changes : Changes clients news index client) (was : slice_get clients index ≡ Some old)
@@ -186,9 +196,6 @@ module _ (script : Script) (core now : Core) (clients news : List Client) (index
           does_is,
         );
   }
-    where
-      run_is : {one two : CommitRun} → work.Sync one ≡ work.Sync two → one ≡ two
-      run_is same = cc
 
   -- The sync that was under way has ended.
   pub commit_ends : (under : UnderWay) (run : CommitRun) → old.under_way ≡ Some under → under.work ≡ work.Sync run
@@ -224,11 +231,6 @@ pub one_sync : (script : Script) (core : Core) (clients : List Client) (index : 
     → (caller : ℕ) (its : Client) (its_under : UnderWay) → IsGoing clients caller its its_under → IsSync its_under.work
     → caller ≡ index
 one_sync script core clients index old under run going is does_is caller its its_under its_going sync =
-    let found = sync_run its_under.work sync in
+    let found = run_of its_under.work sync in
     some_is (sym (going.syncs caller its its_under found.0 its_going found.1).1
     ∙ (going.syncs index old under run is does_is).1)
-  where
-    sync_run : (does : Work) → IsSync does → (found : CommitRun) × (does ≡ work.Sync found)
-    sync_run (work.Sync found) sync = (found, refl)
-    sync_run (work.Put found) sync = absurd sync
-    sync_run (work.Read found) sync = absurd sync

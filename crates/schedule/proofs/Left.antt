@@ -21,6 +21,7 @@ use Rattle.schedule.specs.declared.client.Work.{Work}
 use Rattle.schedule.specs.declared.client.Work.TheVariants as work
 use Rattle.schedule.specs.Left.{left_of, turns_left, writes_left, columns_left, most_left, left_under}
 use Rattle.schedule.specs.Turned.{GoesOnBy, GoesOnPutting, GoesOnReading, IsFilledIn, Station, Turned, Nothing, Began, Went}
+use Rattle.schedule.proofs.Theirs.{none_some, some_is}
 
 -- the next write of a put
 write_fewer : (before after : CoreState) (run next : PutRun) → WritesOne before run after next
@@ -149,18 +150,12 @@ turned_fewer calls actor before after under (Went its (Done given) goes leaves) 
       omega (arith, now, was, some)),
 )
 
-none_client : {client : Client} → None ≡ Some client → ⊥
-none_client same = cc
-
-client_same : {one two : Client} → Some one ≡ Some two → one ≡ two
-client_same same = cc
-
 -- Each client has at most as many turns left as the most, and the most is one's.
 pub at_most : (clients : List Client) (index : ℕ) (client : Client) → slice_get clients index ≡ Some client
     → turns_left client ≤ most_left clients
-at_most [] index client is = absurd (none_client is)
+at_most [] index client is = absurd (none_some is)
 at_most (first ∷ clients) zero client is =
-    let same = ap turns_left (client_same is) in
+    let same = ap turns_left (some_is is) in
     omega (arith, same)
 at_most (first ∷ clients) (suc index) client is =
     let later = at_most clients index client is in

@@ -31,7 +31,7 @@ use Rattle.core_turns.specs.UnderWay.{Call, Reading, AreCallsOf, Stands}
 use Rattle.core_turns.proofs.GetStands.{get_solves_calls, get_stops_calls, get_ends_calls, get_solves_stands, get_stops_stands, get_ends_stands}
 use Rattle.schedule.specs.Recorded.{IsRightNext, AllBelow}
 use Rattle.schedule.specs.Turned.{EndsReading, entry_for, listed_for}
-use Rattle.schedule.proofs.RightNext.{read_right, read_cut_right}
+use Rattle.schedule.proofs.RightNext.{read_right, read_cut_right, same_out}
 use Rattle.schedule.proofs.LeavesPool.{LeavesPool, leaves_pool}
 use Rattle.schedule.proofs.Lists.{gains_first}
 
@@ -133,10 +133,6 @@ pub record EndsRead (before after : CoreState) (run : GetRun) (given : Answer) :
       (content : List ℕ) (left calls : List Call) → Gains left calls (Reading run content)
       → Stands setting last begun map calls commit before
       → Stands setting last begun map left commit after × IsReadRight (Some content) run.kind given
-
--- Two answers that are one list the same devices.
-same_out : {one other : ℕ} → answer.TooManyFailed one ≡ answer.TooManyFailed other → one ≡ other
-same_out same = cc
 
 -- Too many devices are out,
 stopped_ends : (before after : CoreState) (run : GetRun) (given : Answer) → ReadsTurn before run after (Done given)

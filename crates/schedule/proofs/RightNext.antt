@@ -18,6 +18,10 @@ use Rattle.serial_run.proofs.Grown.{grown_has, last_there, map_before, map_at_en
 use Rattle.schedule.specs.Recorded.{IsRightNext, AllBelow}
 use Rattle.schedule.proofs.Below.{previous_below, below_group}
 
+-- Two answers that are one list the same devices.
+pub same_out : {one other : ℕ} → answer.TooManyFailed one ≡ answer.TooManyFailed other → one ≡ other
+same_out same = cc
+
 -- The answer tells neither of damage nor of a limit.
 abbrev pub IsPlain : Answer → Type 0
 IsPlain answer.Damaged = ⊥

@@ -97,7 +97,8 @@ fewer_turn script actor old before after fewer turn busy = record {
     here : (index : ℕ) (now : Client) → index ≡ actor → slice_get after.clients index ≡ Some now
         → (was : Client) × (slice_get old index ≡ Some was) × (turns_left now ≤ turns_left was - 1)
     here index now same there =
-        subst (λ (n : ℕ). (was : Client) × (slice_get old n ≡ Some was) × (turns_left now ≤ turns_left was - 1)) (sym same)
+        subst (λ (n : ℕ). (was : Client) × (slice_get old n ≡ Some was) × (turns_left now ≤ turns_left was - 1))
+        (sym same)
         (by (slice_get before.clients actor) refl now
         (subst (λ (n : ℕ). slice_get after.clients n ≡ Some now) same there))
 

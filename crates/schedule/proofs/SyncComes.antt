@@ -27,12 +27,12 @@ use Rattle.schedule.specs.Comes.{TakesTurn, Comes}
 use Rattle.schedule.proofs.Theirs.{none_some, none_going}
 use Rattle.schedule.proofs.Answered.{answered, answered_idle}
 use Rattle.schedule.proofs.Begun.{begun_now}
-use Rattle.schedule.proofs.Going.{commits_on}
+use Rattle.schedule.proofs.Going.{commits_on, run_of}
 use Rattle.schedule.proofs.RunsBegin.{commit_begins}
 use Rattle.schedule.proofs.Fulls.{put_alone}
 use Rattle.schedule.proofs.LeavesPool.{leaves_pool, turn_still}
 use Rattle.schedule.proofs.TurnComes.{RunsOn, first_entry, comes_nowhere, comes_on, comes_at_once}
-use Rattle.schedule.proofs.Syncs.{run_of, no_commit, refused_tells, refused_map, refused_answers, refused_right}
+use Rattle.schedule.proofs.Syncs.{no_commit, refused_tells, refused_map, refused_answers, refused_right}
 
 module _ (script : Script) (actor : ℕ) (before after : Station) (clients news : List Client) (call : ScriptCall)
     (takes : TakesTurn script actor before after clients news) where

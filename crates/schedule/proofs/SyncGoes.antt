@@ -36,7 +36,7 @@ use Rattle.schedule.specs.Running.{IsGoing, IsSync, IsWorkFor, AreGoing, Runs}
 use Rattle.schedule.specs.Coming.{turns_of}
 use Rattle.schedule.specs.Turned.{Station, LeavesGoing, entry_for, group_for}
 use Rattle.schedule.specs.Comes.{TakesTurn, Comes}
-use Rattle.schedule.proofs.RightNext.{sync_cut_right}
+use Rattle.schedule.proofs.RightNext.{sync_cut_right, same_out}
 use Rattle.schedule.proofs.Theirs.{some_is, none_some, going_under}
 use Rattle.schedule.proofs.Answered.{answered, answers_call, answers_group, answered_going}
 use Rattle.schedule.proofs.Fulls.{full_synced}
@@ -243,9 +243,6 @@ module _ (script : Script) (actor : ℕ) (before after : Station) (clients news 
       where
         entry : Entry
         entry = entry_for call actor before.client.begun under.at (answer.TooManyFailed out)
-
-        same_out : {one other : ℕ} → answer.TooManyFailed one ≡ answer.TooManyFailed other → one ≡ other
-        same_out is = cc
 
         no_full : answer.TooManyFailed out ≡ answer.Full → ⊥
         no_full same = cc

@@ -22,20 +22,14 @@ use Rattle.core_turns.specs.Committing.{IsSyncRefused}
 use Rattle.core_turns.specs.UnderWay.{Call, GroupsStand}
 use Rattle.schedule.specs.declared.client.Client.{Client}
 use Rattle.schedule.specs.declared.client.UnderWay.{UnderWay}
-use Rattle.schedule.specs.declared.client.Work.{Work}
 use Rattle.schedule.specs.declared.client.Work.TheVariants as work
 use Rattle.schedule.specs.Recorded.{IsRightNext}
 use Rattle.schedule.specs.Running.{IsGoing, IsSync, IsTheirs}
-use Rattle.schedule.proofs.RightNext.{IsStopped, sync_cut_right, sync_limit_right}
+use Rattle.schedule.proofs.RightNext.{IsStopped, sync_cut_right, sync_limit_right, same_out}
 use Rattle.schedule.proofs.Theirs.{some_is, none_some}
+use Rattle.schedule.proofs.Going.{run_is}
 
 -- ---- the core's commit
-
--- the run of a sync
-pub run_of : (does : Work) → IsSync does → (run : CommitRun) × (does ≡ work.Sync run)
-run_of (work.Sync run) sync = (run, refl)
-run_of (work.Put run) sync = absurd sync
-run_of (work.Read run) sync = absurd sync
 
 -- What is certain of the last group, whether a commit is under way or not.
 pub groups_know : (setting : Setting) (last : Kept) (begun : List Kept) (calls : List Call) (commit : Option CommitRun)
@@ -67,19 +61,13 @@ its_commit clients index client under run (Some found) going does_is only (other
     let same_under : its_under ≡ under =
     some_is (sym its_going.under_way ∙ ap (λ (c : Client). c.under_way) same ∙ going.under_way) in
     ap Some (run_is (sym its_does ∙ ap (λ (u : UnderWay). u.work) same_under ∙ does_is))
-  where
-    run_is : {one two : CommitRun} → work.Sync one ≡ work.Sync two → one ≡ two
-    run_is is = cc
 
 -- ---- answers of the first turn
 
 -- It tells of too many devices where they are out,
 pub refused_tells : (core : Core) (given : Answer) → IsSyncRefused core given → (listed : ℕ)
     → given ≡ answer.TooManyFailed listed → HasTooManyOut core × (listed ≡ core.pool.out)
-refused_tells core (answer.TooManyFailed out) refused listed is = (refused.0, same (sym is) ∙ refused.1)
-  where
-    same : {one two : ℕ} → answer.TooManyFailed one ≡ answer.TooManyFailed two → one ≡ two
-    same is = cc
+refused_tells core (answer.TooManyFailed out) refused listed is = (refused.0, same_out (sym is) ∙ refused.1)
 refused_tells core (answer.Limit reached) refused listed is = cc
 refused_tells core answer.NoMemory refused listed is = cc
 refused_tells core other refused listed is = absurd refused

@@ -67,7 +67,8 @@ going_may script core clients index client under call going is asked =
         let its = held (λ sync. subst IsSync same sync) in
         putting its.0 its.1 (subst (λ (d : Work). IsWorkOf d its.0) same its.2)
       where
-        putting : (its : Call) → Contains going.calls its → IsWorkOf (work.Put run) its → MayGoOn core call (work.Put run)
+        putting : (its : Call) → Contains going.calls its → IsWorkOf (work.Put run) its
+            → MayGoOn core call (work.Put run)
         putting (Putting other content) listed is_its = (
           subst (λ (r : PutRun). IsPutOf core r) (sym is_its) (going.are.each (Putting other content) listed),
           subst (λ (r : PutRun). IsUnderWay core.pool.blocks r.range) (sym is_its)
@@ -82,8 +83,8 @@ going_may script core clients index client under call going is asked =
         reading : (its : Call) → Contains going.calls its → IsWorkOf (work.Read run) its
             → MayGoOn core call (work.Read run)
         reading (Putting other content) listed is_its = absurd is_its
-        reading (Reading other content) listed is_its = subst (λ (r : GetRun). IsRead r.kind × IsGetOf core r) (sym is_its)
-            (going.are.each (Reading other content) listed)
+        reading (Reading other content) listed is_its = subst (λ (r : GetRun). IsRead r.kind × IsGetOf core r)
+            (sym is_its) (going.are.each (Reading other content) listed)
     may (work.Sync run) same for = (going.syncs index client under run is same).0
 
 -- ---- after a turn
