@@ -1,13 +1,13 @@
 -- What stands between two turns stands after a client's next one.
-use Rattle.std.proofs.Common.{◌≡◌, ◌≢◌, inl, inr, ⊎_elim, ℕ, ◌<◌, ◌≤◌, List, [], ◌∷◌, ◌++◌, length, Some, sym, ◌∙◌, ap, subst, arith, length-append}
-use Rattle.std.specs.Prelude.{Contains, slice_get}
-use Rattle.std.proofs.lemmas.Bool.{cases_eq, cases_lt}
+use Rattle.std.proofs.Common.{◌≡◌, ◌≢◌, inl, inr, ⊎_elim, ℕ, ◌≤◌, List, [], ◌∷◌, ◌++◌, length, Some, sym, ◌∙◌, ap, subst, arith, length-append}
+use Rattle.std.specs.Prelude.{Contains}
+use Rattle.std.proofs.lemmas.Bool.{cases_eq}
 use Rattle.core_state.specs.declared.item.Entry.{Entry}
 use Rattle.core_state.specs.declared.item.Group.{Group as GroupItem}
 use Rattle.core_state.specs.declared.item.Item.{Item}
 use Rattle.core_state.specs.declared.item.Item.TheVariants.{Group, Call as CallItem}
 use Rattle.core_state.specs.Map.{Map}
-use Rattle.core_state.specs.Legal.{CallAt, IsGroupBefore}
+use Rattle.core_state.specs.Legal.{CallAt}
 use Rattle.core_state.specs.Keeps.{Kept}
 use Rattle.core_state.specs.CoreState.{World}
 use Rattle.client_script.specs.declared.call.ScriptCall.{ScriptCall}
@@ -131,19 +131,3 @@ group_apart items group place other there =
 
 pub head_is : {A : Type 0} {one two : A} → one ∷ [] ≡ two ∷ [] → one ≡ two
 head_is same = cc
-
--- There is one last group.
-pub one_latest : (items : List Item) (count : ℕ) (one other : GroupItem) → IsGroupBefore items count one
-    → IsGroupBefore items count other → one ≡ other
-one_latest items count one other first second = ⊎_elim
-    (λ (less : first.place < second.place). absurd (first.latest second.place other less second.before second.there))
-    (λ (not_less : second.place ≤ first.place). ⊎_elim
-    (λ (less : second.place < first.place). absurd (second.latest first.place one less first.before first.there))
-    (λ (not_more : first.place ≤ second.place).
-    let same : first.place ≡ second.place = omega (arith, not_less, not_more) in
-    same_group (sym first.there ∙ ap (slice_get items) same ∙ second.there))
-    (cases_lt second.place first.place))
-    (cases_lt first.place second.place)
-  where
-    same_group : Some (Group one) ≡ Some (Group other) → one ≡ other
-    same_group is = cc

@@ -27,8 +27,9 @@ use Rattle.schedule.specs.Clients.{Changes}
 use Rattle.schedule.specs.Recorded.{Recorded, IsBegunAt}
 use Rattle.schedule.specs.Running.{IsGoing, IsWorkOf, IsSync, HasContent, IsClient, IsTheirs, Runs}
 use Rattle.schedule.proofs.Theirs.{actor_of, some_is, theirs_begins, theirs_stays, sync_stays, none_going, none_some}
-use Rattle.schedule.proofs.Running.{one_latest, client_stays, sync_free, each_client}
+use Rattle.schedule.proofs.Running.{client_stays, sync_free, each_client}
 use Rattle.schedule.proofs.Recording.{recorded_begins}
+use Rattle.schedule.proofs.Begun.{one_latest}
 
 module _ (world : World) (script : Script) (origin : Disk) (before after : CoreState) (items : List Item)
     (clients news : List Client) (index : ℕ) (old client : Client)
@@ -166,11 +167,10 @@ module _ (world : World) (script : Script) (origin : Disk) (before after : CoreS
           runs.recorded
 
       item_none : recorded_none.item ≡ runs.recorded.item
-      item_none = one_latest items (length items) recorded_none.item runs.recorded.item recorded_none.latest
-          runs.recorded.latest
+      item_none = one_latest recorded_none.latest runs.recorded.latest
 
       item_same : runs.recorded.item ≡ runs.item
-      item_same = one_latest items (length items) runs.recorded.item runs.item runs.recorded.latest runs.latest
+      item_same = one_latest runs.recorded.latest runs.latest
 
       no_sync : (other : ℕ) (its_client : Client) (its_under : UnderWay) → IsGoing clients other its_client its_under
           → IsSync its_under.work → ⊥

@@ -1,5 +1,5 @@
 -- What stood before a turn of one client stands after it, where its call is answered.
-use Rattle.std.proofs.Common.{◌≡◌, ◌≢◌, ℕ, List, [], ◌∷◌, ◌++◌, length, Some, None, sym, ◌∙◌, ap, subst}
+use Rattle.std.proofs.Common.{◌≡◌, ◌≢◌, ℕ, List, [], ◌∷◌, ◌++◌, Some, None, sym, ◌∙◌, ap, subst}
 use Rattle.std.specs.Prelude.{Contains, slice_get}
 use Rattle.bank_trait.specs.Disk.{Disk}
 use Rattle.space_alloc.specs.Space.{Gains}
@@ -29,8 +29,9 @@ use Rattle.schedule.specs.Clients.{Changes}
 use Rattle.schedule.specs.Recorded.{Recorded, IsRightNext, IsBegunAt}
 use Rattle.schedule.specs.Running.{IsGoing, IsSync, IsSyncOf, IsClient, Runs}
 use Rattle.schedule.proofs.Theirs.{actor_of, none_some, sync_gone, theirs_ends, theirs_stays, sync_stays, none_going, going_under}
-use Rattle.schedule.proofs.Running.{one_latest, head_is, client_grown, entry_apart, group_apart, sync_grown, sync_free, each_client}
+use Rattle.schedule.proofs.Running.{head_is, client_grown, entry_apart, group_apart, sync_grown, sync_free, each_client}
 use Rattle.schedule.proofs.Recording.{recorded_answers, recorded_ends}
+use Rattle.schedule.proofs.Begun.{one_latest}
 
 module _ (world : World) (script : Script) (origin : Disk) (before after : CoreState) (items : List Item)
     (clients news : List Client) (index : ℕ) (old client : Client)
@@ -178,7 +179,7 @@ module _ (world : World) (script : Script) (origin : Disk) (before after : CoreS
         begun_is runs.recorded
 
     item_one : recorded_one.item ≡ runs.item
-    item_one = one_latest items (length items) recorded_one.item runs.item recorded_one.latest runs.latest
+    item_one = one_latest recorded_one.latest runs.latest
 
     abbrev with_both : List Item
     with_both = (items ++ Group group ∷ []) ++ CallItem entry ∷ []
