@@ -54,7 +54,8 @@ module _ (script : Script) (core now : Core) (clients news : List Client) (index
       (cases_eq caller index)
 
   -- Turns that leave the commit under way, if there is one.
-  module _ (same : now.committing ≡ core.committing) (commits : (run : CommitRun) → IsCommitOf core run → IsCommitOf now run)
+  module _ (same : now.committing ≡ core.committing)
+      (commits : (run : CommitRun) → IsCommitOf core run → IsCommitOf now run)
       (many : HasTooManyOut core → HasTooManyOut now)
       (was_none : (its : Client) (under : UnderWay) → IsGoing clients index its under → IsSync under.work → ⊥)
       (is_none : (under : UnderWay) → client.under_way ≡ Some under → IsSync under.work → ⊥) where

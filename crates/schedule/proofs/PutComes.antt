@@ -152,7 +152,8 @@ module _ (script : Script) (actor : ℕ) (before after : Station) (clients news 
       change.committing (leaves_commit old now change) (leaves_many old now change)
       was_no_sync (λ its_under is. absurd (none_some (sym still ∙ is))) idle still
       (put_refused_calls going.calls old now waits.1 going.are))
-      (λ world origin handed fits runs. runs_waits world script origin before.state after.state before.items clients news
+      (λ world origin handed fits runs.
+      runs_waits world script origin before.state after.state before.items clients news
       actor before.client after.client takes.changes takes.was runs idle still change.uber disk
       (refused_stands waits.1 world origin runs))
 
@@ -167,7 +168,8 @@ module _ (script : Script) (actor : ℕ) (before after : Station) (clients news 
       comes_at_once script actor before after clients news takes call given idle next
       (rearranged_leaves old now (leaves_rearranges old now refuses.leaves)) disk leaves
       (subst (λ (k : Kind). IsAnswerOf k given) (sym asked) (unstored_answers given refuses.unstored)) refuses.tells
-      (λ full. full_put script (turns_of before.state before.items clients) takes.schedule actor before.client.begun call
+      (λ full.
+      full_put script (turns_of before.state before.items clients) takes.schedule actor before.client.begun call
       id next asked id_is (subst (IsPutRefused old now id (length content)) full is).1)
       (put_refused_calls takes.schedule.going.calls old now refuses.leaves takes.schedule.going.are)
       (λ world origin runs. (

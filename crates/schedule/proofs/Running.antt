@@ -24,7 +24,8 @@ use Rattle.schedule.specs.Running.{IsGoing, IsSync, IsSyncOf, HasContent, IsClie
 use Rattle.schedule.proofs.Theirs.{actor_of, going_here, going_was}
 
 -- What a call is about stays as the journal grows.
-pub content_grown : (world : World) (items more : List Item) (call : ScriptCall) (at : ℕ) (held : Call) → at ≤ length items
+pub content_grown : (world : World) (items more : List Item) (call : ScriptCall) (at : ℕ) (held : Call)
+    → at ≤ length items
     → HasContent world items call at held → HasContent world (items ++ more) call at held
 content_grown world items more call at (Putting run content) low has = has
 content_grown world items more call at (Reading run content) low has =
@@ -59,8 +60,10 @@ sync_free world items item begun at (work.Read run) not_sync = tt
 pub client_grown : (world : World) (script : Script) (items more : List Item) (item now : GroupItem)
     (begun onward : List Kept) (calls nexts : List Call) (index : ℕ) (client : Client) (under : UnderWay)
     → ((held : Call) → Contains nexts held → actor_of held ≡ index → Contains calls held)
-    → (IsSyncOf world items item begun under.at under.work → IsSyncOf world (items ++ more) now onward under.at under.work)
-    → ((place : ℕ) (entry : Entry) → CallAt (items ++ more) place entry → entry.caller ≡ index → CallAt items place entry)
+    → (IsSyncOf world items item begun under.at under.work
+    → IsSyncOf world (items ++ more) now onward under.at under.work)
+    → ((place : ℕ) (entry : Entry) → CallAt (items ++ more) place entry → entry.caller ≡ index
+    → CallAt items place entry)
     → IsClient world script items item begun calls index client under
     → IsClient world script (items ++ more) now onward nexts index client under
 client_grown world script items more item now begun onward calls nexts index client under among sync none is = record {

@@ -87,7 +87,8 @@ module _ (world : World) (script : Script) (origin : Disk) (before after : CoreS
       item = runs.item;
       latest = latest_grown_call items entry runs.item runs.latest;
       recorded = recorded_entry;
-      stands = subst (λ (m : Map). Stands world.setting runs.last runs.begun m left runs.commit after) (sym map_is) stands;
+      stands = subst (λ (m : Map). Stands world.setting runs.last runs.begun m left runs.commit after) (sym map_is)
+          stands;
       theirs = theirs_ends clients news index client changes left runs.calls call ended lost its runs.stands.are.beside
           runs.theirs;
       sync = sync_stays clients news index client changes runs.commit
@@ -111,8 +112,8 @@ module _ (world : World) (script : Script) (origin : Disk) (before after : CoreS
       item = runs.item;
       latest = latest_grown_call items entry runs.item runs.latest;
       recorded = recorded_entry;
-      stands = subst (λ (m : Map). Stands world.setting runs.last runs.begun m runs.calls runs.commit after) (sym map_is)
-          stands;
+      stands = subst (λ (m : Map). Stands world.setting runs.last runs.begun m runs.calls runs.commit after)
+          (sym map_is) stands;
       theirs = theirs_stays clients news index client changes runs.calls
           (λ other its_under is. absurd (none_going clients index old was idle other its_under is))
           (λ its_under is. absurd (its_none its_under is)) runs.theirs;
@@ -138,7 +139,8 @@ module _ (world : World) (script : Script) (origin : Disk) (before after : CoreS
       item = runs.item;
       latest = latest_grown_call items entry runs.item runs.latest;
       recorded = recorded_entry;
-      stands = subst (λ (m : Map). Stands world.setting runs.last runs.begun m runs.calls None after) (sym map_is) stands;
+      stands = subst (λ (m : Map). Stands world.setting runs.last runs.begun m runs.calls None after) (sym map_is)
+          stands;
       theirs = theirs_stays clients news index client changes runs.calls
           (λ other its_under is. subst (λ (u : UnderWay). IsSync u.work)
           (sym (going_under clients index old under was old_is other its_under is))
@@ -198,7 +200,8 @@ module _ (world : World) (script : Script) (origin : Disk) (before after : CoreS
 
     map_both : map_of world.handed world.opening with_both ≡ map
     map_both = map_grown_call world.handed world.opening (items ++ Group group ∷ []) entry
-        ∙ ap (map_after_answer world.handed (map_of world.handed world.opening (items ++ Group group ∷ [])) entry) answer_is
+        ∙ ap (map_after_answer world.handed (map_of world.handed world.opening (items ++ Group group ∷ [])) entry)
+        answer_is
         ∙ map_grown_group world.handed world.opening items group
 
     each_end : (other : ℕ) (its_client : Client) (its_under : UnderWay) → IsGoing news other its_client its_under

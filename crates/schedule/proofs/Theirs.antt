@@ -139,7 +139,8 @@ module _ (old new : List Client) (index : ℕ) (client : Client) (changes : Chan
   theirs_goes left calls nexts call next under going was is was_its is_its work_of beside theirs =
       theirs_now calls left nexts next under going is is_its work_of
       (λ other among. (
-        (λ same. (pairs_beside AreBeside beside_back calls left call other was beside among).actors (was_its ∙ sym same)),
+        (λ same. (pairs_beside AreBeside beside_back calls left call other was beside among).actors
+            (was_its ∙ sym same)),
         gains_old left calls call other was among,
       ))
       (λ other listed apart. ⊎_elim
@@ -183,7 +184,8 @@ module _ (old new : List Client) (index : ℕ) (client : Client) (changes : Chan
           → IsGoing new other its_client its_under → (IsSync its_under.work → ⊥)
           → (held : Call) × Contains left held × IsWorkOf its_under.work held × (actor_of held ≡ other)
       theirs_too other its_client its_under apart its_going held =
-          let found = theirs.every other its_client its_under (going_was other its_client its_under apart its_going) held in
+          let found = theirs.every other its_client its_under
+          (going_was other its_client its_under apart its_going) held in
           let had : Contains left found.0 = ⊎_elim
           (λ (same : call ≡ found.0). absurd (apart (sym found.3 ∙ ap actor_of (sym same) ∙ its)))
           (λ (had : Contains left found.0). had)
@@ -230,7 +232,8 @@ module _ (old new : List Client) (index : ℕ) (client : Client) (changes : Chan
 
   -- The one sync has ended.
   pub sync_gone : client.under_way ≡ None
-      → ((other : ℕ) (its : Client) (under : UnderWay) → IsGoing old other its under → IsSync under.work → other ≡ index)
+      → ((other : ℕ) (its : Client) (under : UnderWay) → IsGoing old other its under → IsSync under.work
+      → other ≡ index)
       → IsTheirs new None
   sync_gone ended only = λ other its its_under its_going sync. ⊎_elim
       (λ same. none_some (sym ended ∙ (going_here its its_under
