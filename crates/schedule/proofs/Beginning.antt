@@ -20,6 +20,7 @@ use Rattle.serial_run.proofs.Grown.{new_or_before}
 use Rattle.serial_run.proofs.GrownAnswers.{answers_alone}
 use Rattle.serial_run.proofs.GrownGroups.{group_alone, latest_alone}
 use Rattle.serial_run.proofs.GrownRun.{groups_one}
+use Rattle.serial_run.proofs.Moments.{last_alike}
 use Rattle.serial_run.proofs.Widths.{widths_opened}
 use Rattle.schedule.specs.Recorded.{Recorded}
 use Rattle.schedule.proofs.Moments.{AreLatest, turns_first}
@@ -52,18 +53,21 @@ module _ {setting : Setting} {first : Kept} {later : List Kept} {pool : Pool} {o
     map = begins.opened.renews.map;
   }
 
-  next_latest : AreLatest handed begins.opened.chosen.map (Group item ∷ []) item next []
+  row : (known answered begun : List Kept) → answered ≡ next ∷ [] → begun ≡ []
+      → known ++ next ∷ [] ≡ known ++ answered ++ begun
+  row known answered begun answered_are none =
+      sym (append-nil (known ++ next ∷ [])) ∙ (λ i. known ++ sym answered_are i ++ sym none i)
+
+  next_latest : AreLatest handed begins.opened.chosen.map (first ∷ later) (Group item ∷ []) item next []
   next_latest = record {
     latest = latest_alone item;
     last_is = next_is;
     one = omega arith;
     begun_is = λ kept has. absurd (contains_none kept has);
+    alike = last_alike pool.uber (first ∷ later) [] (next ∷ []) [] [] next refl refl
+        (subst (λ (l : List Kept). HaveWidthOf pool.uber l) (row (first ∷ later) (next ∷ []) [] refl refl)
+        (widths_opened may begins.opened));
   }
-
-  row : (known answered begun : List Kept) → answered ≡ next ∷ [] → begun ≡ []
-      → known ++ next ∷ [] ≡ known ++ answered ++ begun
-  row known answered begun answered_are none =
-      sym (append-nil (known ++ next ∷ [])) ∙ (λ i. known ++ sym answered_are i ++ sym none i)
 
   -- The groups known before, and that of the opening, which holds the map of the group that it renews.
   pub recorded_first : Later old mid

@@ -17,15 +17,18 @@ use Rattle.core_state.proofs.Keeping.{knows_keep}
 use Rattle.core_state.proofs.Since.{since_now}
 use Rattle.core_serial.proofs.Committing.{since_wider}
 use Rattle.serial_run.specs.Moments.{KeepsUntil}
+use Rattle.serial_run.specs.Widths.{AreAlike}
+use Rattle.serial_run.proofs.Moments.{moved, with_bank, bank_below, bank_at}
 use Rattle.schedule.specs.Moments.{KeepsTurnByTurn, KeepsOn}
 
--- The last group of a journal, and at most one that was begun after it.
-pub record AreLatest (handed : Handed) (opening : Map) (items : List Item) (item : GroupItem) (last : Kept)
-    (begun : List Kept) : Type 0 where
+-- The last group of a journal, and at most one that was begun after it, alike to the groups known.
+pub record AreLatest (handed : Handed) (opening : Map) (known : List Kept) (items : List Item) (item : GroupItem)
+    (last : Kept) (begun : List Kept) : Type 0 where
   pub latest : IsGroupBefore items (length items) item
   pub last_is : IsGroupOf handed opening items item last
   pub one : length begun ≤ 1
   pub begun_is : (kept : Kept) → Contains begun kept → IsBegunAfter handed opening items item kept
+  pub alike : AreAlike known (last ∷ begun)
 
 -- A group and those after it are a row of themselves.
 pub whole_row : (first : Kept) (later : List Kept) → IsRowOf (first ∷ later) first later
@@ -33,18 +36,6 @@ whole_row first later = record { before = []; after = []; row = sym (append-nil 
 
 module _ {setting : Setting} {handed : Handed} {opening : Map} {items : List Item} {item : GroupItem} {last : Kept}
     {begun : List Kept} where
-  -- What is certain now the bank keeps, and each image from now on.
-  on_now : {now : Disk} → AreLatest handed opening items item last begun → Knows setting last begun now
-      → KeepsOn setting handed opening items item last begun now now
-  on_now {now = now} are knows = record {
-    later = later_refl now;
-    first = begun;
-    one = are.one;
-    first_is = are.begun_is;
-    keeps = knows_keep setting last begun now knows;
-    since = since_now setting (last ∷ begun) last begun now (whole_row last begun) knows;
-  }
-
   -- The devices go on, and what they keep with them.
   pub on_goes : {from now next : Disk} → KeepsOn setting handed opening items item last begun from now
       → Later now next
@@ -71,10 +62,24 @@ module _ {setting : Setting} {handed : Handed} {opening : Map} {items : List Ite
     since = since_wider setting (last ∷ begun) more from.clock now on.since;
   }
 
+module _ {setting : Setting} {handed : Handed} {opening : Map} {known : List Kept} {items : List Item}
+    {item : GroupItem} {last : Kept} {begun : List Kept} where
+  -- What is certain now the bank keeps, and each image from now on.
+  on_now : {now : Disk} → AreLatest handed opening known items item last begun → Knows setting last begun now
+      → KeepsOn setting handed opening items item last begun now now
+  on_now {now = now} are knows = record {
+    later = later_refl now;
+    first = begun;
+    one = are.one;
+    first_is = are.begun_is;
+    keeps = knows_keep setting last begun now knows;
+    since = since_now setting (last ∷ begun) last begun now (whole_row last begun) knows;
+  }
+
   -- So the bank kept the last group until then.
-  until_of : {from now : Disk} → AreLatest handed opening items item last begun
+  until_of : {from now : Disk} → AreLatest handed opening known items item last begun
       → KeepsOn setting handed opening items item last begun from now
-      → KeepsUntil setting handed opening items from now
+      → KeepsUntil setting handed opening known items from now
   until_of are on = record {
     later = on.later;
     kept = record {
@@ -91,48 +96,27 @@ module _ {setting : Setting} {handed : Handed} {opening : Map} {items : List Ite
     one = are.one;
     onward_is = are.begun_is;
     since = on.since;
+    alike = are.alike;
   }
-
--- What was kept between two banks, for the names that the banks and the items have now.
-moved : (setting : Setting) (handed : Handed) (opening : Map) (part same : List Item) (from now first second : Disk)
-    → same ≡ part → first ≡ from → second ≡ now
-    → KeepsUntil setting handed opening part from now
-    → KeepsUntil setting handed opening same first second
-moved setting handed opening part same from now first second items_are first_is second_is keeps =
-    subst (λ (l : List Item). KeepsUntil setting handed opening l first second) (sym items_are)
-    (subst (λ (d : Disk). KeepsUntil setting handed opening part d second) (sym first_is)
-    (subst (λ (d : Disk). KeepsUntil setting handed opening part from d) (sym second_is) keeps))
-
--- the banks, with this one at one number
-abbrev with_bank : (ℕ → Disk) → ℕ → Disk → ℕ → Disk
-with_bank bank place next count = cond (count == place) next (bank count)
-
-bank_below : (bank : ℕ → Disk) (place : ℕ) (next : Disk) (count : ℕ) → count < place
-    → with_bank bank place next count ≡ bank count
-bank_below bank place next count below = ap (λ (b : Bool). cond b next (bank count))
-    (ne_eqb count place (λ same. absurd (omega (arith, same, below))))
-
-bank_at : (bank : ℕ → Disk) (place : ℕ) (next : Disk) → with_bank bank place next place ≡ next
-bank_at bank place next = ap (λ (b : Bool). cond b next (bank place)) (eq-eqb place place refl)
 
 -- The opening's item alone.
 pub turns_first : {setting : Setting} {handed : Handed} {opening : Map} {known : List Kept} {origin now : Disk}
     {item : Item} {group : GroupItem} {last : Kept} {begun : List Kept} → Later origin now
     → KeepsThroughout setting handed opening known (item ∷ []) origin now
-    → AreLatest handed opening (item ∷ []) group last begun → Knows setting last begun now
+    → AreLatest handed opening known (item ∷ []) group last begun → Knows setting last begun now
     → (by : KeepsTurnByTurn setting handed opening known (item ∷ []) origin now)
     × KeepsOn setting handed opening (item ∷ []) group last begun (by.bank 1) now
-turns_first {setting = setting} {handed = handed} {opening = opening} {now = now} {item = item} later opened are
-    knows = (
+turns_first {setting = setting} {handed = handed} {opening = opening} {known = known} {now = now} {item = item} later
+    opened are knows = (
       record { bank = λ count. now; later = later; opened = opened; each = each; ends = refl },
       on_now are knows,
     )
   where
     each : (count : ℕ) → 1 ≤ count → count ≤ length (item ∷ [])
-        → KeepsUntil setting handed opening (take count (item ∷ [])) now now
+        → KeepsUntil setting handed opening known (take count (item ∷ [])) now now
     each count from below =
         let end : count ≡ 1 = omega (arith, from, below) in
-        subst (λ (k : ℕ). KeepsUntil setting handed opening (take k (item ∷ [])) now now) (sym end)
+        subst (λ (k : ℕ). KeepsUntil setting handed opening known (take k (item ∷ [])) now now) (sym end)
         (until_of are (on_now are knows))
 
 module _ {setting : Setting} {handed : Handed} {opening : Map} {known : List Kept} {items : List Item}
@@ -146,23 +130,23 @@ module _ {setting : Setting} {handed : Handed} {opening : Map} {known : List Kep
       on_below : (count : ℕ) → count ≤ length items → bank_on count ≡ by.bank count
       on_below count below = bank_below by.bank (length items + 1) next count (omega (arith, below))
 
-      each_on : KeepsUntil setting handed opening items (by.bank (length items)) next
+      each_on : KeepsUntil setting handed opening known items (by.bank (length items)) next
           → (count : ℕ) → 1 ≤ count → count ≤ length items
-          → KeepsUntil setting handed opening (take count items) (bank_on count) (bank_on (count + 1))
+          → KeepsUntil setting handed opening known (take count items) (bank_on count) (bank_on (count + 1))
       each_on until count from below = ⊎_elim
           (λ (less : count < length items).
-          moved setting handed opening (take count items) _ (by.bank count) (by.bank (count + 1)) _ _ refl
+          moved setting handed opening known (take count items) _ (by.bank count) (by.bank (count + 1)) _ _ refl
           (on_below count below) (on_below (count + 1) (omega (arith, less))) (by.each count from below))
           (λ (not_less : length items ≤ count).
           let end : count ≡ length items = omega (arith, not_less, below) in
-          moved setting handed opening items _ (by.bank (length items)) next _ _
+          moved setting handed opening known items _ (by.bank (length items)) next _ _
           (ap (λ (k : ℕ). take k items) end ∙ take-length items)
           (ap bank_on end ∙ on_below (length items) (omega arith))
           (ap (λ (k : ℕ). bank_on (k + 1)) end ∙ bank_at by.bank (length items + 1) next) until)
           (cases_lt count (length items))
 
       pub turns_go : {item : GroupItem} {last : Kept} {begun : List Kept}
-          → AreLatest handed opening items item last begun
+          → AreLatest handed opening known items item last begun
           → KeepsOn setting handed opening items item last begun (by.bank (length items)) next
           → (go : KeepsTurnByTurn setting handed opening known items origin next)
           × KeepsOn setting handed opening items item last begun (go.bank (length items)) next
@@ -199,23 +183,23 @@ module _ {setting : Setting} {handed : Handed} {opening : Map} {known : List Kep
       take_before : (count : ℕ) → count ≤ length items → take count more ≡ take count items
       take_before count below = take-append-le count items (new ∷ []) below
 
-      each_more : KeepsUntil setting handed opening more now now → (count : ℕ) → 1 ≤ count → count ≤ length more
-          → KeepsUntil setting handed opening (take count more) (bank_more count) (bank_more (count + 1))
+      each_more : KeepsUntil setting handed opening known more now now → (count : ℕ) → 1 ≤ count → count ≤ length more
+          → KeepsUntil setting handed opening known (take count more) (bank_more count) (bank_more (count + 1))
       each_more until count from below = ⊎_elim
           (λ (less : count < length items + 1).
-          moved setting handed opening (take count items) _ (by.bank count) (by.bank (count + 1)) _ _
+          moved setting handed opening known (take count items) _ (by.bank count) (by.bank (count + 1)) _ _
           (take_before count (omega (arith, less))) (more_below count (omega (arith, less)))
           (more_below (count + 1) (omega (arith, less))) (by.each count from (omega (arith, less))))
           (λ (not_less : length items + 1 ≤ count).
           let end : count ≡ length items + 1 = omega (arith, not_less, below, long) in
-          moved setting handed opening more _ now now _ _
+          moved setting handed opening known more _ now now _ _
           (ap (λ (k : ℕ). take k more) (end ∙ sym long) ∙ take-length more)
           (ap bank_more end ∙ bank_listed)
           (ap (λ (k : ℕ). bank_more (k + 1)) end ∙ bank_at by.bank (length items + 1 + 1) now) until)
           (cases_lt count (length items + 1))
 
       pub turns_list : {item : GroupItem} {last : Kept} {begun : List Kept}
-          → AreLatest handed opening (items ++ new ∷ []) item last begun → Knows setting last begun now
+          → AreLatest handed opening known (items ++ new ∷ []) item last begun → Knows setting last begun now
           → (listed : KeepsTurnByTurn setting handed opening known (items ++ new ∷ []) origin now)
           × KeepsOn setting handed opening (items ++ new ∷ []) item last begun
           (listed.bank (length (items ++ new ∷ []))) now

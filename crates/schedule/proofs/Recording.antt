@@ -22,12 +22,12 @@ use Rattle.core_state.proofs.Keeping.{knows_keep}
 use Rattle.core_state.proofs.Listed.{contains_none}
 use Rattle.core_serial.proofs.Committing.{since_wider}
 use Rattle.serial_run.specs.Moments.{KeepsLast}
-use Rattle.serial_run.specs.Widths.{HaveWidthOf}
+use Rattle.serial_run.specs.Widths.{HaveWidthOf, AreAlike}
 use Rattle.serial_run.proofs.Grown.{map_before}
 use Rattle.serial_run.proofs.GrownAnswers.{answers_grown_call, answers_grown_group}
 use Rattle.serial_run.proofs.GrownGroups.{groups_grown_call, groups_grown_group, latest_grown_call, latest_grown_group, group_of_grown, after_listed}
 use Rattle.serial_run.proofs.GrownRun.{groups_call, groups_end, groups_begun, groups_cut}
-use Rattle.serial_run.proofs.Moments.{contains_one}
+use Rattle.serial_run.proofs.Moments.{contains_one, last_alike}
 use Rattle.serial_run.proofs.Rows.{row_among}
 use Rattle.serial_run.proofs.Stepping.{each_grown_call, each_grown_group}
 use Rattle.schedule.specs.Recorded.{Recorded, IsRightNext, IsBegunAt, AllBelow}
@@ -97,14 +97,16 @@ groups_none groups = (
 latest_of : {handed : Handed} {opening : Map} {known : List Kept} {items : List Item} {item : GroupItem} {last : Kept}
     {begun : List Kept} → (groups : Groups handed opening known items) → groups.begun ≡ begun
     → IsGroupBefore items (length items) item → IsGroupOf handed opening items item last
-    → AreLatest handed opening items item last begun
+    → AreAlike known (last ∷ begun)
+    → AreLatest handed opening known items item last begun
 latest_of {handed = handed} {opening = opening} {known = known} {items = items} {item = item} groups begun_are latest
-    last_is = record {
+    last_is alike = record {
       latest = latest;
       last_is = last_is;
       one = subst (λ (l : List Kept). length l ≤ 1) begun_are groups.one;
       begun_is = λ kept has. groups_begun handed opening known items groups item latest kept
           (subst (λ (l : List Kept). Contains l kept) (sym begun_are) has);
+      alike = alike;
     }
 
 abbrev IsSound : Entry → Type 0
@@ -121,8 +123,12 @@ module _ {world : World} {origin : Disk} {items : List Item} {last : Kept} {begu
       let few = after_listed items so_far.in_order so_far.latest.place so_far.item so_far.latest.there in
       let low = so_far.latest.before in omega (arith, few, low)
 
-  latest_now : AreLatest world.handed world.opening items so_far.item last begun
-  latest_now = latest_of so_far.groups so_far.begun_are so_far.latest so_far.item_is
+  alike_now : AreAlike world.known (last ∷ begun)
+  alike_now = last_alike uber world.known so_far.earlier so_far.groups.answered so_far.groups.begun begun last
+      so_far.answered_are so_far.begun_are so_far.widths
+
+  latest_now : AreLatest world.handed world.opening world.known items so_far.item last begun
+  latest_now = latest_of so_far.groups so_far.begun_are so_far.latest so_far.item_is alike_now
 
   -- The last group and those begun after it stand in a row.
   row_now : IsRowOf (world.known ++ so_far.groups.answered ++ so_far.groups.begun) last begun
@@ -169,7 +175,7 @@ module _ {world : World} {origin : Disk} {items : List Item} {last : Kept} {begu
       let item_is = group_of_grown world.handed world.opening items so_far.item last (Call entry ∷ []) after_few
       so_far.item_is in
       let listed = turns_list so_far.no_older some_items (Call entry)
-      (latest_of grown.0 (grown.2 ∙ so_far.begun_are) latest item_is) knows in record {
+      (latest_of grown.0 (grown.2 ∙ so_far.begun_are) latest item_is alike_now) knows in record {
         groups = grown.0;
         earlier = so_far.earlier;
         answered_are = grown.1 ∙ so_far.answered_are;
@@ -288,8 +294,13 @@ module _ {world : World} {origin : Disk} {items : List Item} {last next : Kept} 
         let latest = latest_grown_group items group in
         let row = ended_row world.known so_far.groups.answered so_far.groups.begun ended.0.answered ended.0.begun next
         so_far.begun_are answered_are ended.2 in
+        let widths = subst (λ (l : List Kept). HaveWidthOf other l) row
+        (widths_like uber other (world.known ++ so_far.groups.answered ++ so_far.groups.begun) to_is parity_is
+        so_far.widths) in
+        let alike = last_alike other world.known so_far.groups.answered ended.0.answered ended.0.begun [] next
+        answered_are ended.2 widths in
         let listed = turns_list so_far.no_older (some_items so_far) (Group group)
-        (latest_of ended.0 ended.2 latest next_is) knows in record {
+        (latest_of ended.0 ended.2 latest next_is alike) knows in record {
           groups = ended.0;
           earlier = so_far.groups.answered;
           answered_are = answered_are;
@@ -302,9 +313,7 @@ module _ {world : World} {origin : Disk} {items : List Item} {last next : Kept} 
           sound = each_grown_group IsSound items group so_far.sound;
           counted = counted_group items group so_far.counted;
           since = subst (λ (l : List Kept). KeepsSince world.setting l origin.clock now) row so_far.since;
-          widths = subst (λ (l : List Kept). HaveWidthOf other l) row
-              (widths_like uber other (world.known ++ so_far.groups.answered ++ so_far.groups.begun) to_is parity_is
-              so_far.widths);
+          widths = widths;
           no_older = listed.0;
           kept_on = listed.1;
         }

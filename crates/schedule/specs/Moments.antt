@@ -18,7 +18,7 @@ pub record KeepsTurnByTurn (setting : Setting) (handed : Handed) (opening : Map)
   pub later : Later old (bank 1)
   pub opened : KeepsThroughout setting handed opening known (take 1 items) old (bank 1)
   pub each : (count : ℕ) → 1 ≤ count → count ≤ length items
-      → KeepsUntil setting handed opening (take count items) (bank count) (bank (count + 1))
+      → KeepsUntil setting handed opening known (take count items) (bank count) (bank (count + 1))
   pub ends : bank (length items + 1) ≡ new
 
 -- From the moment at which the journal came to these items, whose last group this is: first the bank kept it, and

@@ -1,11 +1,13 @@
 -- A run that keeps no older group than the last one listed goes on by an item.
-use Rattle.std.proofs.Common.{◌≡◌, inl, inr, ⊎_elim, ℕ, ◌+◌, ◌<◌, ◌≤◌, List, [], ◌∷◌, ◌++◌, length, Bool, cond, refl, sym, ◌∙◌, ap, subst, arith, length-append, eq-eqb, ne_eqb}
+use Rattle.std.proofs.Common.{◌≡◌, inl, inr, ⊎_elim, ℕ, ◌+◌, ◌<◌, ◌≤◌, List, [], ◌∷◌, ◌++◌, length, Bool, cond, refl, sym, ◌∙◌, ap, subst, arith, append_assoc, length-append, eq-eqb, ne_eqb}
 use Rattle.std.specs.Prelude.{◌==◌, take, Contains}
 use Rattle.std.proofs.lemmas.Bool.{cases_lt}
 use Rattle.std.proofs.lemmas.List.{append-nil, take-append-le}
+use Rattle.std.proofs.lemmas.List.Elements.{Contains-append_left, Contains-append_right}
 use Rattle.std.proofs.Math.Seq.{take-length}
 use Rattle.bank_trait.specs.Disk.{Disk, Later}
 use Rattle.bank_trait.proofs.Moments.{later_refl}
+use Rattle.uberblock_ring.specs.Uberblock.{Uber}
 use Rattle.core_state.specs.declared.item.Entry.{Entry}
 use Rattle.core_state.specs.declared.item.Group.{Group as GroupItem}
 use Rattle.core_state.specs.declared.item.Item.{Item}
@@ -17,14 +19,15 @@ use Rattle.core_state.specs.Certain.{Knows}
 use Rattle.core_state.specs.CoreState.{World}
 use Rattle.core_state.specs.Moment.{IsGroupOf, IsBegunAfter, IsRowOf, KeepsSince, KeepsThroughout}
 use Rattle.core_state.proofs.Keeping.{knows_keep}
-use Rattle.core_state.proofs.Listed.{contains_cases, contains_none}
+use Rattle.core_state.proofs.Listed.{contains_cases, contains_none, contains_tail}
 use Rattle.core_state.proofs.Since.{since_now}
 use Rattle.core_serial.specs.Pool.{State}
 use Rattle.core_serial.specs.Standing.{Stands, GoesOn}
 use Rattle.core_serial.specs.Syncing.{EndsGroup, CutsGroup}
 use Rattle.serial_run.specs.Moments.{KeepsLast, KeepsUntil, KeepsItemByItem}
 use Rattle.serial_run.specs.Running.{Runs}
-use Rattle.serial_run.proofs.Rows.{last_row, row_among}
+use Rattle.serial_run.specs.Widths.{HaveWidthOf, AreAlike}
+use Rattle.serial_run.proofs.Rows.{cut_row, last_row, row_among}
 use Rattle.serial_run.proofs.GrownGroups.{latest_grown_group}
 use Rattle.serial_run.proofs.GrownRun.{groups_begun}
 
@@ -45,13 +48,68 @@ since_here : (setting : Setting) (last : Kept) (begun : List Kept) (disk : Disk)
 since_here setting last begun disk knows = since_now setting (last ∷ begun) last begun disk
     (whole_row last begun) knows
 
-module _ (setting : Setting) (handed : Handed) (opening : Map) where
+-- Where all groups of a run have one width and parity, its last one and those begun after it are alike to those known,
+end_alike : (uber : Uber) (known earlier : List Kept) (last : Kept) (onward : List Kept)
+    → HaveWidthOf uber (((known ++ earlier) ++ last ∷ []) ++ onward) → AreAlike known (last ∷ onward)
+end_alike uber known earlier last onward widths group has = record {
+  each = λ kept here.
+      let its = widths.each kept (among kept here) in
+      let known_ones = widths.each group
+      (Contains-append_left ((known ++ earlier) ++ last ∷ []) onward group
+      (Contains-append_left (known ++ earlier) (last ∷ []) group
+      (Contains-append_left known earlier group has))) in
+      (its.0 ∙ sym known_ones.0, its.1 ∙ sym known_ones.1);
+}
+  where
+    among : (kept : Kept) → Contains (last ∷ onward) kept
+        → Contains (((known ++ earlier) ++ last ∷ []) ++ onward) kept
+    among kept here = subst (λ (l : List Kept). Contains l kept)
+        (sym (append_assoc (known ++ earlier) (last ∷ []) onward))
+        (Contains-append_right (known ++ earlier) (last ∷ onward) kept here)
+
+pub last_alike : (uber : Uber) (known earlier answered begun left : List Kept) (last : Kept)
+    → answered ≡ earlier ++ last ∷ [] → begun ≡ left → HaveWidthOf uber (known ++ answered ++ begun)
+    → AreAlike known (last ∷ left)
+last_alike uber known earlier answered begun left last answered_are begun_are widths =
+    end_alike uber known earlier last left (subst (λ (l : List Kept). HaveWidthOf uber l)
+    (sym (cut_row known earlier answered left begun last answered_are begun_are)) widths)
+
+-- and so are those behind the first of them.
+alike_behind : (known : List Kept) (first : Kept) (later : List Kept) → AreAlike known (first ∷ later)
+    → AreAlike known later
+alike_behind known first later alike group has = record {
+  each = λ kept here. (alike group has).each kept (contains_tail first later kept here);
+}
+
+-- What was kept between two banks, for the names that the banks and the items have now.
+pub moved : (setting : Setting) (handed : Handed) (opening : Map) (known : List Kept) (part same : List Item)
+    (from now first second : Disk) → same ≡ part → first ≡ from → second ≡ now
+    → KeepsUntil setting handed opening known part from now
+    → KeepsUntil setting handed opening known same first second
+moved setting handed opening known part same from now first second items_are first_is second_is keeps =
+    subst (λ (l : List Item). KeepsUntil setting handed opening known l first second) (sym items_are)
+    (subst (λ (d : Disk). KeepsUntil setting handed opening known part d second) (sym first_is)
+    (subst (λ (d : Disk). KeepsUntil setting handed opening known part from d) (sym second_is) keeps))
+
+-- the banks, with this one at one number
+abbrev pub with_bank : (ℕ → Disk) → ℕ → Disk → ℕ → Disk
+with_bank bank place next count = cond (count == place) next (bank count)
+
+pub bank_below : (bank : ℕ → Disk) (place : ℕ) (next : Disk) (count : ℕ) → count < place
+    → with_bank bank place next count ≡ bank count
+bank_below bank place next count below = ap (λ (b : Bool). cond b next (bank count))
+    (ne_eqb count place (λ same. absurd (omega (arith, same, below))))
+
+pub bank_at : (bank : ℕ → Disk) (place : ℕ) (next : Disk) → with_bank bank place next place ≡ next
+bank_at bank place next = ap (λ (b : Bool). cond b next (bank place)) (eq-eqb place place refl)
+
+module _ (setting : Setting) (handed : Handed) (opening : Map) (known : List Kept) where
   -- Where nothing is done until the next item.
   until_now : (items : List Item) (group : GroupItem) (last : Kept) (disk : Disk)
       → IsGroupBefore items (length items) group → IsGroupOf handed opening items group last
-      → Knows setting last [] disk
-      → KeepsUntil setting handed opening items disk disk
-  until_now items group last disk latest last_is knows = record {
+      → Knows setting last [] disk → AreAlike known (last ∷ [])
+      → KeepsUntil setting handed opening known items disk disk
+  until_now items group last disk latest last_is knows alike = record {
     later = later_refl disk;
     kept = record {
       group = group;
@@ -67,9 +125,10 @@ module _ (setting : Setting) (handed : Handed) (opening : Map) where
     one = omega arith;
     onward_is = λ kept has. absurd (contains_none kept has);
     since = since_here setting last [] disk knows;
+    alike = alike;
   }
 
-  module _ (known : List Kept) (old : Disk) where
+  module _ (old : Disk) where
     -- The opening's item alone.
     pub item_first : (item : Item) (now : Disk) → Later old now
         → KeepsThroughout setting handed opening known (item ∷ []) old now
@@ -85,40 +144,29 @@ module _ (setting : Setting) (handed : Handed) (opening : Map) where
     -- One item more, and the bank at which the journal came to it.
     module _ (items : List Item) (item : Item) (now next : Disk) (some : 1 ≤ length items)
         (so_far : KeepsItemByItem setting handed opening known items old now)
-        (until : KeepsUntil setting handed opening items now next) where
+        (until : KeepsUntil setting handed opening known items now next) where
       abbrev bank : ℕ → Disk
-      bank count = cond (count == length items + 1) next (so_far.bank count)
+      bank = with_bank so_far.bank (length items + 1) next
 
       bank_before : (count : ℕ) → count ≤ length items → bank count ≡ so_far.bank count
-      bank_before count below = ap (λ (b : Bool). cond b next (so_far.bank count))
-          (ne_eqb count (length items + 1) (λ same. absurd (omega (arith, same, below))))
+      bank_before count below = bank_below so_far.bank (length items + 1) next count (omega (arith, below))
 
       bank_next : bank (length items + 1) ≡ next
-      bank_next = ap (λ (b : Bool). cond b next (so_far.bank (length items + 1)))
-          (eq-eqb (length items + 1) (length items + 1) refl)
+      bank_next = bank_at so_far.bank (length items + 1) next
 
       take_before : (count : ℕ) → count ≤ length items → take count (items ++ item ∷ []) ≡ take count items
       take_before count below = take-append-le count items (item ∷ []) below
 
-      moved : (part same : List Item) (one other first second : Disk)
-          → same ≡ part → first ≡ one → second ≡ other
-          → KeepsUntil setting handed opening part one other
-          → KeepsUntil setting handed opening same first second
-      moved part same one other first second items_are first_is second_is keeps =
-          subst (λ (l : List Item). KeepsUntil setting handed opening l first second) (sym items_are)
-          (subst (λ (d : Disk). KeepsUntil setting handed opening part d second) (sym first_is)
-          (subst (λ (d : Disk). KeepsUntil setting handed opening part one d) (sym second_is) keeps))
-
       each : (count : ℕ) → 1 ≤ count → count < length (items ++ item ∷ [])
-          → KeepsUntil setting handed opening (take count (items ++ item ∷ [])) (bank count) (bank (count + 1))
+          → KeepsUntil setting handed opening known (take count (items ++ item ∷ [])) (bank count) (bank (count + 1))
       each count from below = ⊎_elim
           (λ (less : count < length items).
-          moved (take count items) _ (so_far.bank count) (so_far.bank (count + 1)) _ _
+          moved setting handed opening known (take count items) _ (so_far.bank count) (so_far.bank (count + 1)) _ _
           (take_before count (omega (arith, less))) (bank_before count (omega (arith, less)))
           (bank_before (count + 1) (omega (arith, less))) (so_far.each count from less))
           (λ (not_less : length items ≤ count).
           let end : count ≡ length items = omega (arith, not_less, below, length-append items (item ∷ [])) in
-          moved items _ now next _ _
+          moved setting handed opening known items _ now next _ _
           (ap (λ (k : ℕ). take k (items ++ item ∷ [])) end
           ∙ take_before (length items) (omega arith) ∙ take-length items)
           (ap bank end ∙ bank_before (length items) (omega arith) ∙ so_far.ends)
@@ -170,9 +218,10 @@ module _ (world : World) (origin : Disk) (old : List Item) (before : State) (run
     next_item : (item : Item) (onward : List Kept) → length onward ≤ 1
         → ((kept : Kept) → Contains onward kept → IsBegunAfter world.handed world.opening old runs.item kept)
         → KeepsSince world.setting (runs.last ∷ onward) before.disk.clock after.disk
+        → AreAlike world.known (runs.last ∷ onward)
         → GoesOnBy (old ++ item ∷ [])
     unfolding kept_now
-    next_item item onward one onward_is since =
+    next_item item onward one onward_is since alike =
         item_more world.setting world.handed world.opening world.known origin old item before.disk after.disk
         (let low = runs.latest.before in omega (arith, low)) runs.no_older (record {
           later = later;
@@ -181,6 +230,7 @@ module _ (world : World) (origin : Disk) (old : List Item) (before : State) (run
           one = one;
           onward_is = onward_is;
           since = since;
+          alike = alike;
         })
 
     -- A call that ends no group.
@@ -189,6 +239,8 @@ module _ (world : World) (origin : Disk) (old : List Item) (before : State) (run
         (goes_on.since world.setting runs.last runs.groups.begun (runs.last ∷ runs.groups.begun) before.disk.clock
         runs.stands (whole_row runs.last runs.groups.begun)
         (since_here world.setting runs.last runs.groups.begun before.disk runs.stands.knows))
+        (last_alike before.pool.uber world.known runs.earlier runs.groups.answered runs.groups.begun
+        runs.groups.begun runs.last runs.answered_are refl runs.widths)
 
     module _ (map : Map) (alone : Stands world.setting runs.last [] before) where
       since_alone : KeepsSince world.setting (runs.last ∷ []) before.disk.clock before.disk
@@ -199,21 +251,28 @@ module _ (world : World) (origin : Disk) (old : List Item) (before : State) (run
           (ends : EndsGroup world.setting runs.last map before after)
           → IsBegunAfter world.handed world.opening old runs.item ends.next
           → IsGroupOf world.handed world.opening (old ++ Group group ∷ []) group ends.next
+          → HaveWidthOf after.pool.uber (((world.known ++ runs.earlier) ++ runs.last ∷ []) ++ ends.next ∷ [])
           → GoesOnBy ((old ++ Group group ∷ []) ++ Call entry ∷ [])
-      group_listed entry group ends begun_is is =
+      group_listed entry group ends begun_is is widths =
           item_more world.setting world.handed world.opening world.known origin (old ++ Group group ∷ [])
           (Call entry) after.disk after.disk (omega (arith, length-append old (Group group ∷ [])))
           (next_item (Group group) (ends.next ∷ []) (omega arith)
           (λ kept has. subst (IsBegunAfter world.handed world.opening old runs.item)
           (sym (contains_one ends.next kept has)) begun_is)
-          (ends.since [] before.disk.clock since_alone))
-          (until_now world.setting world.handed world.opening (old ++ Group group ∷ []) group ends.next after.disk
-          (latest_grown_group old group) is ends.stands.knows)
+          (ends.since [] before.disk.clock since_alone) alike)
+          (until_now world.setting world.handed world.opening world.known (old ++ Group group ∷ []) group ends.next
+          after.disk (latest_grown_group old group) is ends.stands.knows
+          (alike_behind world.known runs.last (ends.next ∷ []) alike))
+        where
+          alike : AreAlike world.known (runs.last ∷ ends.next ∷ [])
+          alike = end_alike after.pool.uber world.known runs.earlier runs.last (ends.next ∷ []) widths
 
       -- One that was cut short.
       pub cut_listed : (entry : Entry) (cut : CutsGroup world.setting runs.last map before after)
           → ((kept : Kept) → Contains cut.begun kept
           → IsBegunAfter world.handed world.opening old runs.item kept)
+          → HaveWidthOf after.pool.uber (((world.known ++ runs.earlier) ++ runs.last ∷ []) ++ cut.begun)
           → GoesOnBy (old ++ Call entry ∷ [])
-      cut_listed entry cut begun_is = next_item (Call entry) cut.begun cut.one begun_is
+      cut_listed entry cut begun_is widths = next_item (Call entry) cut.begun cut.one begun_is
           (cut.since [] before.disk.clock since_alone)
+          (end_alike after.pool.uber world.known runs.earlier runs.last cut.begun widths)

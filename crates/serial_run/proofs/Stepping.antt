@@ -314,6 +314,10 @@ module _ (world : World) (origin : Disk) (call : ScriptCall) (old new : List Ite
       groups_after = ended_row world.known runs.earlier runs.groups.answered grown.0.answered grown.0.begun runs.last ends.next
           runs.answered_are (grown.1 ∙ ended.1) (grown.2 ∙ ended.2)
 
+      widths_ended : HaveWidthOf after.pool.uber (((world.known ++ runs.earlier) ++ runs.last ∷ []) ++ ends.next ∷ [])
+      widths_ended = widths_with (ends.next ∷ []) synced.leaves (λ kept has.
+          subst (IsOpenGroup (map_of handed opening old) before.pool) (sym (contains_one ends.next kept has)) ends.is)
+
       pub ended_runs : Runs world origin new after
       ended_runs = subst (λ (items : List Item). Runs world origin items after) (sym listed) (record {
         groups = grown.0;
@@ -337,11 +341,9 @@ module _ (world : World) (origin : Disk) (call : ScriptCall) (old new : List Ite
             (synced.leaves.holds (map_of handed opening old) runs.holds);
         since = subst (λ (l : List Kept). KeepsSince world.setting l origin.clock after.disk) groups_after
             (ends.since (world.known ++ runs.earlier) origin.clock since_last);
-        widths = subst (λ (l : List Kept). HaveWidthOf after.pool.uber l) groups_after
-            (widths_with (ends.next ∷ []) synced.leaves (λ kept has.
-            subst (IsOpenGroup (map_of handed opening old) before.pool) (sym (contains_one ends.next kept has)) ends.is));
+        widths = subst (λ (l : List Kept). HaveWidthOf after.pool.uber l) groups_after widths_ended;
         no_older = group_listed world origin old before runs after synced.leaves.later (map_of handed opening old) stands_alone
-            entry next_item ends (open_begun ends.next ends.is) next_is;
+            entry next_item ends (open_begun ends.next ends.is) next_is widths_ended;
       })
 
     -- One that was cut short.
@@ -397,5 +399,5 @@ module _ (world : World) (origin : Disk) (call : ScriptCall) (old new : List Ite
         widths = subst (λ (l : List Kept). HaveWidthOf after.pool.uber l) groups_left
             (widths_with cut.begun cuts.leaves cut.is);
         no_older = cut_listed world origin old before runs after cuts.leaves.later (map_of handed opening old) stands_alone
-            entry cut (λ kept has. open_begun kept (cut.is kept has));
+            entry cut (λ kept has. open_begun kept (cut.is kept has)) (widths_with cut.begun cuts.leaves cut.is);
       })

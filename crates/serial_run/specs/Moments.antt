@@ -8,6 +8,7 @@ use Rattle.core_state.specs.Legal.{IsGroupBefore}
 use Rattle.core_state.specs.Keeps.{Kept, Setting}
 use Rattle.core_state.specs.Collision.{BankKeeps}
 use Rattle.core_state.specs.Moment.{IsGroupOf, IsBegunAfter, KeepsSince, KeepsThroughout}
+use Rattle.serial_run.specs.Widths.{AreAlike}
 
 -- The bank keeps the journal's last group, and maybe one that was begun after it.
 pub record KeepsLast (setting : Setting) (handed : Handed) (opening : Map) (items : List Item)
@@ -23,9 +24,10 @@ pub record KeepsLast (setting : Setting) (handed : Handed) (opening : Map) (item
   pub keeps : BankKeeps setting last begun disk
 
 -- From the moment at which the journal came to these items until it came to the next one: first the bank
--- kept their last group, and whatever a stop left keeps that group, one that was begun after it, or both.
-pub record KeepsUntil (setting : Setting) (handed : Handed) (opening : Map) (items : List Item)
-    (now next : Disk) : Type 0 where
+-- kept their last group, and whatever a stop left keeps that group, one that was begun after it, or both. These
+-- have the width and the parity of each of the groups known.
+pub record KeepsUntil (setting : Setting) (handed : Handed) (opening : Map) (known : List Kept)
+    (items : List Item) (now next : Disk) : Type 0 where
   pub later : Later now next
   pub kept : KeepsLast setting handed opening items now
   pub onward : List Kept
@@ -33,6 +35,7 @@ pub record KeepsUntil (setting : Setting) (handed : Handed) (opening : Map) (ite
   pub onward_is : (group : Kept) → Contains onward group
       → IsBegunAfter handed opening items kept.group group
   pub since : KeepsSince setting (kept.last ∷ onward) now.clock next
+  pub alike : AreAlike known (kept.last ∷ onward)
 
 -- The banks that a run came by, one for each number of items in its journal, from the end of the opening,
 -- which listed the first. Until then, whatever a stop left keeps some of the groups known and that first one;
@@ -43,5 +46,5 @@ pub record KeepsItemByItem (setting : Setting) (handed : Handed) (opening : Map)
   pub later : Later old (bank 1)
   pub opened : KeepsThroughout setting handed opening known (take 1 items) old (bank 1)
   pub each : (count : ℕ) → 1 ≤ count → count < length items
-      → KeepsUntil setting handed opening (take count items) (bank count) (bank (count + 1))
+      → KeepsUntil setting handed opening known (take count items) (bank count) (bank (count + 1))
   pub ends : bank (length items) ≡ new

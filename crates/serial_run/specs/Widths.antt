@@ -7,3 +7,7 @@ use Rattle.core_state.specs.Keeps.{Kept}
 pub record HaveWidthOf (uber : Uber) (groups : List Kept) : Type 0 where
   pub each : (kept : Kept) → Contains groups kept
       → (kept.uber.reflow.to ≡ uber.reflow.to) × (kept.uber.parity ≡ uber.parity)
+
+-- These groups have the width and the parity of each of the groups known.
+abbrev pub AreAlike : List Kept → List Kept → Type 0
+AreAlike known groups = (group : Kept) → Contains known group → HaveWidthOf group.uber groups
