@@ -9,6 +9,8 @@ pub mod Carried
 pub mod RunParts
 pub mod RunRefused
 pub mod RunAnswers
+pub mod ByTurns
+pub mod Reopening
 pub mod RunCarried
 pub mod RunEnding
 pub mod Ending

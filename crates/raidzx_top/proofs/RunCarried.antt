@@ -36,6 +36,7 @@ use Rattle.raidzx_top.specs.Promises.{RunPromises, IsSmooth, IsSmoothAnswer, Com
 use Rattle.raidzx_top.specs.Running.{IsStatusOf, HasMet, StoppedFor, after_fault, EndsTelling, WasCarriedOut}
 use Rattle.raidzx_top.specs.RunText.{IsLineFor, TextIsRight}
 use Rattle.raidzx_top.proofs.Carried.{AnswersRight, HasGone, has_gone}
+use Rattle.raidzx_top.proofs.Reopening.{survives_stops}
 use Rattle.raidzx_top.proofs.RunParts.{IsRunEnd, command_in, opens, held_at_entry, none_silent}
 use Rattle.raidzx_top.proofs.RunAnswers.{IsClients, answers_client}
 
@@ -197,6 +198,7 @@ module _ (how : Manner) (call : Call) (lawful : Lawful call.old)
     carried = was.carried;
     run = was.done.run;
     turns = was.turns_are;
+    survives = survives_stops how was.script call.old call.new call.journal was.carried was.done.run was.read.allowed;
     complete = λ other counted. was.done.complete (λ stopped. had_memory other (inl stopped)) counted;
     memory = λ other index entry there is. had_memory other (inr (index, entry, there, is));
     used_up = used_up;

@@ -8,6 +8,7 @@ pub mod Answers
 pub mod RunJournal
 pub mod RunText
 pub mod Carrying
+pub mod Reopened
 pub mod Promises
 pub mod Making
 pub mod Running

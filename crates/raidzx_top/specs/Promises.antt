@@ -34,6 +34,7 @@ use Rattle.raidzx_top.specs.Spelled.{IsServedAs, command_of}
 use Rattle.raidzx_top.specs.Call.{Call, HoldsImage, shape_of}
 use Rattle.raidzx_top.specs.Carrying.{CarriesOut, served_by, turns_of}
 use Rattle.raidzx_top.specs.Causes.{NoneRose, IsTooSmall, MeetsLimit, IsNoCommand, IsCaused, ComesWhere, most_turns}
+use Rattle.raidzx_top.specs.Reopened.{BearsFailures, SurvivesStops}
 use Rattle.raidzx_top.specs.RunJournal.{NoneWantsMemory}
 use Rattle.raidzx_top.specs.RunText.{IsWritten, TextIsRight, create_text, status_line}
 use Rattle.raidzx_top.specs.Running.{IsStatusOf, StoppedFor, after_fault}
@@ -104,6 +105,10 @@ pub record RunPromises (manner : Manner) (call : Call) : Type 0 where
   -- The journal is legal for the script, and what it tells is kept, at each moment and in the end.
   pub run : CarriesOut manner script call.old call.new call.journal carried
   pub turns : call.turns ≡ turns_of carried
+  -- What a stop leaves of it, at any moment, the next run or replay reads back.
+  pub survives : (setting : Setting) (first : Kept) (later : List Kept) → MayBegin setting first later call.old
+      → BearsFailures setting first.uber.reflow.to manner script call.old call.new call.journal carried run
+      → SurvivesStops setting first later script call.old call.new call.journal
   -- Each call is answered, unless memory was wanting, and then the status tells so, or the turns were used up.
   pub complete : call.status ≢ status.NoMemory → (StoppedFor carried trouble.Limit → ⊥)
       → IsComplete (asked_by script) call.journal

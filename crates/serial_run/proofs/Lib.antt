@@ -11,7 +11,6 @@ pub mod Rows
 pub mod Widths
 pub mod Stepping
 pub mod RunBytes
-pub mod Reopening
 pub mod Causing
 pub mod FullTables
 pub mod ManyIds

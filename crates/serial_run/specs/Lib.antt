@@ -5,4 +5,3 @@ pub mod Widths
 pub mod Caused
 pub mod Running
 pub mod WholeRun
-pub mod Reopened

@@ -1,0 +1,254 @@
+-- What a stop leaves of a run or a replay is read back by the next one.
+use Rattle.std.proofs.Common.{◌≡◌, ◌≢◌, ⊎_elim, ℕ, zero, suc, ◌+◌, ◌<◌, ◌≤◌, List, [], ◌∷◌, ◌++◌, length, refl, sym, ◌∙◌, subst, arith}
+use Rattle.std.specs.Prelude.{All, Contains, take}
+use Rattle.std.specs.List.{AllZip}
+use Rattle.std.proofs.lemmas.List.Elements.{Contains-append_cases, Contains-append_left}
+use Rattle.std.proofs.lemmas.Option.{slice_get_within}
+use Rattle.bank_trait.specs.Disk.{Image, Disk}
+use Rattle.core_state.specs.declared.answer.Answer.TheVariants as answer
+use Rattle.core_state.specs.declared.item.Entry.{Entry}
+use Rattle.core_state.specs.declared.item.Group.{Group as GroupItem}
+use Rattle.core_state.specs.declared.item.Item.{Item}
+use Rattle.core_state.specs.declared.item.Item.TheVariants.{Group, Call}
+use Rattle.core_state.specs.Map.{Map, Handed, SameMap, map_after}
+use Rattle.core_state.specs.Journal.{IsLegalJournal}
+use Rattle.core_state.specs.Legal.{CallAt}
+use Rattle.core_state.specs.Keeps.{Kept, Setting, Keeps}
+use Rattle.core_state.specs.Moment.{IsGroupOf, IsBegunAfter, IsUnanswered, KeepsSome, KeepsThroughout, groups_in}
+use Rattle.core_state.proofs.Listed.{contains_none, contains_cases}
+use Rattle.core_serial.specs.Opening.{MayBegin}
+use Rattle.core_serial.specs.Stopped.{IsImageOf}
+use Rattle.core_serial.proofs.Reopened.{stopped_begins}
+use Rattle.client_script.specs.Script.{Script, IsAllowed, asked_by, handed_by}
+use Rattle.serial_run.specs.Moments.{KeepsLast, KeepsUntil}
+use Rattle.serial_run.specs.Widths.{HaveWidthOf, AreAlike}
+use Rattle.serial_run.proofs.Rows.{row_among}
+use Rattle.serial_run.proofs.RunBytes.{HoldsBytes, HandsBytes, after_bytes, script_hands}
+use Rattle.schedule.specs.Moments.{KeepsTurnByTurn}
+use Rattle.raidzx_top.specs.declared.carrying.Carried.{Carried}
+use Rattle.raidzx_top.specs.declared.carrying.Carried.TheVariants as carried
+use Rattle.raidzx_top.specs.declared.carrying.Manner.{Manner}
+use Rattle.raidzx_top.specs.declared.carrying.Manner.TheVariants as manner
+use Rattle.raidzx_top.specs.Carrying.{CarriesOut}
+use Rattle.raidzx_top.specs.Reopened.{BearsFailures, IsLeft, IsLeftOn, ReadsBack, IsReadBack, SurvivesStops, last_groups}
+use Rattle.raidzx_top.proofs.ByTurns.{by_turns}
+
+-- What is kept of a script that was carried out, whether its calls went whole or turn by turn.
+record KeepsGroups (script : Script) (setting : Setting) (first : Kept) (later : List Kept) (old new : Disk)
+    (items : List Item) : Type 0 where
+  chosen : Kept
+  known : Contains (first ∷ later) chosen
+  legal : IsLegalJournal (asked_by script) (handed_by script) chosen.map items
+  sound : (index : ℕ) (entry : Entry) → CallAt items index entry → entry.answer ≢ answer.Damaged
+  any_moment : KeepsThroughout setting (handed_by script) chosen.map (first ∷ later) items old new
+  no_older : KeepsTurnByTurn setting (handed_by script) chosen.map (first ∷ later) items old new
+  kept : KeepsLast setting (handed_by script) chosen.map items new
+  kept_among : (group : Kept) → Contains (kept.last ∷ kept.begun) group
+      → Contains ((first ∷ later) ++ any_moment.groups.answered ++ any_moment.groups.begun) group
+  widths : HaveWidthOf first.uber ((first ∷ later) ++ any_moment.groups.answered ++ any_moment.groups.begun)
+
+-- Groups are alike to those known where all of them have the width and the parity of one uberblock.
+alike_among : (opened : Kept) (known more begun groups : List Kept) → HaveWidthOf opened.uber (known ++ more ++ begun)
+    → ((kept : Kept) → Contains groups kept → Contains (known ++ more ++ begun) kept)
+    → AreAlike known groups
+alike_among opened known more begun groups widths among group has = record {
+  each = λ kept here.
+      let its = widths.each kept (among kept here) in
+      let ones = widths.each group
+      (Contains-append_left (known ++ more) begun group (Contains-append_left known more group has)) in
+      (its.0 ∙ sym ones.0, its.1 ∙ sym ones.1);
+}
+
+-- So much is kept in either manner.
+keeps_groups : (how : Manner) (script : Script) (old new : Disk) (items : List Item) (given : Carried)
+    → (run : CarriesOut how script old new items given) → (setting : Setting) (first : Kept) (later : List Kept)
+    → MayBegin setting first later old
+    → BearsFailures setting first.uber.reflow.to how script old new items given run
+    → KeepsGroups script setting first later old new items
+keeps_groups manner.Whole script old new items (carried.Run ran) run setting first later may bears =
+    let keeps = run.keeps setting first later may bears.silent_in bears.borne_in in record {
+      chosen = keeps.chosen;
+      known = keeps.known;
+      legal = keeps.legal;
+      sound = keeps.sound;
+      any_moment = keeps.any_moment;
+      no_older = by_turns keeps.no_older (slice_get_within items 0 (Group run.opened) run.there) keeps.kept
+          (alike_among first (first ∷ later) keeps.any_moment.groups.answered keeps.any_moment.groups.begun
+          (keeps.kept.last ∷ keeps.kept.begun) keeps.widths keeps.kept_among);
+      kept = keeps.kept;
+      kept_among = keeps.kept_among;
+      widths = keeps.widths;
+    }
+keeps_groups manner.ByTurns script old new items (carried.Replay replayed) run setting first later may bears =
+    let keeps = run.keeps setting first later may bears.silent_in bears.borne_in in record {
+      chosen = keeps.chosen;
+      known = keeps.known;
+      legal = keeps.legal;
+      sound = keeps.sound;
+      any_moment = keeps.any_moment;
+      no_older = keeps.no_older;
+      kept = keeps.kept;
+      kept_among = keeps.kept_among;
+      widths = keeps.widths;
+    }
+keeps_groups manner.Whole script old new items (carried.Replay replayed) run setting first later may bears = absurd run
+keeps_groups manner.ByTurns script old new items (carried.Run ran) run setting first later may bears = absurd run
+
+-- The groups have maps of bytes.
+abbrev HaveBytes : List Kept → Type 0
+HaveBytes groups = (kept : Kept) → Contains groups kept → HoldsBytes kept.map
+
+-- Each group that was answered is one of the journal's.
+answered_is : (handed : Handed) (opening : Map) (items : List Item) (groups : List GroupItem) (answered : List Kept)
+    (kept : Kept) → AllZip (IsGroupOf handed opening items) groups answered → Contains answered kept
+    → (group : GroupItem) × IsGroupOf handed opening items group kept
+answered_is handed opening items [] [] kept each has = absurd (contains_none kept has)
+answered_is handed opening items [] (one ∷ answered) kept each has = absurd each
+answered_is handed opening items (group ∷ groups) [] kept each has = absurd each
+answered_is handed opening items (group ∷ groups) (one ∷ answered) kept each (zero, low, is) =
+    (group, subst (λ (k : Kept). IsGroupOf handed opening items group k) is each.0)
+answered_is handed opening items (group ∷ groups) (one ∷ answered) kept each (suc k, low, is) =
+    answered_is handed opening items groups answered kept each.1 (k, omega (arith, low), is)
+
+-- What stands among some items stands among all.
+taken_there : (items : List Item) (count index : ℕ) (entry : Entry) → CallAt (take count items) index entry
+    → CallAt items index entry
+taken_there items zero index entry there = absurd (omega (arith, slice_get_within [] index (Call entry) there))
+taken_there [] (suc count) index entry there = there
+taken_there (item ∷ items) (suc count) zero entry there = there
+taken_there (item ∷ items) (suc count) (suc index) entry there = taken_there items count index entry there
+
+-- An image that keeps some of the groups in a row is read back as one of them.
+read_back : (setting : Setting) (groups : List Kept) (opened first : Kept) (later : List Kept) (image : Image)
+    → setting.odd ≡ [] → IsImageOf setting.shape image → Keeps setting first later image
+    → ((kept : Kept) → Contains (first ∷ later) kept → Contains groups kept)
+    → HaveWidthOf opened.uber groups → HaveBytes groups
+    → IsReadBack setting opened.uber.reflow.to groups image
+read_back setting groups opened first later image odd only keeps among width bytes = record {
+  opened = λ disk left. record { first = first; later = later; among = among; may = may disk left };
+  each = λ how script old new items given run left bears. reads how script old new items given run left bears;
+}
+  where
+    here : Contains groups first
+    here = among first (0, omega arith, refl)
+
+    may : (disk : Disk) → IsLeftOn setting groups image disk → MayBegin setting first later disk
+    may disk left = stopped_begins setting first later disk image left.shape odd left.alone only keeps
+        (record { page = λ one shower giver uber listed. left.pages.page one shower giver uber (among one listed) })
+        (λ one listed. let its = width.each one (among one listed) in let firsts = width.each first here in
+        (its.0 ∙ sym firsts.0, its.1 ∙ sym firsts.1))
+        (λ one id content listed. bytes one (among one listed) id content)
+
+    reads : (how : Manner) (script : Script) (old new : Disk) (items : List Item) (given : Carried)
+        → (run : CarriesOut how script old new items given) → IsLeftOn setting groups image old
+        → BearsFailures setting opened.uber.reflow.to how script old new items given run
+        → ReadsBack groups script items
+    reads how script old new items given run left bears = record {
+      chosen = kept.chosen;
+      known = among kept.chosen kept.known;
+      legal = kept.legal;
+      sound = kept.sound;
+    }
+      where
+        kept : KeepsGroups script setting first later old new items
+        kept = keeps_groups how script old new items given run setting first later (may old left)
+            (subst (λ (wide : ℕ). BearsFailures setting wide how script old new items given run)
+            (sym (width.each first here).0) bears)
+
+module _ (how : Manner) (script : Script) (old new : Disk) (items : List Item) (given : Carried)
+    (run : CarriesOut how script old new items given) (allowed : All (λ placed. IsAllowed placed.call) script.calls)
+    (setting : Setting) (first : Kept) (later : List Kept) (may : MayBegin setting first later old)
+    (bears : BearsFailures setting first.uber.reflow.to how script old new items given run) where
+  keeps : KeepsGroups script setting first later old new items
+  keeps = keeps_groups how script old new items given run setting first later may bears
+
+  -- the groups of the run
+  abbrev run_groups : List Kept
+  run_groups = (first ∷ later) ++ keeps.any_moment.groups.answered ++ keeps.any_moment.groups.begun
+
+  known_bytes : HaveBytes (first ∷ later)
+  known_bytes kept listed id content has = may.bytes kept id content listed has
+
+  hands : HandsBytes (handed_by script) items
+  hands = script_hands script keeps.chosen.map items allowed keeps.legal
+
+  -- A group with the map of some items from the opening on,
+  map_bytes : (part : List Item) → HandsBytes (handed_by script) part → (kept : Kept) (count : ℕ)
+      → SameMap kept.map (map_after (handed_by script) keeps.chosen.map part count) → HoldsBytes kept.map
+  map_bytes part part_hands kept count same id content has =
+      after_bytes (handed_by script) keeps.chosen.map part count part_hands (known_bytes keeps.chosen keeps.known)
+      id content (sym (same id) ∙ has)
+
+  -- one that was begun and not answered,
+  begun_bytes : (groups : List GroupItem) (kept : Kept)
+      → IsUnanswered (handed_by script) keeps.chosen.map items (first ∷ later) groups kept → HoldsBytes kept.map
+  begun_bytes [] kept is id content has = known_bytes is.0 is.1 id content (sym (is.2.map id) ∙ has)
+  begun_bytes (group ∷ groups) kept is id content has = map_bytes items hands kept is.after is.map id content has
+
+  all_bytes : HaveBytes run_groups
+  all_bytes kept listed = ⊎_elim
+      (λ before. ⊎_elim (λ known. known_bytes kept known)
+      (λ answered.
+      let is = answered_is (handed_by script) keeps.chosen.map items (groups_in items)
+      keeps.any_moment.groups.answered kept keeps.any_moment.groups.each answered in
+      map_bytes items hands kept is.0.after is.1.map)
+      (Contains-append_cases (first ∷ later) keeps.any_moment.groups.answered kept before))
+      (λ begun. begun_bytes (groups_in items) kept (keeps.any_moment.groups.unanswered kept begun))
+      (Contains-append_cases ((first ∷ later) ++ keeps.any_moment.groups.answered) keeps.any_moment.groups.begun kept
+      listed)
+
+  -- and the last group of some items with those begun after it.
+  last_bytes : (part : List Item) → HandsBytes (handed_by script) part → (item : GroupItem) (last : Kept)
+      (begun : List Kept) → IsGroupOf (handed_by script) keeps.chosen.map part item last
+      → ((kept : Kept) → Contains begun kept → IsBegunAfter (handed_by script) keeps.chosen.map part item kept)
+      → HaveBytes (last ∷ begun)
+  last_bytes part part_hands item last begun last_is begun_is kept listed = ⊎_elim
+      (λ same. subst (λ (k : Kept). HoldsBytes k.map) (sym same)
+      (map_bytes part part_hands last item.after last_is.map))
+      (λ here. let is = begun_is kept here in map_bytes part part_hands kept is.after is.map)
+      (contains_cases last begun kept listed)
+
+  any_moment : (moment : ℕ) (image : Image) → old.clock ≤ moment → moment ≤ new.clock
+      → IsLeft setting new moment image
+      → IsReadBack setting first.uber.reflow.to run_groups image
+  any_moment moment image since until left =
+      let some = keeps.any_moment.since.each moment image since until left.might in
+      read_back setting run_groups first some.first some.later image may.odd left.only some.keeps
+      (row_among (record { before = some.before; after = some.after; row = some.row })) keeps.widths all_bytes
+
+  by_then : (count : ℕ) (some : 1 ≤ count) (all : count ≤ length items) (moment : ℕ) (image : Image)
+      → (keeps.no_older.bank count).clock ≤ moment → moment ≤ (keeps.no_older.bank (count + 1)).clock
+      → IsLeft setting (keeps.no_older.bank (count + 1)) moment image
+      → IsReadBack setting first.uber.reflow.to (last_groups (keeps.no_older.each count some all)) image
+  by_then count some all moment image since until_then left =
+      let until = keeps.no_older.each count some all in
+      let found = until.since.each moment image since until_then left.might in
+      let part_hands : HandsBytes (handed_by script) (take count items) = record {
+        each = λ index entry there. hands.each index entry (taken_there items count index entry there);
+      } in
+      read_back setting (last_groups until) first found.first found.later image may.odd left.only found.keeps
+      (row_among (record { before = found.before; after = found.after; row = found.row }))
+      (until.alike first (0, omega arith, refl))
+      (last_bytes (take count items) part_hands until.kept.group until.kept.last until.onward until.kept.last_is
+      until.onward_is)
+
+  at_end : (image : Image) → IsLeft setting new new.clock image
+      → IsReadBack setting first.uber.reflow.to (keeps.kept.last ∷ keeps.kept.begun) image
+  at_end image left = read_back setting (keeps.kept.last ∷ keeps.kept.begun) first keeps.kept.last keeps.kept.begun
+      image may.odd left.only (keeps.kept.keeps image left.might) (λ kept listed. listed)
+      (record { each = λ kept has. keeps.widths.each kept (keeps.kept_among kept has) })
+      (last_bytes items hands keeps.kept.group keeps.kept.last keeps.kept.begun keeps.kept.last_is
+      keeps.kept.begun_is)
+
+  -- A run or a replay survives a stop at any moment of it.
+  pub survives_stops : SurvivesStops setting first later script old new items
+  survives_stops = record {
+    opening = keeps.chosen.map;
+    legal = keeps.legal;
+    groups = keeps.any_moment.groups;
+    any_moment = any_moment;
+    no_older = keeps.no_older;
+    by_then = by_then;
+    kept = keeps.kept;
+    at_end = at_end;
+  }

@@ -1,0 +1,101 @@
+-- What the next run or replay reads back of one that was stopped.
+use Rattle.std.specs.Prelude.{◌≡◌, ◌≢◌, ℕ, ◌+◌, ◌≤◌, List, ◌∷◌, ◌++◌, length, take, Contains}
+use Rattle.bank_trait.specs.Disk.{Image, Disk}
+use Rattle.uberblock_ring.specs.Devices.{IsWithin}
+use Rattle.core_state.specs.declared.answer.Answer.TheVariants as answer
+use Rattle.core_state.specs.declared.item.Entry.{Entry}
+use Rattle.core_state.specs.declared.item.Item.{Item}
+use Rattle.core_state.specs.Map.{Map, Handed}
+use Rattle.core_state.specs.Legal.{CallAt}
+use Rattle.core_state.specs.Journal.{IsLegalJournal}
+use Rattle.core_state.specs.Keeps.{Kept, Setting}
+use Rattle.core_state.specs.Moment.{Groups}
+use Rattle.core_state.specs.Collision.{MightStand, HasNoOtherPage}
+use Rattle.core_open.specs.Holds.{shape_of}
+use Rattle.core_open.specs.Opens.{IsWithinBelow}
+use Rattle.client_script.specs.Script.{Script, asked_by, handed_by}
+use Rattle.core_serial.specs.Opening.{MayBegin}
+use Rattle.core_serial.specs.Stopped.{IsImageOf, HoldsAlone}
+use Rattle.serial_run.specs.Moments.{KeepsLast, KeepsUntil}
+use Rattle.schedule.specs.Moments.{KeepsTurnByTurn}
+use Rattle.raidzx_top.specs.declared.carrying.Carried.{Carried}
+use Rattle.raidzx_top.specs.declared.carrying.Carried.TheVariants as carried
+use Rattle.raidzx_top.specs.declared.carrying.Manner.{Manner}
+use Rattle.raidzx_top.specs.declared.carrying.Manner.TheVariants as manner
+use Rattle.raidzx_top.specs.Carrying.{CarriesOut}
+
+-- The devices that were silent when a pool of this width was looked for, and those that have to be borne, may fail.
+pub record MayFail (setting : Setting) (width silent borne : ℕ) : Type 0 where
+  pub silent_in : IsWithinBelow width silent setting.failed
+  pub borne_in : IsWithin borne setting.failed
+
+-- So it is with those of a script that was carried out.
+abbrev pub BearsFailures : Setting → ℕ → (how : Manner) (script : Script) (old new : Disk) (items : List Item)
+    (given : Carried) → CarriesOut how script old new items given → Type 0
+BearsFailures setting width manner.Whole script old new items (carried.Run ran) run =
+    MayFail setting width run.silent run.borne
+BearsFailures setting width manner.ByTurns script old new items (carried.Replay replayed) run =
+    MayFail setting width run.silent run.borne
+BearsFailures setting width manner.Whole script old new items (carried.Replay replayed) run = ⊥
+BearsFailures setting width manner.ByTurns script old new items (carried.Run ran) run = ⊥
+
+-- A crash at this moment might have left the image on the bank, and no uberblock in it is valid by chance.
+pub record IsLeft (setting : Setting) (disk : Disk) (moment : ℕ) (image : Image) : Type 0 where
+  pub might : MightStand setting.shape disk moment image
+  pub only : IsImageOf setting.shape image
+
+-- The bank has the setting's shape and holds the image alone, and no page in that is by chance one of these
+-- groups'.
+pub record IsLeftOn (setting : Setting) (groups : List Kept) (image : Image) (disk : Disk) : Type 0 where
+  pub shape : setting.shape ≡ shape_of disk
+  pub alone : HoldsAlone disk image
+  pub pages : HasNoOtherPage setting.shape groups image
+
+-- The bank keeps some of these groups, with which a pool may be opened.
+pub record MayBeginAmong (setting : Setting) (groups : List Kept) (disk : Disk) : Type 0 where
+  pub first : Kept
+  pub later : List Kept
+  pub among : (kept : Kept) → Contains (first ∷ later) kept → Contains groups kept
+  pub may : MayBegin setting first later disk
+
+-- The journal goes on from one of these groups: it is legal for its script from that group's map on, and no read is
+-- told as damaged.
+pub record ReadsBack (groups : List Kept) (script : Script) (items : List Item) : Type 0 where
+  pub chosen : Kept
+  pub known : Contains groups chosen
+  pub legal : IsLegalJournal (asked_by script) (handed_by script) chosen.map items
+  pub sound : (index : ℕ) (entry : Entry) → CallAt items index entry → entry.answer ≢ answer.Damaged
+
+-- A bank that holds the image alone may be opened with some of these groups, and each script that is carried out on
+-- it, whole or turn by turn, reads back one of them, where the devices that were silent or have to be borne may fail.
+pub record IsReadBack (setting : Setting) (width : ℕ) (groups : List Kept) (image : Image) : Type 0 where
+  pub opened : (disk : Disk) → IsLeftOn setting groups image disk → MayBeginAmong setting groups disk
+  pub each : (how : Manner) (script : Script) (old new : Disk) (items : List Item) (given : Carried)
+      → (run : CarriesOut how script old new items given)
+      → IsLeftOn setting groups image old → BearsFailures setting width how script old new items given run
+      → ReadsBack groups script items
+
+-- what is kept from one item of a journal to the next: the last group listed, and at most one begun after it
+abbrev pub last_groups : {setting : Setting} → {handed : Handed} → {opening : Map} → {known : List Kept}
+    → {items : List Item} → {now next : Disk} → KeepsUntil setting handed opening known items now next → List Kept
+last_groups until = until.kept.last ∷ until.onward
+
+-- A stop of a script that was carried out loses no group that was answered. What it leaves at any moment is read
+-- back as one of the run's groups: those kept before, the journal's, and at most one that was begun and not answered.
+-- Once an item was listed, that is the last group listed by then, or one begun after it; and so it is at the end.
+pub record SurvivesStops (setting : Setting) (first : Kept) (later : List Kept) (script : Script) (old new : Disk)
+    (items : List Item) : Type 0 where
+  pub opening : Map
+  pub legal : IsLegalJournal (asked_by script) (handed_by script) opening items
+  pub groups : Groups (handed_by script) opening (first ∷ later) items
+  pub any_moment : (moment : ℕ) (image : Image) → old.clock ≤ moment → moment ≤ new.clock
+      → IsLeft setting new moment image
+      → IsReadBack setting first.uber.reflow.to ((first ∷ later) ++ groups.answered ++ groups.begun) image
+  pub no_older : KeepsTurnByTurn setting (handed_by script) opening (first ∷ later) items old new
+  pub by_then : (count : ℕ) (some : 1 ≤ count) (all : count ≤ length items) (moment : ℕ) (image : Image)
+      → (no_older.bank count).clock ≤ moment → moment ≤ (no_older.bank (count + 1)).clock
+      → IsLeft setting (no_older.bank (count + 1)) moment image
+      → IsReadBack setting first.uber.reflow.to (last_groups (no_older.each count some all)) image
+  pub kept : KeepsLast setting (handed_by script) opening items new
+  pub at_end : (image : Image) → IsLeft setting new new.clock image
+      → IsReadBack setting first.uber.reflow.to (kept.last ∷ kept.begun) image
