@@ -14,6 +14,8 @@ mod images;
 mod lost_block_tests;
 mod making;
 #[cfg(test)]
+mod replay_stop_tests;
+#[cfg(test)]
 mod replay_tests;
 mod report;
 #[cfg(test)]
