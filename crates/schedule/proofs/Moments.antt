@@ -17,7 +17,7 @@ use Rattle.core_state.proofs.Keeping.{knows_keep}
 use Rattle.core_state.proofs.Since.{since_now}
 use Rattle.core_serial.proofs.Committing.{since_wider}
 use Rattle.serial_run.specs.Moments.{KeepsUntil}
-use Rattle.serial_run.specs.Widths.{AreAlike}
+use Rattle.serial_run.specs.Widths.{HaveWidthOfEach}
 use Rattle.serial_run.proofs.Moments.{moved, with_bank, bank_below, bank_at}
 use Rattle.schedule.specs.Moments.{KeepsTurnByTurn, KeepsOn}
 
@@ -28,7 +28,7 @@ pub record AreLatest (handed : Handed) (opening : Map) (known : List Kept) (item
   pub last_is : IsGroupOf handed opening items item last
   pub one : length begun ≤ 1
   pub begun_is : (kept : Kept) → Contains begun kept → IsBegunAfter handed opening items item kept
-  pub alike : AreAlike known (last ∷ begun)
+  pub alike : HaveWidthOfEach known (last ∷ begun)
 
 -- A group and those after it are a row of themselves.
 pub whole_row : (first : Kept) (later : List Kept) → IsRowOf (first ∷ later) first later

@@ -22,7 +22,7 @@ use Rattle.core_state.proofs.Keeping.{knows_keep}
 use Rattle.core_state.proofs.Listed.{contains_none}
 use Rattle.core_serial.proofs.Committing.{since_wider}
 use Rattle.serial_run.specs.Moments.{KeepsLast}
-use Rattle.serial_run.specs.Widths.{HaveWidthOf, AreAlike}
+use Rattle.serial_run.specs.Widths.{HaveWidthOf, HaveWidthOfEach}
 use Rattle.serial_run.proofs.Grown.{map_before}
 use Rattle.serial_run.proofs.GrownAnswers.{answers_grown_call, answers_grown_group}
 use Rattle.serial_run.proofs.GrownGroups.{groups_grown_call, groups_grown_group, latest_grown_call, latest_grown_group, group_of_grown, after_listed}
@@ -97,7 +97,7 @@ groups_none groups = (
 latest_of : {handed : Handed} {opening : Map} {known : List Kept} {items : List Item} {item : GroupItem} {last : Kept}
     {begun : List Kept} → (groups : Groups handed opening known items) → groups.begun ≡ begun
     → IsGroupBefore items (length items) item → IsGroupOf handed opening items item last
-    → AreAlike known (last ∷ begun)
+    → HaveWidthOfEach known (last ∷ begun)
     → AreLatest handed opening known items item last begun
 latest_of {handed = handed} {opening = opening} {known = known} {items = items} {item = item} groups begun_are latest
     last_is alike = record {
@@ -123,7 +123,7 @@ module _ {world : World} {origin : Disk} {items : List Item} {last : Kept} {begu
       let few = after_listed items so_far.in_order so_far.latest.place so_far.item so_far.latest.there in
       let low = so_far.latest.before in omega (arith, few, low)
 
-  alike_now : AreAlike world.known (last ∷ begun)
+  alike_now : HaveWidthOfEach world.known (last ∷ begun)
   alike_now = last_alike uber world.known so_far.earlier so_far.groups.answered so_far.groups.begun begun last
       so_far.answered_are so_far.begun_are so_far.widths
 

@@ -26,7 +26,7 @@ use Rattle.core_serial.specs.Standing.{Stands, GoesOn}
 use Rattle.core_serial.specs.Syncing.{EndsGroup, CutsGroup}
 use Rattle.serial_run.specs.Moments.{KeepsLast, KeepsUntil, KeepsItemByItem}
 use Rattle.serial_run.specs.Running.{Runs}
-use Rattle.serial_run.specs.Widths.{HaveWidthOf, AreAlike}
+use Rattle.serial_run.specs.Widths.{HaveWidthOf, HaveWidthOfEach}
 use Rattle.serial_run.proofs.Rows.{cut_row, last_row, row_among}
 use Rattle.serial_run.proofs.GrownGroups.{latest_grown_group}
 use Rattle.serial_run.proofs.GrownRun.{groups_begun}
@@ -50,7 +50,7 @@ since_here setting last begun disk knows = since_now setting (last ∷ begun) la
 
 -- Where all groups of a run have one width and parity, its last one and those begun after it are alike to those known,
 end_alike : (uber : Uber) (known earlier : List Kept) (last : Kept) (onward : List Kept)
-    → HaveWidthOf uber (((known ++ earlier) ++ last ∷ []) ++ onward) → AreAlike known (last ∷ onward)
+    → HaveWidthOf uber (((known ++ earlier) ++ last ∷ []) ++ onward) → HaveWidthOfEach known (last ∷ onward)
 end_alike uber known earlier last onward widths group has = record {
   each = λ kept here.
       let its = widths.each kept (among kept here) in
@@ -69,14 +69,14 @@ end_alike uber known earlier last onward widths group has = record {
 
 pub last_alike : (uber : Uber) (known earlier answered begun left : List Kept) (last : Kept)
     → answered ≡ earlier ++ last ∷ [] → begun ≡ left → HaveWidthOf uber (known ++ answered ++ begun)
-    → AreAlike known (last ∷ left)
+    → HaveWidthOfEach known (last ∷ left)
 last_alike uber known earlier answered begun left last answered_are begun_are widths =
     end_alike uber known earlier last left (subst (λ (l : List Kept). HaveWidthOf uber l)
     (sym (cut_row known earlier answered left begun last answered_are begun_are)) widths)
 
 -- and so are those behind the first of them.
-alike_behind : (known : List Kept) (first : Kept) (later : List Kept) → AreAlike known (first ∷ later)
-    → AreAlike known later
+alike_behind : (known : List Kept) (first : Kept) (later : List Kept) → HaveWidthOfEach known (first ∷ later)
+    → HaveWidthOfEach known later
 alike_behind known first later alike group has = record {
   each = λ kept here. (alike group has).each kept (contains_tail first later kept here);
 }
@@ -107,7 +107,7 @@ module _ (setting : Setting) (handed : Handed) (opening : Map) (known : List Kep
   -- Where nothing is done until the next item.
   until_now : (items : List Item) (group : GroupItem) (last : Kept) (disk : Disk)
       → IsGroupBefore items (length items) group → IsGroupOf handed opening items group last
-      → Knows setting last [] disk → AreAlike known (last ∷ [])
+      → Knows setting last [] disk → HaveWidthOfEach known (last ∷ [])
       → KeepsUntil setting handed opening known items disk disk
   until_now items group last disk latest last_is knows alike = record {
     later = later_refl disk;
@@ -218,7 +218,7 @@ module _ (world : World) (origin : Disk) (old : List Item) (before : State) (run
     next_item : (item : Item) (onward : List Kept) → length onward ≤ 1
         → ((kept : Kept) → Contains onward kept → IsBegunAfter world.handed world.opening old runs.item kept)
         → KeepsSince world.setting (runs.last ∷ onward) before.disk.clock after.disk
-        → AreAlike world.known (runs.last ∷ onward)
+        → HaveWidthOfEach world.known (runs.last ∷ onward)
         → GoesOnBy (old ++ item ∷ [])
     unfolding kept_now
     next_item item onward one onward_is since alike =
@@ -264,7 +264,7 @@ module _ (world : World) (origin : Disk) (old : List Item) (before : State) (run
           after.disk (latest_grown_group old group) is ends.stands.knows
           (alike_behind world.known runs.last (ends.next ∷ []) alike))
         where
-          alike : AreAlike world.known (runs.last ∷ ends.next ∷ [])
+          alike : HaveWidthOfEach world.known (runs.last ∷ ends.next ∷ [])
           alike = end_alike after.pool.uber world.known runs.earlier runs.last (ends.next ∷ []) widths
 
       -- One that was cut short.

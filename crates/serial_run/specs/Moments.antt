@@ -8,7 +8,7 @@ use Rattle.core_state.specs.Legal.{IsGroupBefore}
 use Rattle.core_state.specs.Keeps.{Kept, Setting}
 use Rattle.core_state.specs.Collision.{BankKeeps}
 use Rattle.core_state.specs.Moment.{IsGroupOf, IsBegunAfter, KeepsSince, KeepsThroughout}
-use Rattle.serial_run.specs.Widths.{AreAlike}
+use Rattle.serial_run.specs.Widths.{HaveWidthOfEach}
 
 -- The bank keeps the journal's last group, and maybe one that was begun after it.
 pub record KeepsLast (setting : Setting) (handed : Handed) (opening : Map) (items : List Item)
@@ -35,7 +35,7 @@ pub record KeepsUntil (setting : Setting) (handed : Handed) (opening : Map) (kno
   pub onward_is : (group : Kept) → Contains onward group
       → IsBegunAfter handed opening items kept.group group
   pub since : KeepsSince setting (kept.last ∷ onward) now.clock next
-  pub alike : AreAlike known (kept.last ∷ onward)
+  pub alike : HaveWidthOfEach known (kept.last ∷ onward)
 
 -- The banks that a run came by, one for each number of items in its journal, from the end of the opening,
 -- which listed the first. Until then, whatever a stop left keeps some of the groups known and that first one;

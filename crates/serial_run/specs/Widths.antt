@@ -8,6 +8,6 @@ pub record HaveWidthOf (uber : Uber) (groups : List Kept) : Type 0 where
   pub each : (kept : Kept) → Contains groups kept
       → (kept.uber.reflow.to ≡ uber.reflow.to) × (kept.uber.parity ≡ uber.parity)
 
--- These groups have the width and the parity of each of the groups known.
-abbrev pub AreAlike : List Kept → List Kept → Type 0
-AreAlike known groups = (group : Kept) → Contains known group → HaveWidthOf group.uber groups
+-- The groups have the width and the parity of each of these.
+abbrev pub HaveWidthOfEach : List Kept → List Kept → Type 0
+HaveWidthOfEach known groups = (group : Kept) → Contains known group → HaveWidthOf group.uber groups
