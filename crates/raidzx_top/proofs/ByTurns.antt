@@ -12,14 +12,14 @@ use Rattle.core_state.specs.Keeps.{Kept, Setting}
 use Rattle.core_state.specs.Collision.{MightStand}
 use Rattle.core_state.specs.Moment.{KeepsSince, KeepsThroughout}
 use Rattle.serial_run.specs.Moments.{KeepsLast, KeepsUntil, KeepsItemByItem}
-use Rattle.serial_run.specs.Widths.{AreAlike}
+use Rattle.serial_run.specs.Widths.{HaveWidthOfEach}
 use Rattle.serial_run.proofs.Moments.{moved, with_bank, bank_below, bank_at}
 use Rattle.schedule.specs.Moments.{KeepsTurnByTurn}
 
 -- A run that lists its last item as it ends goes by turns of which the last one is its end.
 module _ {setting : Setting} {handed : Handed} {opening : Map} {known : List Kept} {items : List Item}
     {old new : Disk} (by : KeepsItemByItem setting handed opening known items old new) (some : 1 ≤ length items)
-    (kept : KeepsLast setting handed opening items new) (alike : AreAlike known (kept.last ∷ kept.begun)) where
+    (kept : KeepsLast setting handed opening items new) (alike : HaveWidthOfEach known (kept.last ∷ kept.begun)) where
   -- the run's banks, and once more the last one
   abbrev bank : ℕ → Disk
   bank = with_bank by.bank (length items + 1) new

@@ -6,11 +6,11 @@ pub mod Creating
 pub mod Telling
 pub mod Reading
 pub mod Carried
+pub mod ByTurns
+pub mod Reopening
 pub mod RunParts
 pub mod RunRefused
 pub mod RunAnswers
-pub mod ByTurns
-pub mod Reopening
 pub mod RunCarried
 pub mod RunEnding
 pub mod Ending

@@ -1,10 +1,11 @@
 -- What a stop leaves of a run or a replay is read back by the next one.
-use Rattle.std.proofs.Common.{◌≡◌, ◌≢◌, ⊎_elim, ℕ, zero, suc, ◌+◌, ◌<◌, ◌≤◌, List, [], ◌∷◌, ◌++◌, length, refl, sym, ◌∙◌, subst, arith}
+use Rattle.std.proofs.Common.{◌≡◌, ◌≢◌, ◌⊎◌, inl, inr, ⊎_elim, ℕ, zero, suc, ◌+◌, ◌<◌, ◌≤◌, List, [], ◌∷◌, ◌++◌, length, refl, sym, ◌∙◌, ap, subst, arith}
 use Rattle.std.specs.Prelude.{All, Contains, take}
 use Rattle.std.specs.List.{AllZip}
 use Rattle.std.proofs.lemmas.List.Elements.{Contains-append_cases, Contains-append_left}
 use Rattle.std.proofs.lemmas.Option.{slice_get_within}
 use Rattle.bank_trait.specs.Disk.{Image, Disk}
+use Rattle.uberblock_ring.specs.Uberblock.{Uber}
 use Rattle.core_state.specs.declared.answer.Answer.TheVariants as answer
 use Rattle.core_state.specs.declared.item.Entry.{Entry}
 use Rattle.core_state.specs.declared.item.Group.{Group as GroupItem}
@@ -14,14 +15,16 @@ use Rattle.core_state.specs.Map.{Map, Handed, SameMap, map_after}
 use Rattle.core_state.specs.Journal.{IsLegalJournal}
 use Rattle.core_state.specs.Legal.{CallAt}
 use Rattle.core_state.specs.Keeps.{Kept, Setting, Keeps}
-use Rattle.core_state.specs.Moment.{IsGroupOf, IsBegunAfter, IsUnanswered, KeepsSome, KeepsThroughout, groups_in}
+use Rattle.core_state.specs.Collision.{MightStand}
+use Rattle.core_state.specs.Moment.{IsGroupOf, IsBegunAfter, IsUnanswered, KeepsSince, KeepsSome, KeepsThroughout, groups_in}
 use Rattle.core_state.proofs.Listed.{contains_none, contains_cases}
-use Rattle.core_serial.specs.Opening.{MayBegin}
+use Rattle.core_open.specs.Opens.{AddsOne}
+use Rattle.core_serial.specs.Opening.{CutsOpening, MayBegin}
 use Rattle.core_serial.specs.Stopped.{IsImageOf}
 use Rattle.core_serial.proofs.Reopened.{stopped_begins}
 use Rattle.client_script.specs.Script.{Script, IsAllowed, asked_by, handed_by}
 use Rattle.serial_run.specs.Moments.{KeepsLast, KeepsUntil}
-use Rattle.serial_run.specs.Widths.{HaveWidthOf, AreAlike}
+use Rattle.serial_run.specs.Widths.{HaveWidthOf, HaveWidthOfEach}
 use Rattle.serial_run.proofs.Rows.{row_among}
 use Rattle.serial_run.proofs.RunBytes.{HoldsBytes, HandsBytes, after_bytes, script_hands}
 use Rattle.schedule.specs.Moments.{KeepsTurnByTurn}
@@ -30,7 +33,7 @@ use Rattle.raidzx_top.specs.declared.carrying.Carried.TheVariants as carried
 use Rattle.raidzx_top.specs.declared.carrying.Manner.{Manner}
 use Rattle.raidzx_top.specs.declared.carrying.Manner.TheVariants as manner
 use Rattle.raidzx_top.specs.Carrying.{CarriesOut}
-use Rattle.raidzx_top.specs.Reopened.{BearsFailures, IsLeft, IsLeftOn, ReadsBack, IsReadBack, SurvivesStops, last_groups}
+use Rattle.raidzx_top.specs.Reopened.{BearsCut, BearsFailures, IsLeft, IsLeftOn, ReadsBack, IsReadBack, SurvivesOpening, SurvivesStops, last_groups}
 use Rattle.raidzx_top.proofs.ByTurns.{by_turns}
 
 -- What is kept of a script that was carried out, whether its calls went whole or turn by turn.
@@ -50,7 +53,7 @@ record KeepsGroups (script : Script) (setting : Setting) (first : Kept) (later :
 -- Groups are alike to those known where all of them have the width and the parity of one uberblock.
 alike_among : (opened : Kept) (known more begun groups : List Kept) → HaveWidthOf opened.uber (known ++ more ++ begun)
     → ((kept : Kept) → Contains groups kept → Contains (known ++ more ++ begun) kept)
-    → AreAlike known groups
+    → HaveWidthOfEach known groups
 alike_among opened known more begun groups widths among group has = record {
   each = λ kept here.
       let its = widths.each kept (among kept here) in
@@ -252,3 +255,64 @@ module _ (how : Manner) (script : Script) (old new : Disk) (items : List Item) (
     kept = keeps.kept;
     at_end = at_end;
   }
+
+module _ (setting : Setting) (first : Kept) (later : List Kept) (old : Disk) (may : MayBegin setting first later old)
+  where
+    -- A group that renews one of those kept before has their width and parity, and a map of bytes.
+    module _ (joined : List Kept) (adds : AddsOne (first ∷ later) joined) where
+      joined_widths : HaveWidthOf first.uber ((first ∷ later) ++ joined)
+      joined_widths = record {
+        each = λ kept listed. ⊎_elim (may.may.width kept)
+            (λ here.
+            let from = adds.renews kept here in
+            let its = may.may.width from.0 from.1 in
+            (ap (λ (u : Uber). u.reflow.to) from.2.alike ∙ its.0, ap (λ (u : Uber). u.parity) from.2.alike ∙ its.1))
+            (Contains-append_cases (first ∷ later) joined kept listed);
+      }
+
+      joined_bytes : HaveBytes ((first ∷ later) ++ joined)
+      joined_bytes kept listed id content has = ⊎_elim
+          (λ known. may.bytes kept id content known has)
+          (λ here.
+          let from = adds.renews kept here in
+          may.bytes from.0 id content from.1 (sym (from.2.map id) ∙ has))
+          (Contains-append_cases (first ∷ later) joined kept listed)
+
+      some_back : {new : Disk} → KeepsSince setting ((first ∷ later) ++ joined) old.clock new
+          → SurvivesOpening setting first later old new
+      some_back since = record {
+        joined = joined;
+        adds = adds;
+        any_moment = λ moment image from until left.
+            let some = since.each moment image from until left.might in
+            read_back setting ((first ∷ later) ++ joined) first some.first some.later image may.odd left.only some.keeps
+            (row_among (record { before = some.before; after = some.after; row = some.row })) joined_widths joined_bytes;
+      }
+
+    none_joins : AddsOne (first ∷ later) []
+    none_joins = record { one = omega arith; renews = λ next here. absurd (contains_none next here) }
+
+    -- Where nothing was done, each image keeps what was kept.
+    since_none : KeepsSince setting ((first ∷ later) ++ []) old.clock old
+    since_none = record {
+      each = λ moment image from until might. record {
+        before = [];
+        first = first;
+        later = later;
+        after = [];
+        row = refl;
+        keeps = may.may.keeps image (subst (λ (n : ℕ). MightStand setting.shape old n image)
+            (omega (arith, from, until)) might);
+      };
+    }
+
+    -- So does a call that opened no pool.
+    pub survives_opening : (new : Disk) (cut : (new ≡ old) ⊎ CutsOpening old new)
+        → BearsCut setting first.uber.reflow.to cut
+        → SurvivesOpening setting first later old new
+    survives_opening new (inl same) bears =
+        subst (λ (disk : Disk). SurvivesOpening setting first later old disk) (sym same)
+        (some_back [] none_joins since_none)
+    survives_opening new (inr cuts) bears =
+        let keeps = cuts.keeps.since setting first later may.may bears.silent_in bears.borne_in in
+        some_back keeps.0 keeps.1 keeps.2

@@ -21,6 +21,7 @@ use Rattle.raidzx_top.specs.Exit.{read_status, why_status}
 use Rattle.raidzx_top.specs.Promises.{LeavesNone, IsSmooth}
 use Rattle.raidzx_top.specs.Running.{IsWell, IsUnread, IsUnopened, HasRead, IsRefused, Unread, Roomless, Unopened, WasRefused}
 use Rattle.raidzx_top.specs.RunText.{IsLineFor}
+use Rattle.raidzx_top.proofs.Reopening.{survives_opening}
 use Rattle.raidzx_top.proofs.Refusing.{said_right}
 use Rattle.raidzx_top.proofs.RunParts.{IsRunEnd, command_in, reads, opens, held_at_entry, none_silent}
 
@@ -89,6 +90,8 @@ unread how call no_turns why is same status_is = record {
   leaves = record {
     untouched = λ memory many. subst (λ (disk : Disk). Unchanged call.old disk) (sym same) (unchanged_none call.old);
     cut = inl same;
+    survives = λ setting first later may bears.
+        survives_opening setting first later call.old may call.new (inl same) bears;
     others = inl same;
     turns = no_turns;
   };
@@ -127,6 +130,8 @@ roomless how call no_turns script was_read same status_is = record {
   leaves = record {
     untouched = λ memory many. absurd (memory status_is);
     cut = inl same;
+    survives = λ setting first later may bears.
+        survives_opening setting first later call.old may call.new (inl same) bears;
     others = inl same;
     turns = no_turns;
   };
@@ -149,6 +154,8 @@ unopened how call none_yet no_turns script was_read why is status_is = record {
         (λ no_memory. memory (status_is ∙ ap why_status no_memory))
         (λ out too_many. many out (status_is ∙ ap why_status too_many));
     cut = inr is.cut;
+    survives = λ setting first later may bears.
+        survives_opening setting first later call.old may call.new (inr is.cut) bears;
     others = inr is.others;
     turns = no_turns;
   };

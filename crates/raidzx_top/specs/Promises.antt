@@ -34,7 +34,7 @@ use Rattle.raidzx_top.specs.Spelled.{IsServedAs, command_of}
 use Rattle.raidzx_top.specs.Call.{Call, HoldsImage, shape_of}
 use Rattle.raidzx_top.specs.Carrying.{CarriesOut, served_by, turns_of}
 use Rattle.raidzx_top.specs.Causes.{NoneRose, IsTooSmall, MeetsLimit, IsNoCommand, IsCaused, ComesWhere, most_turns}
-use Rattle.raidzx_top.specs.Reopened.{BearsFailures, SurvivesStops}
+use Rattle.raidzx_top.specs.Reopened.{BearsCut, BearsFailures, SurvivesOpening, SurvivesStops}
 use Rattle.raidzx_top.specs.RunJournal.{NoneWantsMemory}
 use Rattle.raidzx_top.specs.RunText.{IsWritten, TextIsRight, create_text, status_line}
 use Rattle.raidzx_top.specs.Running.{IsStatusOf, StoppedFor, after_fault}
@@ -129,6 +129,10 @@ pub record LeavesNone (call : Call) : Type 0 where
       → ((out : ℕ) → call.status ≡ status.TooManyFailed out → ⊥)
       → Unchanged call.old call.new
   pub cut : (call.new ≡ call.old) ⊎ CutsOpening call.old call.new
+  -- What a stop leaves of it, at any moment, the next run or replay reads back.
+  pub survives : (setting : Setting) (first : Kept) (later : List Kept) → MayBegin setting first later call.old
+      → BearsCut setting first.uber.reflow.to cut
+      → SurvivesOpening setting first later call.old call.new
   -- Devices that are not of the pool that the devices show are left alone.
   pub others : (call.new ≡ call.old) ⊎ LeavesOthers call.old call.new
   pub turns : call.turns ≡ 0

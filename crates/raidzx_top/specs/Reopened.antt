@@ -1,5 +1,6 @@
 -- What the next run or replay reads back of one that was stopped.
-use Rattle.std.specs.Prelude.{◌≡◌, ◌≢◌, ℕ, ◌+◌, ◌≤◌, List, ◌∷◌, ◌++◌, length, take, Contains}
+use Rattle.std.proofs.Common.{inl, inr}
+use Rattle.std.specs.Prelude.{◌≡◌, ◌≢◌, ◌⊎◌, ℕ, ◌+◌, ◌≤◌, List, ◌∷◌, ◌++◌, length, take, Contains, ⊤}
 use Rattle.bank_trait.specs.Disk.{Image, Disk}
 use Rattle.uberblock_ring.specs.Devices.{IsWithin}
 use Rattle.core_state.specs.declared.answer.Answer.TheVariants as answer
@@ -12,9 +13,9 @@ use Rattle.core_state.specs.Keeps.{Kept, Setting}
 use Rattle.core_state.specs.Moment.{Groups}
 use Rattle.core_state.specs.Collision.{MightStand, HasNoOtherPage}
 use Rattle.core_open.specs.Holds.{shape_of}
-use Rattle.core_open.specs.Opens.{IsWithinBelow}
+use Rattle.core_open.specs.Opens.{AddsOne, IsWithinBelow}
 use Rattle.client_script.specs.Script.{Script, asked_by, handed_by}
-use Rattle.core_serial.specs.Opening.{MayBegin}
+use Rattle.core_serial.specs.Opening.{CutsOpening, MayBegin}
 use Rattle.core_serial.specs.Stopped.{IsImageOf, HoldsAlone}
 use Rattle.serial_run.specs.Moments.{KeepsLast, KeepsUntil}
 use Rattle.schedule.specs.Moments.{KeepsTurnByTurn}
@@ -99,3 +100,17 @@ pub record SurvivesStops (setting : Setting) (first : Kept) (later : List Kept) 
   pub kept : KeepsLast setting (handed_by script) opening items new
   pub at_end : (image : Image) → IsLeft setting new new.clock image
       → IsReadBack setting first.uber.reflow.to (kept.last ∷ kept.begun) image
+
+-- So it is with the devices that were silent in an opening that was cut short, and those that have to be borne in it.
+abbrev pub BearsCut : Setting → ℕ → {old new : Disk} → (new ≡ old) ⊎ CutsOpening old new → Type 0
+BearsCut setting width (inl same) = ⊤
+BearsCut setting width (inr cuts) = MayFail setting width cuts.silent cuts.earlier
+
+-- A stop of a call that opened no pool loses nothing either. What it leaves at any moment is read back as one of the
+-- groups kept before, or as one that was begun in place of one of these.
+pub record SurvivesOpening (setting : Setting) (first : Kept) (later : List Kept) (old new : Disk) : Type 0 where
+  pub joined : List Kept
+  pub adds : AddsOne (first ∷ later) joined
+  pub any_moment : (moment : ℕ) (image : Image) → old.clock ≤ moment → moment ≤ new.clock
+      → IsLeft setting new moment image
+      → IsReadBack setting first.uber.reflow.to ((first ∷ later) ++ joined) image
