@@ -128,7 +128,13 @@ read_back : (setting : Setting) (groups : List Kept) (opened first : Kept) (late
     → HaveWidthOf opened.uber groups → HaveBytes groups
     → IsReadBack setting opened.uber.reflow.to groups image
 read_back setting groups opened first later image odd only keeps among width bytes = record {
-  opened = λ disk left. record { first = first; later = later; among = among; may = may disk left };
+  opened = λ disk left. record {
+    first = first;
+    later = later;
+    among = among;
+    width_is = (width.each first here).0;
+    may = may disk left;
+  };
   each = λ how script old new items given run left bears. reads how script old new items given run left bears;
 }
   where

@@ -52,11 +52,12 @@ pub record IsLeftOn (setting : Setting) (groups : List Kept) (image : Image) (di
   pub alone : HoldsAlone disk image
   pub pages : HasNoOtherPage setting.shape groups image
 
--- The bank keeps some of these groups, with which a pool may be opened.
-pub record MayBeginAmong (setting : Setting) (groups : List Kept) (disk : Disk) : Type 0 where
+-- The bank keeps some of these groups, with which a pool of this width may be opened.
+pub record MayBeginAmong (setting : Setting) (width : ℕ) (groups : List Kept) (disk : Disk) : Type 0 where
   pub first : Kept
   pub later : List Kept
   pub among : (kept : Kept) → Contains (first ∷ later) kept → Contains groups kept
+  pub width_is : first.uber.reflow.to ≡ width
   pub may : MayBegin setting first later disk
 
 -- The journal goes on from one of these groups: it is legal for its script from that group's map on, and no read is
@@ -70,7 +71,7 @@ pub record ReadsBack (groups : List Kept) (script : Script) (items : List Item) 
 -- A bank that holds the image alone may be opened with some of these groups, and each script that is carried out on
 -- it, whole or turn by turn, reads back one of them, where the devices that were silent or have to be borne may fail.
 pub record IsReadBack (setting : Setting) (width : ℕ) (groups : List Kept) (image : Image) : Type 0 where
-  pub opened : (disk : Disk) → IsLeftOn setting groups image disk → MayBeginAmong setting groups disk
+  pub opened : (disk : Disk) → IsLeftOn setting groups image disk → MayBeginAmong setting width groups disk
   pub each : (how : Manner) (script : Script) (old new : Disk) (items : List Item) (given : Carried)
       → (run : CarriesOut how script old new items given)
       → IsLeftOn setting groups image old → BearsFailures setting width how script old new items given run
