@@ -14,8 +14,6 @@ mod refused;
 mod shelf;
 mod sink;
 mod source;
-#[cfg(test)]
-mod tests;
 
 pub use bank::MemBank;
 pub use crash::{Tear, Torn};

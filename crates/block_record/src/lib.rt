@@ -11,8 +11,6 @@ mod entry;
 mod numbers;
 mod read;
 mod sector;
-#[cfg(test)]
-mod tests;
 
 pub use encode::{encode_index, index_sector, page_sectors};
 pub use entry::IndexEntry;

@@ -9,8 +9,6 @@ mod ids;
 mod places;
 mod reserved;
 mod table;
-#[cfg(test)]
-mod tests;
 
 pub use ids::Ids;
 pub use table::{MAX_IDS, ReserveRefused, Table};

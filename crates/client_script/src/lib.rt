@@ -20,10 +20,6 @@ mod reading;
 mod refused;
 mod script;
 mod source;
-#[cfg(test)]
-mod tests;
-#[cfg(test)]
-mod text_tests;
 mod text_writer;
 mod words;
 

@@ -9,8 +9,6 @@
 mod call;
 mod commit;
 mod plan;
-#[cfg(test)]
-mod tests;
 
 pub use call::CommitCall;
 pub use commit::Commit;

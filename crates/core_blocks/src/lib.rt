@@ -14,8 +14,6 @@ mod loading;
 mod range;
 mod refused;
 mod sectors;
-#[cfg(test)]
-mod tests;
 
 pub use blocks::Blocks;
 pub use range::PutRange;

@@ -15,8 +15,6 @@ mod refused;
 mod spot;
 mod standing;
 mod storing;
-#[cfg(test)]
-mod tests;
 mod writing;
 
 pub use block_read::BlockRead;

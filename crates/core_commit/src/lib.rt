@@ -9,8 +9,6 @@
 
 mod commit_run;
 mod committing;
-#[cfg(test)]
-mod tests;
 
 pub use commit_run::{CommitRun, CommitStep};
 pub use committing::{TooManyOut, commit, copy};

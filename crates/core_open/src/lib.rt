@@ -21,8 +21,6 @@ mod page_lack;
 mod reading;
 mod sight;
 mod stopped;
-#[cfg(test)]
-mod tests;
 mod uber_copy;
 mod votes;
 mod why;

@@ -12,11 +12,7 @@ mod committing;
 mod freeing;
 mod getting;
 mod open_core;
-#[cfg(test)]
-mod put_tests;
 mod putting;
-#[cfg(test)]
-mod tests;
 mod turn;
 
 pub use getting::{GetRun, OutOfMemory, Solved};

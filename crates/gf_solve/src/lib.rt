@@ -16,6 +16,3 @@ mod solving;
 
 pub use looking::lost_among;
 pub use solving::solve;
-
-#[cfg(test)]
-mod tests;

@@ -7,7 +7,5 @@
 #![tactic(auto)]
 
 mod status_text;
-#[cfg(test)]
-mod tests;
 
 pub use status_text::print_status;

@@ -5,27 +5,11 @@
 #![tactic(auto)]
 
 mod carrying;
-#[cfg(test)]
-mod create_tests;
-#[cfg(test)]
-mod failing_tests;
 mod images;
-#[cfg(test)]
-mod lost_block_tests;
 mod making;
-#[cfg(test)]
-mod replay_stop_tests;
-#[cfg(test)]
-mod replay_tests;
 mod report;
-#[cfg(test)]
-mod run_tests;
 mod running;
 mod status;
-#[cfg(test)]
-mod stop_tests;
-#[cfg(test)]
-mod test_calls;
 mod top;
 mod words;
 

@@ -13,6 +13,3 @@ mod refused;
 pub use hold::{Hold, HoldKind};
 pub use locks::Locks;
 pub use refused::LockRefused;
-
-#[cfg(test)]
-mod tests;

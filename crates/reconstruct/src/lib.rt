@@ -27,6 +27,3 @@ pub use reading::content;
 pub use refusal::{CheckRefused, DecodeRefused};
 pub use rows::Rows;
 pub use suspecting::suspects;
-
-#[cfg(test)]
-mod tests;

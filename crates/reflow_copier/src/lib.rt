@@ -9,6 +9,3 @@ mod job;
 
 pub use due::{CHUNK_SECTORS, next_job};
 pub use job::{CallKind, Job, JobCall};
-
-#[cfg(test)]
-mod tests;

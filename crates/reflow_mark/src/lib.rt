@@ -10,6 +10,3 @@ mod word;
 
 pub use reflow::{Reflow, SCRATCH_ROWS, State};
 pub use stand::Stand;
-
-#[cfg(test)]
-mod tests;

@@ -7,23 +7,9 @@
 #![tactic(auto)]
 
 mod client;
-#[cfg(test)]
-mod legal_check;
-#[cfg(test)]
-mod order_tests;
 mod progress;
 mod replay;
-#[cfg(test)]
-mod replay_tests;
-#[cfg(test)]
-mod room_tests;
 mod station;
-#[cfg(test)]
-mod test_plans;
-#[cfg(test)]
-mod test_replays;
-#[cfg(test)]
-mod tests;
 mod turning;
 mod whole_run;
 

@@ -10,6 +10,3 @@ mod places;
 
 pub use moves::{drain_move, fill_move};
 pub use places::{FIRST_SCRATCH_SECTOR, new_place, old_place, scratch_place};
-
-#[cfg(test)]
-mod tests;

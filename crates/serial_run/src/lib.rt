@@ -7,17 +7,7 @@
 #![tactic(auto)]
 
 mod call;
-#[cfg(test)]
-mod failing_tests;
-#[cfg(test)]
-mod first_run_tests;
 mod run;
-#[cfg(test)]
-mod stop_tests;
-#[cfg(test)]
-mod test_runs;
-#[cfg(test)]
-mod tests;
 mod whole_run;
 
 pub use call::point_after;

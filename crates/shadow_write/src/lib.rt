@@ -12,6 +12,3 @@ mod write;
 
 pub use listing::writes;
 pub use write::Write;
-
-#[cfg(test)]
-mod tests;

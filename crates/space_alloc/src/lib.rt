@@ -13,6 +13,3 @@ mod space;
 
 pub use refused::TakeRefused;
 pub use space::Space;
-
-#[cfg(test)]
-mod tests;

@@ -15,8 +15,6 @@ mod header;
 mod ring;
 mod rules;
 mod shown;
-#[cfg(test)]
-mod tests;
 mod uber;
 
 pub use choice::choose;

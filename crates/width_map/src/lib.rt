@@ -17,6 +17,3 @@ pub use births::{Births, MAX_BIRTHS, width_at};
 pub use copying::limit;
 pub use placing::{FIRST_DATA_SECTOR, place};
 pub use position::Place;
-
-#[cfg(test)]
-mod tests;

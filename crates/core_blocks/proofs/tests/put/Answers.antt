@@ -1,7 +1,0 @@
-use Rattle.std.proofs.Common.{◌<◌, refl, arith}
-use Rattle.std.proofs.lemmas.List.Elements.{All-replicate}
-use Rattle.core_blocks.proofs.tests.put.Goals as goal
-
-pub into_entry-entry-requires-clause-digest : goal.into_entry-entry-requires-clause-digest
-into_entry-entry-requires-clause-digest c =
-    record { wide = refl; each = All-replicate (λ byte. byte < 256) 32 0 (omega arith) }

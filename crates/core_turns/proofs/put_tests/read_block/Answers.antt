@@ -1,4 +1,0 @@
-use Rattle.core_turns.proofs.put_tests.read_block.Goals as goal
-
-pub get_end-requires-clause-of : goal.get_end-requires-clause-of
-get_end-requires-clause-of g c = c.solve.ensures.of _ c.read_get-run-3.ensures.of

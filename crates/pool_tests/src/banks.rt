@@ -1,0 +1,53 @@
+// New pools on banks in memory.
+ghost use Rattle.std.specs.Prelude.{◌≡◌, ◌≤◌, IfOk};
+ghost use Rattle.bank_mem.specs.MemBank.{disk_of};
+
+use bank_mem::MemBank;
+use bank_trait::Bank;
+use core_open::create;
+use std::alloc::Global;
+use std::process::Abort;
+use std::test::Fail;
+use uberblock_ring::{Uber, slot};
+
+/// The calls on each device that make a pool: 32 zeros, a sync, the uberblock, a sync.
+pub const MAKING: u64 = 35;
+
+/// The calls on each device that open a new pool: 32 reads, a sync of what stands, an uberblock, a sync.
+pub const OPENING: u64 = 35;
+
+/// The reads of a ring.
+pub const RING: u64 = 32;
+
+/// Devices of 256 sectors, as many as the pool 9 that was made on them is wide.
+fn bank_with_pool(alloc: Global, parity: u32, width: u32) -> Result<MemBank, Fail>
+    requires some { 2 ≤ width }
+    requires narrow { width ≤ 16 }
+{
+    let mut bank = MemBank::new(alloc, width, 256)?;
+    create(&mut bank, parity, width, 9)?;
+    Ok(bank)
+}
+
+/// Three devices on which pool 9 was made, with one parity.
+pub fn bank_of_nine(alloc: Global) -> Result<MemBank, Fail> {
+    bank_with_pool(alloc, 1, 3)
+}
+
+/// As many devices as pool 9 is wide, which was made on them.
+pub fn bank_of_width(
+    rt: &impl Abort,
+    alloc: Global,
+    parity: u32,
+    width: u32,
+) -> Result<MemBank, Fail> {
+    assert!(rt; 2 <= width && width <= 16);
+    bank_with_pool(alloc, parity, width)
+}
+
+/// Writes an uberblock to its slot on a device.
+pub fn show(rt: &impl Abort, bank: &mut MemBank, uber: &Uber, device: u32) -> Result<(), Fail> {
+    assert!(rt; uber.is_right() && device < bank.devices() && bank.sectors() == 256);
+    bank.write(device, u64::from(slot(uber.group())), &uber.encode(device))?;
+    Ok(())
+}

@@ -1,0 +1,66 @@
+// Calls over banks in memory, and what they tell.
+use bank_mem::{MemBank, MemSink, MemSource};
+use raidzx_top::{Outcome, Status, raidzx};
+use std::alloc::{AllocError, Global};
+use std::test::Fail;
+
+/// Makes pool 9 on three devices.
+pub const MAKE_NINE: &str = "raidzx create --parity 1 --width 3 --id 9";
+
+pub const RUN: &str = "raidzx run";
+
+pub const REPLAY: &str = "raidzx replay";
+
+/// What a call told and left.
+#[derive(Drop)]
+pub struct Told {
+    pub status: Status,
+    pub text: MemSink,
+    pub bank: MemBank,
+    /// How many items its journal has.
+    pub items: usize,
+    pub turns: u64,
+}
+
+/// The words of a text, which spaces part.
+fn words_of(alloc: Global, text: &str) -> Result<Vec<String>, AllocError> {
+    let mut words = Vec::new(alloc);
+    for word in text.split(' ') {
+        words.push(String::from_str(alloc, word)?)?;
+    }
+    Ok(words)
+}
+
+/// Carries out these words over a bank, a source of a script and a sink.
+pub fn call_with(
+    alloc: Global,
+    words: &str,
+    bank: MemBank,
+    source: MemSource,
+    sink: MemSink,
+) -> Result<Told, Fail> {
+    let words = words_of(alloc, words)?;
+    let mut source = source;
+    let mut text = sink;
+    let Outcome {
+        status,
+        bank,
+        journal,
+        turns,
+    } = raidzx(alloc, words.as_slice(), bank, &mut source, &mut text);
+    let items = journal.as_slice().len();
+    Ok(Told {
+        status,
+        text,
+        bank,
+        items,
+        turns,
+    })
+}
+
+/// Carries out these words over a bank and a script, where source and sink don't fail.
+pub fn call(alloc: Global, words: &str, bank: MemBank, script: &[u8]) -> Result<Told, Fail> {
+    let source = MemSource::new(alloc, script, &[])?;
+    let sink = MemSink::with_room(alloc, 1 << 20, &[])?;
+    call_with(alloc, words, bank, source, sink)
+}

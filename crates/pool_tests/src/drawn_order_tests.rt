@@ -1,0 +1,125 @@
+// Two hundred orders, their journals checked item by item.
+use crate::banks::bank_of_nine;
+use crate::legal_check::Journaled;
+use crate::plans::{Draw, Plan, plan_of, plan_of_reads};
+use crate::replays::replay_into;
+use bank_mem::MemBank;
+use core_state::Journal;
+use schedule::Ended;
+use std::alloc::Global;
+use std::process::Abort;
+use std::test::Fail;
+use uberblock_ring::DeviceSet;
+
+/// The calls on each device that make a pool, and most of those that open it.
+const OPENING: u64 = 65;
+
+/// Of so many calls on a device that come after, one fails.
+const AFTER_OPENING: u64 = 45;
+
+/// The group of a new pool's opening.
+const FIRST_OPENING: u64 = 3;
+
+/// Whether these devices may be out, where this one may fail, or none.
+fn may_be_out(failing: Option<u32>, out: DeviceSet) -> bool {
+    match failing {
+        None => out.is_empty(),
+        Some(device) => out.is_empty() || (out.len() == 1 && out.has(device)),
+    }
+}
+
+/// Replays a plan. Each call is answered, and no device is out but the one that may fail.
+fn replay_plan(
+    rt: &impl Abort,
+    alloc: Global,
+    bank: &mut MemBank,
+    plan: &Plan,
+    failing: Option<u32>,
+    number: u64,
+) -> Result<Journal, Fail> {
+    let mut journal = Journal::new(alloc);
+    let replayed = replay_into(alloc, bank, plan.script.as_bytes(), &mut journal)??;
+    assert_eq!(rt; replayed.ended, Ended::Whole, "order {number}");
+    assert!(rt;
+        may_be_out(failing, replayed.out),
+        "order {number}: {:?}",
+        replayed.out
+    );
+    Ok(journal)
+}
+
+/// An order's journal is legal, and what is read afterwards is the map of its last group.
+fn check_order(
+    rt: &impl Abort,
+    alloc: Global,
+    bank: &mut MemBank,
+    failing: Option<u32>,
+    number: u64,
+) -> Result<(), Fail> {
+    let plan = plan_of(alloc, number)?;
+    let journal = replay_plan(rt, alloc, bank, &plan, failing, number)?;
+    let told = Journaled {
+        opening_group: FIRST_OPENING,
+        opening: &[],
+        calls: plan.calls.as_slice(),
+        items: journal.as_slice(),
+    };
+    assert_eq!(rt; told.first_wrong(), None, "order {number}");
+    let last = told.last_group().ok_or("no group")?;
+    let held = told.held_after(alloc, last.after)?;
+    let reads = plan_of_reads(alloc)?;
+    let journal = replay_plan(rt, alloc, bank, &reads, failing, number)?;
+    let told = Journaled {
+        opening_group: last.group.wrapping_add(2),
+        opening: held.as_slice(),
+        calls: reads.calls.as_slice(),
+        items: journal.as_slice(),
+    };
+    assert_eq!(rt; told.first_wrong(), None, "order {number}, read afterwards");
+    Ok(())
+}
+
+/// Checks the orders from this number up to that one.
+fn check_orders(rt: &impl Abort, alloc: Global, from: u64, to: u64) -> Result<(), Fail> {
+    for number in from..to {
+        let mut bank = bank_of_nine(alloc)?;
+        check_order(rt, alloc, &mut bank, None, number)?;
+    }
+    Ok(())
+}
+
+#[test]
+fn the_first_fifty_orders_are_answered_rightly(rt: HostRuntime) -> Result<(), Fail> {
+    check_orders(&rt, rt.alloc(), 0, 50)
+}
+
+#[test]
+fn the_second_fifty_orders_are_answered_rightly(rt: HostRuntime) -> Result<(), Fail> {
+    check_orders(&rt, rt.alloc(), 50, 100)
+}
+
+#[test]
+fn the_third_fifty_orders_are_answered_rightly(rt: HostRuntime) -> Result<(), Fail> {
+    check_orders(&rt, rt.alloc(), 100, 150)
+}
+
+/// A call on a device fails, if it is made, or all from that one on.
+#[test]
+fn the_last_fifty_orders_are_answered_rightly_past_a_failing_device(
+    rt: HostRuntime,
+) -> Result<(), Fail> {
+    let alloc = rt.alloc();
+    for number in 150..200 {
+        let mut draw = Draw::new(1000 + number);
+        let mut bank = bank_of_nine(alloc)?;
+        let device = draw.below(3) as u32;
+        let call = OPENING + draw.below(AFTER_OPENING);
+        if draw.below(2) == 0 {
+            bank.fail_at(&[(device, call)])?;
+        } else {
+            bank.fail_from(device, call)?;
+        }
+        check_order(&rt, alloc, &mut bank, Some(device), number)?;
+    }
+    Ok(())
+}

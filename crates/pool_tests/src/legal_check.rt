@@ -1,0 +1,291 @@
+// A plain, slow checker of journals: what each item has to be, looked up anew from the first item on.
+use crate::plans::{IDS, PlannedCall};
+use core_state::{Answer, Entry, Group, Item, Kind};
+use sha2::{Digest, Sha256};
+use std::alloc::{AllocError, Global};
+
+/// The width of the pool.
+const WIDTH: u32 = 3;
+
+/// The bytes that an id has.
+#[derive(Drop)]
+pub struct Held {
+    pub id: u64,
+    pub bytes: Vec<u8>,
+}
+
+/// A journal, and what it is checked against: the number of the opening's group, what was stored then, and the
+/// calls that the clients make.
+#[derive(Drop)]
+pub struct Journaled<'a> {
+    pub opening_group: u64,
+    pub opening: &'a [Held],
+    pub calls: &'a [PlannedCall],
+    pub items: &'a [Item],
+}
+
+/// What is wrong with an item, or with all of them.
+#[derive(Clone, Copy, Debug, PartialEq, Eq)]
+pub enum Wrong {
+    /// The first item is not the opening's group.
+    Opening,
+    /// A group doesn't follow the one before it.
+    Group,
+    /// No client makes such a call, or not after the call that it was answered last.
+    Call,
+    /// A call is not answered.
+    Unanswered,
+    /// An answer is for another kind of call, or tells of something that was wanting.
+    Answer,
+    /// A read answers no map that it may.
+    Read,
+    /// A free doesn't tell what was there.
+    Free,
+    /// A sync doesn't name the group listed just before it, or that one was begun too early.
+    Sync,
+}
+
+/// Whether an answer is for such a call, where nothing is wanting.
+fn is_answer_of(kind: Kind, answer: &Answer) -> bool {
+    match answer {
+        Answer::Stored => kind == Kind::Put,
+        Answer::Read { bytes: _ } => kind == Kind::Get,
+        Answer::Digest { len: _, sha: _ } => kind == Kind::Sum,
+        Answer::Freed => kind == Kind::Free,
+        Answer::Synced { group: _ } => kind == Kind::Sync,
+        Answer::Absent => kind == Kind::Get || kind == Kind::Sum || kind == Kind::Free,
+        _ => false,
+    }
+}
+
+/// Whether an answer tells this block, or that there is none.
+fn is_read_of(block: Option<&[u8]>, answer: &Answer) -> bool {
+    match (block, answer) {
+        (None, Answer::Absent) => true,
+        (Some(block), Answer::Read { bytes }) => bytes.as_slice() == block,
+        (Some(block), Answer::Digest { len, sha }) => {
+            u64::from(*len) == block.len() as u64 && *sha == Sha256::digest(block)
+        }
+        _ => false,
+    }
+}
+
+/// What an id has at the opening.
+fn held_at_first(opening: &[Held], id: u64) -> Option<&[u8]> {
+    for held in opening {
+        if held.id == id {
+            return Some(held.bytes.as_slice());
+        }
+    }
+    None
+}
+
+/// The call of a caller that has this number.
+fn call_of(calls: &[PlannedCall], caller: u8, number: u64) -> Option<&PlannedCall> {
+    for call in calls {
+        if call.caller == caller && call.number == number {
+            return Some(call);
+        }
+    }
+    None
+}
+
+impl<'a> Journaled<'a> {
+    /// What an id has after so many items.
+    fn block_after(&self, count: u64, id: u64) -> Option<&'a [u8]> {
+        let mut block = held_at_first(self.opening, id);
+        for (index, item) in self.items.iter().enumerate() {
+            if index as u64 >= count {
+                break;
+            }
+            let Item::Call(entry) = item else {
+                continue;
+            };
+            if entry.id != Some(id) {
+                continue;
+            }
+            match entry.answer {
+                Answer::Stored => {
+                    block = call_of(self.calls, entry.caller, entry.call).map(|call| call
+                        .bytes
+                        .as_slice());
+                }
+                Answer::Freed => block = None,
+                _ => {}
+            }
+        }
+        block
+    }
+
+    /// The group last listed before this index.
+    fn group_before(&self, index: usize) -> Option<Group> {
+        let mut last = None;
+        for (place, item) in self.items.iter().enumerate() {
+            if let Item::Group(group) = item
+                && place < index
+            {
+                last = Some(*group);
+            }
+        }
+        last
+    }
+
+    /// The group that is listed last.
+    pub fn last_group(&self) -> Option<Group> {
+        self.group_before(self.items.len())
+    }
+
+    /// The index and the number of the caller's last call that is answered before this index, 0 and 0 where there is
+    /// none.
+    fn previous_of(&self, caller: u8, index: usize) -> (usize, u64) {
+        let mut previous = (0, 0);
+        for (place, item) in self.items.iter().enumerate() {
+            if let Item::Call(entry) = item
+                && place < index
+                && entry.caller == caller
+            {
+                previous = (place, entry.call);
+            }
+        }
+        previous
+    }
+
+    fn is_opening_right(&self) -> bool {
+        match self.items.first() {
+            Some(Item::Group(group)) => {
+                group.group == self.opening_group
+                    && group.after == 0
+                    && group.from == WIDTH
+                    && group.to == WIDTH
+            }
+            _ => false,
+        }
+    }
+
+    /// Whether a group follows the one before it.
+    fn is_group_right(&self, index: usize, group: &Group) -> bool {
+        let Some(before) = self.group_before(index) else {
+            return index == 0;
+        };
+        group.group == before.group.wrapping_add(1)
+            && before.after <= group.after
+            && group.after <= index as u64
+            && group.from == before.from
+            && group.to == before.to
+    }
+
+    /// Whether the caller makes this call, next after the one that was answered last.
+    fn is_call_right(&self, index: usize, entry: &Entry) -> bool {
+        let (_, number) = self.previous_of(entry.caller, index);
+        match call_of(self.calls, entry.caller, entry.call) {
+            Some(call) => {
+                entry.call == number.wrapping_add(1)
+                    && entry.kind == call.kind
+                    && entry.id == call.id
+            }
+            None => false,
+        }
+    }
+
+    /// Whether a read answers the map after as many items as it says, not before its caller's last answer.
+    fn is_read_right(&self, index: usize, entry: &Entry) -> bool {
+        let (previous, _) = self.previous_of(entry.caller, index);
+        match (entry.at, entry.id) {
+            (Some(at), Some(id)) => {
+                (previous as u64) < at
+                    && at <= index as u64
+                    && is_read_of(self.block_after(at, id), &entry.answer)
+            }
+            _ => false,
+        }
+    }
+
+    /// Whether a free tells if there was a block.
+    fn is_free_right(&self, index: usize, entry: &Entry) -> bool {
+        let Some(id) = entry.id else {
+            return false;
+        };
+        let was_there = self.block_after(index as u64, id).is_some();
+        match entry.answer {
+            Answer::Freed => was_there,
+            Answer::Absent => !was_there,
+            _ => false,
+        }
+    }
+
+    /// Whether a sync names the group listed just before it, which was begun after its caller's last answer.
+    fn is_sync_right(&self, index: usize, entry: &Entry) -> bool {
+        let (previous, _) = self.previous_of(entry.caller, index);
+        let Some(Item::Group(listed)) = self.items.get(index.wrapping_sub(1)) else {
+            return false;
+        };
+        match entry.answer {
+            Answer::Synced { group } => listed.group == group && (previous as u64) < listed.after,
+            _ => false,
+        }
+    }
+
+    /// What is wrong with a call that is answered.
+    fn wrong_entry(&self, index: usize, entry: &Entry) -> Option<Wrong> {
+        if !self.is_call_right(index, entry) {
+            return Some(Wrong::Call);
+        }
+        if !is_answer_of(entry.kind, &entry.answer) {
+            return Some(Wrong::Answer);
+        }
+        let (is_right, wrong) = match entry.kind {
+            Kind::Get | Kind::Sum => (self.is_read_right(index, entry), Wrong::Read),
+            Kind::Free => (self.is_free_right(index, entry), Wrong::Free),
+            Kind::Sync => (self.is_sync_right(index, entry), Wrong::Sync),
+            _ => return None,
+        };
+        if is_right { None } else { Some(wrong) }
+    }
+
+    fn is_answered(&self, call: &PlannedCall) -> bool {
+        for item in self.items {
+            if let Item::Call(entry) = item
+                && entry.caller == call.caller
+                && entry.call == call.number
+            {
+                return true;
+            }
+        }
+        false
+    }
+
+    /// What is wrong first, and at which index; at the journal's end where a call is not answered.
+    pub fn first_wrong(&self) -> Option<(usize, Wrong)> {
+        if !self.is_opening_right() {
+            return Some((0, Wrong::Opening));
+        }
+        for (index, item) in self.items.iter().enumerate() {
+            let wrong = match item {
+                Item::Group(group) if self.is_group_right(index, group) => None,
+                Item::Group(_) => Some(Wrong::Group),
+                Item::Call(entry) => self.wrong_entry(index, entry),
+            };
+            if let Some(wrong) = wrong {
+                return Some((index, wrong));
+            }
+        }
+        for call in self.calls {
+            if !self.is_answered(call) {
+                return Some((self.items.len(), Wrong::Unanswered));
+            }
+        }
+        None
+    }
+
+    /// What the ids of plans have after so many items.
+    pub fn held_after(&self, alloc: Global, count: u64) -> Result<Vec<Held>, AllocError> {
+        let mut all = Vec::new(alloc);
+        for id in 0..IDS {
+            if let Some(block) = self.block_after(count, id) {
+                let bytes = Vec::from_slice(alloc, block)?;
+                all.push(Held { id, bytes })?;
+            }
+        }
+        Ok(all)
+    }
+}

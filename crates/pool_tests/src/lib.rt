@@ -1,0 +1,65 @@
+//! What pools on banks in memory show: tests alone, of the crates from a bank in memory to the top call.
+//!
+//! They stand here together, since a crate with tests is proved twice. `banks` makes new pools, `runs`,
+//! `replays` and `calls` carry scripts and commands out on them, `plans` draws scripts from a number, and
+//! `legal_check` is a plain, slow checker of journals. `part_tests` has the worked rows of single parts.
+#![tactic(auto)]
+
+#[cfg(test)]
+mod bank_tests;
+#[cfg(test)]
+mod banks;
+#[cfg(test)]
+mod block_tests;
+#[cfg(test)]
+mod calls;
+#[cfg(test)]
+mod client_turn_tests;
+#[cfg(test)]
+mod commit_tests;
+#[cfg(test)]
+mod create_tests;
+#[cfg(test)]
+mod drawn_order_tests;
+#[cfg(test)]
+mod failing_tests;
+#[cfg(test)]
+mod first_run_tests;
+#[cfg(test)]
+mod legal_check;
+#[cfg(test)]
+mod lost_block_tests;
+#[cfg(test)]
+mod opening_tests;
+#[cfg(test)]
+mod page_tests;
+#[cfg(test)]
+mod plans;
+#[cfg(test)]
+mod put_turn_tests;
+#[cfg(test)]
+mod read_turn_tests;
+#[cfg(test)]
+mod replay_stop_tests;
+#[cfg(test)]
+mod replay_tests;
+#[cfg(test)]
+mod replays;
+#[cfg(test)]
+mod room_tests;
+#[cfg(test)]
+mod run_tests;
+#[cfg(test)]
+mod runs;
+#[cfg(test)]
+mod script_failing_tests;
+#[cfg(test)]
+mod script_stop_tests;
+#[cfg(test)]
+mod script_tests;
+#[cfg(test)]
+mod small_pool_tests;
+#[cfg(test)]
+mod stop_tests;
+#[cfg(test)]
+mod turn_order_tests;
