@@ -14,8 +14,6 @@ mod block_tests;
 #[cfg(test)]
 mod calls;
 #[cfg(test)]
-mod client_turn_tests;
-#[cfg(test)]
 mod commit_tests;
 #[cfg(test)]
 mod create_tests;
@@ -35,10 +33,6 @@ mod opening_tests;
 mod page_tests;
 #[cfg(test)]
 mod plans;
-#[cfg(test)]
-mod put_turn_tests;
-#[cfg(test)]
-mod read_turn_tests;
 #[cfg(test)]
 mod replay_stop_tests;
 #[cfg(test)]

@@ -1,4 +1,6 @@
 // Index pages that devices give, lack, or give wrongly, and which blocks fit.
+ghost use Rattle.std.specs.Prelude.{◌≤◌};
+
 use crate::banks::{MAKING, RING, bank_of_nine, bank_of_width, show};
 use bank_mem::MemBank;
 use bank_trait::Bank;
@@ -10,7 +12,10 @@ use std::test::Fail;
 use uberblock_ring::{DeviceSet, Uber, area_sector};
 
 /// Group 4 of pool 9, which records this page of so many blocks in index area 1.
-fn fourth_group(parity: u32, width: u32, page: &[u8], count: u32) -> Uber {
+fn fourth_group(parity: u32, width: u32, page: &[u8], count: u32) -> Uber
+    requires some { 2 ≤ width }
+    requires narrow { width ≤ 16 }
+{
     let mut uber = Uber::first(9, parity, width, 64);
     uber.set_group(4);
     uber.set_index(1, count, &Sha256::digest(page));

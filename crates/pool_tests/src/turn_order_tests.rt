@@ -14,10 +14,21 @@ fn tells(
     turns: u64,
     wanted: &[u8],
 ) -> Result<(), Fail> {
+    tell_in_turn(rt, alloc, &[(script, turns, wanted)])
+}
+
+/// Whether scripts that are replayed one after the other are told this, each in so many turns.
+fn tell_in_turn(
+    rt: &impl Abort,
+    alloc: Global,
+    scripts: &[(&[u8], u64, &[u8])],
+) -> Result<(), Fail> {
     let mut bank = bank_of_nine(alloc)?;
-    let told = replay(alloc, &mut bank, script)?;
-    assert_eq!(rt; told.text.as_slice(), wanted);
-    assert_eq!(rt; told.ended, finished(turns, DeviceSet::empty()));
+    for (script, turns, wanted) in scripts {
+        let told = replay(alloc, &mut bank, script)?;
+        assert_eq!(rt; told.text.as_slice(), *wanted);
+        assert_eq!(rt; told.ended, finished(*turns, DeviceSet::empty()));
+    }
     Ok(())
 }
 
@@ -120,6 +131,33 @@ fn a_read_answers_the_map_of_its_first_turn(rt: HostRuntime) -> Result<(), Fail>
     )
 }
 
+/// The read's first column is read when the block is freed, and another read begins.
+const READ_BESIDE_A_FREE: &[u8] = b"clients 2
+a puthex 1 61
+a get 1
+b free 1
+b sum 1
+order aaaaaabb
+";
+
+const READ_BESIDE_A_FREE_TOLD: &[u8] = b"0 group 3 after 0
+1 a.1 put 1 ok
+2 b.1 free 1 ok
+3 b.2 sum 1 at 3 absent
+4 a.2 get 1 at 2 bytes 61
+";
+
+#[test]
+fn a_read_goes_on_while_its_block_is_freed(rt: HostRuntime) -> Result<(), Fail> {
+    tells(
+        &rt,
+        rt.alloc(),
+        READ_BESIDE_A_FREE,
+        8 + 2,
+        READ_BESIDE_A_FREE_TOLD,
+    )
+}
+
 /// The put ends while the commit is under way.
 const PUT_BESIDE_A_SYNC: &[u8] = b"clients 2
 a puthex 7 61
@@ -141,19 +179,49 @@ const READ_TOLD: &[u8] = b"0 group 6 after 0
 1 a.1 get 7 at 1 absent
 ";
 
+/// The read and the free come between the commit's turns, and the read ends after it.
+const READ_BESIDE_A_SYNC: &[u8] = b"clients 3
+a puthex 7 61
+a sync
+b get 7
+c free 7
+order aaaaababcaaaaaaaaaaaa
+";
+
+const READ_BESIDE_A_SYNC_TOLD: &[u8] = b"0 group 3 after 0
+1 a.1 put 7 ok
+2 c.1 free 7 ok
+3 group 4 after 2
+4 a.2 sync group 4
+5 b.1 get 7 at 2 bytes 61
+";
+
+const READ_BACK_TOLD: &[u8] = b"0 group 6 after 0
+1 a.1 get 7 at 1 bytes 61
+";
+
+#[test]
+fn a_read_and_a_free_go_on_beside_a_commit(rt: HostRuntime) -> Result<(), Fail> {
+    tell_in_turn(
+        &rt,
+        rt.alloc(),
+        &[
+            (READ_BESIDE_A_SYNC, 21 + 2, READ_BESIDE_A_SYNC_TOLD),
+            (READ, 4, READ_BACK_TOLD),
+        ],
+    )
+}
+
 #[test]
 fn a_group_has_the_map_of_its_syncs_first_turn(rt: HostRuntime) -> Result<(), Fail> {
-    let alloc = rt.alloc();
-    let mut bank = bank_of_nine(alloc)?;
-    for (script, turns, wanted) in [
-        (PUT_BESIDE_A_SYNC, 5 + 10, PUT_BESIDE_A_SYNC_TOLD),
-        (READ, 1, READ_TOLD),
-    ] {
-        let told = replay(alloc, &mut bank, script)?;
-        assert_eq!(rt; told.text.as_slice(), wanted);
-        assert_eq!(rt; told.ended, finished(turns, DeviceSet::empty()));
-    }
-    Ok(())
+    tell_in_turn(
+        &rt,
+        rt.alloc(),
+        &[
+            (PUT_BESIDE_A_SYNC, 5 + 10, PUT_BESIDE_A_SYNC_TOLD),
+            (READ, 1, READ_TOLD),
+        ],
+    )
 }
 
 /// The calls on a device that make a pool and open it.
@@ -174,16 +242,35 @@ const SIDE_BY_SIDE_TOLD: &[u8] = b"0 group 3 after 0
 4 b.2 get 8 at 4 bytes 62
 ";
 
+/// Blocks of two sectors have a column on each device: a put and a read of one have five turns.
+const READ_BESIDE_A_PUT: &[u8] = b"clients 2
+a put 1 1000 5
+a sum 1
+b put 2 1000 5
+order aaaaaababababab
+";
+
+const READ_BESIDE_A_PUT_TOLD: &[u8] = b"0 group 3 after 0
+1 a.1 put 1 ok
+2 a.2 sum 1 at 2 length 1000 sha 18249577807d9788926ea4deef2c0c38ddd276c1419f2e5fcb76b7cee66a0b09
+3 b.1 put 2 ok
+";
+
 #[test]
-fn puts_go_on_side_by_side_past_a_device_that_fails(rt: HostRuntime) -> Result<(), Fail> {
+fn calls_go_on_side_by_side_past_a_device_that_fails(rt: HostRuntime) -> Result<(), Fail> {
     let alloc = rt.alloc();
-    for device in 0..3 {
-        let mut bank = bank_of_nine(alloc)?;
-        bank.fail_from(device, OPENED + 1)?;
-        let told = replay(alloc, &mut bank, SIDE_BY_SIDE)?;
-        let out = DeviceSet::from_bits(1 << device);
-        assert_eq!(rt; told.text.as_slice(), SIDE_BY_SIDE_TOLD, "without {device}");
-        assert_eq!(rt; told.ended, finished(8 + 4 + 4, out), "without {device}");
+    for (script, turns, wanted) in [
+        (SIDE_BY_SIDE, 8 + 4 + 4, SIDE_BY_SIDE_TOLD),
+        (READ_BESIDE_A_PUT, 15, READ_BESIDE_A_PUT_TOLD),
+    ] {
+        for device in 0..3 {
+            let mut bank = bank_of_nine(alloc)?;
+            bank.fail_from(device, OPENED + 1)?;
+            let told = replay(alloc, &mut bank, script)?;
+            let out = DeviceSet::from_bits(1 << device);
+            assert_eq!(rt; told.text.as_slice(), wanted, "without {device}");
+            assert_eq!(rt; told.ended, finished(turns, out), "without {device}");
+        }
     }
     Ok(())
 }
