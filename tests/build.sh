@@ -1,12 +1,17 @@
 # The built program, for the checks beside this file: sets RAIDZX to it, and WORK to an empty folder.
-# RAIDZX_PROGRAM names a program that is built already; without it the program is built here.
+# RAIDZX_PROGRAM names a program that is built already. Without it the one that stands in the program's out/ serves, as
+# `rt ci` leaves it there, and is built anew only where there is none or where a source is younger.
 set -eu
 ROOT=$(cd "$(dirname "${BASH_SOURCE[0]}")/.." && pwd)
 if [ -n "${RAIDZX_PROGRAM:-}" ]; then
   RAIDZX=$(realpath "$RAIDZX_PROGRAM")
 else
   RAIDZX=$ROOT/crates/raidzx/out/raidzx
-  (cd "$ROOT/crates/raidzx" && rt run -- mem:256 mem:256 -- create --parity 1 --width 2 --id 1 >/dev/null)
+  # (not each crate has all of these folders)
+  if [ ! -x "$RAIDZX" ] || find "$ROOT"/crates.txt "$ROOT"/crates/*/{src,specs,proofs} -type f -newer "$RAIDZX" \
+    -print -quit 2>/dev/null | grep -q .; then
+    (cd "$ROOT/crates/raidzx" && rt run -- mem:256 mem:256 -- create --parity 1 --width 2 --id 1 >/dev/null)
+  fi
 fi
 WORK=$(mktemp -d)
 trap 'rm -rf "$WORK"' EXIT
