@@ -78,10 +78,15 @@ def watch(command):
     return started.returncode, sums, used.ru_utime + used.ru_stime
 
 
+def lines_in(file):
+    with open(file, encoding="utf-8") as text:
+        return sum(1 for _ in text)
+
+
 def lines_of(crate):
     """Returns how many lines a crate has in src/, specs/ and proofs/."""
     files = [it for part in ("src", "specs", "proofs") for it in glob.glob(f"crates/{crate}/{part}/**", recursive=True)]
-    return sum(sum(1 for _ in open(it, encoding="utf-8")) for it in files if it.endswith((".rt", ".antt")))
+    return sum(lines_in(it) for it in files if it.endswith((".rt", ".antt")))
 
 
 def tell(sums, whole):
