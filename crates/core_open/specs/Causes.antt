@@ -4,7 +4,7 @@ use Rattle.bank_trait.specs.Causes.{Rose}
 use Rattle.bank_trait.specs.Disk.{Image, Disk}
 use Rattle.block_record.specs.declared.entry.IndexEntry.{IndexEntry}
 use Rattle.uberblock_ring.specs.Devices.{has_device, count_of, IsWithin}
-use Rattle.uberblock_ring.specs.Uberblock.{Uber}
+use Rattle.uberblock_ring.specs.Uberblock.{Uber, max_group}
 use Rattle.core_state.specs.Choosing.{IsChosen, IsOutAtOpening}
 use Rattle.core_open.specs.declared.why.OpenWhy.{OpenWhy}
 use Rattle.core_open.specs.declared.why.OpenWhy.TheVariants.{NotPool, TooManyFailed, Limit, NoMemory}
@@ -52,5 +52,5 @@ IsOpenCause old new NotPool = IsFindCause old new NotPool
 IsOpenCause old new (TooManyFailed out) = IsFindCause old new (TooManyFailed out)
     ⊎ ((image : Image) → HoldsImage old image → AreTooMany old new image out)
 IsOpenCause old new (Limit group) = (image : Image) → HoldsImage old image
-    → (choice : IsShownChoice old new image) × (2 ^ 62 < choice.uber.group + 2)
+    → (choice : IsShownChoice old new image) × (max_group < choice.uber.group + 2)
 IsOpenCause old new NoMemory = ⊤

@@ -5,7 +5,7 @@ use Rattle.bank_trait.specs.Disk.{Image, Disk, Unchanged}
 use Rattle.bank_trait.specs.Regions.{Tells, TouchesOnly}
 use Rattle.block_record.specs.declared.entry.IndexEntry.{IndexEntry}
 use Rattle.uberblock_ring.specs.Devices.{has_device, count_below, count_of, IsWithin}
-use Rattle.uberblock_ring.specs.Uberblock.{Uber}
+use Rattle.uberblock_ring.specs.Uberblock.{Uber, max_group}
 use Rattle.uberblock_ring.specs.Valid.{AreAlike}
 use Rattle.core_state.specs.Choosing.{IsChosen, IsOutAtOpening}
 use Rattle.core_state.specs.Keeps.{Kept, Setting, Renews}
@@ -143,7 +143,7 @@ pub record IsInSight (setting : Setting) (first : Kept) (later : List Kept) (old
 -- Nothing hinders an opening: beside that, none of the groups is too near the greatest number.
 pub record IsUnhindered (setting : Setting) (first : Kept) (later : List Kept) (old new : Disk) : Type 0 where
   pub may : MayOpen setting first later old
-  pub limit : (kept : Kept) → Contains (first ∷ later) kept → kept.uber.group + 2 ≤ 2 ^ 62
+  pub limit : (kept : Kept) → Contains (first ∷ later) kept → kept.uber.group + 2 ≤ max_group
   pub works : NoneFails old new
   pub in_use : NoneIsOut old
 

@@ -3,7 +3,7 @@ use Rattle.std.specs.Prelude.{◌≡◌, ◌⊎◌, ℕ, ◌+◌, ◌^◌, ◌<�
 use Rattle.bank_trait.specs.Disk.{Disk, Unchanged}
 use Rattle.uberblock_ring.specs.Devices.{count_of, IsWithin}
 use Rattle.core_commit.specs.Ran.{point_of}
-use Rattle.uberblock_ring.specs.Uberblock.{Uber}
+use Rattle.uberblock_ring.specs.Uberblock.{Uber, max_group}
 use Rattle.core_open.specs.declared.finding.Found.{Found}
 use Rattle.core_open.specs.declared.opening.Opened.{Opened}
 use Rattle.core_open.specs.declared.why.OpenWhy.{OpenWhy}
@@ -26,11 +26,11 @@ pub record WritesFound (found : Found) (old new : Disk) (out : ℕ) (result : Re
   pub ends : EndsRenewal found.uber found.entries.items lack_page found.lacks_uber
       (point_of asked_out asked) (point_of out new) result
   pub below : out < 2 ^ found.uber.reflow.to
-  pub limit : found.uber.group + 2 ≤ 2 ^ 62
+  pub limit : found.uber.group + 2 ≤ max_group
 
 -- No group can be numbered two more; or too many devices are out before anything is written.
 abbrev pub RefusesFound : Found → Disk → Disk → OpenWhy → Type 0
-RefusesFound found old new (reason.Limit group) = Unchanged old new × (2 ^ 62 < found.uber.group + 2)
+RefusesFound found old new (reason.Limit group) = Unchanged old new × (max_group < found.uber.group + 2)
 RefusesFound found old new (reason.TooManyFailed out) =
     (Unchanged old new × (out ≡ found.out) × (found.uber.parity < count_of out))
     ⊎ WritesFound found old new out (Err (reason.TooManyFailed out))

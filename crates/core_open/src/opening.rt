@@ -3,6 +3,7 @@ ghost use Rattle.std.specs.Prelude.{◌≡◌, ◌+◌, ◌^◌, ◌<◌, ◌≤
 ghost use Rattle.bank_trait.specs.Regions.{TouchesOnly};
 ghost use Rattle.block_record.specs.Page.{IsIndex};
 ghost use Rattle.uberblock_ring.specs.Devices.{count_of};
+ghost use Rattle.uberblock_ring.specs.Uberblock.{max_group};
 ghost use Rattle.uberblock_ring.specs.Valid.{IsRightUber};
 ghost use Rattle.core_commit.specs.Ran.{FitsBank, point_of};
 ghost use Rattle.core_commit.specs.Spared.{Spares};
@@ -21,10 +22,7 @@ use bank_trait::Bank;
 use block_record::IndexEntry;
 use core_commit::copy;
 use std::alloc::Global;
-use uberblock_ring::{DeviceSet, Uber};
-
-/// The greatest number of a group.
-const MAX_GROUP: u64 = 1 << 62;
+use uberblock_ring::{DeviceSet, MAX_GROUP, Uber};
 
 /// What a pool was opened with: the uberblock of the group that the opening wrote, and its index.
 #[derive(Drop)]
@@ -48,7 +46,7 @@ fn renew<B: Bank>(
     out: &mut DeviceSet,
 ) -> Result<Uber, OpenWhy>
     requires right { IsRightUber uber.now }
-    requires limit { uber.now.group + 2 ≤ 2 ^ 62 }
+    requires limit { uber.now.group + 2 ≤ max_group }
     requires index { IsIndex entries.now }
     requires fits { FitsBank uber.now entries.now out.old (B.disk bank.old) }
     requires below { out.old < 2 ^ uber.now.reflow.to }

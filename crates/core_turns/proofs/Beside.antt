@@ -21,7 +21,7 @@ use Rattle.core_client.specs.Pool.{IsInPool}
 use Rattle.core_client.specs.Writing.{IsPlaceOf, IsPlanOf}
 use Rattle.core_client.specs.BlockTurns.{BlockWrite}
 use Rattle.core_commit.specs.CommitTurns.{IsBeside}
-use Rattle.core_serial.proofs.Layouts.{blocks_apart}
+use Rattle.open_pool.proofs.Layouts.{blocks_apart}
 
 -- the places that the writes of a block go to, while nothing is copied
 abbrev pub IsWrittenTo : Layout → Reflow → ℕ → ℕ → ℕ → Type 0

@@ -32,9 +32,9 @@ use Rattle.core_commit.specs.CommitTurns.{CommitRun, HasEnded, IsCommitting}
 use Rattle.core_commit.proofs.CommitTurns.{committing_begins, committing_steps, committing_since, committing_done}
 use Rattle.core_commit.proofs.Beside.{committing_cut}
 use Rattle.core_commit.proofs.Stepping.{steps_same, steps_went}
-use Rattle.core_serial.specs.Standing.{Stands as StandsSo}
-use Rattle.core_serial.proofs.Syncs.{IsReady, ready}
-use Rattle.core_serial.proofs.Committing.{may_commit}
+use Rattle.open_pool.specs.HoldsGroup.{HoldsGroup}
+use Rattle.open_pool.proofs.NextGroup.{IsReady, ready}
+use Rattle.open_pool.proofs.Committing.{may_commit}
 use Rattle.core_turns.specs.declared.putting.PutRun.{PutRun}
 use Rattle.core_turns.specs.declared.getting.GetRun.{GetRun}
 use Rattle.core_turns.specs.declared.turn.Turn.{Turn}
@@ -97,12 +97,11 @@ module _ (setting : Setting) (last : Kept) (map : Map) (calls : List Call) (old 
   abbrev begun_group : Kept
   begun_group = record { uber = uber_for old.pool entries; entries = entries; map = map }
 
-  serial : StandsSo setting last [] (pool_at (at_disk old disk))
-  serial = record {
+  held : HoldsGroup setting last (pool_at (at_disk old disk))
+  held = record {
     knows = stands.groups.knows;
     alike = stands.alike;
     kept = stands.kept;
-    whole = λ few. refl;
     odd = stands.odd;
     shape = stands.shape;
     tells = stands.tells;
@@ -114,7 +113,7 @@ module _ (setting : Setting) (last : Kept) (map : Map) (calls : List Call) (old 
 
   come : IsCommitting setting last begun_group (commit_of old.pool) (point_of old.pool.out disk)
   come = committing_begins setting [] last begun_group (point_of old.pool.out disk) is_ready.right lawful
-      (may_commit setting last map (pool_at (at_disk old disk)) (rests_pool old is none) stands.bank serial stands.holds
+      (may_commit setting last map (pool_at (at_disk old disk)) (rests_pool old is none) stands.bank held stands.holds
       entries refl is_ready.index (length entries) (sha256 (index_page entries)) refl refl
       is_ready.fitting is_ready.right [])
 

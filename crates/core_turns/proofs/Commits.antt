@@ -28,11 +28,11 @@ use Rattle.core_commit.specs.CommitTurns.{CommitRun, IsReady, HasEnded, Steps}
 use Rattle.core_commit.specs.Spared.{IsOnInUse}
 use Rattle.core_commit.proofs.Stepping.{ready_keeps, steps_same, steps_went}
 use Rattle.core_commit.proofs.Touching.{touched_none, touched_more}
-use Rattle.core_serial.specs.Pool.{IsPool, HasBank}
-use Rattle.core_serial.specs.Syncing.{next_uber}
-use Rattle.core_serial.proofs.Committing.{right_next}
-use Rattle.core_serial.proofs.Going.{bank_later}
-use Rattle.core_serial.proofs.Syncs.{few_below}
+use Rattle.open_pool.specs.Pool.{IsPool, HasBank}
+use Rattle.open_pool.specs.NextGroup.{next_uber}
+use Rattle.open_pool.proofs.Committing.{right_next}
+use Rattle.open_pool.proofs.Banks.{bank_later}
+use Rattle.open_pool.proofs.NextGroup.{few_below}
 use Rattle.core_turns.specs.declared.turn.Turn.{Turn}
 use Rattle.core_turns.specs.declared.turn.Turn.TheVariants.{More, Busy, Done}
 use Rattle.core_turns.specs.declared.getting.GetRun.{GetRun}

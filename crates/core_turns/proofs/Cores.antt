@@ -8,7 +8,7 @@ use Rattle.uberblock_ring.specs.Uberblock.{Uber}
 use Rattle.block_record.specs.declared.entry.IndexEntry.{IndexEntry}
 use Rattle.core_blocks.specs.Blocks.{Blocks, AreInStep, IsListed}
 use Rattle.core_client.specs.Pool.{HasPool}
-use Rattle.core_serial.specs.Pool.{Pool, IsPool, HasBank}
+use Rattle.open_pool.specs.Pool.{Pool, IsPool, HasBank}
 use Rattle.core_turns.specs.Core.{Core, IsCore, as_begun}
 
 -- a core of these parts

@@ -36,9 +36,9 @@ use Rattle.core_client.proofs.BlockTurns.{written_stays}
 use Rattle.core_commit.specs.CommitTurns.{CommitRun}
 use Rattle.core_commit.specs.Spared.{Spares}
 use Rattle.core_commit.proofs.Beside.{committing_unchanged}
-use Rattle.core_serial.specs.Pool.{HasBank, HoldsMap, IsTableOf}
-use Rattle.core_serial.proofs.Going.{bank_later, count_grows}
-use Rattle.core_serial.proofs.Holding.{block_stays}
+use Rattle.open_pool.specs.Pool.{HasBank, HoldsMap, IsTableOf}
+use Rattle.open_pool.proofs.Banks.{bank_later, count_grows}
+use Rattle.open_pool.proofs.Holding.{block_stays}
 use Rattle.core_turns.specs.declared.getting.GetRun.{GetRun}
 use Rattle.core_turns.specs.declared.putting.PutRun.{PutRun}
 use Rattle.core_turns.specs.Core.{Core, CoreState, pool_at}

@@ -21,10 +21,10 @@ use Rattle.core_client.specs.Outs.{point_of, OnlyFailedGoOut}
 use Rattle.core_client.specs.Pool.{IsRightBlock}
 use Rattle.core_client.specs.BlockTurns.{IsPlace, IsReadSoFar}
 use Rattle.core_client.proofs.BlockTurns.{read_begun, read_stays, read_more, read_left_over, read_lost_few}
-use Rattle.core_serial.specs.Getting.{IsReadRight}
-use Rattle.core_serial.specs.Pool.{HoldsMap}
-use Rattle.core_serial.proofs.Layouts.{front_is_right}
-use Rattle.core_serial.proofs.Holding.{block_stays}
+use Rattle.core_turns.specs.Getting.{IsReadRight}
+use Rattle.open_pool.specs.Pool.{HoldsMap}
+use Rattle.open_pool.proofs.Layouts.{front_is_right}
+use Rattle.open_pool.proofs.Holding.{block_stays}
 use Rattle.core_turns.specs.declared.getting.GetRun.{GetRun}
 use Rattle.core_turns.specs.declared.getting.OutOfMemory.{OutOfMemory}
 use Rattle.core_turns.specs.declared.getting.Solved.{Solved}

@@ -27,9 +27,9 @@ use Rattle.core_blocks.proofs.Lists.{gains_old, gains_item, gains_cases}
 use Rattle.core_client.specs.Outs.{point_of, OnlyFailedGoOut}
 use Rattle.core_client.specs.BlockTurns.{IsPlace}
 use Rattle.core_commit.specs.CommitTurns.{CommitRun, IsCommitting}
-use Rattle.core_serial.specs.Answers.{map_after_free}
-use Rattle.core_serial.specs.Pool.{HasBank, HoldsMap}
-use Rattle.core_serial.proofs.Frees.{freed_holds, none_freed_holds}
+use Rattle.core_turns.specs.Freeing.{map_after_free}
+use Rattle.open_pool.specs.Pool.{HasBank, HoldsMap}
+use Rattle.open_pool.proofs.Frees.{freed_holds, none_freed_holds}
 use Rattle.core_turns.specs.declared.getting.GetRun.{GetRun}
 use Rattle.core_turns.specs.declared.putting.PutRun.{PutRun}
 use Rattle.core_turns.specs.declared.turn.Turn.TheVariants.{More, Done}

@@ -16,7 +16,7 @@ use Rattle.core_blocks.specs.Blocks.{AreInStep}
 use Rattle.core_blocks.proofs.Listed.{found_listed}
 use Rattle.core_client.specs.Pool.{IsInPool}
 use Rattle.core_client.specs.BlockTurns.{BlockRead, IsReadBegun}
-use Rattle.core_serial.proofs.Holding.{listed_in_pool}
+use Rattle.open_pool.proofs.Holding.{listed_in_pool}
 use Rattle.core_turns.specs.declared.getting.GetRun.{GetRun}
 use Rattle.core_turns.specs.declared.getting.OutOfMemory.{OutOfMemory}
 use Rattle.core_turns.specs.declared.getting.Solved.TheVariants.{NotYet}

@@ -24,9 +24,9 @@ use Rattle.core_client.specs.Writing.{IsPlanOf}
 use Rattle.core_client.specs.BlockTurns.{IsWrittenSoFar}
 use Rattle.core_client.proofs.BlockTurns.{written_all, written_none}
 use Rattle.core_commit.specs.CommitTurns.{CommitRun}
-use Rattle.core_serial.specs.Pool.{HoldsMap, IsTableOf, IsRead, state_of}
-use Rattle.core_serial.proofs.Holding.{put_holds}
-use Rattle.core_serial.proofs.Puts.{entry_layout}
+use Rattle.open_pool.specs.Pool.{HoldsMap, IsTableOf, IsRead, state_of}
+use Rattle.open_pool.proofs.Holding.{put_holds}
+use Rattle.open_pool.proofs.PutRanges.{entry_layout}
 use Rattle.core_turns.specs.declared.putting.Filled.{Filled}
 use Rattle.core_turns.specs.declared.putting.PutRun.{PutRun}
 use Rattle.core_turns.specs.Core.{Core, CoreState, IsCore, as_begun, at_disk, pool_at}

@@ -46,10 +46,10 @@ use Rattle.core_commit.specs.declared.commit_run.Stage.TheVariants.{Lays, Signs}
 use Rattle.core_commit.specs.CommitTurns.{CommitRun, shown_at, shown_by}
 use Rattle.core_commit.proofs.Beside.{committing_knows, committing_touched}
 use Rattle.core_commit.proofs.Halves.{sound_paged}
-use Rattle.core_serial.specs.Pool.{HasBank}
-use Rattle.core_serial.proofs.Holding.{listed_in_pool}
-use Rattle.core_serial.proofs.Layouts.{entry_in_pool}
-use Rattle.core_serial.proofs.Puts.{tells_at}
+use Rattle.open_pool.specs.Pool.{HasBank}
+use Rattle.open_pool.proofs.Holding.{listed_in_pool}
+use Rattle.open_pool.proofs.Layouts.{entry_in_pool}
+use Rattle.open_pool.proofs.PutRanges.{tells_at}
 use Rattle.core_turns.specs.declared.putting.Filled.{Filled}
 use Rattle.core_turns.specs.declared.putting.PutRun.{PutRun}
 use Rattle.core_turns.specs.Core.{Core, CoreState, IsCore, as_begun, at_disk}

@@ -14,9 +14,9 @@ use Rattle.core_client.specs.Outs.{point_of}
 use Rattle.core_commit.specs.declared.commit_run.Stage.TheVariants.{Lays}
 use Rattle.core_commit.specs.declared.commit_run.CommitStep.TheVariants.{Called}
 use Rattle.core_commit.specs.CommitTurns.{CommitRun, HasEnded, Steps}
-use Rattle.core_serial.specs.Answers.{most_groups}
-use Rattle.core_serial.specs.Pool.{Pool}
-use Rattle.core_serial.specs.Syncing.{next_uber}
+use Rattle.uberblock_ring.specs.Uberblock.{max_group}
+use Rattle.open_pool.specs.Pool.{Pool}
+use Rattle.open_pool.specs.NextGroup.{next_uber}
 use Rattle.core_turns.specs.declared.turn.Turn.{Turn}
 use Rattle.core_turns.specs.declared.turn.Turn.TheVariants.{More, Busy, Done}
 use Rattle.core_turns.specs.Core.{Core, CoreState}
@@ -53,15 +53,15 @@ pub record IsCommitOf (core : Core) (run : CommitRun) : Type 0 where
 abbrev pub IsSyncRefused : Core → Answer → Type 0
 IsSyncRefused core (answer.TooManyFailed out) = HasTooManyOut core × (out ≡ core.pool.out)
 IsSyncRefused core (answer.Limit reached) = (HasTooManyOut core → ⊥) × (core.committing ≡ None)
-    × (reached ≡ most_groups) × (most_groups ≤ core.begun + 1)
+    × (reached ≡ max_group) × (max_group ≤ core.begun + 1)
 IsSyncRefused core answer.NoMemory = (HasTooManyOut core → ⊥) × (core.committing ≡ None)
-    × (core.begun + 1 < most_groups)
+    × (core.begun + 1 < max_group)
 IsSyncRefused core other = ⊥
 
 -- what the first turn of a sync comes to
 abbrev pub BeginsCommit : Core → Core → ℕ → Turn CommitRun → Type 0
 BeginsCommit old new actor (More run) = (HasTooManyOut old → ⊥) × (old.committing ≡ None)
-    × (old.begun + 1 < most_groups) × (run ≡ commit_of old.pool)
+    × (old.begun + 1 < max_group) × (run ≡ commit_of old.pool)
     × (new ≡ record old { begun = old.begun + 1; committing = Some actor }) × IsCommitOf new run
 BeginsCommit old new actor (Busy by) = (HasTooManyOut old → ⊥) × (old.committing ≡ Some by) × (new ≡ old)
 BeginsCommit old new actor (Done given) = IsSyncRefused old given × (new ≡ old)

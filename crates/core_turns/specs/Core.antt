@@ -3,7 +3,8 @@ use Rattle.std.specs.Prelude.{◌≡◌, ℕ, ◌+◌, ◌≤◌, ◌^◌, List,
 use Rattle.bank_trait.specs.Disk.{Disk}
 use Rattle.range_locks.specs.declared.hold.Hold.{Hold}
 use Rattle.core_blocks.specs.Blocks.{AreInStep}
-use Rattle.core_serial.specs.Pool.{Pool, State, IsPool}
+use Rattle.open_pool.specs.Pool.{Pool, State, IsPool}
+use Rattle.uberblock_ring.specs.Uberblock.{max_group}
 
 -- the pool, the holds of the calls under way, the group that was begun last, and who makes it where it isn't
 -- answered
@@ -27,7 +28,7 @@ as_begun core = record core.pool { uber = record core.pool.uber { group = core.b
 pub record IsCore (core : Core) : Type 0 where
   pub is : IsPool (as_begun core)
   pub begun : core.begun ≡ core.pool.uber.group + groups_begun core.committing
-  pub few : core.begun ≤ 2 ^ 62
+  pub few : core.begun ≤ max_group
   pub step : AreInStep core.pool.blocks
 
 -- an open pool while calls are under way, and what its devices hold

@@ -4,6 +4,7 @@ use Rattle.block_record.specs.declared.entry.IndexEntry.{IndexEntry}
 use Rattle.block_table.specs.Table.{ChangesOnly, entry_of}
 use Rattle.core_state.specs.declared.answer.Answer.{Answer}
 use Rattle.core_state.specs.declared.answer.Answer.TheVariants as answer
+use Rattle.core_state.specs.Map.{Map, with_block}
 use Rattle.core_blocks.specs.Puts.{HoldsBack}
 use Rattle.core_turns.specs.Core.{Core}
 use Rattle.core_turns.specs.Getting.{HasTooManyOut}
@@ -36,3 +37,8 @@ FreesBlock old new id answer.Absent = (HasTooManyOut old → ⊥) × HadNone old
 FreesBlock old new id (answer.TooManyFailed out) =
     HasTooManyOut old × (out ≡ old.pool.out) × (new ≡ old)
 FreesBlock old new id other = ⊥
+
+-- the map that a free leaves
+abbrev pub map_after_free : Map → ℕ → Answer → Map
+map_after_free map id answer.Freed = with_block map (Some id) None
+map_after_free map id other = map

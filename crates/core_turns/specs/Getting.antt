@@ -1,5 +1,5 @@
 -- Gets and sums, turn by turn.
-use Rattle.std.specs.Prelude.{◌≡◌, ℕ, ◌+◌, ◌^◌, ◌<◌, ◌≤◌, List, ◌∷◌, [], ◌++◌, length, Some, None, Contains, ⊤}
+use Rattle.std.specs.Prelude.{◌≡◌, ℕ, ◌+◌, ◌^◌, ◌<◌, ◌≤◌, List, ◌∷◌, [], ◌++◌, length, Some, None, Contains, ⊤, Option}
 use Rattle.sha2.specs.Sha256.{sha256}
 use Rattle.width_map.specs.Births.{width_of_birth}
 use Rattle.range_locks.specs.declared.hold.Hold.{Hold}
@@ -19,11 +19,11 @@ use Rattle.core_state.specs.declared.answer.Kind.{Kind}
 use Rattle.core_state.specs.declared.answer.Kind.TheVariants as kind
 use Rattle.core_state.specs.Map.{Map}
 use Rattle.core_state.specs.Index.{layout_of}
+use Rattle.core_state.specs.Legal.{IsReadOf}
 use Rattle.core_client.specs.Outs.{point_of}
 use Rattle.core_client.specs.Pool.{IsInPool, IsRightBlock}
 use Rattle.core_client.specs.Got.{HasLostFew}
 use Rattle.core_client.specs.BlockTurns.{IsReadBegun, ReadsColumn, IsReadSoFar}
-use Rattle.core_serial.specs.Getting.{IsReadRight}
 use Rattle.core_turns.specs.declared.getting.GetRun.{GetRun}
 use Rattle.core_turns.specs.declared.getting.Solved.{Solved}
 use Rattle.core_turns.specs.declared.getting.Solved.TheVariants.{NotYet, Bytes, Damaged}
@@ -150,6 +150,13 @@ pub record EndsGetSo (old new : Core) (run : GetRun) (given : Answer) : Type 0 w
 abbrev pub EndsGet : Core → GetRun → Core → Turn GetRun → Type 0
 EndsGet old run new (Done given) = EndsGetSo old new run given
 EndsGet old run new other = ⊥
+
+-- A read of what an id has is right, or was cut short.
+abbrev pub IsReadRight : Option (List ℕ) → Kind → Answer → Type 0
+IsReadRight held asked answer.Damaged = ⊥
+IsReadRight held asked (answer.TooManyFailed out) = ⊤
+IsReadRight held asked answer.NoMemory = ⊤
+IsReadRight held asked other = IsReadOf held asked other
 
 -- What was solved is this block.
 abbrev pub IsSolvedAs : List ℕ → Solved → Type 0

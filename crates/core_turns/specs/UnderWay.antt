@@ -22,7 +22,7 @@ use Rattle.core_client.specs.Pool.{IsInPool}
 use Rattle.core_commit.specs.CommitTurns.{CommitRun, IsCommitting}
 use Rattle.core_commit.specs.Spared.{IsOnInUse}
 use Rattle.core_open.specs.Holds.{shape_of}
-use Rattle.core_serial.specs.Pool.{HasBank, HoldsMap}
+use Rattle.open_pool.specs.Pool.{HasBank, HoldsMap}
 use Rattle.core_turns.specs.declared.getting.GetRun.{GetRun}
 use Rattle.core_turns.specs.declared.putting.PutRun.{PutRun}
 use Rattle.core_turns.specs.Core.{Core, CoreState, pool_at}

@@ -1,7 +1,7 @@
 // Commits, turn by turn.
 ghost use Rattle.std.specs.Prelude.{◌≡◌};
 ghost use Rattle.core_client.specs.Outs.{point_of, OnlyFailedGoOut};
-ghost use Rattle.core_serial.specs.Pool.{HasBank};
+ghost use Rattle.open_pool.specs.Pool.{HasBank};
 ghost use Rattle.core_turns.specs.Core.{at_disk};
 ghost use Rattle.core_turns.specs.Committing.{BeginsCommit, HasTable, IsCommitOf, StepsCommit};
 ghost use Rattle.core_turns.specs.UnderWay.{TurnGoesOn};
@@ -10,12 +10,10 @@ use crate::turn::too_many;
 use crate::{Core, Turn};
 use bank_trait::Bank;
 use core_commit::{CommitRun, CommitStep};
-use core_serial::next_uber;
+use open_pool::next_uber;
 use core_state::Answer;
 use std::alloc::Global;
-
-/// No sync ends a group of this number.
-const MOST_GROUPS: u64 = 1 << 62;
+use uberblock_ring::MAX_GROUP;
 
 impl Core {
     /// The first turn of a sync: the map as it is becomes the open group's, and the next group is open.
@@ -29,9 +27,9 @@ impl Core {
         if let Some(by) = self.committing {
             return Turn::Busy { by };
         }
-        if self.begun >= MOST_GROUPS - 1 {
+        if self.begun >= MAX_GROUP - 1 {
             return Turn::Done(Answer::Limit {
-                reached: MOST_GROUPS,
+                reached: MAX_GROUP,
             });
         }
         let entries = self.blocks.entries();

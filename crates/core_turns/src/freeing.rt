@@ -6,12 +6,11 @@ ghost use Rattle.core_state.specs.Map.{Map};
 ghost use Rattle.core_blocks.specs.declared.range.PutRange.{PutRange};
 ghost use Rattle.core_blocks.specs.Blocks.{AreUnderWay};
 ghost use Rattle.core_blocks.specs.Kept.{NoneFree};
-ghost use Rattle.core_serial.specs.Answers.{map_after_free};
-ghost use Rattle.core_serial.specs.Pool.{HasBank, HoldsMap};
+ghost use Rattle.open_pool.specs.Pool.{HasBank, HoldsMap};
 ghost use Rattle.core_turns.specs.Core.{at_disk, pool_at};
 ghost use Rattle.core_turns.specs.declared.getting.GetRun.{GetRun};
 ghost use Rattle.core_turns.specs.Getting.{IsGetOf};
-ghost use Rattle.core_turns.specs.Freeing.{FreesBlock};
+ghost use Rattle.core_turns.specs.Freeing.{FreesBlock, map_after_free};
 
 use crate::Core;
 use crate::turn::too_many;

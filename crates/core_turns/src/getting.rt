@@ -8,7 +8,7 @@ ghost use Rattle.core_state.specs.Map.{Map};
 ghost use Rattle.core_state.specs.Index.{layout_of};
 ghost use Rattle.core_client.specs.BlockTurns.{IsPlace};
 ghost use Rattle.core_client.specs.Outs.{point_of, OnlyFailedGoOut};
-ghost use Rattle.core_serial.specs.Pool.{HasBank, HoldsMap};
+ghost use Rattle.open_pool.specs.Pool.{HasBank, HoldsMap};
 ghost use Rattle.core_turns.specs.declared.getting.GetRun.{GetRun as GetRunOf};
 ghost use Rattle.core_turns.specs.Core.{Core as CoreOf, CoreState, IsCore, at_disk, pool_at};
 ghost use Rattle.core_turns.specs.Getting.{HasLayout, HoldsGet, FindsGet, KeepsGet, TellsGet, IsGetOf, IsMoreOf, IsRead, BeginsGet, ReadsTurn, SolvesGet, EndsGet, answer_of};

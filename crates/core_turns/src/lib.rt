@@ -5,7 +5,7 @@
 //! takes it and gives it back, until the call is answered. A hold on its block's sectors keeps others away.
 //! Read `specs/Core.antt` and `specs/UnderWay.antt`, then `specs/Getting.antt`, `specs/Putting.antt` and
 //! `specs/Committing.antt`. Stands on `core_blocks`, `core_client`, `core_commit` and `range_locks`, and on
-//! the definitions of `core_serial`.
+//! the definitions of `open_pool`.
 #![tactic(auto)]
 
 mod committing;

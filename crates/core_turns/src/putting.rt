@@ -8,7 +8,7 @@ ghost use Rattle.bank_trait.specs.Disk.{Disk};
 ghost use Rattle.core_blocks.specs.Blocks.{IsUnderWay};
 ghost use Rattle.core_client.specs.Outs.{point_of, OnlyFailedGoOut};
 ghost use Rattle.core_client.specs.Pool.{IsInPool};
-ghost use Rattle.core_serial.specs.Pool.{HasBank};
+ghost use Rattle.open_pool.specs.Pool.{HasBank};
 ghost use Rattle.core_turns.specs.declared.putting.Filled.{Filled as FilledOf};
 ghost use Rattle.core_turns.specs.Core.{Core as CoreOf, IsCore, at_disk};
 ghost use Rattle.core_turns.specs.Getting.{HasTooManyOut};

@@ -3,7 +3,7 @@ use crate::banks::bank_of_width;
 use crate::runs::run;
 use bank_mem::{MemBank, Tear, Torn};
 use bank_trait::Bank;
-use serial_run::Ran;
+use journal_law::Ran;
 use std::alloc::{AllocError, Global};
 use std::process::Abort;
 use std::test::Fail;

@@ -3,7 +3,7 @@ use bank_mem::{MemBank, MemSink};
 use client_script::{parse, print_journal};
 use core_open::OpenWhy;
 use core_state::Journal;
-use serial_run::{Ran, run_pool};
+use journal_law::{Ran, run_pool};
 use std::alloc::Global;
 use std::test::Fail;
 

@@ -4,7 +4,7 @@ use crate::runs::run;
 use bank_mem::{MemBank, MemSink};
 use client_script::TextWriter;
 use core_open::OpenWhy;
-use serial_run::Ran;
+use journal_law::Ran;
 use std::alloc::Global;
 use std::process::Abort;
 use std::test::Fail;

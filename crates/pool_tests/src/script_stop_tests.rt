@@ -2,7 +2,7 @@
 use crate::banks::bank_of_nine;
 use crate::runs::run;
 use bank_mem::{MemBank, Tear, Torn};
-use serial_run::Ran;
+use journal_law::Ran;
 use std::alloc::{AllocError, Global};
 use std::test::Fail;
 use uberblock_ring::DeviceSet;

@@ -3,7 +3,7 @@ use crate::banks::bank_of_nine;
 use crate::runs::run;
 use bank_mem::MemBank;
 use core_open::OpenWhy;
-use serial_run::Ran;
+use journal_law::Ran;
 use std::test::Fail;
 use uberblock_ring::DeviceSet;
 

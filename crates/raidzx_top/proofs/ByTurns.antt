@@ -11,9 +11,9 @@ use Rattle.core_state.specs.Map.{Map, Handed}
 use Rattle.core_state.specs.Keeps.{Kept, Setting}
 use Rattle.core_state.specs.Collision.{MightStand}
 use Rattle.core_state.specs.Moment.{KeepsSince, KeepsThroughout}
-use Rattle.serial_run.specs.Moments.{KeepsLast, KeepsUntil, KeepsItemByItem}
-use Rattle.serial_run.specs.Widths.{HaveWidthOfEach}
-use Rattle.serial_run.proofs.Moments.{moved, with_bank, bank_below, bank_at}
+use Rattle.journal_law.specs.Moments.{KeepsLast, KeepsUntil, KeepsItemByItem}
+use Rattle.journal_law.specs.Widths.{HaveWidthOfEach}
+use Rattle.journal_law.proofs.Moments.{moved, with_bank, bank_below, bank_at}
 use Rattle.schedule.specs.Moments.{KeepsTurnByTurn}
 
 -- A run that lists its last item as it ends goes by turns of which the last one is its end.

@@ -14,7 +14,7 @@ use Rattle.core_open.specs.Causes.{IsShownChoice, AreOutFor}
 use Rattle.core_open.specs.Failing.{HaveFailed}
 use Rattle.core_open.specs.Holds.{HoldsImage}
 use Rattle.core_open.specs.Opens.{IsWithinBelow}
-use Rattle.core_serial.specs.Opening.{MayBegin}
+use Rattle.open_pool.specs.Opening.{MayBegin}
 use Rattle.client_script.specs.Script.{Script, asked_by, handed_by}
 use Rattle.raidzx_top.specs.declared.carrying.Carried.{Carried}
 use Rattle.raidzx_top.specs.declared.carrying.Carried.TheVariants as carried

@@ -6,8 +6,8 @@ use Rattle.bank_trait.proofs.Touches.{tells_later}
 use Rattle.core_state.specs.Collision.{HasNoOtherPage}
 use Rattle.core_state.specs.Create.{first_kept}
 use Rattle.core_state.specs.Keeps.{Kept, Setting}
-use Rattle.core_serial.specs.Opening.{MayBegin}
-use Rattle.serial_run.proofs.Moments.{contains_one}
+use Rattle.open_pool.specs.Opening.{MayBegin}
+use Rattle.journal_law.proofs.Moments.{contains_one}
 use Rattle.raidzx_top.specs.declared.words.NewPool.{NewPool}
 use Rattle.raidzx_top.specs.declared.words.ServedCommand.TheVariants as served
 use Rattle.raidzx_top.specs.Call.{Call, HoldsImage, shape_of}

@@ -19,14 +19,14 @@ use Rattle.core_state.specs.Collision.{MightStand}
 use Rattle.core_state.specs.Moment.{IsGroupOf, IsBegunAfter, IsUnanswered, KeepsSince, KeepsSome, KeepsThroughout, groups_in}
 use Rattle.core_state.proofs.Listed.{contains_none, contains_cases}
 use Rattle.core_open.specs.Opens.{AddsOne}
-use Rattle.core_serial.specs.Opening.{CutsOpening, MayBegin}
-use Rattle.core_serial.specs.Stopped.{IsImageOf}
-use Rattle.core_serial.proofs.Reopened.{stopped_begins}
+use Rattle.open_pool.specs.Opening.{CutsOpening, MayBegin}
+use Rattle.open_pool.specs.Stopped.{IsImageOf}
+use Rattle.open_pool.proofs.Reopened.{stopped_begins}
 use Rattle.client_script.specs.Script.{Script, IsAllowed, asked_by, handed_by}
-use Rattle.serial_run.specs.Moments.{KeepsLast, KeepsUntil}
-use Rattle.serial_run.specs.Widths.{HaveWidthOf, HaveWidthOfEach}
-use Rattle.serial_run.proofs.Rows.{row_among}
-use Rattle.serial_run.proofs.RunBytes.{HoldsBytes, HandsBytes, after_bytes, script_hands}
+use Rattle.journal_law.specs.Moments.{KeepsLast, KeepsUntil}
+use Rattle.journal_law.specs.Widths.{HaveWidthOf, HaveWidthOfEach}
+use Rattle.journal_law.proofs.Rows.{row_among}
+use Rattle.journal_law.proofs.RunBytes.{HoldsBytes, HandsBytes, after_bytes, script_hands}
 use Rattle.schedule.specs.Moments.{KeepsTurnByTurn}
 use Rattle.raidzx_top.specs.declared.carrying.Carried.{Carried}
 use Rattle.raidzx_top.specs.declared.carrying.Carried.TheVariants as carried

@@ -19,7 +19,7 @@ use Rattle.core_open.specs.Holds.{HoldsImage, shape_of}
 use Rattle.core_open.specs.declared.why.OpenWhy.TheVariants as reason
 use Rattle.core_open.proofs.Ends.{present_held}
 use Rattle.core_open.proofs.Unhindered.{caused}
-use Rattle.core_serial.proofs.Going.{count_grows}
+use Rattle.open_pool.proofs.Banks.{count_grows}
 use Rattle.client_script.specs.Script.{Script, handed_by}
 use Rattle.client_script.specs.Texts.{journal_text}
 use Rattle.raidzx_top.specs.declared.carrying.Carried.{Carried}

@@ -3,7 +3,7 @@ use Rattle.std.specs.Prelude.{ℕ, List}
 use Rattle.bank_trait.specs.Disk.{Disk}
 use Rattle.core_state.specs.declared.item.Item.{Item}
 use Rattle.client_script.specs.Script.{Script}
-use Rattle.serial_run.specs.WholeRun.{HasRun}
+use Rattle.journal_law.specs.WholeRun.{HasRun}
 use Rattle.schedule.specs.WholeRun.{HasTakenTurns}
 use Rattle.raidzx_top.specs.declared.carrying.Carried.{Carried}
 use Rattle.raidzx_top.specs.declared.carrying.Carried.TheVariants as carried

@@ -15,9 +15,9 @@ use Rattle.core_state.specs.Collision.{MightStand, HasNoOtherPage}
 use Rattle.core_open.specs.Holds.{shape_of}
 use Rattle.core_open.specs.Opens.{AddsOne, IsWithinBelow}
 use Rattle.client_script.specs.Script.{Script, asked_by, handed_by}
-use Rattle.core_serial.specs.Opening.{CutsOpening, MayBegin}
-use Rattle.core_serial.specs.Stopped.{IsImageOf, HoldsAlone}
-use Rattle.serial_run.specs.Moments.{KeepsLast, KeepsUntil}
+use Rattle.open_pool.specs.Opening.{CutsOpening, MayBegin}
+use Rattle.open_pool.specs.Stopped.{IsImageOf, HoldsAlone}
+use Rattle.journal_law.specs.Moments.{KeepsLast, KeepsUntil}
 use Rattle.schedule.specs.Moments.{KeepsTurnByTurn}
 use Rattle.raidzx_top.specs.declared.carrying.Carried.{Carried}
 use Rattle.raidzx_top.specs.declared.carrying.Carried.TheVariants as carried

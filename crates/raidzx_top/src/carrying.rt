@@ -9,7 +9,7 @@ use client_script::Script;
 use core_open::OpenWhy;
 use core_state::Journal;
 use schedule::{Replayed, replay_pool};
-use serial_run::{Ran, run_pool};
+use journal_law::{Ran, run_pool};
 use std::alloc::Global;
 use uberblock_ring::DeviceSet;
 

@@ -11,7 +11,7 @@ use Rattle.core_state.specs.Legal.{CallAt}
 use Rattle.core_state.specs.Journal.{Asked, IsAsked}
 use Rattle.client_script.specs.declared.call.ScriptCall.{ScriptCall}
 use Rattle.client_script.specs.Script.{Script, calls_of, asked_by}
-use Rattle.serial_run.proofs.Grown.{grown_has, last_there, new_or_before}
+use Rattle.journal_law.proofs.Grown.{grown_has, last_there, new_or_before}
 use Rattle.schedule.specs.declared.client.Client.{Client}
 use Rattle.schedule.specs.declared.client.UnderWay.{UnderWay}
 use Rattle.schedule.specs.Clients.{AreAnswered, Changes, answered_of}

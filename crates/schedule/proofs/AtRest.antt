@@ -13,7 +13,7 @@ use Rattle.core_state.specs.Journal.{Asked, IsComplete}
 use Rattle.core_state.specs.JournalRoom.{Journal}
 use Rattle.client_script.specs.declared.call.ScriptCall.{ScriptCall}
 use Rattle.client_script.specs.Script.{Placed, Script, asked_by, calls_of}
-use Rattle.core_serial.specs.Pool.{HasBank}
+use Rattle.open_pool.specs.Pool.{HasBank}
 use Rattle.core_turns.specs.Core.{Core, at_disk}
 use Rattle.schedule.specs.declared.client.Client.{Client}
 use Rattle.schedule.specs.declared.progress.Progress.{Progress}

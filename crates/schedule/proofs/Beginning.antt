@@ -12,16 +12,16 @@ use Rattle.core_state.specs.Keeps.{Kept, Setting}
 use Rattle.core_state.specs.Moment.{IsGroupOf, KeepsSince}
 use Rattle.core_state.proofs.Listed.{contains_none}
 use Rattle.core_open.specs.Opens.{MayOpen}
-use Rattle.core_serial.specs.Opening.{Begins}
-use Rattle.core_serial.specs.Pool.{Pool}
-use Rattle.serial_run.specs.Widths.{HaveWidthOf}
-use Rattle.serial_run.specs.WholeRun.{first_item}
-use Rattle.serial_run.proofs.Grown.{new_or_before}
-use Rattle.serial_run.proofs.GrownAnswers.{answers_alone}
-use Rattle.serial_run.proofs.GrownGroups.{group_alone, latest_alone}
-use Rattle.serial_run.proofs.GrownRun.{groups_one}
-use Rattle.serial_run.proofs.Moments.{last_alike}
-use Rattle.serial_run.proofs.Widths.{widths_opened}
+use Rattle.open_pool.specs.Opening.{Begins}
+use Rattle.open_pool.specs.Pool.{Pool}
+use Rattle.journal_law.specs.Widths.{HaveWidthOf}
+use Rattle.open_pool.specs.Pool.{first_item}
+use Rattle.journal_law.proofs.Grown.{new_or_before}
+use Rattle.journal_law.proofs.GrownAnswers.{answers_alone}
+use Rattle.journal_law.proofs.GrownGroups.{group_alone, latest_alone}
+use Rattle.journal_law.proofs.GrownRun.{groups_one}
+use Rattle.journal_law.proofs.Moments.{last_alike}
+use Rattle.journal_law.proofs.Widths.{widths_opened}
 use Rattle.schedule.specs.Recorded.{Recorded}
 use Rattle.schedule.proofs.Moments.{AreLatest, turns_first}
 

@@ -11,8 +11,8 @@ use Rattle.core_state.specs.Map.{Map, SameMap, map_of}
 use Rattle.core_state.specs.Legal.{GroupAt, IsGroupBefore}
 use Rattle.core_state.specs.Keeps.{Kept}
 use Rattle.core_state.specs.CoreState.{World}
-use Rattle.serial_run.proofs.Grown.{map_before, map_at_end}
-use Rattle.serial_run.proofs.GrownGroups.{latest_grown_call}
+use Rattle.journal_law.proofs.Grown.{map_before, map_at_end}
+use Rattle.journal_law.proofs.GrownGroups.{latest_grown_call}
 use Rattle.schedule.specs.Recorded.{Recorded, IsBegunAt}
 use Rattle.schedule.proofs.Recording.{after_few}
 

@@ -6,7 +6,7 @@ use Rattle.core_state.specs.declared.item.Group.{Group as GroupItem}
 use Rattle.core_state.specs.declared.item.Item.{Item}
 use Rattle.core_state.specs.declared.item.Item.TheVariants.{Group, Call}
 use Rattle.core_state.specs.Legal.{IsPrevious}
-use Rattle.serial_run.proofs.Grown.{first_has, new_or_before}
+use Rattle.journal_law.proofs.Grown.{first_has, new_or_before}
 use Rattle.schedule.specs.Recorded.{AllBelow}
 
 -- They stand below the journal's end,

@@ -20,9 +20,9 @@ use Rattle.core_client.proofs.Outs.{outs_none, outs_then}
 use Rattle.core_commit.specs.Spared.{IsOnInUse}
 use Rattle.core_commit.proofs.Going.{in_use_before}
 use Rattle.core_open.proofs.Written.{none_listed}
-use Rattle.core_serial.proofs.Going.{count_grows}
+use Rattle.open_pool.proofs.Banks.{count_grows}
 use Rattle.client_script.specs.Script.{Script, handed_by}
-use Rattle.serial_run.proofs.Grown.{grown_has, new_or_before}
+use Rattle.journal_law.proofs.Grown.{grown_has, new_or_before}
 use Rattle.core_turns.specs.Getting.{HasTooManyOut}
 use Rattle.core_turns.specs.UnderWay.{TurnGoesOn}
 use Rattle.schedule.specs.Coming.{Turns, HasCome, KeepsUsing}

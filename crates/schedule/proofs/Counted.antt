@@ -5,8 +5,8 @@ use Rattle.core_state.specs.declared.item.Entry.{Entry}
 use Rattle.core_state.specs.declared.item.Group.{Group as GroupItem}
 use Rattle.core_state.specs.declared.item.Item.{Item}
 use Rattle.core_state.specs.declared.item.Item.TheVariants.{Group, Call}
-use Rattle.serial_run.specs.Caused.{IsAtLastGroup}
-use Rattle.serial_run.proofs.Grown.{new_or_before, group_before_grown}
+use Rattle.journal_law.specs.Caused.{IsAtLastGroup}
+use Rattle.journal_law.proofs.Grown.{new_or_before, group_before_grown}
 use Rattle.schedule.specs.Recorded.{GroupsAreCounted}
 
 -- A cause in the items before an index is one in the grown journal.

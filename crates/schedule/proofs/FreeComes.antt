@@ -10,8 +10,8 @@ use Rattle.core_state.specs.declared.item.Entry.{Entry}
 use Rattle.core_state.specs.Map.{Map, Handed, map_of, map_after_answer, with_block}
 use Rattle.core_state.specs.Legal.{IsAnswerOf, IsRightFree}
 use Rattle.core_blocks.proofs.Listed.{found_id, found_listed}
-use Rattle.core_serial.specs.Answers.{map_after_free}
-use Rattle.core_serial.specs.Pool.{HoldsMap}
+use Rattle.core_turns.specs.Freeing.{map_after_free}
+use Rattle.open_pool.specs.Pool.{HoldsMap}
 use Rattle.client_script.specs.declared.call.ScriptCall.{ScriptCall}
 use Rattle.client_script.specs.Script.{Script, calls_of}
 use Rattle.core_turns.specs.Core.{Core, at_disk, pool_at}

@@ -22,10 +22,11 @@ use Rattle.core_blocks.specs.Blocks.{puts_of}
 use Rattle.core_blocks.proofs.Lists.{first_listed, rest_listed}
 use Rattle.client_script.specs.declared.call.ScriptCall.{ScriptCall}
 use Rattle.client_script.specs.Script.{Script, calls_of, handed_by}
-use Rattle.serial_run.specs.Caused.{IsHeldOrPut, HasTooManyIds}
-use Rattle.serial_run.proofs.FullTables.{entry_held, unique_among, unique_distinct}
-use Rattle.serial_run.proofs.Grown.{map_at_end, new_or_before}
-use Rattle.serial_run.proofs.ManyIds.{call_puts, held_or_put, one_too_many}
+use Rattle.journal_law.specs.Caused.{IsHeldOrPut, HasTooManyIds}
+use Rattle.journal_law.proofs.Distinct.{unique_among, unique_distinct}
+use Rattle.open_pool.proofs.Holding.{entry_held}
+use Rattle.journal_law.proofs.Grown.{map_at_end, new_or_before}
+use Rattle.journal_law.proofs.ManyIds.{call_puts, held_or_put, one_too_many}
 use Rattle.core_turns.specs.declared.putting.PutRun.{PutRun}
 use Rattle.core_turns.specs.Core.{Core}
 use Rattle.core_turns.specs.Getting.{IsRead}

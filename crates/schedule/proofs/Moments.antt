@@ -15,10 +15,10 @@ use Rattle.core_state.specs.Certain.{Knows}
 use Rattle.core_state.specs.Moment.{IsGroupOf, IsBegunAfter, IsRowOf, KeepsSince, KeepsThroughout}
 use Rattle.core_state.proofs.Keeping.{knows_keep}
 use Rattle.core_state.proofs.Since.{since_now}
-use Rattle.core_serial.proofs.Committing.{since_wider}
-use Rattle.serial_run.specs.Moments.{KeepsUntil}
-use Rattle.serial_run.specs.Widths.{HaveWidthOfEach}
-use Rattle.serial_run.proofs.Moments.{moved, with_bank, bank_below, bank_at}
+use Rattle.open_pool.proofs.Committing.{since_wider}
+use Rattle.journal_law.specs.Moments.{KeepsUntil}
+use Rattle.journal_law.specs.Widths.{HaveWidthOfEach}
+use Rattle.journal_law.proofs.Moments.{moved, with_bank, bank_below, bank_at}
 use Rattle.schedule.specs.Moments.{KeepsTurnByTurn, KeepsOn}
 
 -- The last group of a journal, and at most one that was begun after it, alike to the groups known.

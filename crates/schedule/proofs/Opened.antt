@@ -9,11 +9,11 @@ use Rattle.core_state.specs.CoreState.{World}
 use Rattle.core_state.proofs.Listed.{contains_none}
 use Rattle.core_blocks.specs.Blocks.{AreUnderWay}
 use Rattle.core_open.specs.Opens.{MayOpen}
-use Rattle.core_serial.specs.Opening.{Begins}
-use Rattle.core_serial.specs.Pool.{Pool, HasBank, HoldsMap, state_of}
+use Rattle.open_pool.specs.Opening.{Begins}
+use Rattle.open_pool.specs.Pool.{Pool, HasBank, HoldsMap, state_of}
 use Rattle.client_script.specs.Script.{Script}
-use Rattle.serial_run.specs.WholeRun.{first_item}
-use Rattle.serial_run.proofs.GrownGroups.{latest_alone}
+use Rattle.open_pool.specs.Pool.{first_item}
+use Rattle.journal_law.proofs.GrownGroups.{latest_alone}
 use Rattle.core_turns.specs.Core.{Core, at_disk}
 use Rattle.core_turns.specs.UnderWay.{Putting, AreCallsOf, Stands}
 use Rattle.schedule.specs.declared.client.Client.{Client}
@@ -67,13 +67,13 @@ module _ {setting : Setting} {first : Kept} {later : List Kept} {pool : Pool} {o
   stands_first : HasBank pool.uber pool.out mid → AreUnderWay pool.blocks []
       → Stands setting begins.opened.next [] chosen_map [] None (at_disk (resting pool) mid)
   stands_first bank rest = record {
-    groups = record { knows = begins.stands.knows; whole = λ few. (refl, refl) };
-    alike = begins.stands.alike;
-    kept = begins.stands.kept;
+    groups = record { knows = begins.group.knows; whole = λ few. (refl, refl) };
+    alike = begins.group.alike;
+    kept = begins.group.kept;
     spared = λ run content has. absurd (contains_none (Putting run content) has);
-    odd = begins.stands.odd;
-    shape = begins.stands.shape;
-    tells = begins.stands.tells;
+    odd = begins.group.odd;
+    shape = begins.group.shape;
+    tells = begins.group.tells;
     bank = bank;
     holds = subst (λ (map : Map). HoldsMap map (state_of pool mid)) (λ i id. begins.opened.renews.map id i)
         begins.holds;

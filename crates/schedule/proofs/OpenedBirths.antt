@@ -15,8 +15,8 @@ use Rattle.core_state.proofs.Listed.{contains_head}
 use Rattle.core_state.proofs.Reader.{shown_alike}
 use Rattle.core_blocks.proofs.Lists.{first_listed, rest_listed, listed_cases, filter_listed, filter_was}
 use Rattle.core_open.specs.Opens.{IsWithinBelow}
-use Rattle.core_serial.specs.Opening.{MayBegin, Begins, IsBegunWith}
-use Rattle.core_serial.specs.Pool.{Pool}
+use Rattle.open_pool.specs.Opening.{MayBegin, Begins, IsBegunWith}
+use Rattle.open_pool.specs.Pool.{Pool}
 
 -- No birth of the group is later than the second one after it.
 abbrev IsBornBy : Kept → Type 0

@@ -100,20 +100,20 @@ played_at script start turns taken room from to same played =
 
 -- The client of a letter of the order had its turn.
 pub played_letter : (script : Script) (start : Replay) (before after : Turns)
-    (taken counted room left actor index other : ℕ) → index < length script.order
-    → actor ≡ get_or script.order index other
-    → HasPlayed script start (replay_at before taken (InOrder (drop index script.order))) room
+    (letters : List ℕ) (taken counted room left actor index other : ℕ) → index < length letters
+    → actor ≡ get_or letters index other
+    → HasPlayed script start (replay_at before taken (InOrder (drop index letters))) room
     → HasTurn script actor before after → counted ≡ taken + 1 → IsReady script after left
-    → HasPlayed script start (replay_at after counted (InOrder (drop (index + 1) script.order))) left
-played_letter script start before after taken counted room left actor index other low is played turn one ready =
-    played_turn script start before after taken counted room left actor (InOrder (drop index script.order))
-    (InOrder (drop (index + 1) script.order)) played
+    → HasPlayed script start (replay_at after counted (InOrder (drop (index + 1) letters))) left
+played_letter script start before after letters taken counted room left actor index other low is played turn one ready =
+    played_turn script start before after taken counted room left actor (InOrder (drop index letters))
+    (InOrder (drop (index + 1) letters)) played
     (ap (λ (letters : List ℕ). turn_at script before.clients (InOrder letters)) next)
     (ap (λ (letters : List ℕ). cursor_after script before.clients (InOrder letters)) next) turn one ready
   where
-    next : drop index script.order ≡ actor ∷ drop (index + 1) script.order
-    next = drop_more script.order index other low
-        ∙ ap (λ (letter : ℕ). letter ∷ drop (index + 1) script.order) (sym is)
+    next : drop index letters ≡ actor ∷ drop (index + 1) letters
+    next = drop_more letters index other low
+        ∙ ap (λ (letter : ℕ). letter ∷ drop (index + 1) letters) (sym is)
 
 -- A client had its turn in a round,
 pub played_in_round : (script : Script) (before after : Turns) (taken counted room left actor : ℕ)

@@ -18,9 +18,9 @@ use Rattle.core_state.specs.Legal.{IsAnswerOf}
 use Rattle.core_state.specs.Keeps.{Kept, Setting}
 use Rattle.core_state.specs.CoreState.{World}
 use Rattle.core_commit.specs.CommitTurns.{CommitRun}
-use Rattle.core_serial.specs.Getting.{IsReadRight}
+use Rattle.core_turns.specs.Getting.{IsReadRight}
 use Rattle.client_script.specs.declared.call.ScriptCall.{ScriptCall}
-use Rattle.serial_run.specs.Steps.{point_after, read_point}
+use Rattle.journal_law.specs.Points.{point_after, read_point}
 use Rattle.core_turns.specs.declared.getting.GetRun.{GetRun}
 use Rattle.core_turns.specs.declared.getting.Solved.{Solved}
 use Rattle.core_turns.specs.declared.getting.Solved.TheVariants.{NotYet, Bytes, Damaged}

@@ -14,10 +14,10 @@ use Rattle.core_state.specs.Map.{Map, map_of, map_after}
 use Rattle.core_state.specs.Legal.{IsAnswerOf}
 use Rattle.core_blocks.proofs.Listed.{found_id}
 use Rattle.core_blocks.proofs.Lists.{gains_item}
-use Rattle.core_serial.specs.Getting.{IsReadRight}
+use Rattle.core_turns.specs.Getting.{IsReadRight}
 use Rattle.client_script.specs.declared.call.ScriptCall.{ScriptCall}
 use Rattle.client_script.specs.Script.{Script, calls_of}
-use Rattle.serial_run.proofs.Grown.{map_at_end}
+use Rattle.journal_law.proofs.Grown.{map_at_end}
 use Rattle.core_turns.specs.declared.getting.GetRun.{GetRun}
 use Rattle.core_turns.specs.declared.turn.Turn.TheVariants.{More, Busy, Done}
 use Rattle.core_turns.specs.Core.{Core, at_disk}

@@ -20,16 +20,16 @@ use Rattle.core_state.specs.Moment.{IsGroupOf, IsBegunAfter, Groups, IsRowOf, Ke
 use Rattle.core_state.specs.CoreState.{World}
 use Rattle.core_state.proofs.Keeping.{knows_keep}
 use Rattle.core_state.proofs.Listed.{contains_none}
-use Rattle.core_serial.proofs.Committing.{since_wider}
-use Rattle.serial_run.specs.Moments.{KeepsLast}
-use Rattle.serial_run.specs.Widths.{HaveWidthOf, HaveWidthOfEach}
-use Rattle.serial_run.proofs.Grown.{map_before}
-use Rattle.serial_run.proofs.GrownAnswers.{answers_grown_call, answers_grown_group}
-use Rattle.serial_run.proofs.GrownGroups.{groups_grown_call, groups_grown_group, latest_grown_call, latest_grown_group, group_of_grown, after_listed}
-use Rattle.serial_run.proofs.GrownRun.{groups_call, groups_end, groups_begun, groups_cut}
-use Rattle.serial_run.proofs.Moments.{contains_one, last_alike}
-use Rattle.serial_run.proofs.Rows.{row_among}
-use Rattle.serial_run.proofs.Stepping.{each_grown_call, each_grown_group}
+use Rattle.open_pool.proofs.Committing.{since_wider}
+use Rattle.journal_law.specs.Moments.{KeepsLast}
+use Rattle.journal_law.specs.Widths.{HaveWidthOf, HaveWidthOfEach}
+use Rattle.journal_law.proofs.Grown.{map_before}
+use Rattle.journal_law.proofs.GrownAnswers.{answers_grown_call, answers_grown_group}
+use Rattle.journal_law.proofs.GrownGroups.{groups_grown_call, groups_grown_group, latest_grown_call, latest_grown_group, group_of_grown, after_listed}
+use Rattle.journal_law.proofs.GrownRun.{groups_call, groups_end, groups_begun, groups_cut}
+use Rattle.journal_law.proofs.Moments.{contains_one, last_alike}
+use Rattle.journal_law.proofs.Rows.{row_among}
+use Rattle.journal_law.proofs.GrownAnswers.{each_grown_call, each_grown_group}
 use Rattle.schedule.specs.Recorded.{Recorded, IsRightNext, IsBegunAt, AllBelow}
 use Rattle.schedule.proofs.Counted.{counted_call, counted_group}
 use Rattle.schedule.proofs.Moments.{AreLatest, whole_row, on_goes, on_wider, turns_go, turns_list}

@@ -12,9 +12,9 @@ use Rattle.core_state.specs.declared.item.Item.TheVariants.{Group, Call}
 use Rattle.core_state.specs.Map.{Map, Handed, map_of, map_after}
 use Rattle.core_state.specs.Legal.{IsPrevious, IsGroupBefore, IsReadOf, IsCutShort, IsRightRead, IsRightFree, IsRightSync, IsRightCall}
 use Rattle.core_state.specs.CoreState.{World}
-use Rattle.core_serial.specs.Answers.{most_groups}
+use Rattle.uberblock_ring.specs.Uberblock.{max_group}
 use Rattle.core_turns.specs.Getting.{IsRead}
-use Rattle.serial_run.proofs.Grown.{grown_has, last_there, map_before, map_at_end}
+use Rattle.journal_law.proofs.Grown.{grown_has, last_there, map_before, map_at_end}
 use Rattle.schedule.specs.Recorded.{IsRightNext, AllBelow}
 use Rattle.schedule.proofs.Below.{previous_below, below_group}
 
@@ -124,8 +124,8 @@ module _ (world : World) (items : List Item) (entry : Entry) where
       stopped_sync with_entry previous (length items) entry.answer stopped))
 
   -- One that found no number left for its group.
-  pub sync_limit_right : (item : GroupItem) → entry.kind ≡ kind.Sync → entry.answer ≡ answer.Limit most_groups
-      → IsGroupBefore items (length items) item → most_groups ≤ item.group + 1
+  pub sync_limit_right : (item : GroupItem) → entry.kind ≡ kind.Sync → entry.answer ≡ answer.Limit max_group
+      → IsGroupBefore items (length items) item → max_group ≤ item.group + 1
       → IsRightNext world items entry
   sync_limit_right item asked answer_is latest at_last = record {
     right = subst IsRightAs (sym asked) (λ previous previous_is.
@@ -139,7 +139,7 @@ module _ (world : World) (items : List Item) (entry : Entry) where
     };
   }
     where
-      apart : answer.Limit most_groups ≡ answer.Damaged → ⊥
+      apart : answer.Limit max_group ≡ answer.Damaged → ⊥
       apart is = cc
 
       same : {one two : ℕ} → answer.Limit one ≡ answer.Limit two → one ≡ two

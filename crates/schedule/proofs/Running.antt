@@ -12,7 +12,7 @@ use Rattle.core_state.specs.Keeps.{Kept}
 use Rattle.core_state.specs.CoreState.{World}
 use Rattle.client_script.specs.declared.call.ScriptCall.{ScriptCall}
 use Rattle.client_script.specs.Script.{Script}
-use Rattle.serial_run.proofs.Grown.{map_before, new_or_before}
+use Rattle.journal_law.proofs.Grown.{map_before, new_or_before}
 use Rattle.core_turns.specs.UnderWay.{Call, Putting, Reading}
 use Rattle.schedule.specs.declared.client.Client.{Client}
 use Rattle.schedule.specs.declared.client.UnderWay.{UnderWay}

@@ -18,8 +18,8 @@ use Rattle.core_state.specs.CoreState.{World}
 use Rattle.core_blocks.proofs.Lists.{gains_old}
 use Rattle.core_commit.specs.CommitTurns.{CommitRun}
 use Rattle.client_script.specs.Script.{Script}
-use Rattle.serial_run.proofs.Grown.{map_grown_call, map_grown_group}
-use Rattle.serial_run.proofs.GrownGroups.{latest_grown_call, latest_grown_group}
+use Rattle.journal_law.proofs.Grown.{map_grown_call, map_grown_group}
+use Rattle.journal_law.proofs.GrownGroups.{latest_grown_call, latest_grown_group}
 use Rattle.core_turns.specs.Core.{CoreState}
 use Rattle.core_turns.specs.UnderWay.{Call, Stands}
 use Rattle.schedule.specs.declared.client.Client.{Client}

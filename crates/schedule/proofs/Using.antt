@@ -19,7 +19,7 @@ use Rattle.client_script.specs.declared.call.ScriptCall.{ScriptCall}
 use Rattle.client_script.specs.Lines.{fill_bytes}
 use Rattle.client_script.specs.Script.{Placed, Script, calls_of}
 use Rattle.core_turns.specs.Core.{Core}
-use Rattle.serial_run.specs.NoSpace.{length_put, largest_size}
+use Rattle.journal_law.specs.NoSpace.{length_put, largest_size}
 use Rattle.schedule.specs.declared.client.Client.{Client}
 use Rattle.schedule.specs.Clients.{Changes}
 use Rattle.schedule.specs.Using.{AreAtMost, AreLeft, AreRunsOf, calls_among, sizes_left, sizes_of, sizes_put}

@@ -26,9 +26,9 @@ use Rattle.core_turns.specs.declared.turn.Turn.TheVariants.{More, Busy, Done}
 use Rattle.core_turns.specs.Core.{Core, IsCore}
 use Rattle.core_turns.specs.Committing.{IsCommitOf}
 use Rattle.core_turns.specs.UnderWay.{TurnGoesOn}
-use Rattle.serial_run.specs.NoSpace.{length_put, FindsNoSpace}
-use Rattle.serial_run.proofs.GrownGroups.{latest_grown_call, latest_grown_group}
-use Rattle.serial_run.proofs.NoSpace.{no_space_call, no_space_group}
+use Rattle.journal_law.specs.NoSpace.{length_put, FindsNoSpace}
+use Rattle.journal_law.proofs.GrownGroups.{latest_grown_call, latest_grown_group}
+use Rattle.journal_law.proofs.NoSpace.{no_space_call, no_space_group}
 use Rattle.schedule.specs.declared.client.Client.{Client}
 use Rattle.schedule.specs.declared.client.UnderWay.{UnderWay}
 use Rattle.schedule.specs.declared.client.Work.TheVariants as work

@@ -1,30 +1,39 @@
 -- What a pool that was opened uses is what its index tells, before the first turn.
 use Rattle.std.proofs.Common.{◌≡◌, ℕ, ◌+◌, List, [], ◌∷◌, length, refl, sym, ◌∙◌, ap, subst, arith, length-append}
 use Rattle.std.specs.Prelude.{Contains, drop, map, sum}
-use Rattle.std.proofs.lemmas.List.{append-nil}
 use Rattle.std.proofs.lemmas.List.Sums.{sum_by-append}
 use Rattle.bank_trait.specs.Disk.{Disk}
 use Rattle.width_map.specs.Births.{NoneAbove}
+use Rattle.row_layout.specs.Layout.{allocated_of}
 use Rattle.space_alloc.specs.Space.{Run, HeldRun}
 use Rattle.block_record.specs.declared.entry.IndexEntry.{IndexEntry}
+use Rattle.uberblock_ring.specs.Uberblock.{Uber}
 use Rattle.uberblock_ring.specs.Valid.{IsRightUber}
+use Rattle.core_state.specs.Index.{layout_of}
 use Rattle.core_state.specs.declared.item.Item.TheVariants.{Group}
 use Rattle.core_blocks.specs.Runs.{held_sectors}
 use Rattle.core_blocks.specs.Usage.{runs_in_use, sectors_in, UsesAtMost}
 use Rattle.core_blocks.proofs.Lists.{none_listed}
+use Rattle.core_blocks.proofs.Usage.{uses_larger, uses_loaded}
 use Rattle.client_script.specs.Script.{Script, calls_of}
-use Rattle.core_serial.specs.Opening.{AreLoaded}
-use Rattle.core_serial.specs.Pool.{Pool}
-use Rattle.serial_run.specs.NoSpace.{largest_size}
-use Rattle.serial_run.specs.WholeRun.{first_item}
-use Rattle.serial_run.proofs.GrownGroups.{latest_alone}
-use Rattle.serial_run.proofs.NoSpace.{no_space_alone}
-use Rattle.serial_run.proofs.NoSpaceOpened.{used_first}
+use Rattle.open_pool.specs.Opening.{AreLoaded}
+use Rattle.open_pool.specs.Pool.{Pool}
+use Rattle.journal_law.specs.NoSpace.{largest_size}
+use Rattle.open_pool.specs.Pool.{first_item}
+use Rattle.journal_law.proofs.GrownGroups.{latest_alone}
+use Rattle.journal_law.proofs.NoSpace.{largest, no_space_alone}
 use Rattle.schedule.specs.declared.client.Client.{Client}
 use Rattle.schedule.specs.Replaying.{blank_clients}
 use Rattle.schedule.specs.Using.{AreAtMost, HasUsedRuns, sizes_left, sizes_of}
 use Rattle.schedule.proofs.Opened.{blank_is, resting}
 use Rattle.schedule.proofs.Using.{sizes_split}
+
+-- The sizes of an index by the lengths of its blocks.
+index_sizes : (uber : Uber) (entries : List IndexEntry)
+    → map (λ (entry : IndexEntry). largest_size uber entry.len) entries
+    ≡ map (largest_size uber) (map (λ (entry : IndexEntry). entry.len) entries)
+index_sizes uber [] = refl
+index_sizes uber (entry ∷ entries) = ap (λ (l : List ℕ). largest_size uber entry.len ∷ l) (index_sizes uber entries)
 
 module _ (script : Script) (pool : Pool) (disk : Disk) (right : IsRightUber pool.uber)
     (born : NoneAbove pool.uber.group pool.uber.births)
@@ -37,9 +46,11 @@ module _ (script : Script) (pool : Pool) (disk : Disk) (right : IsRightUber pool
 
   -- The taken runs are no more than the blocks of the index.
   uses : UsesAtMost pool.blocks.space sizes
-  uses = subst (λ (lengths : List ℕ). UsesAtMost pool.blocks.space (map (largest_size pool.uber) lengths))
-      (append-nil (map (λ (entry : IndexEntry). entry.len) entries))
-      (used_first script pool disk right loaded).uses
+  uses = subst (UsesAtMost pool.blocks.space) (index_sizes pool.uber entries)
+      (uses_larger pool.blocks.space (λ (entry : IndexEntry). allocated_of (layout_of pool.uber.parity pool.uber.births entry))
+      (λ (entry : IndexEntry). largest_size pool.uber entry.len) entries
+      (λ entry. largest pool.uber entry.len entry.birth right)
+      (uses_loaded pool.uber.parity pool.uber.births _ entries pool.blocks.space loaded.space))
 
   most : AreAtMost pool.blocks.space.taken (sizes_left pool.uber script.calls)
       (sizes_of pool.uber entries script.calls)

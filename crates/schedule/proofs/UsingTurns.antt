@@ -28,8 +28,8 @@ use Rattle.core_turns.specs.Core.{Core, IsCore}
 use Rattle.core_turns.specs.Getting.{BeginsGet, hold_of}
 use Rattle.core_turns.specs.Freeing.{FreesBlock}
 use Rattle.core_turns.specs.Putting.{BeginsPutSo, BeginsPutTurn, GivesUp, IsPutRefused, LeavesBlocks, StoresBlock}
-use Rattle.serial_run.specs.NoSpace.{length_put, largest_size}
-use Rattle.serial_run.proofs.NoSpace.{largest}
+use Rattle.journal_law.specs.NoSpace.{length_put, largest_size}
+use Rattle.journal_law.proofs.NoSpace.{largest}
 use Rattle.schedule.specs.declared.client.Work.{Work}
 use Rattle.schedule.specs.declared.client.Work.TheVariants as work
 use Rattle.schedule.specs.Turned.{AnswersAtOnce, Begins, Waits}

@@ -22,14 +22,15 @@ use Rattle.core_open.specs.Failing.{HaveFailed}
 use Rattle.core_open.specs.Holds.{HoldsImage}
 use Rattle.core_open.specs.Opens.{HasBank, IsWithinBelow}
 use Rattle.core_open.specs.Regions.{IsOnBelow}
-use Rattle.core_serial.specs.Opening.{AreLoaded, MayBegin, Begins, IsBegunWith}
-use Rattle.core_serial.specs.Pool.{Pool}
+use Rattle.open_pool.specs.Opening.{AreLoaded, MayBegin, Begins, IsBegunWith}
+use Rattle.open_pool.specs.Pool.{Pool}
 use Rattle.client_script.specs.Script.{Script, asked_by, handed_by}
-use Rattle.serial_run.specs.Moments.{KeepsLast}
-use Rattle.serial_run.specs.NoSpace.{NoSpaceIsCaused}
-use Rattle.serial_run.specs.WholeRun.{BeginsAfter, first_item}
-use Rattle.serial_run.proofs.NoSpaceOpened.{no_space_alike}
-use Rattle.serial_run.proofs.Widths.{opened_width, widths_of_one}
+use Rattle.journal_law.specs.Moments.{KeepsLast}
+use Rattle.journal_law.specs.NoSpace.{NoSpaceIsCaused}
+use Rattle.journal_law.specs.FirstGroup.{BeginsAfter}
+use Rattle.open_pool.specs.Pool.{first_item}
+use Rattle.journal_law.proofs.NoSpace.{no_space_alike}
+use Rattle.journal_law.proofs.Widths.{opened_width, widths_of_one}
 use Rattle.core_turns.specs.Core.{CoreState, at_disk}
 use Rattle.schedule.specs.declared.client.Client.{Client}
 use Rattle.schedule.specs.declared.whole_run.Ended.{Ended}
@@ -177,13 +178,13 @@ module _ (script : Script) (old mid : Disk) (pool : Pool) (silent : ℕ) (items 
     }
 
   -- The calls of the script were carried out on the pool that the devices showed.
-  pub has_taken_turns : (ended : Ended) (turns : ℕ) (cursor : Cursor) → EndsSo script
+  pub has_taken_turns : (letters : List ℕ) (ended : Ended) (turns : ℕ) (cursor : Cursor) → EndsSo script
       (replay_at (turns_of (at_disk (resting pool) mid) (Group (first_item pool) ∷ []) (blank_clients script.clients))
-      0 (InOrder script.order))
+      0 (InOrder letters))
       (replay_at (turns_of final items clients) turns cursor) ended
-      → HasTakenTurns script old final.disk items
+      → HasTakenTurns script letters old final.disk items
       (record { ended = ended; turns = turns; out = final.core.pool.out })
-  has_taken_turns ended turns cursor ends = record {
+  has_taken_turns letters ended turns cursor ends = record {
     opened = item;
     there = come.listed 0 (Group item) refl;
     taken = record {

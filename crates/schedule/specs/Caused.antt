@@ -6,7 +6,7 @@ use Rattle.core_state.specs.declared.item.Item.{Item}
 use Rattle.core_state.specs.Map.{Map}
 use Rattle.core_state.specs.Legal.{CallAt}
 use Rattle.client_script.specs.Script.{Script}
-use Rattle.serial_run.specs.Caused.{HasTooManyIds}
+use Rattle.journal_law.specs.Caused.{HasTooManyIds}
 
 -- Where an answer says that the table is full, the map that the journal began with and the script's puts have more ids
 -- than there is room for.

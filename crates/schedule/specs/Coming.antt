@@ -12,7 +12,7 @@ use Rattle.core_state.specs.Legal.{CallAt}
 use Rattle.core_state.specs.CoreState.{World}
 use Rattle.core_client.specs.Outs.{point_of, OnlyFailedGoOut}
 use Rattle.core_commit.specs.Spared.{IsOnInUse}
-use Rattle.core_serial.specs.Pool.{HasBank}
+use Rattle.open_pool.specs.Pool.{HasBank}
 use Rattle.client_script.specs.Script.{Script, handed_by}
 use Rattle.core_turns.specs.Core.{CoreState}
 use Rattle.schedule.specs.declared.client.Client.{Client}

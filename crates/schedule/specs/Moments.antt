@@ -7,7 +7,7 @@ use Rattle.core_state.specs.Map.{Map, Handed}
 use Rattle.core_state.specs.Keeps.{Kept, Setting}
 use Rattle.core_state.specs.Collision.{BankKeeps}
 use Rattle.core_state.specs.Moment.{IsBegunAfter, KeepsSince, KeepsThroughout}
-use Rattle.serial_run.specs.Moments.{KeepsUntil}
+use Rattle.journal_law.specs.Moments.{KeepsUntil}
 
 -- The banks that a run came by, one for each number of items in its journal, from the end of the opening, which
 -- listed the first, and the one at its end. Until the first, whatever a stop left keeps some of the groups known

@@ -13,8 +13,8 @@ use Rattle.core_state.specs.Journal.{GroupsAreRight}
 use Rattle.core_state.specs.Keeps.{Kept}
 use Rattle.core_state.specs.Moment.{IsGroupOf, Groups, KeepsSince}
 use Rattle.core_state.specs.CoreState.{World}
-use Rattle.serial_run.specs.Caused.{IsAtLastGroup}
-use Rattle.serial_run.specs.Widths.{HaveWidthOf}
+use Rattle.journal_law.specs.Caused.{IsAtLastGroup}
+use Rattle.journal_law.specs.Widths.{HaveWidthOf}
 use Rattle.schedule.specs.Moments.{KeepsTurnByTurn, KeepsOn}
 
 -- Each answer that tells of a limit has its cause in the items before it.

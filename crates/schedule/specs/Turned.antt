@@ -31,7 +31,7 @@ use Rattle.core_turns.specs.Freeing.{FreesBlock}
 use Rattle.core_turns.specs.Putting.{IsPutOf, BeginsPutTurn, FillsPut, WritesTurn, EndsPut, GivesUpTurn}
 use Rattle.core_turns.specs.Committing.{IsCommitOf, BeginsCommit, StepsCommit}
 use Rattle.core_turns.specs.UnderWay.{TurnGoesOn}
-use Rattle.serial_run.specs.Steps.{point_after}
+use Rattle.journal_law.specs.Points.{point_after}
 use Rattle.schedule.specs.declared.client.Client.{Client}
 use Rattle.schedule.specs.declared.client.UnderWay.{UnderWay}
 use Rattle.schedule.specs.declared.client.Work.{Work}

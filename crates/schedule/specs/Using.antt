@@ -15,7 +15,7 @@ use Rattle.client_script.specs.declared.call.ScriptCall.{ScriptCall}
 use Rattle.client_script.specs.Lines.{fill_bytes}
 use Rattle.client_script.specs.Script.{Placed, Script, calls_of}
 use Rattle.core_turns.specs.Core.{Core}
-use Rattle.serial_run.specs.NoSpace.{length_put, lengths_of, largest_size, NoSpaceIsCaused}
+use Rattle.journal_law.specs.NoSpace.{length_put, lengths_of, largest_size, NoSpaceIsCaused}
 use Rattle.schedule.specs.declared.client.Client.{Client}
 
 -- ---- the calls that are left

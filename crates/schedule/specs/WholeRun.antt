@@ -18,14 +18,15 @@ use Rattle.core_open.specs.Holds.{HoldsImage}
 use Rattle.core_open.specs.Opens.{IsWithinBelow}
 use Rattle.core_open.specs.Regions.{IsOnBelow}
 use Rattle.client_script.specs.Script.{Script, asked_by, handed_by}
-use Rattle.core_serial.specs.Opening.{MayBegin}
-use Rattle.core_serial.specs.Pool.{HasBank}
+use Rattle.open_pool.specs.Opening.{MayBegin}
+use Rattle.open_pool.specs.Pool.{HasBank}
 use Rattle.core_turns.specs.Core.{CoreState}
-use Rattle.serial_run.specs.Caused.{HasTooManyIds}
-use Rattle.serial_run.specs.Moments.{KeepsLast}
-use Rattle.serial_run.specs.NoSpace.{NoSpaceIsCaused}
-use Rattle.serial_run.specs.Widths.{HaveWidthOf}
-use Rattle.serial_run.specs.WholeRun.{BeginsAfter, first_item}
+use Rattle.journal_law.specs.Caused.{HasTooManyIds}
+use Rattle.journal_law.specs.Moments.{KeepsLast}
+use Rattle.journal_law.specs.NoSpace.{NoSpaceIsCaused}
+use Rattle.journal_law.specs.Widths.{HaveWidthOf}
+use Rattle.journal_law.specs.FirstGroup.{BeginsAfter}
+use Rattle.open_pool.specs.Pool.{first_item}
 use Rattle.schedule.specs.declared.client.Client.{Client}
 use Rattle.schedule.specs.declared.whole_run.Replayed.{Replayed}
 use Rattle.schedule.specs.Coming.{turns_of}
@@ -66,7 +67,7 @@ pub record TurnsKeep (script : Script) (setting : Setting) (first : Kept) (later
 
 -- From a core at rest whose pool is of the opening's group, a journal of that group and clients that had begun no call,
 -- the turns were taken whose turn it was, as many as are told, and they ended as is told.
-pub record TakesItsTurns (script : Script) (opened : GroupItem) (old new : Disk) (items : List Item)
+pub record TakesItsTurns (script : Script) (letters : List ℕ) (opened : GroupItem) (old new : Disk) (items : List Item)
     (replayed : Replayed) : Type 0 where
   pub start : CoreState
   pub rest : IsAtRest start.core
@@ -78,7 +79,7 @@ pub record TakesItsTurns (script : Script) (opened : GroupItem) (old new : Disk)
   pub clients : List Client
   pub cursor : Cursor
   pub ends : EndsSo script
-      (replay_at (turns_of start (Group opened ∷ []) (blank_clients script.clients)) 0 (InOrder script.order))
+      (replay_at (turns_of start (Group opened ∷ []) (blank_clients script.clients)) 0 (InOrder letters))
       (replay_at (turns_of now items clients) replayed.turns cursor) replayed.ended
 
 -- A script's calls were carried out turn by turn on the pool that the devices showed; the journal begins with a
@@ -86,10 +87,10 @@ pub record TakesItsTurns (script : Script) (opened : GroupItem) (old new : Disk)
 -- or failed in the run. A call that tells of too many devices lists devices that are out, more than there are parities.
 -- All that a run keeps it keeps where the devices that were silent when the pool was looked for may fail, and those of
 -- the devices out that have to be borne, no more than there are parities. No device is touched but those of the pool.
-pub record HasTakenTurns (script : Script) (old new : Disk) (items : List Item) (replayed : Replayed) : Type 0 where
+pub record HasTakenTurns (script : Script) (letters : List ℕ) (old new : Disk) (items : List Item) (replayed : Replayed) : Type 0 where
   pub opened : GroupItem
   pub there : GroupAt items 0 opened
-  pub taken : TakesItsTurns script opened old new items replayed
+  pub taken : TakesItsTurns script letters opened old new items replayed
   pub silent : ℕ
   pub failed : HaveFailed old new silent
   pub parity : ℕ

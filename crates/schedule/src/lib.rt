@@ -3,7 +3,7 @@
 //! Each client carries out its calls one after the other; a turn of a client is the first turn of its next
 //! call, or the next one of its call under way. Read `specs/WholeRun.antt` for what a run promises and
 //! `specs/InTurn.antt` for whose turn is next, then `specs/Running.antt`, `specs/Turned.antt` and
-//! `specs/Coming.antt` for how it goes on. Stands on `core_turns`, `client_script` and `serial_run`.
+//! `specs/Coming.antt` for how it goes on. Stands on `core_turns`, `client_script` and `journal_law`.
 #![tactic(auto)]
 
 mod client;

@@ -3,7 +3,7 @@ ghost use Rattle.std.specs.Prelude.{◌≡◌, ◌≤◌, ◌<◌, ◌+◌, ◌-
 ghost use Rattle.bank_trait.specs.Disk.{Disk, Lawful};
 ghost use Rattle.client_script.specs.declared.call.ScriptCall.{ScriptCall as CallOf};
 ghost use Rattle.client_script.specs.Script.{IsAllowed};
-ghost use Rattle.core_serial.specs.Pool.{HasBank};
+ghost use Rattle.open_pool.specs.Pool.{HasBank};
 ghost use Rattle.core_turns.specs.Core.{IsCore};
 ghost use Rattle.schedule.specs.declared.client.UnderWay.{UnderWay as UnderWayOf};
 ghost use Rattle.schedule.specs.Playing.{UsesRoom, unanswered};
@@ -16,7 +16,7 @@ use client_script::ScriptCall;
 use core_state::{Answer, Entry, Group, Item, Journal};
 use core_turns::{Core, Turn};
 use reflow_mark::Reflow;
-use serial_run::point_after;
+use journal_law::point_after;
 use std::alloc::Global;
 
 /// The entry of a call of this number, which began after so many items.

@@ -6,7 +6,7 @@ ghost use Rattle.core_blocks.specs.Blocks.{IsUnderWay};
 ghost use Rattle.core_client.specs.Pool.{IsInPool};
 ghost use Rattle.client_script.specs.Lines.{fill_bytes};
 ghost use Rattle.client_script.specs.Script.{IsAllowed};
-ghost use Rattle.core_serial.specs.Pool.{HasBank};
+ghost use Rattle.open_pool.specs.Pool.{HasBank};
 ghost use Rattle.core_turns.specs.declared.putting.Filled.{Filled as FilledOf};
 ghost use Rattle.core_turns.specs.Core.{Core as CoreOf, at_disk};
 ghost use Rattle.core_turns.specs.Getting.{IsGetOf, IsRead};

@@ -4,7 +4,7 @@ ghost use Rattle.core_state.specs.Journal.{IsComplete};
 ghost use Rattle.core_open.specs.Causes.{IsOpenCause};
 ghost use Rattle.core_open.specs.Opens.{IsForMemory, LeavesOthers};
 ghost use Rattle.client_script.specs.Script.{IsAllowed, asked_by};
-ghost use Rattle.core_serial.specs.Opening.{CutsOpening, LeavesUnopened};
+ghost use Rattle.open_pool.specs.Opening.{CutsOpening, LeavesUnopened};
 ghost use Rattle.schedule.specs.declared.whole_run.Ended.TheVariants.{Whole, Limit};
 ghost use Rattle.schedule.specs.Playing.{most_turns};
 ghost use Rattle.schedule.specs.WholeRun.{HasTakenTurns};
@@ -13,10 +13,9 @@ use crate::replay::carry_out;
 use bank_trait::Bank;
 use client_script::Script;
 use core_open::OpenWhy;
-use core_serial::open_pool;
+use open_pool::open_pool;
 use core_state::{Item, Journal};
 use core_turns::Core;
-use serial_run::first_item;
 use std::alloc::Global;
 use uberblock_ring::DeviceSet;
 
@@ -45,13 +44,14 @@ pub fn replay_pool<B: Bank>(
     alloc: Global,
     bank: &mut B,
     script: &Script,
+    letters: &[u8],
     journal: &mut Journal,
 ) -> Result<Replayed, OpenWhy>
     requires empty { journal.old.items ≡ [] }
     requires room { 1 ≤ journal.old.room }
     requires allowed { All (λ placed. IsAllowed placed.call) script.now.calls }
     requires actors { All (λ placed. placed.actor < script.now.clients) script.now.calls }
-    ensures run { IfOk result (HasTakenTurns script.now (B.disk bank.old) (B.disk bank.new)
+    ensures run { IfOk result (HasTakenTurns script.now letters.now (B.disk bank.old) (B.disk bank.new)
         journal.new.items) }
     ensures complete { IfOk result (λ replayed. replayed.ended ≡ Whole
         → IsComplete (asked_by script.now) journal.new.items) }
@@ -65,12 +65,40 @@ pub fn replay_pool<B: Bank>(
     ensures others { IfErr result (λ why. LeavesOthers (B.disk bank.old) (B.disk bank.new)) }
 {
     let opened = open_pool(alloc, bank)?;
-    journal.list(Item::Group(first_item(&opened.pool)));
+    journal.list(Item::Group(opened.pool.first_item()));
     let mut core = Core::new(alloc, opened.pool);
-    let carried_out = carry_out(alloc, bank, &mut core, script, journal);
+    let carried_out = carry_out(alloc, bank, &mut core, script, letters, journal);
     Ok(Replayed {
         ended: carried_out.ended,
         turns: carried_out.turns,
         out: core.out(),
     })
+}
+
+/// Opens the pool that the devices show and carries out the calls of a script on it, each whole, in the order of
+/// their lines: what a replay does whose script lists no turns.
+pub fn run_pool<B: Bank>(
+    alloc: Global,
+    bank: &mut B,
+    script: &Script,
+    journal: &mut Journal,
+) -> Result<Replayed, OpenWhy>
+    requires empty { journal.old.items ≡ [] }
+    requires room { 1 ≤ journal.old.room }
+    requires allowed { All (λ placed. IsAllowed placed.call) script.now.calls }
+    requires actors { All (λ placed. placed.actor < script.now.clients) script.now.calls }
+    ensures run { IfOk result (HasTakenTurns script.now [] (B.disk bank.old) (B.disk bank.new)
+        journal.new.items) }
+    ensures complete { IfOk result (λ replayed. replayed.ended ≡ Whole
+        → IsComplete (asked_by script.now) journal.new.items) }
+    ensures limit { IfOk result (λ replayed. replayed.ended ≡ Limit → most_turns ≤ replayed.turns) }
+    ensures nothing { IfErr result (λ why. journal.new.items ≡ []) }
+    ensures cause { IfErr result (IsOpenCause (B.disk bank.old) (B.disk bank.new)) }
+    ensures cut { IfErr result (λ why. CutsOpening (B.disk bank.old) (B.disk bank.new)) }
+    ensures untouched { IfErr result (λ why.
+        LeavesUnopened why (B.disk bank.old) (B.disk bank.new)) }
+    ensures opens { IfErr result (IsForMemory (B.disk bank.old) (B.disk bank.new)) }
+    ensures others { IfErr result (λ why. LeavesOthers (B.disk bank.old) (B.disk bank.new)) }
+{
+    replay_pool(alloc, bank, script, &[], journal)
 }

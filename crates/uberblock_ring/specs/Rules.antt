@@ -2,12 +2,12 @@
 use Rattle.std.specs.Prelude.{◌+◌, ◌^◌, ◌<◌, ◌≤◌}
 use Rattle.reflow_mark.specs.Reflow.{IsRightReflow}
 use Rattle.block_record.specs.Bytes.{IsDigest}
-use Rattle.uberblock_ring.specs.Uberblock.{Uber}
+use Rattle.uberblock_ring.specs.Uberblock.{Uber, max_group}
 
 -- Each number is in its range.
 pub record HasRightNumbers (uber : Uber) : Type 0 where
   pub pool : uber.pool < 2 ^ 64
-  pub group : (1 ≤ uber.group) × (uber.group ≤ 2 ^ 62)
+  pub group : (1 ≤ uber.group) × (uber.group ≤ max_group)
   pub parity : (1 ≤ uber.parity) × (uber.parity ≤ 3)
   pub rows : (64 ≤ uber.reflow.rows) × (uber.reflow.rows ≤ 65536)
   pub area : uber.area ≤ 1

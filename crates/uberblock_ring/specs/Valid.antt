@@ -5,7 +5,7 @@ use Rattle.width_map.specs.Births.{IsGrowing, first_width, last_width, NoneAbove
 use Rattle.reflow_mark.specs.Reflow.{IsRightReflow}
 use Rattle.block_record.specs.Bytes.{IsDigest}
 use Rattle.uberblock_ring.specs.Devices.{count_below}
-use Rattle.uberblock_ring.specs.Uberblock.{Uber, encoded, slot_of}
+use Rattle.uberblock_ring.specs.Uberblock.{Uber, encoded, slot_of, max_group}
 
 -- One to 16 births, of growing widths above the parity, that end at the present width and at most
 -- two groups ahead.
@@ -19,7 +19,7 @@ pub record IsBirthsOf (births : List Birth) (parity width group : ℕ) : Type 0 
 -- Each field is right.
 pub record IsRightUber (uber : Uber) : Type 0 where
   pub pool : uber.pool < 2 ^ 64
-  pub group : (1 ≤ uber.group) × (uber.group ≤ 2 ^ 62)
+  pub group : (1 ≤ uber.group) × (uber.group ≤ max_group)
   pub parity : (1 ≤ uber.parity) × (uber.parity ≤ 3)
   pub widths : (uber.parity + 1 ≤ uber.reflow.from) × (uber.reflow.to ≤ 16)
   pub rows : (64 ≤ uber.reflow.rows) × (uber.reflow.rows ≤ 65536)

@@ -20,6 +20,6 @@ mod uber;
 pub use choice::choose;
 pub use device_set::DeviceSet;
 pub use ring::{RING_SLOTS, area_sector, slot};
-pub use rules::MAX_ROWS;
+pub use rules::{MAX_GROUP, MAX_ROWS};
 pub use shown::Shown;
 pub use uber::Uber;

@@ -7,7 +7,8 @@ ghost use Rattle.uberblock_ring.specs.Valid.{IsRightUber};
 use crate::Uber;
 use crate::births::are_births_of;
 
-const MAX_GROUP: u64 = 1 << 62;
+/// The greatest number of a group.
+pub const MAX_GROUP: u64 = 1 << 62;
 
 const MAX_WIDTH: u32 = 16;
 

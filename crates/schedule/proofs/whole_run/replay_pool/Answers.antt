@@ -2,7 +2,7 @@ use Rattle.std.proofs.Common.{◌≡◌, ◌∙◌, ◌++◌, ◌∷◌, [], Lis
 use Rattle.core_state.specs.declared.item.Group.{Group as GroupItem}
 use Rattle.core_state.specs.declared.item.Item.{Item}
 use Rattle.core_state.specs.declared.item.Item.TheVariants.{Group}
-use Rattle.serial_run.specs.WholeRun.{first_item}
+use Rattle.open_pool.specs.Pool.{first_item}
 use Rattle.core_turns.specs.Core.{Core, at_disk}
 use Rattle.schedule.specs.Coming.{HasCome, turns_of}
 use Rattle.schedule.specs.InTurn.{InOrder, replay_at}
@@ -32,16 +32,16 @@ returns-clause-run g c =
     let ends = subst (λ (first : List Item). HasCome script
     (turns_of (at_disk (resting pool) mid) first (blank_clients script.clients)) (turns_of final items clients)
     × EndsSo script
-    (replay_at (turns_of (at_disk (resting pool) mid) first (blank_clients script.clients)) 0 (InOrder script.order))
+    (replay_at (turns_of (at_disk (resting pool) mid) first (blank_clients script.clients)) 0 (InOrder c.args.letters.now))
     (replay_at (turns_of final items clients) carried.turns cursor) carried.ended) listed
     (subst (λ (core : Core). HasCome script
     (turns_of (at_disk core mid) c.list.new.self.items (blank_clients script.clients)) (turns_of final items clients)
     × EndsSo script
     (replay_at (turns_of (at_disk core mid) c.list.new.self.items (blank_clients script.clients)) 0
-    (InOrder script.order)) (replay_at (turns_of final items clients) carried.turns cursor) carried.ended)
+    (InOrder c.args.letters.now)) (replay_at (turns_of final items clients) carried.turns cursor) carried.ended)
     c.new-core.ensures (taken.2, taken.3)) in
-    subst (λ (out : ℕ). HasTakenTurns script old final.disk items
+    subst (λ (out : ℕ). HasTakenTurns script c.args.letters.now old final.disk items
     (record { ended = carried.ended; turns = carried.turns; out = out })) (sym c.out.ensures)
     (has_taken_turns script old mid pool c.in_ok-opened.opened.silent items clients final
     opened.later opened.only opened.silent opened.few opened.out opened.begins opened.rest opened.bank
-    (g.met.B.Bank.lawful c.args.bank.now) opened.right opened.loaded ends.0 c.carry_out-carried_out.ensures.calls carried.ended carried.turns cursor ends.1)
+    (g.met.B.Bank.lawful c.args.bank.now) opened.right opened.loaded ends.0 c.carry_out-carried_out.ensures.calls c.args.letters.now carried.ended carried.turns cursor ends.1)

@@ -1,9 +1,9 @@
 use Rattle.std.proofs.Common.{refl, sym, ◌∙◌, subst}
 use Rattle.core_state.specs.declared.answer.Answer.{Answer}
 use Rattle.core_blocks.specs.Blocks.{AreUnderWay}
-use Rattle.core_serial.specs.Answers.{map_after_free}
-use Rattle.core_serial.specs.Pool.{HasBank, HoldsMap, pool_of, state_of}
-use Rattle.core_serial.proofs.Frees.{freed_holds, none_freed_holds}
+use Rattle.core_turns.specs.Freeing.{map_after_free}
+use Rattle.open_pool.specs.Pool.{HasBank, HoldsMap, pool_of, state_of}
+use Rattle.open_pool.proofs.Frees.{freed_holds, none_freed_holds}
 use Rattle.core_turns.specs.Core.{Core, at_disk, pool_at}
 use Rattle.core_turns.specs.Getting.{IsGetOf}
 use Rattle.core_turns.proofs.GetTurns.{get_of}

@@ -1,5 +1,5 @@
 use Rattle.std.proofs.Common.{sym, ap, subst}
-use Rattle.core_serial.specs.Pool.{Pool, HasBank}
+use Rattle.open_pool.specs.Pool.{Pool, HasBank}
 use Rattle.core_turns.proofs.GetTurns.{get_of, begins_pool, begins_holds}
 use Rattle.core_turns.proofs.GetLaws.{get_finds}
 use Rattle.core_turns.proofs.open_core.Core.get_begin.Goals as goal

@@ -1,8 +1,8 @@
 use Rattle.std.proofs.Common.{sym, subst}
 use Rattle.uberblock_ring.specs.Uberblock.{Uber}
 use Rattle.core_turns.proofs.GetLaws.{get_reads}
-use Rattle.core_serial.specs.Pool.{HasBank}
-use Rattle.core_serial.proofs.Going.{bank_later}
+use Rattle.open_pool.specs.Pool.{HasBank}
+use Rattle.open_pool.proofs.Banks.{bank_later}
 use Rattle.core_turns.proofs.GetTurns.{get_of_more, reads_uber}
 use Rattle.core_turns.proofs.open_core.Core.get_read.Goals as goal
 

@@ -1,6 +1,6 @@
 use Rattle.std.proofs.Common.{◌≡◌, ◌^◌, ◌<◌, ℕ, sym, ap, subst}
 use Rattle.reflow_mark.specs.declared.reflow.Reflow.{Reflow}
-use Rattle.core_serial.specs.Pool.{HasBank}
+use Rattle.open_pool.specs.Pool.{HasBank}
 use Rattle.core_turns.specs.Core.{Core}
 use Rattle.core_turns.proofs.Cores.{bank_has, core_out}
 use Rattle.core_turns.proofs.open_core.Core.read_get.Goals as goal

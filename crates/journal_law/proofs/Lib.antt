@@ -1,0 +1,11 @@
+pub mod Grown
+pub mod GrownAnswers
+pub mod GrownGroups
+pub mod GrownRun
+pub mod Moments
+pub mod Rows
+pub mod Widths
+pub mod RunBytes
+pub mod Distinct
+pub mod ManyIds
+pub mod NoSpace

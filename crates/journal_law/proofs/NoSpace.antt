@@ -1,0 +1,159 @@
+-- A run finds no space for a put only where its blocks are many, while the journal grows.
+use Rattle.std.proofs.Common.{◌≡◌, inl, inr, ℕ, ◌+◌, ◌-◌, ◌*◌, ◌≤◌, List, ◌∷◌, ◌++◌, length, sym, ◌∙◌, ap, subst, arith, take, drop, length-append, append_assoc}
+use Rattle.std.specs.Prelude.{map, sum, flat_map}
+use Rattle.std.proofs.Math.Nat.{mul-le-mul_right}
+use Rattle.std.proofs.lemmas.Grind.{flat_map-append}
+use Rattle.std.proofs.lemmas.List.{map-append, take-append-drop}
+use Rattle.std.proofs.lemmas.List.Sums.{sum_by-append}
+use Rattle.width_map.specs.declared.birth.Birth.{Birth}
+use Rattle.width_map.specs.Births.{first_width, width_of_birth}
+use Rattle.reflow_mark.specs.Reflow.{sectors_of}
+use Rattle.block_record.specs.declared.entry.IndexEntry.{IndexEntry}
+use Rattle.uberblock_ring.specs.Uberblock.{Uber}
+use Rattle.uberblock_ring.specs.Valid.{IsBirthsOf, IsRightUber}
+use Rattle.core_state.specs.declared.answer.Answer.TheVariants as answer
+use Rattle.core_state.specs.declared.answer.Kind.TheVariants as kind
+use Rattle.core_state.specs.declared.item.Entry.{Entry}
+use Rattle.core_state.specs.declared.item.Group.{Group as GroupItem}
+use Rattle.core_state.specs.declared.item.Item.{Item}
+use Rattle.core_state.specs.declared.item.Item.TheVariants.{Group, Call}
+use Rattle.core_state.specs.Legal.{CallAt}
+use Rattle.core_blocks.specs.Puts.{sectors_taken}
+use Rattle.core_blocks.specs.Usage.{IsTight}
+use Rattle.core_blocks.proofs.Sizes.{size_shrinks}
+use Rattle.core_open.proofs.BlockSpans.{births_between}
+use Rattle.client_script.specs.Lines.{fill_bytes}
+use Rattle.client_script.specs.Script.{Placed, Script}
+use Rattle.journal_law.specs.NoSpace.{length_put, lengths_of, largest_size, IsTightFor, FindsNoSpace, NoSpaceIsCaused}
+use Rattle.journal_law.proofs.Grown.{new_or_before, group_before_grown}
+
+-- No width is below the first one,
+first_least : (births : List Birth) (parity width group birth : ℕ) → IsBirthsOf births parity width group
+    → first_width births ≤ width_of_birth births birth
+first_least births parity width group birth are =
+    let wide = are.wide in
+    let between = births_between births (first_width births - 1) width group birth (record {
+      growing = are.growing;
+      few = are.few;
+      wide = omega (arith, wide);
+      last = are.last;
+      begun = are.begun;
+    }) in
+    let low = between.0 in omega (arith, low, wide)
+
+-- so no block takes more sectors than at that.
+pub largest : (uber : Uber) (len birth : ℕ) → IsRightUber uber
+    → sectors_taken uber.parity uber.births len birth ≤ largest_size uber len
+largest uber len birth right = size_shrinks uber.parity (first_width uber.births) (width_of_birth uber.births birth) len
+    (let wide = right.births.wide in omega (arith, wide))
+    (first_least uber.births uber.parity uber.reflow.from uber.group birth right.births)
+
+-- What is tight stays so with more blocks.
+tight_more : (capacity len : ℕ) (sizes more : List ℕ) → IsTight capacity sizes len → IsTight capacity (sizes ++ more) len
+tight_more capacity len sizes more is = record {
+  tight = (let long = length-append sizes more in
+      let total : sum (sizes ++ more) ≡ sum sizes + sum more = sum_by-append (λ (n : ℕ). n) sizes more in
+      let product : (length sizes + 1) * (len - 1) ≤ (length (sizes ++ more) + 1) * (len - 1) =
+      mul-le-mul_right (len - 1) (omega (arith, long)) in
+      let tight = is.tight in omega (arith, total, product, tight));
+}
+
+-- The lengths of some calls and of those after them.
+lengths_then : (entries : List IndexEntry) (calls more : List Placed)
+    → lengths_of entries (calls ++ more)
+    ≡ lengths_of entries calls ++ flat_map (λ placed. length_put placed.call.kind (fill_bytes placed.call.fill)) more
+lengths_then entries calls more =
+    let put : Placed → List ℕ = λ placed. length_put placed.call.kind (fill_bytes placed.call.fill) in
+    ap (λ (l : List ℕ). map (λ entry. entry.len) entries ++ l) (flat_map-append put calls more)
+    ∙ sym (append_assoc (map (λ entry. entry.len) entries) (flat_map put calls) (flat_map put more))
+
+sizes_then : (uber : Uber) (entries : List IndexEntry) (calls more : List Placed)
+    → map (largest_size uber) (lengths_of entries (calls ++ more))
+    ≡ map (largest_size uber) (lengths_of entries calls)
+    ++ map (largest_size uber) (flat_map (λ placed. length_put placed.call.kind (fill_bytes placed.call.fill)) more)
+sizes_then uber entries calls more = ap (λ (l : List ℕ). map (largest_size uber) l) (lengths_then entries calls more)
+    ∙ map-append (largest_size uber) (lengths_of entries calls) _
+
+tight_for_all : (uber : Uber) (entries : List IndexEntry) (calls : List Placed) (count size : ℕ)
+    → IsTightFor uber entries (take count calls) size → IsTightFor uber entries calls size
+tight_for_all uber entries calls count size is =
+    subst (λ (l : List Placed). IsTightFor uber entries l size) (take-append-drop count calls)
+    (subst (λ (sizes : List ℕ). IsTight (sectors_of uber.reflow) sizes size)
+    (sym (sizes_then uber entries (take count calls) (drop count calls)))
+    (tight_more (sectors_of uber.reflow) size _ _ is))
+
+-- A cause in the items before an index is one in the grown journal.
+finds_grown : (script : Script) (uber : Uber) (entries : List IndexEntry) (items more : List Item) (index : ℕ) (entry : Entry)
+    (size : ℕ) → index ≤ length items → FindsNoSpace script uber entries items index entry size
+    → FindsNoSpace script uber entries (items ++ more) index entry size
+finds_grown script uber entries items more index entry size within finds = record {
+  group = finds.group;
+  before = group_before_grown items more index finds.group within finds.before;
+  size_is = finds.size_is;
+  tight = finds.tight;
+}
+
+module _ (script : Script) (uber : Uber) (entries : List IndexEntry) (items : List Item)
+    (caused : NoSpaceIsCaused script uber entries items) where
+  -- A new answer that has its cause in the items so far.
+  pub no_space_call : (entry : Entry)
+      → ((size : ℕ) → entry.answer ≡ answer.NoSpace size → FindsNoSpace script uber entries items (length items) entry size)
+      → NoSpaceIsCaused script uber entries (items ++ Call entry ∷ [])
+  no_space_call entry new = record {
+    each = λ index size other there is. elim (new_or_before items (Call entry) index (Call other) there) [
+      | inl last ↦ at_end index size other last.0 (same_entry other last.1) is
+      | inr earlier ↦ finds_grown script uber entries items (Call entry ∷ []) index other size
+          (let low = earlier.0 in omega (arith, low)) (caused.each index size other earlier.1 is)
+    ];
+  }
+    where
+      same_entry : (other : Entry) → Call entry ≡ Call other → entry ≡ other
+      same_entry other same = cc
+
+      at_end : (index size : ℕ) (other : Entry) → index ≡ length items → entry ≡ other
+          → other.answer ≡ answer.NoSpace size
+          → FindsNoSpace script uber entries (items ++ Call entry ∷ []) index other size
+      at_end index size other end same is =
+          subst (λ (k : ℕ). FindsNoSpace script uber entries (items ++ Call entry ∷ []) k other size) (sym end)
+          (subst (λ (e : Entry). FindsNoSpace script uber entries (items ++ Call entry ∷ []) (length items) e size) same
+          (finds_grown script uber entries items (Call entry ∷ []) (length items) entry size (omega arith)
+          (new size (ap (λ (e : Entry). e.answer) same ∙ is))))
+
+  -- A new group answers nothing.
+  pub no_space_group : (group : GroupItem) → NoSpaceIsCaused script uber entries (items ++ Group group ∷ [])
+  no_space_group group = record {
+    each = λ index size other there is. elim (new_or_before items (Group group) index (Call other) there) [
+      | inl last ↦ absurd (apart other last.1)
+      | inr earlier ↦ finds_grown script uber entries items (Group group ∷ []) index other size
+          (let low = earlier.0 in omega (arith, low)) (caused.each index size other earlier.1 is)
+    ];
+  }
+    where
+      apart : (other : Entry) → Group group ≡ Call other → ⊥
+      apart other same = cc
+
+-- Nor does a journal of a group alone.
+pub no_space_alone : (script : Script) (uber : Uber) (entries : List IndexEntry) (group : GroupItem)
+    → NoSpaceIsCaused script uber entries (Group group ∷ [])
+no_space_alone script uber entries group = no_space_group script uber entries [] (record {
+  each = λ index size entry there. absurd (nothing index entry there);
+}) group
+  where
+    nothing : (index : ℕ) (entry : Entry) → CallAt [] index entry → ⊥
+    nothing index entry is = cc
+
+-- An uberblock of the same parity, births and sectors tells the same causes.
+pub no_space_alike : (script : Script) (one other : Uber) (entries others : List IndexEntry) (items : List Item)
+    → one.parity ≡ other.parity → one.births ≡ other.births → one.reflow ≡ other.reflow → entries ≡ others
+    → NoSpaceIsCaused script one entries items → NoSpaceIsCaused script other others items
+no_space_alike script one other entries others items parity births reflow same caused =
+    subst (λ (l : List IndexEntry). NoSpaceIsCaused script other l items) same
+    (subst (λ (u : Uber). NoSpaceIsCaused script u entries items)
+    (λ i. record other { parity = parity i; births = births i; reflow = reflow i }) (record {
+      each = λ index size entry there is. let found = caused.each index size entry there is in record {
+        group = found.group;
+        before = found.before;
+        size_is = found.size_is;
+        tight = found.tight;
+      };
+    }))

@@ -1,0 +1,10 @@
+pub mod Layouts
+pub mod Holding
+pub mod Banks
+pub mod PutRanges
+pub mod Committing
+pub mod NextGroup
+pub mod Frees
+pub mod Begins
+pub mod Framing
+pub mod Reopened

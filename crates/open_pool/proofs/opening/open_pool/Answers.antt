@@ -1,0 +1,24 @@
+use Rattle.open_pool.proofs.Begins.{loaded_of, begun_is_pool, begins, memory_cuts}
+use Rattle.open_pool.proofs.opening.open_pool.Goals as goal
+
+pub returns-in_err-blocks-clause-cut : goal.returns-in_err-blocks-clause-cut
+returns-in_err-blocks-clause-cut g c = memory_cuts c.from_residual-in_err-blocks.result c.in_ok-opened.opened.uber
+    c.in_ok-opened.opened.entries.items c.in_ok-opened.opened.silent c.in_ok-opened.opened.out
+    (g.B.Bank.disk c.args.bank.now) (g.B.Bank.disk c.open.new.bank) c.in_ok-opened.ensures.silent
+    c.in_ok-opened.ensures.out c.in_ok-opened.ensures.few c.in_ok-opened.ensures.kept c.in_ok-opened.ensures.since
+
+pub invariant_of-result : goal.invariant_of-result
+invariant_of-result g c = begun_is_pool c.in_ok-opened.opened.uber c.in_ok-opened.opened.entries.items _
+    c.in_ok-opened.opened.out c.in_ok-opened.ensures.right c.in_ok-opened.ensures.index (loaded_of c.deref.ensures.value c.in_ok-blocks.ensures.loaded)
+    c.in_ok-opened.ensures.below c.in_ok-opened.ensures.out.lists
+
+pub returns-clause-begins : goal.returns-clause-begins
+returns-clause-begins g c = record {
+  each = λ setting first later may silent within. begins setting first later c.in_ok-opened.opened.uber
+      c.in_ok-opened.opened.entries.items _ c.in_ok-opened.opened.out
+      (g.B.Bank.disk c.args.bank.now) (g.B.Bank.disk c.open.new.bank) may c.in_ok-opened.ensures.right
+      c.in_ok-opened.ensures.index (loaded_of c.deref.ensures.value c.in_ok-blocks.ensures.loaded)
+      (c.in_ok-opened.ensures.kept.kept setting first later may.may silent within)
+      (g.met.B.Bank.lawful c.open.new.bank) c.in_ok-opened.ensures.spares.later c.in_ok-opened.ensures.bank
+      c.in_ok-opened.ensures.out.lists;
+}
