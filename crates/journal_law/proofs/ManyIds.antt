@@ -1,5 +1,5 @@
 -- A put that is refused as full is one of more ids than a table has room for.
-use Rattle.std.proofs.Common.{◌≡◌, ◌≢◌, ◌⊎◌, inl, inr, ⊎_elim, ℕ, zero, suc, ◌-◌, List, ◌∷◌, Bool, true, false, Option, Some, None, refl, sym, ◌∙◌, ap, subst, arith}
+use Rattle.std.proofs.Common.{[], ◌≡◌, ◌≢◌, ◌⊎◌, inl, inr, ⊎_elim, ℕ, zero, suc, ◌-◌, List, ◌∷◌, Bool, true, false, Option, Some, None, refl, sym, ◌∙◌, ap, subst, arith}
 use Rattle.std.specs.Prelude.{All, Contains, filter, length, map, nat_eq, ◌==◌, slice_get, option_map, if◌then◌else◌}
 use Rattle.std.specs.List.{IsDistinct}
 use Rattle.std.proofs.lemmas.Bool.{eqb-true}
@@ -14,9 +14,9 @@ use Rattle.core_state.specs.declared.item.Item.{Item}
 use Rattle.core_state.specs.declared.item.Item.TheVariants.{Group, Call}
 use Rattle.core_state.specs.Map.{Map, Handed, with_block, map_after_answer, map_after}
 use Rattle.core_state.specs.Legal.{CallAt, IsAnswerOf, AnswersAreRight}
-use Rattle.core_state.specs.Journal.{Asked, CallsAreRight, IsLegalJournal}
+use Rattle.core_state.specs.Journal.{Asked, CallsAreRight}
 use Rattle.client_script.specs.declared.call.ScriptCall.{ScriptCall}
-use Rattle.client_script.specs.Script.{Placed, Script, calls_of, asked_by, handed_by}
+use Rattle.client_script.specs.Script.{Placed, Script, calls_of, asked_by}
 use Rattle.journal_law.specs.Caused.{IsHeldOrPut, HasTooManyIds}
 use Rattle.journal_law.proofs.Distinct.{apart_from}
 use Rattle.journal_law.proofs.RunBytes.{previous_of}
@@ -152,6 +152,3 @@ module _ (script : Script) (handed : Handed) (opening : Map) (items : List Item)
       (λ (stored : IsStored items id). put_placed stored.0 stored.1 id stored.2
       (λ is. subst (λ (given : Answer). IsAnswerOf stored.1.kind given) stored.3 is) stored.4)
       (first_or_stored handed opening items count id held)
-
-module _ (script : Script) (opening : Map) (items : List Item)
-    (legal : IsLegalJournal (asked_by script) (handed_by script) opening items) where

@@ -1,5 +1,5 @@
 -- A run that keeps no older group than the last one listed goes on by an item.
-use Rattle.std.proofs.Common.{◌≡◌, inl, inr, ℕ, ◌+◌, ◌<◌, List, ◌∷◌, ◌++◌, Bool, cond, refl, sym, ◌∙◌, ap, subst, arith, append_assoc, eq-eqb, ne_eqb}
+use Rattle.std.proofs.Common.{[], ◌≡◌, inl, inr, ℕ, ◌+◌, ◌<◌, List, ◌∷◌, ◌++◌, Bool, cond, refl, sym, ◌∙◌, ap, subst, arith, append_assoc, eq-eqb, ne_eqb}
 use Rattle.std.specs.Prelude.{◌==◌, Contains}
 use Rattle.std.proofs.lemmas.List.Elements.{Contains-append_left, Contains-append_right}
 use Rattle.bank_trait.specs.Disk.{Disk}

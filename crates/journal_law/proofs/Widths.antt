@@ -1,5 +1,5 @@
 -- All groups of a run have one width and parity.
-use Rattle.std.proofs.Common.{◌≡◌, ⊎_elim, List, ◌∷◌, ◌++◌, sym, ◌∙◌, ap}
+use Rattle.std.proofs.Common.{[], ◌≡◌, ⊎_elim, List, ◌∷◌, ◌++◌, sym, ◌∙◌, ap}
 use Rattle.std.proofs.lemmas.List.Elements.{Contains-append_cases}
 use Rattle.std.specs.Prelude.{Contains}
 use Rattle.bank_trait.specs.Disk.{Disk}

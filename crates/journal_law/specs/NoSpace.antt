@@ -1,6 +1,6 @@
 -- Why a run finds no space for a put: by the sizes of the blocks that there were at its opening, and of those that
 -- its script puts.
-use Rattle.std.specs.Prelude.{◌≡◌, ℕ, ◌+◌, List, ◌∷◌, ◌++◌, length, map, flat_map}
+use Rattle.std.specs.Prelude.{[], ◌≡◌, ℕ, ◌+◌, List, ◌∷◌, ◌++◌, length, map, flat_map}
 use Rattle.width_map.specs.Births.{first_width}
 use Rattle.reflow_mark.specs.Reflow.{sectors_of}
 use Rattle.block_record.specs.declared.entry.IndexEntry.{IndexEntry}

@@ -1,5 +1,5 @@
 -- A pool that was opened begins with the group that the opening wrote, and holds its map.
-use Rattle.std.proofs.Common.{◌≡◌, ℕ, ◌^◌, ◌<◌, ◌≤◌, List, false, Some, Result, Ok, Err, inl, ⊎_elim, refl, sym, ◌∙◌, ap, subst, arith, []}
+use Rattle.std.proofs.Common.{◌≡◌, ℕ, ◌^◌, ◌<◌, ◌≤◌, List, false, Some, Result, Ok, Err, inl, ⊎_elim, sym, ◌∙◌, ap, subst, arith, []}
 use Rattle.std.specs.Prelude.{Contains, IfErr}
 use Rattle.std.proofs.lemmas.List.Elements.{All-contains}
 use Rattle.bank_trait.specs.Disk.{Disk, Lawful, Later}

@@ -1,15 +1,14 @@
 -- A sync may commit the open group, and what that keeps.
-use Rattle.std.proofs.Common.{◌≡◌, ◌≢◌, inl, ⊎_elim, ℕ, ◌+◌, ◌^◌, ◌<◌, ◌≤◌, List, ◌∷◌, ◌++◌, length, false, Some, Ok, Err, refl, sym, ◌∙◌, ap, subst, arith, append_assoc, []}
+use Rattle.std.proofs.Common.{◌≡◌, ◌≢◌, inl, ℕ, ◌+◌, ◌^◌, ◌<◌, ◌≤◌, List, ◌∷◌, ◌++◌, length, false, Some, refl, sym, ◌∙◌, ap, subst, arith, append_assoc, []}
 use Rattle.std.specs.Prelude.{Contains}
 use Rattle.std.proofs.lemmas.List.Elements.{All-cons}
 use Rattle.std.proofs.lemmas.List.Kept.{AllPairs-cons}
 use Rattle.sha2.specs.Sha256.{sha256}
-use Rattle.bank_trait.specs.Disk.{Disk, Later}
-use Rattle.bank_trait.proofs.Touches.{tells_later}
+use Rattle.bank_trait.specs.Disk.{Disk}
 use Rattle.block_record.specs.declared.entry.IndexEntry.{IndexEntry}
 use Rattle.block_record.specs.Bytes.{IsDigest}
 use Rattle.block_record.specs.Page.{index_page, IsIndex}
-use Rattle.uberblock_ring.specs.Devices.{has_device, count_below, count_of, IsWithin}
+use Rattle.uberblock_ring.specs.Devices.{has_device, count_below}
 use Rattle.uberblock_ring.specs.Uberblock.{Uber}
 use Rattle.uberblock_ring.specs.Valid.{IsRightUber}
 use Rattle.core_state.specs.Map.{Map}
@@ -17,14 +16,9 @@ use Rattle.core_state.specs.Index.{IsFitting, IsIndexOf}
 use Rattle.core_state.specs.Keeps.{Kept, Setting, IsNextOf}
 use Rattle.core_state.specs.Certain.{CellsOn, IsSound, IsRow}
 use Rattle.core_state.specs.Moment.{KeepsSince}
-use Rattle.core_state.proofs.Listed.{contains_cases, contains_none}
-use Rattle.core_blocks.specs.Blocks.{Blocks}
-use Rattle.core_blocks.specs.Kept.{NoneFree}
 use Rattle.core_blocks.proofs.Listed.{among_listed, found_among, found_id}
-use Rattle.core_commit.specs.Commits.{Begun, MayCommit, CommitKeeps, groups_of}
+use Rattle.core_commit.specs.Commits.{Begun, MayCommit}
 use Rattle.core_commit.specs.Ran.{point_of}
-use Rattle.core_commit.specs.declared.committing.TooManyOut.{TooManyOut}
-use Rattle.core_open.specs.Holds.{shape_of}
 use Rattle.core_open.proofs.Renewing.{none_above_more}
 use Rattle.open_pool.specs.Pool.{IsPool, State, HasBank, IsTableOf, HoldsMap}
 use Rattle.open_pool.specs.HoldsGroup.{HoldsGroup}

@@ -12,15 +12,14 @@ use Rattle.shadow_write.specs.Writes.{writes_of}
 use Rattle.reflow_mark.specs.Reflow.{sectors_of}
 use Rattle.block_record.specs.declared.entry.IndexEntry.{IndexEntry}
 use Rattle.uberblock_ring.specs.Uberblock.{Uber}
-use Rattle.core_state.specs.declared.answer.Answer.{Answer}
 use Rattle.core_state.specs.Index.{layout_of, sectors_for}
 use Rattle.core_blocks.specs.declared.range.PutRange.{PutRange}
-use Rattle.core_blocks.specs.Blocks.{Blocks, AreInStep, IsUnderWay, range_of}
-use Rattle.core_blocks.specs.Puts.{IsRangeFor, IsAsBefore, layout_at}
+use Rattle.core_blocks.specs.Blocks.{Blocks, range_of}
+use Rattle.core_blocks.specs.Puts.{IsRangeFor, layout_at}
 use Rattle.core_client.specs.Pool.{IsInPool}
 use Rattle.core_client.specs.Writing.{TellsAt}
 use Rattle.core_client.proofs.Cells.{places_inside, writes_required}
-use Rattle.open_pool.specs.Pool.{Pool, IsPool, State, HasBank}
+use Rattle.open_pool.specs.Pool.{Pool, IsPool, HasBank}
 use Rattle.open_pool.proofs.Layouts.{front_is_right, layout_in_pool, total_few}
 
 -- A bank that tells what it holds tells what stands where a block of the pool is written.

@@ -1,12 +1,13 @@
 // Two hundred orders, their journals checked item by item.
 use crate::banks::bank_of_nine;
+use crate::calls::{REPLAY, RUN, call};
 use crate::legal_check::Journaled;
-use crate::plans::{Draw, Plan, plan_of, plan_of_reads};
-use crate::replays::replay_into;
+use crate::plans::{Draw, Plan, plan_of, plan_of_lines, plan_of_reads};
+use crate::runs::{Order, run_into};
 use bank_mem::MemBank;
 use core_state::Journal;
 use schedule::Ended;
-use std::alloc::Global;
+use std::alloc::{AllocError, Global};
 use std::process::Abort;
 use std::test::Fail;
 use uberblock_ring::DeviceSet;
@@ -38,12 +39,18 @@ fn replay_plan(
     number: u64,
 ) -> Result<Journal, Fail> {
     let mut journal = Journal::new(alloc);
-    let replayed = replay_into(alloc, bank, plan.script.as_bytes(), &mut journal)??;
-    assert_eq!(rt; replayed.ended, Ended::Whole, "order {number}");
+    let ran = run_into(
+        alloc,
+        bank,
+        plan.script.as_bytes(),
+        Order::AsListed,
+        &mut journal,
+    )??;
+    assert_eq!(rt; ran.ended, Ended::Whole, "order {number}");
     assert!(rt;
-        may_be_out(failing, replayed.out),
+        may_be_out(failing, ran.out),
         "order {number}: {:?}",
-        replayed.out
+        ran.out
     );
     Ok(journal)
 }
@@ -103,23 +110,62 @@ fn the_third_fifty_orders_are_answered_rightly(rt: HostRuntime) -> Result<(), Fa
     check_orders(&rt, rt.alloc(), 100, 150)
 }
 
-/// A call on a device fails, if it is made, or all from that one on.
+/// A call on a device fails, if it is made, or all from that one on. Gives the device.
+fn let_one_fail(bank: &mut MemBank, number: u64) -> Result<u32, AllocError> {
+    let mut draw = Draw::new(1000 + number);
+    let device = draw.below(3) as u32;
+    let call = OPENING + draw.below(AFTER_OPENING);
+    if draw.below(2) == 0 {
+        bank.fail_at(&[(device, call)])?;
+    } else {
+        bank.fail_from(device, call)?;
+    }
+    Ok(device)
+}
+
 #[test]
 fn the_last_fifty_orders_are_answered_rightly_past_a_failing_device(
     rt: HostRuntime,
 ) -> Result<(), Fail> {
     let alloc = rt.alloc();
     for number in 150..200 {
-        let mut draw = Draw::new(1000 + number);
         let mut bank = bank_of_nine(alloc)?;
-        let device = draw.below(3) as u32;
-        let call = OPENING + draw.below(AFTER_OPENING);
-        if draw.below(2) == 0 {
-            bank.fail_at(&[(device, call)])?;
-        } else {
-            bank.fail_from(device, call)?;
-        }
+        let device = let_one_fail(&mut bank, number)?;
         check_order(&rt, alloc, &mut bank, Some(device), number)?;
     }
     Ok(())
+}
+
+/// A run of the scripts from this number up to that one, and a replay of them, tell the same and leave the same.
+/// Every other one has a device that fails.
+fn compare_run_and_replay(rt: &impl Abort, alloc: Global, from: u64, to: u64) -> Result<(), Fail> {
+    for number in from..to {
+        let plan = plan_of_lines(alloc, number)?;
+        let mut banks = [bank_of_nine(alloc)?, bank_of_nine(alloc)?];
+        if number % 2 == 1 {
+            for bank in &mut banks {
+                let_one_fail(bank, number)?;
+            }
+        }
+        let [first, second] = banks;
+        let ran = call(alloc, RUN, first, plan.script.as_bytes())?;
+        let replayed = call(alloc, REPLAY, second, plan.script.as_bytes())?;
+        assert_eq!(rt; ran.status, replayed.status, "script {number}");
+        assert_eq!(rt; ran.turns, replayed.turns, "script {number}");
+        assert_eq!(rt; ran.items, replayed.items, "script {number}");
+        assert_eq!(rt;
+            ran.text.as_slice(),
+            replayed.text.as_slice(),
+            "script {number}"
+        );
+        let left = ran.bank.crash_at(alloc, ran.bank.clock(), &[])?;
+        let other = replayed.bank.crash_at(alloc, replayed.bank.clock(), &[])?;
+        assert_eq!(rt; left.as_slice(), other.as_slice(), "script {number}");
+    }
+    Ok(())
+}
+
+#[test]
+fn a_run_of_two_hundred_scripts_is_a_replay_without_an_order(rt: HostRuntime) -> Result<(), Fail> {
+    compare_run_and_replay(&rt, rt.alloc(), 200, 400)
 }

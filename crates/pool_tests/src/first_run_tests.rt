@@ -3,7 +3,6 @@ use crate::banks::bank_of_width;
 use crate::runs::run;
 use bank_mem::{MemBank, Tear, Torn};
 use bank_trait::Bank;
-use journal_law::Ran;
 use std::alloc::{AllocError, Global};
 use std::process::Abort;
 use std::test::Fail;
@@ -91,11 +90,7 @@ impl FirstRun {
             }
         }
         let told = run(alloc, &mut left, READ)?;
-        let finished = true;
-        Ok(
-            self.may_be_told(call).contains(&told.text.as_slice())
-                && told.ended == Ok(Ran { finished, out }),
-        )
+        Ok(self.may_be_told(call).contains(&told.text.as_slice()) && told.out() == Some(out))
     }
 }
 

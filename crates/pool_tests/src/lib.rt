@@ -1,8 +1,8 @@
 //! What pools on banks in memory show: tests alone, of the crates from a bank in memory to the top call.
 //!
-//! They stand here together, since a crate with tests is proved twice. `banks` makes new pools, `runs`,
-//! `replays` and `calls` carry scripts and commands out on them, `plans` draws scripts from a number, and
-//! `legal_check` is a plain, slow checker of journals. `part_tests` has the worked rows of single parts.
+//! They stand here together, since a crate with tests is proved twice. `banks` makes new pools, `runs` and
+//! `calls` carry scripts and commands out on them, `plans` draws scripts from a number, and `legal_check` is
+//! a plain, slow checker of journals. `part_tests` has the worked rows of single parts.
 #![tactic(auto)]
 
 #[cfg(test)]
@@ -37,8 +37,6 @@ mod plans;
 mod replay_stop_tests;
 #[cfg(test)]
 mod replay_tests;
-#[cfg(test)]
-mod replays;
 #[cfg(test)]
 mod room_tests;
 #[cfg(test)]

@@ -204,10 +204,8 @@ impl Plan {
     }
 }
 
-/// The plan of this number: three clients with 6 to 10 calls each, their lines in turns, and an order of about 60
-/// letters.
-pub fn plan_of(alloc: Global, number: u64) -> Result<Plan, AllocError> {
-    let mut draw = Draw::new(number);
+/// Three clients with 6 to 10 calls each, their lines in turns.
+fn draw_calls(alloc: Global, draw: &mut Draw) -> Result<Plan, AllocError> {
     let mut plan = Plan::new(alloc, 3)?;
     let mut counts = [0; 3];
     for count in &mut counts {
@@ -216,14 +214,27 @@ pub fn plan_of(alloc: Global, number: u64) -> Result<Plan, AllocError> {
     for round in 0..MOST_CALLS {
         for caller in 0..3 {
             if round < counts[caller as usize] {
-                let kind = draw_kind(&mut draw, round);
+                let kind = draw_kind(draw, round);
                 let id = draw.below(IDS).min(draw.below(IDS));
-                plan.push(alloc, &mut draw, caller, round + 1, kind, id)?;
+                plan.push(alloc, draw, caller, round + 1, kind, id)?;
             }
         }
     }
+    Ok(plan)
+}
+
+/// The plan of this number: three clients, and an order of about 60 letters.
+pub fn plan_of(alloc: Global, number: u64) -> Result<Plan, AllocError> {
+    let mut draw = Draw::new(number);
+    let mut plan = draw_calls(alloc, &mut draw)?;
     plan.push_order(&mut draw, 1 + number % 8)?;
     Ok(plan)
+}
+
+/// The plan of this number without an order.
+pub fn plan_of_lines(alloc: Global, number: u64) -> Result<Plan, AllocError> {
+    let mut draw = Draw::new(number);
+    draw_calls(alloc, &mut draw)
 }
 
 /// A client's get and sum of each id.

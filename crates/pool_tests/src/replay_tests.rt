@@ -90,7 +90,7 @@ fn a_later_run_reads_the_last_group_of_a_replay(rt: HostRuntime) -> Result<(), F
     let told = call(alloc, RUN, told.bank, READ)?;
     let text = b"0 group 7 after 0\n1 a.1 get 7 at 1 bytes 61\n".as_slice();
     assert_eq!(rt; told.text.as_slice(), text);
-    assert_eq!(rt; (told.status, told.turns), (Status::Done, 0));
+    assert_eq!(rt; (told.status, told.turns), (Status::Done, 4));
     Ok(())
 }
 

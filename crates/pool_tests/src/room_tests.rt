@@ -2,7 +2,7 @@
 ghost use Rattle.std.specs.Prelude.{◌<◌, ◌^◌};
 
 use crate::plans::letter;
-use crate::replays::replay;
+use crate::runs::replay;
 use bank_mem::MemBank;
 use bank_trait::Bank;
 use core_open::create;

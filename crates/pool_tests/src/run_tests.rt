@@ -30,7 +30,7 @@ fn what_was_synced_is_read_in_later_runs_also_without_a_device(
     let told = call(alloc, RUN, bank_of_nine(alloc)?, FIRST)?;
     assert_eq!(rt; told.status, Status::Done);
     assert_eq!(rt; told.text.as_slice(), FIRST_TOLD);
-    assert_eq!(rt; (told.items, told.turns), (5, 0));
+    assert_eq!(rt; (told.items, told.turns), (5, 22));
     let told = call(alloc, RUN, told.bank, READ)?;
     let text = b"0 group 6 after 0\n1 a.1 get 7 at 1 bytes 050c13\n".as_slice();
     assert_eq!(rt; told.status, Status::Done);

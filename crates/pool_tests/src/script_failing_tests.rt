@@ -4,7 +4,6 @@ use crate::runs::run;
 use bank_mem::{MemBank, MemSink};
 use client_script::TextWriter;
 use core_open::OpenWhy;
-use journal_law::Ran;
 use std::alloc::Global;
 use std::process::Abort;
 use std::test::Fail;
@@ -86,11 +85,10 @@ fn all_is_right_while_no_more_devices_fail_than_there_are_parities(
                 continue;
             }
             let mut bank = failing_bank(&rt, alloc, parity, width, out)?;
-            let finished = true;
             for (script, wanted) in [(SCRIPT, ANSWERED), (READS, READS_ANSWERED)] {
                 let told = run(alloc, &mut bank, script)?;
                 assert_eq!(rt; told.text.as_slice(), wanted, "{bits} of {width}");
-                assert_eq!(rt; told.ended, Ok(Ran { finished, out }), "{bits} of {width}");
+                assert_eq!(rt; told.out(), Some(out), "{bits} of {width}");
             }
         }
     }
@@ -107,7 +105,6 @@ fn one_device_more_is_told_and_no_run_opens_then(rt: HostRuntime) -> Result<(), 
                 continue;
             }
             let mut bank = failing_bank(&rt, alloc, parity, width, out)?;
-            let finished = true;
             let told = run(alloc, &mut bank, SCRIPT)?;
             let wanted = refused(alloc, out)?;
             assert_eq!(rt;
@@ -115,7 +112,7 @@ fn one_device_more_is_told_and_no_run_opens_then(rt: HostRuntime) -> Result<(), 
                 wanted.as_slice(),
                 "{bits} of {width}"
             );
-            assert_eq!(rt; told.ended, Ok(Ran { finished, out }), "{bits} of {width}");
+            assert_eq!(rt; told.out(), Some(out), "{bits} of {width}");
             let told = run(alloc, &mut bank, READS)?;
             assert_eq!(rt; told.text.as_slice(), b"".as_slice(), "{bits} of {width}");
             let why = OpenWhy::TooManyFailed { out };

@@ -2,7 +2,6 @@
 use crate::banks::bank_of_nine;
 use crate::runs::run;
 use bank_mem::{MemBank, Tear, Torn};
-use journal_law::Ran;
 use std::alloc::{AllocError, Global};
 use std::test::Fail;
 use uberblock_ring::DeviceSet;
@@ -129,7 +128,6 @@ fn a_stop_leaves_the_last_group_or_the_one_that_was_begun(rt: HostRuntime) -> Re
     let alloc = rt.alloc();
     let clocks = Clocks::of_fronts(alloc)?;
     let bank = bank_after(alloc, FRONTS[4])?;
-    let finished = true;
     // (the devices of which all sectors are torn, how, the devices that fail after the stop)
     for (devices, how, failing) in [
         (0, Tear::Kept, 0),
@@ -146,7 +144,7 @@ fn a_stop_leaves_the_last_group_or_the_one_that_was_begun(rt: HostRuntime) -> Re
             let told = run(alloc, &mut left, READS)?;
             let may_be = clocks.may_be_told(call);
             assert!(rt; may_be.contains(&told.text.as_slice()), "{place:?}");
-            assert_eq!(rt; told.ended, Ok(Ran { finished, out }), "{place:?}");
+            assert_eq!(rt; told.out(), Some(out), "{place:?}");
         }
     }
     Ok(())

@@ -3,17 +3,8 @@ use crate::banks::bank_of_nine;
 use crate::runs::run;
 use bank_mem::MemBank;
 use core_open::OpenWhy;
-use journal_law::Ran;
 use std::test::Fail;
 use uberblock_ring::DeviceSet;
-
-/// How a run ends that answers each call and meets no failure.
-fn all_well() -> Result<Ran, OpenWhy> {
-    Ok(Ran {
-        finished: true,
-        out: DeviceSet::empty(),
-    })
-}
 
 /// Blocks 7 and 8 are synced, and then 7 is freed, 8 put anew and 9 put.
 const ONE_CLIENT: &[u8] = b"clients 1
@@ -71,7 +62,7 @@ fn what_was_synced_is_there_in_the_next_run_and_the_rest_is_gone(
     for (script, wanted) in [(ONE_CLIENT, ONE_CLIENT_TOLD), (READS, READS_TOLD)] {
         let told = run(alloc, &mut bank, script)?;
         assert_eq!(rt; told.text.as_slice(), wanted);
-        assert_eq!(rt; told.ended, all_well());
+        assert_eq!(rt; told.out(), Some(DeviceSet::empty()));
     }
     Ok(())
 }
@@ -112,7 +103,7 @@ fn clients_take_turns_by_their_lines_and_see_each_others_puts(rt: HostRuntime) -
     let mut bank = bank_of_nine(alloc)?;
     let told = run(alloc, &mut bank, TWO_CLIENTS)?;
     assert_eq!(rt; told.text.as_slice(), TWO_CLIENTS_TOLD);
-    assert_eq!(rt; told.ended, all_well());
+    assert_eq!(rt; told.out(), Some(DeviceSet::empty()));
     Ok(())
 }
 

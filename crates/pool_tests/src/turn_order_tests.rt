@@ -1,6 +1,6 @@
 // Replays and their journals, line by line.
 use crate::banks::bank_of_nine;
-use crate::replays::{finished, replay};
+use crate::runs::{finished, replay};
 use std::alloc::Global;
 use std::process::Abort;
 use std::test::Fail;

@@ -18,8 +18,8 @@ use Rattle.core_state.specs.Keeps.{Setting}
 use Rattle.core_state.specs.Shown.{Shape, Shows}
 use Rattle.uberblock_ring.specs.Uberblock.{first_uber}
 use Rattle.client_script.specs.Written.{IsAdded, IsPartAdded}
-use Rattle.raidzx_top.specs.declared.carrying.Manner.{Manner}
-use Rattle.raidzx_top.specs.declared.carrying.Manner.TheVariants as manner
+use Rattle.raidzx_top.specs.declared.order.Order.{Order}
+use Rattle.raidzx_top.specs.declared.order.Order.TheVariants.{OfLines, AsListed}
 use Rattle.raidzx_top.specs.declared.status.Status.{Status}
 use Rattle.raidzx_top.specs.declared.status.Status.TheVariants as status
 use Rattle.raidzx_top.specs.declared.words.NewPool.{NewPool}
@@ -28,7 +28,7 @@ use Rattle.raidzx_top.specs.declared.words.ServedCommand.TheVariants as served
 use Rattle.raidzx_top.specs.Words.{Command, Create}
 use Rattle.raidzx_top.specs.Spelled.{SpellsCreate, IsServedAs, command_of}
 use Rattle.raidzx_top.specs.Call.{ReadsScript, Call}
-use Rattle.raidzx_top.specs.Carrying.{served_by}
+use Rattle.raidzx_top.specs.Order.{served_by}
 use Rattle.raidzx_top.specs.Causes.{NoneRose, IsCaused, IsCause, HaveRisen, IsTooSmall, IsFoundImage, ComesWhere, IsOrNoMemory}
 use Rattle.raidzx_top.specs.RunText.{IsLineFor, TextIsRight, create_text, status_line}
 use Rattle.raidzx_top.specs.Promises.{CreatePromises, IsNewSetting, IsQuiet, RunIsKept, RunCompletes, CallPromises, IsCarriedOut}
@@ -113,18 +113,18 @@ module _ (call : Call) (made : NewPool) (served_as : IsServedAs call.words (serv
       subst (λ (n : NewPool). TouchesOnly (IsOnBelow n.width) call.old call.new) (same given is) only
 
   -- no script is asked for
-  no_script : {A : Type 0} → (how : Manner) → IsServedAs call.words (served_by how) → A
-  no_script how is = absurd (create_no_script call.words made how served_as is)
+  no_script : {A : Type 0} → (order : Order) → IsServedAs call.words (served_by order) → A
+  no_script order is = absurd (create_no_script call.words made order served_as is)
 
-  no_run : (how : Manner) → RunIsKept how call
-  no_run how = record {
-    opened = λ is. no_script how is;
-    unopened = λ is. no_script how is;
-    carried_out = λ is. no_script how is;
+  no_run : (order : Order) → RunIsKept order call
+  no_run order = record {
+    opened = λ is. no_script order is;
+    unopened = λ is. no_script order is;
+    carried_out = λ is. no_script order is;
   }
 
-  no_smooth : (how : Manner) → RunCompletes how call
-  no_smooth how smooth = no_script how smooth.served
+  no_smooth : (order : Order) → RunCompletes order call
+  no_smooth order smooth = no_script order smooth.served
 
   too_small : IsSmallFor made call.old
       → IsTooSmall call (Create made.parity made.width made.id)
@@ -148,8 +148,8 @@ module _ (call : Call) (made : NewPool) (served_as : IsServedAs call.words (serv
     where
       each : (command : ServedCommand) → IsServedAs call.words command
           → IsCause call (command_of command) call.status
-      each served.Run served_run = no_script manner.Whole served_run
-      each served.Replay served_replay = no_script manner.ByTurns served_replay
+      each served.Run served_run = no_script OfLines served_run
+      each served.Replay served_replay = no_script AsListed served_replay
       each (served.Create m) served_m =
           subst (λ (n : NewPool). IsCause call (Create n.parity n.width n.id) call.status)
           (same m served_m)
@@ -168,21 +168,21 @@ module _ (call : Call) (made : NewPool) (served_as : IsServedAs call.words (serv
       reads_none : {A : Type 0} → (command : ServedCommand) → IsServedAs call.words command
           → ReadsScript (command_of command) → A
       reads_none (served.Create m) is reads = absurd reads
-      reads_none served.Run is reads = no_script manner.Whole is
-      reads_none served.Replay is reads = no_script manner.ByTurns is
+      reads_none served.Run is reads = no_script OfLines is
+      reads_none served.Replay is reads = no_script AsListed is
 
       finds_none : (image : Image) (command : Command) (given : ServedCommand) → IsServedAs call.words given
           → command_of given ≡ command → IsFoundImage call command image → ⊥
       finds_none image command (served.Create m) is it found =
           (subst (λ (c : Command). IsFoundImage call c image) (sym it) found).is
-      finds_none image command served.Run is it found = no_script manner.Whole is
-      finds_none image command served.Replay is it found = no_script manner.ByTurns is
+      finds_none image command served.Run is it found = no_script OfLines is
+      finds_none image command served.Replay is it found = no_script AsListed is
 
       where_small : (command : ServedCommand) → IsServedAs call.words command
           → IsTooSmall call (command_of command)
           → IsOrNoMemory call status.TooSmall
-      where_small served.Run is less = no_script manner.Whole is
-      where_small served.Replay is less = no_script manner.ByTurns is
+      where_small served.Run is less = no_script OfLines is
+      where_small served.Replay is less = no_script AsListed is
       where_small (served.Create m) is less = small (is_small
           (subst (λ (n : NewPool). IsTooSmall call (Create n.parity n.width n.id))
           (sym (same m is)) less))
@@ -239,9 +239,9 @@ module _ (call : Call) (made : NewPool) (served_as : IsServedAs call.words (serv
     comes = comes (λ small. absurd (makes.0 small));
     refused = λ none not. absurd (not (⊎_elim (λ d. inl (is ∙ d)) (λ f. inr (is ∙ f.0)) done));
     quiet = λ none. absurd (none (served.Create made, served_as));
-    turns = λ no_replay. quiet_call.turns;
-    run = no_run manner.Whole;
-    replay = no_run manner.ByTurns;
+    turns = λ none. quiet_call.turns;
+    run = no_run OfLines;
+    replay = no_run AsListed;
     completes = no_smooth;
     create = record {
       quiet = λ m served_m. quiet_call;
@@ -309,9 +309,9 @@ module _ (call : Call) (made : NewPool) (served_as : IsServedAs call.words (serv
         (subst (λ (s : Status). IsLineFor s given) (sym is) line)
         (λ done. no_done (sym is ∙ done)) said;
     quiet = λ none. absurd (none (served.Create made, served_as));
-    turns = λ no_replay. quiet_call.turns;
-    run = no_run manner.Whole;
-    replay = no_run manner.ByTurns;
+    turns = λ none. quiet_call.turns;
+    run = no_run OfLines;
+    replay = no_run AsListed;
     completes = no_smooth;
     create = record {
       quiet = λ m served_m. quiet_call;

@@ -1,13 +1,13 @@
 -- However a call ends, it keeps its promises.
 use Rattle.std.proofs.Common.{◌≡◌, refl, sym, ◌∙◌, subst}
 use Rattle.bank_trait.specs.Disk.{Lawful}
-use Rattle.raidzx_top.specs.declared.carrying.Manner.{Manner}
-use Rattle.raidzx_top.specs.declared.carrying.Manner.TheVariants as manner
+use Rattle.raidzx_top.specs.declared.order.Order.{Order}
+use Rattle.raidzx_top.specs.declared.order.Order.TheVariants.{OfLines, AsListed}
 use Rattle.raidzx_top.specs.declared.status.Status.{Status}
 use Rattle.raidzx_top.specs.declared.status.Status.TheVariants as status
 use Rattle.raidzx_top.specs.declared.words.ServedCommand.TheVariants as served
 use Rattle.raidzx_top.specs.Call.{Call}
-use Rattle.raidzx_top.specs.Carrying.{served_by}
+use Rattle.raidzx_top.specs.Order.{served_by}
 use Rattle.raidzx_top.specs.Ending.{EndsUsage, Ends, AsUsage, AsCreate, AsRun}
 use Rattle.raidzx_top.specs.Promises.{CallPromises, RunIsKept}
 use Rattle.raidzx_top.specs.RunText.{IsLineFor}
@@ -30,7 +30,7 @@ refused_words call ends = record {
       (subst (λ (s : Status). IsLineFor s status.Usage) (sym ends.status_is) refl)
       (λ done. no_done (sym ends.status_is ∙ done)) ends.said;
   quiet = λ none. ends.quiet;
-  turns = λ no_replay. ends.quiet.turns;
+  turns = λ none. ends.quiet.turns;
   create = record {
     quiet = λ m served_m. ends.quiet;
     keeps = λ m served_m carried tells. absurd (ends.none (served.Create m, served_m));
@@ -38,20 +38,20 @@ refused_words call ends = record {
     others = λ m served_m. absurd (ends.none (served.Create m, served_m));
     untouched = λ refusal. ends.same;
   };
-  run = kept manner.Whole;
-  replay = kept manner.ByTurns;
+  run = kept OfLines;
+  replay = kept AsListed;
   complete = record { done = λ m served_m fits quiet sink. absurd (ends.none (served.Create m, served_m)) };
-  completes = λ how smooth. absurd (ends.none (served_by how, smooth.served));
+  completes = λ order smooth. absurd (ends.none (served_by order, smooth.served));
 }
   where
     no_done : status.Usage ≡ status.Done → ⊥
     no_done equal = cc
 
-    kept : (how : Manner) → RunIsKept how call
-    kept how = record {
-      opened = λ is. absurd (ends.none (served_by how, is));
-      unopened = λ is. absurd (ends.none (served_by how, is));
-      carried_out = λ is. absurd (ends.none (served_by how, is));
+    kept : (order : Order) → RunIsKept order call
+    kept order = record {
+      opened = λ is. absurd (ends.none (served_by order, is));
+      unopened = λ is. absurd (ends.none (served_by order, is));
+      carried_out = λ is. absurd (ends.none (served_by order, is));
     }
 
 -- However a call ends, its promises hold.
@@ -59,5 +59,5 @@ pub ends_promise : (call : Call) → Lawful call.old → Ends call → CallPromi
 ends_promise call lawful ends = elim ends [
   | AsUsage usage ↦ refused_words call usage
   | AsCreate create ↦ created call create.made create.served_as create.quiet call.status refl create.ends
-  | AsRun run ↦ run_promises run.manner call lawful run.served_as run.ends
+  | AsRun run ↦ run_promises run.order call lawful run.served_as run.ends
 ]

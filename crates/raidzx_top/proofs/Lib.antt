@@ -5,8 +5,6 @@ pub mod Refusing
 pub mod Creating
 pub mod Telling
 pub mod Reading
-pub mod Carried
-pub mod ByTurns
 pub mod Reopening
 pub mod RunParts
 pub mod RunRefused

@@ -1,101 +1,31 @@
 -- What a stop leaves of a run or a replay is read back by the next one.
-use Rattle.std.proofs.Common.{◌≡◌, ◌≢◌, ◌⊎◌, inl, inr, ⊎_elim, ℕ, zero, suc, ◌+◌, ◌<◌, ◌≤◌, List, [], ◌∷◌, ◌++◌, length, refl, sym, ◌∙◌, ap, subst, arith}
+use Rattle.std.proofs.Common.{◌≡◌, ◌⊎◌, inl, inr, ⊎_elim, ℕ, zero, suc, ◌+◌, ◌≤◌, List, [], ◌∷◌, ◌++◌, length, refl, sym, ◌∙◌, ap, subst, arith}
 use Rattle.std.specs.Prelude.{All, Contains, take}
 use Rattle.std.specs.List.{AllZip}
-use Rattle.std.proofs.lemmas.List.Elements.{Contains-append_cases, Contains-append_left}
+use Rattle.std.proofs.lemmas.List.Elements.{Contains-append_cases}
 use Rattle.std.proofs.lemmas.Option.{slice_get_within}
 use Rattle.bank_trait.specs.Disk.{Image, Disk}
 use Rattle.uberblock_ring.specs.Uberblock.{Uber}
-use Rattle.core_state.specs.declared.answer.Answer.TheVariants as answer
 use Rattle.core_state.specs.declared.item.Entry.{Entry}
 use Rattle.core_state.specs.declared.item.Group.{Group as GroupItem}
 use Rattle.core_state.specs.declared.item.Item.{Item}
-use Rattle.core_state.specs.declared.item.Item.TheVariants.{Group, Call}
+use Rattle.core_state.specs.declared.item.Item.TheVariants.{Call}
 use Rattle.core_state.specs.Map.{Map, Handed, SameMap, map_after}
-use Rattle.core_state.specs.Journal.{IsLegalJournal}
 use Rattle.core_state.specs.Legal.{CallAt}
 use Rattle.core_state.specs.Keeps.{Kept, Setting, Keeps}
 use Rattle.core_state.specs.Collision.{MightStand}
-use Rattle.core_state.specs.Moment.{IsGroupOf, IsBegunAfter, IsUnanswered, KeepsSince, KeepsSome, KeepsThroughout, groups_in}
+use Rattle.core_state.specs.Moment.{IsGroupOf, IsBegunAfter, IsUnanswered, KeepsSince, groups_in}
 use Rattle.core_state.proofs.Listed.{contains_none, contains_cases}
-use Rattle.core_open.specs.Opens.{AddsOne}
+use Rattle.core_open.specs.Opens.{AddsOne, IsWithinBelow}
 use Rattle.open_pool.specs.Opening.{CutsOpening, MayBegin}
 use Rattle.open_pool.specs.Stopped.{IsImageOf}
 use Rattle.open_pool.proofs.Reopened.{stopped_begins}
-use Rattle.client_script.specs.Script.{Script, IsAllowed, asked_by, handed_by}
-use Rattle.journal_law.specs.Moments.{KeepsLast, KeepsUntil}
-use Rattle.journal_law.specs.Widths.{HaveWidthOf, HaveWidthOfEach}
+use Rattle.client_script.specs.Script.{Script, IsAllowed, handed_by}
+use Rattle.journal_law.specs.Widths.{HaveWidthOf}
 use Rattle.journal_law.proofs.Rows.{row_among}
 use Rattle.journal_law.proofs.RunBytes.{HoldsBytes, HandsBytes, after_bytes, script_hands}
-use Rattle.schedule.specs.Moments.{KeepsTurnByTurn}
-use Rattle.raidzx_top.specs.declared.carrying.Carried.{Carried}
-use Rattle.raidzx_top.specs.declared.carrying.Carried.TheVariants as carried
-use Rattle.raidzx_top.specs.declared.carrying.Manner.{Manner}
-use Rattle.raidzx_top.specs.declared.carrying.Manner.TheVariants as manner
-use Rattle.raidzx_top.specs.Carrying.{CarriesOut}
-use Rattle.raidzx_top.specs.Reopened.{BearsCut, BearsFailures, IsLeft, IsLeftOn, ReadsBack, IsReadBack, SurvivesOpening, SurvivesStops, last_groups}
-use Rattle.raidzx_top.proofs.ByTurns.{by_turns}
-
--- What is kept of a script that was carried out, whether its calls went whole or turn by turn.
-record KeepsGroups (script : Script) (setting : Setting) (first : Kept) (later : List Kept) (old new : Disk)
-    (items : List Item) : Type 0 where
-  chosen : Kept
-  known : Contains (first ∷ later) chosen
-  legal : IsLegalJournal (asked_by script) (handed_by script) chosen.map items
-  sound : (index : ℕ) (entry : Entry) → CallAt items index entry → entry.answer ≢ answer.Damaged
-  any_moment : KeepsThroughout setting (handed_by script) chosen.map (first ∷ later) items old new
-  no_older : KeepsTurnByTurn setting (handed_by script) chosen.map (first ∷ later) items old new
-  kept : KeepsLast setting (handed_by script) chosen.map items new
-  kept_among : (group : Kept) → Contains (kept.last ∷ kept.begun) group
-      → Contains ((first ∷ later) ++ any_moment.groups.answered ++ any_moment.groups.begun) group
-  widths : HaveWidthOf first.uber ((first ∷ later) ++ any_moment.groups.answered ++ any_moment.groups.begun)
-
--- Groups are alike to those known where all of them have the width and the parity of one uberblock.
-alike_among : (opened : Kept) (known more begun groups : List Kept) → HaveWidthOf opened.uber (known ++ more ++ begun)
-    → ((kept : Kept) → Contains groups kept → Contains (known ++ more ++ begun) kept)
-    → HaveWidthOfEach known groups
-alike_among opened known more begun groups widths among group has = record {
-  each = λ kept here.
-      let its = widths.each kept (among kept here) in
-      let ones = widths.each group
-      (Contains-append_left (known ++ more) begun group (Contains-append_left known more group has)) in
-      (its.0 ∙ sym ones.0, its.1 ∙ sym ones.1);
-}
-
--- So much is kept in either manner.
-keeps_groups : (how : Manner) (script : Script) (old new : Disk) (items : List Item) (given : Carried)
-    → (run : CarriesOut how script old new items given) → (setting : Setting) (first : Kept) (later : List Kept)
-    → MayBegin setting first later old
-    → BearsFailures setting first.uber.reflow.to how script old new items given run
-    → KeepsGroups script setting first later old new items
-keeps_groups manner.Whole script old new items (carried.Run ran) run setting first later may bears =
-    let keeps = run.keeps setting first later may bears.silent_in bears.borne_in in record {
-      chosen = keeps.chosen;
-      known = keeps.known;
-      legal = keeps.legal;
-      sound = keeps.sound;
-      any_moment = keeps.any_moment;
-      no_older = by_turns keeps.no_older (slice_get_within items 0 (Group run.opened) run.there) keeps.kept
-          (alike_among first (first ∷ later) keeps.any_moment.groups.answered keeps.any_moment.groups.begun
-          (keeps.kept.last ∷ keeps.kept.begun) keeps.widths keeps.kept_among);
-      kept = keeps.kept;
-      kept_among = keeps.kept_among;
-      widths = keeps.widths;
-    }
-keeps_groups manner.ByTurns script old new items (carried.Replay replayed) run setting first later may bears =
-    let keeps = run.keeps setting first later may bears.silent_in bears.borne_in in record {
-      chosen = keeps.chosen;
-      known = keeps.known;
-      legal = keeps.legal;
-      sound = keeps.sound;
-      any_moment = keeps.any_moment;
-      no_older = keeps.no_older;
-      kept = keeps.kept;
-      kept_among = keeps.kept_among;
-      widths = keeps.widths;
-    }
-keeps_groups manner.Whole script old new items (carried.Replay replayed) run setting first later may bears = absurd run
-keeps_groups manner.ByTurns script old new items (carried.Run ran) run setting first later may bears = absurd run
+use Rattle.schedule.specs.WholeRun.{HasRun, RunKeeps}
+use Rattle.raidzx_top.specs.Reopened.{BearsCut, MayFail, IsLeft, IsLeftOn, ReadsBack, IsReadBack, SurvivesOpening, SurvivesStops, last_groups}
 
 -- The groups have maps of bytes.
 abbrev HaveBytes : List Kept → Type 0
@@ -135,7 +65,7 @@ read_back setting groups opened first later image odd only keeps among width byt
     width_is = (width.each first here).0;
     may = may disk left;
   };
-  each = λ how script old new items given run left bears. reads how script old new items given run left bears;
+  each = reads;
 }
   where
     here : Contains groups first
@@ -148,28 +78,27 @@ read_back setting groups opened first later image odd only keeps among width byt
         (its.0 ∙ sym firsts.0, its.1 ∙ sym firsts.1))
         (λ one id content listed. bytes one (among one listed) id content)
 
-    reads : (how : Manner) (script : Script) (old new : Disk) (items : List Item) (given : Carried)
-        → (run : CarriesOut how script old new items given) → IsLeftOn setting groups image old
-        → BearsFailures setting opened.uber.reflow.to how script old new items given run
+    reads : (script : Script) (old new : Disk) (items : List Item) (out : ℕ) → (run : HasRun script old new items out)
+        → IsLeftOn setting groups image old → MayFail setting opened.uber.reflow.to run.silent run.borne
         → ReadsBack groups script items
-    reads how script old new items given run left bears = record {
+    reads script old new items out run left bears = record {
       chosen = kept.chosen;
       known = among kept.chosen kept.known;
       legal = kept.legal;
       sound = kept.sound;
     }
       where
-        kept : KeepsGroups script setting first later old new items
-        kept = keeps_groups how script old new items given run setting first later (may old left)
-            (subst (λ (wide : ℕ). BearsFailures setting wide how script old new items given run)
-            (sym (width.each first here).0) bears)
+        kept : RunKeeps script setting first later old new items run.parity
+        kept = run.keeps setting first later (may old left)
+            (subst (λ (wide : ℕ). IsWithinBelow wide run.silent setting.failed) (sym (width.each first here).0)
+            bears.silent_in) bears.borne_in
 
-module _ (how : Manner) (script : Script) (old new : Disk) (items : List Item) (given : Carried)
-    (run : CarriesOut how script old new items given) (allowed : All (λ placed. IsAllowed placed.call) script.calls)
+module _ (script : Script) (old new : Disk) (items : List Item) (out : ℕ) (run : HasRun script old new items out)
+    (allowed : All (λ placed. IsAllowed placed.call) script.calls)
     (setting : Setting) (first : Kept) (later : List Kept) (may : MayBegin setting first later old)
-    (bears : BearsFailures setting first.uber.reflow.to how script old new items given run) where
-  keeps : KeepsGroups script setting first later old new items
-  keeps = keeps_groups how script old new items given run setting first later may bears
+    (bears : MayFail setting first.uber.reflow.to run.silent run.borne) where
+  keeps : RunKeeps script setting first later old new items run.parity
+  keeps = run.keeps setting first later may bears.silent_in bears.borne_in
 
   -- the groups of the run
   abbrev run_groups : List Kept

@@ -2,7 +2,7 @@
 use Rattle.std.proofs.Common.{◌≡◌, ◌≢◌, ◌⊎◌, inl, inr, ⊎_elim, ℕ, ◌≤◌, List, [], Some, true, refl, sym, ◌∙◌, subst, arith}
 use Rattle.std.specs.Prelude.{slice_get}
 use Rattle.bank_trait.specs.Causes.{Rose}
-use Rattle.bank_trait.specs.Disk.{Disk, Image, Lawful}
+use Rattle.bank_trait.specs.Disk.{Image, Lawful}
 use Rattle.uberblock_ring.specs.Devices.{has_device}
 use Rattle.core_state.specs.declared.answer.Answer.{Answer}
 use Rattle.core_state.specs.declared.answer.Answer.TheVariants as answer
@@ -20,22 +20,19 @@ use Rattle.core_open.specs.declared.why.OpenWhy.TheVariants as reason
 use Rattle.core_open.proofs.Ends.{present_held}
 use Rattle.core_open.proofs.Unhindered.{caused}
 use Rattle.open_pool.proofs.Banks.{count_grows}
-use Rattle.client_script.specs.Script.{Script, handed_by}
+use Rattle.client_script.specs.Script.{handed_by}
 use Rattle.client_script.specs.Texts.{journal_text}
-use Rattle.raidzx_top.specs.declared.carrying.Carried.{Carried}
-use Rattle.raidzx_top.specs.declared.carrying.Carried.TheVariants as carried
-use Rattle.raidzx_top.specs.declared.carrying.Manner.{Manner}
-use Rattle.raidzx_top.specs.declared.carrying.Manner.TheVariants as manner
 use Rattle.raidzx_top.specs.declared.running.Trouble.TheVariants as trouble
 use Rattle.raidzx_top.specs.declared.status.Status.{Status}
 use Rattle.raidzx_top.specs.declared.status.Status.TheVariants as status
+use Rattle.schedule.specs.WholeRun.{HasRun, RunKeeps}
+use Rattle.schedule.specs.declared.whole_run.Ran.{Ran}
+use Rattle.raidzx_top.specs.declared.order.Order.{Order}
 use Rattle.raidzx_top.specs.Call.{Call}
-use Rattle.raidzx_top.specs.Carrying.{CarriesOut, out_of, turns_of}
 use Rattle.raidzx_top.specs.Causes.{IsCause, FindsNoPool, MeetsLimit, most_turns}
 use Rattle.raidzx_top.specs.Promises.{RunPromises, IsSmooth, IsSmoothAnswer, CompletesAll}
 use Rattle.raidzx_top.specs.Running.{IsStatusOf, HasMet, StoppedFor, after_fault, EndsTelling, WasCarriedOut}
 use Rattle.raidzx_top.specs.RunText.{IsLineFor, TextIsRight}
-use Rattle.raidzx_top.proofs.Carried.{AnswersRight, HasGone, has_gone}
 use Rattle.raidzx_top.proofs.Reopening.{survives_stops}
 use Rattle.raidzx_top.proofs.RunParts.{IsRunEnd, command_in, opens, held_at_entry, none_silent}
 use Rattle.raidzx_top.proofs.RunAnswers.{IsClients, answers_client}
@@ -47,44 +44,33 @@ record IsEnd (line given : Status) : Type 0 where
   for : IsLineFor given line
 
 -- the status is that of the line, or the one after a fault
-whole_end : (given : Carried) (items : List Item) (line : Status) → IsStatusOf given items line → IsEnd line line
-whole_end given items status.NoMemory is = record { no_usage = λ same. cc; no_small = λ same. cc; for = refl }
-whole_end given items status.Limit is = record { no_usage = λ same. cc; no_small = λ same. cc; for = refl }
-whole_end given items (status.TooManyFailed listed) is = record { no_usage = λ same. cc; no_small = λ same. cc; for = refl }
-whole_end given items status.Done is = record { no_usage = λ same. cc; no_small = λ same. cc; for = refl }
-whole_end given items other is = absurd is
+whole_end : (ran : Ran) (items : List Item) (line : Status) → IsStatusOf ran items line → IsEnd line line
+whole_end ran items status.NoMemory is = record { no_usage = λ same. cc; no_small = λ same. cc; for = refl }
+whole_end ran items status.Limit is = record { no_usage = λ same. cc; no_small = λ same. cc; for = refl }
+whole_end ran items (status.TooManyFailed listed) is = record { no_usage = λ same. cc; no_small = λ same. cc; for = refl }
+whole_end ran items status.Done is = record { no_usage = λ same. cc; no_small = λ same. cc; for = refl }
+whole_end ran items other is = absurd is
 
-part_end : (given : Carried) (items : List Item) (line : Status) → IsStatusOf given items line
+part_end : (ran : Ran) (items : List Item) (line : Status) → IsStatusOf ran items line
     → IsEnd line (after_fault line) × (after_fault line ≢ status.Done)
-part_end given items status.NoMemory is =
+part_end ran items status.NoMemory is =
     (record { no_usage = λ same. cc; no_small = λ same. cc; for = refl }, λ same. cc)
-part_end given items status.Limit is =
+part_end ran items status.Limit is =
     (record { no_usage = λ same. cc; no_small = λ same. cc; for = refl }, λ same. cc)
-part_end given items (status.TooManyFailed listed) is =
+part_end ran items (status.TooManyFailed listed) is =
     (record { no_usage = λ same. cc; no_small = λ same. cc; for = inr (listed, refl) }, λ same. cc)
-part_end given items status.Done is =
+part_end ran items status.Done is =
     (record { no_usage = λ same. cc; no_small = λ same. cc; for = inl refl }, λ same. cc)
-part_end given items other is = absurd is
+part_end ran items other is = absurd is
 
--- No call is left unanswered for too many failed devices, and none of those that are carried out whole for want of
--- turns.
-none_stopped : (given : Carried) → StoppedFor given trouble.TooManyFailed → ⊥
-none_stopped (carried.Run ran) stopped = stopped
-none_stopped (carried.Replay replayed) stopped = stopped
-
-whole_turns : (script : Script) (old new : Disk) (items : List Item) (given : Carried)
-    → CarriesOut manner.Whole script old new items given → turns_of given ≡ 0
-whole_turns script old new items (carried.Run ran) run = refl
-whole_turns script old new items (carried.Replay replayed) run = absurd run
-
-module _ (how : Manner) (call : Call) (lawful : Lawful call.old)
-    (was : WasCarriedOut how call.source call.source_after call.sink call.sink_after call.old call.new call.journal
+module _ (order : Order) (call : Call) (lawful : Lawful call.old)
+    (was : WasCarriedOut order call.source call.source_after call.sink call.sink_after call.old call.new call.journal
     call.status call.turns) where
   abbrev out : ℕ
-  out = out_of was.carried
+  out = was.ran.out
 
-  run : HasGone was.script call.old call.new call.journal out
-  run = has_gone how was.script call.old call.new call.journal was.carried was.done.run
+  run : HasRun was.script call.old call.new call.journal out
+  run = was.done.run
 
   -- What holds of the line's status and of the one after a fault holds of the status.
   by_line : (P : Status → Type 0) → P was.line
@@ -109,9 +95,9 @@ module _ (how : Manner) (call : Call) (lawful : Lawful call.old)
       }
 
   -- and those that are out in the end, where some call tells so
-  many_out : HasMet was.carried call.journal trouble.TooManyFailed
+  many_out : HasMet was.ran call.journal trouble.TooManyFailed
       → (image : Image) → HoldsImage call.old image → AreTooMany call.old call.new image out
-  many_out (inl stopped) image holds = absurd (none_stopped was.carried stopped)
+  many_out (inl stopped) image holds = absurd stopped
   many_out (inr tells) image holds =
       let each = run.each image holds in
       let told = run.too_many tells.0 tells.3.0 tells.1 tells.2 tells.3.1 in
@@ -120,37 +106,37 @@ module _ (how : Manner) (call : Call) (lawful : Lawful call.old)
       record { choice = each.0; many = (let many = told.0 in omega (arith, many, more, same)); each = each.2 }
 
   -- no more turns could be counted
-  used_up : StoppedFor was.carried trouble.Limit → most_turns ≤ call.turns
+  used_up : StoppedFor was.ran trouble.Limit → most_turns ≤ call.turns
   used_up stopped = subst (λ (n : ℕ). most_turns ≤ n) (sym was.turns_are) (was.done.used_up stopped)
 
-  limit_met : HasMet was.carried call.journal trouble.Limit → MeetsLimit call (command_in how)
+  limit_met : HasMet was.ran call.journal trouble.Limit → MeetsLimit call (command_in order)
   limit_met (inl stopped) = inr (inr (used_up stopped))
   limit_met (inr tells) = inr (inl (tells.0, tells.1, tells.3.0, tells.2, tells.3.1))
 
-  caused_line : (line : Status) → IsStatusOf was.carried call.journal line → IsCause call (command_in how) line
-  caused_line status.NoMemory is = opens how
+  caused_line : (line : Status) → IsStatusOf was.ran call.journal line → IsCause call (command_in order) line
+  caused_line status.NoMemory is = opens order
   caused_line status.Limit is = inr (limit_met is.1)
   caused_line (status.TooManyFailed listed) is = inl (
-    opens how,
+    opens order,
     λ image found.
         subst (λ (devices : ℕ). AreTooMany call.old call.new image devices) (sym is.0)
-        (many_out is.3 image (held_at_entry call how image found)),
+        (many_out is.3 image (held_at_entry call order image found)),
   )
   caused_line status.Done is = tt
   caused_line other is = absurd is
 
-  caused_fault : (line : Status) → IsStatusOf was.carried call.journal line
-      → Rose call.sink.faults call.sink_after.faults → IsCause call (command_in how) (after_fault line)
-  caused_fault status.NoMemory is rose = opens how
+  caused_fault : (line : Status) → IsStatusOf was.ran call.journal line
+      → Rose call.sink.faults call.sink_after.faults → IsCause call (command_in order) (after_fault line)
+  caused_fault status.NoMemory is rose = opens order
   caused_fault status.Limit is rose = caused_line status.Limit is
   caused_fault (status.TooManyFailed listed) is rose = rose
   caused_fault status.Done is rose = rose
   caused_fault other is rose = absurd is
 
   -- Nothing to choose contradicts a choice.
-  no_pool : FindsNoPool call (command_in how) → ⊥
+  no_pool : FindsNoPool call (command_in order) → ⊥
   no_pool finds =
-      let holds : HoldsImage call.old finds.image = held_at_entry call how finds.image finds.found in
+      let holds : HoldsImage call.old finds.image = held_at_entry call order finds.image finds.found in
       let shown : IsShownChoice call.old call.new finds.image = (run.each finds.image holds).0 in
       let none : IsNotPool (shape_of call.old) shown.silent finds.image =
       subst (λ (n : ℕ). IsNotPool (shape_of call.old) n finds.image)
@@ -159,12 +145,12 @@ module _ (how : Manner) (call : Call) (lawful : Lawful call.old)
       shown.chosen.candidate
 
   -- Where the status isn't want of memory, no call met it.
-  had_memory : call.status ≢ status.NoMemory → HasMet was.carried call.journal trouble.NoMemory → ⊥
+  had_memory : call.status ≢ status.NoMemory → HasMet was.ran call.journal trouble.NoMemory → ⊥
   had_memory other = by was.line was.line_is was.told
     where
-      by : (line : Status) → IsStatusOf was.carried call.journal line
+      by : (line : Status) → IsStatusOf was.ran call.journal line
           → EndsTelling call.sink call.sink_after call.journal line call.status
-          → HasMet was.carried call.journal trouble.NoMemory → ⊥
+          → HasMet was.ran call.journal trouble.NoMemory → ⊥
       by status.NoMemory is told = absurd (other (⊎_elim (λ t. t.0) (λ t. t.0) told))
       by status.Limit is told = is.0
       by (status.TooManyFailed listed) is told = is.1
@@ -177,11 +163,11 @@ module _ (how : Manner) (call : Call) (lawful : Lawful call.old)
         (λ told. (
           was.line,
           subst (λ (s : Status). IsLineFor s was.line) (sym told.0)
-              (whole_end was.carried call.journal was.line was.line_is).for,
+              (whole_end was.ran call.journal was.line was.line_is).for,
           inl (told.1.whole held bytes),
         ))
         (λ told.
-        let ends = part_end was.carried call.journal was.line was.line_is in (
+        let ends = part_end was.ran call.journal was.line was.line_is in (
           was.line,
           subst (λ (s : Status). IsLineFor s was.line) (sym told.0) ends.0.for,
           inr (told.1, (λ done. ends.1 (sym told.0 ∙ done)), told.2.front held bytes),
@@ -189,16 +175,17 @@ module _ (how : Manner) (call : Call) (lawful : Lawful call.old)
   }
 
   not_done : after_fault was.line ≢ status.Done
-  not_done = (part_end was.carried call.journal was.line was.line_is).1
+  not_done = (part_end was.ran call.journal was.line was.line_is).1
 
-  promises : RunPromises how call
+  promises : RunPromises order call
   promises = record {
     script = was.script;
     script_is = was.read.is;
-    carried = was.carried;
+    ran = was.ran;
     run = was.done.run;
+    taken = was.done.turns;
     turns = was.turns_are;
-    survives = survives_stops how was.script call.old call.new call.journal was.carried was.done.run was.read.allowed;
+    survives = survives_stops was.script call.old call.new call.journal was.ran.out was.done.run was.read.allowed;
     complete = λ other counted. was.done.complete (λ stopped. had_memory other (inl stopped)) counted;
     memory = λ other index entry there is. had_memory other (inr (index, entry, there, is));
     used_up = used_up;
@@ -221,7 +208,7 @@ module _ (how : Manner) (call : Call) (lawful : Lawful call.old)
       apart : {item : Item} → slice_get [] 0 ≡ Some item → ⊥
       apart same = cc
 
-  module _ (smooth : IsSmooth how call) where
+  module _ (smooth : IsSmooth order call) where
     -- No call tells of too many failed devices.
     few : (listed : ℕ) → ((image : Image) → HoldsImage call.old image → AreTooMany call.old call.new image listed) → ⊥
     few listed many = apart (caused call.old call.new (reason.TooManyFailed listed) lawful (inr many)
@@ -246,8 +233,8 @@ module _ (how : Manner) (call : Call) (lawful : Lawful call.old)
         (subst (λ (n : ℕ). IsOutAtOpening (shape_of call.old) n (present call.old) each.0.uber device) silent missed))
         (λ rose. none_rose device rose) (each.2 device has)
 
-    right : AnswersRight was.script call.journal
-    right = run.answers smooth.setting smooth.first smooth.later smooth.may
+    keeps : RunKeeps was.script smooth.setting smooth.first smooth.later call.old call.new call.journal run.parity
+    keeps = run.keeps smooth.setting smooth.first smooth.later smooth.may
         (λ device below has. absurd (none_rose device (run.failed device has).1))
         (λ device has. absurd (none_out device (run.within device has)))
 
@@ -255,18 +242,18 @@ module _ (how : Manner) (call : Call) (lawful : Lawful call.old)
     of_client : (index : ℕ) (entry : Entry) → CallAt call.journal index entry → (asked : Kind) → entry.kind ≡ asked
         → IsClients asked
     of_client index entry there asked is = subst (λ (k : Kind). IsClients k) is
-        (answers_client was.script (handed_by was.script) right.opening call.journal was.read.allowed right.legal index
+        (answers_client was.script (handed_by was.script) keeps.chosen.map call.journal was.read.allowed keeps.legal index
         entry there).0
 
     answers : (index : ℕ) (entry : Entry) → CallAt call.journal index entry → (given : Answer) → entry.answer ≡ given
         → IsAnswerOf entry.kind given
     answers index entry there given is = subst (λ (a : Answer). IsAnswerOf entry.kind a) is
-        (answers_client was.script (handed_by was.script) right.opening call.journal was.read.allowed right.legal index
+        (answers_client was.script (handed_by was.script) keeps.chosen.map call.journal was.read.allowed keeps.legal index
         entry there).1
 
     is_smooth : (index : ℕ) (entry : Entry) → CallAt call.journal index entry → (given : Answer) → entry.answer ≡ given
         → IsSmoothAnswer given
-    is_smooth index entry there answer.Damaged is = right.sound index entry there is
+    is_smooth index entry there answer.Damaged is = keeps.sound index entry there is
     is_smooth index entry there (answer.TooManyFailed listed) is =
         few listed (λ image holds. many_listed index listed entry there is image holds)
     is_smooth index entry there (answer.DeviceOut device) is =
@@ -277,32 +264,32 @@ module _ (how : Manner) (call : Call) (lawful : Lawful call.old)
         absurd (of_client index entry there kind.Copy (answers index entry there (answer.Paused device) is))
     is_smooth index entry there other is = tt
 
-    completes : CompletesAll how call
+    completes : CompletesAll order call
     completes = record {
       status_is = by was.line was.line_is was.told;
       answers = λ index entry there. is_smooth index entry there entry.answer refl;
     }
       where
-        by : (line : Status) → IsStatusOf was.carried call.journal line
+        by : (line : Status) → IsStatusOf was.ran call.journal line
             → EndsTelling call.sink call.sink_after call.journal line call.status
             → (call.status ≡ status.Done) ⊎ ((call.status ≡ status.NoMemory)
-            ⊎ ((call.status ≡ status.Limit) × MeetsLimit call (command_in how)))
+            ⊎ ((call.status ≡ status.Limit) × MeetsLimit call (command_in order)))
         by status.NoMemory is told = inr (inl (⊎_elim (λ t. t.0) (λ t. t.0) told))
         by status.Limit is told = inr (inr (⊎_elim (λ t. t.0) (λ t. t.0) told, limit_met is.1))
         by (status.TooManyFailed listed) is told = absurd (few out (many_out is.3))
         by status.Done is told = ⊎_elim (λ t. inl t.0) (λ t. absurd (smooth.sink t.1)) told
         by line is told = absurd is
 
-  pub carried_run : IsRunEnd how call
+  pub carried_run : IsRunEnd order call
   carried_run = record {
-    cause = by_line (λ (s : Status). IsCause call (command_in how) s) (caused_line was.line was.line_is)
+    cause = by_line (λ (s : Status). IsCause call (command_in order) s) (caused_line was.line was.line_is)
         (caused_fault was.line was.line_is);
     no_usage = by_line (λ (s : Status). s ≢ status.Usage)
-        (whole_end was.carried call.journal was.line was.line_is).no_usage
-        (λ rose. (part_end was.carried call.journal was.line was.line_is).0.no_usage);
+        (whole_end was.ran call.journal was.line was.line_is).no_usage
+        (λ rose. (part_end was.ran call.journal was.line was.line_is).0.no_usage);
     no_small = by_line (λ (s : Status). s ≢ status.TooSmall)
-        (whole_end was.carried call.journal was.line was.line_is).no_small
-        (λ rose. (part_end was.carried call.journal was.line was.line_is).0.no_small);
+        (whole_end was.ran call.journal was.line was.line_is).no_small
+        (λ rose. (part_end was.ran call.journal was.line was.line_is).0.no_small);
     limit = λ bytes read over. absurd (was.read.few bytes (record { told = read.1; well = read.2 }) over);
     fault = λ bytes line read at. absurd (was.read.right bytes line (record { told = read.1; well = read.2 }) at);
     no_pool = λ finds. absurd (no_pool finds);
@@ -310,8 +297,5 @@ module _ (how : Manner) (call : Call) (lawful : Lawful call.old)
     opened = λ some. promises;
     unopened = λ none. absurd (some_items none);
     carried_out = λ carried. some_items;
-    whole = λ is. was.turns_are
-        ∙ whole_turns was.script call.old call.new call.journal was.carried
-        (subst (λ (m : Manner). CarriesOut m was.script call.old call.new call.journal was.carried) is was.done.run);
     completes = completes;
   }

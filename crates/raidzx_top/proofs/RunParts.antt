@@ -6,14 +6,14 @@ use Rattle.core_open.specs.Failing.{HaveFailed}
 use Rattle.core_open.specs.Holds.{HoldsImage}
 use Rattle.core_open.proofs.Unhindered.{none_empty}
 use Rattle.client_script.specs.Script.{IsOverLimit, IsFaultAt}
-use Rattle.raidzx_top.specs.declared.carrying.Manner.{Manner}
-use Rattle.raidzx_top.specs.declared.carrying.Manner.TheVariants as manner
+use Rattle.raidzx_top.specs.declared.order.Order.{Order}
+use Rattle.raidzx_top.specs.declared.order.Order.TheVariants.{OfLines, AsListed}
 use Rattle.raidzx_top.specs.declared.status.Status.TheVariants as status
 use Rattle.raidzx_top.specs.declared.words.NewPool.{NewPool}
 use Rattle.raidzx_top.specs.declared.words.ServedCommand.{ServedCommand}
 use Rattle.raidzx_top.specs.declared.words.ServedCommand.TheVariants as served
 use Rattle.raidzx_top.specs.Call.{Call, Opens, ReadsScript}
-use Rattle.raidzx_top.specs.Carrying.{served_by}
+use Rattle.raidzx_top.specs.Order.{served_by}
 use Rattle.raidzx_top.specs.Causes.{IsCause, IsFoundImage, IsReadWhole, IsOrNoMemory, IsTooSmall, FindsNoPool}
 use Rattle.raidzx_top.specs.Promises.{CallPromises, IsCarriedOut, RunPromises, RunIsKept, LeavesNone, IsSmooth, CompletesAll}
 use Rattle.raidzx_top.specs.RunText.{TextIsRight}
@@ -22,52 +22,51 @@ use Rattle.raidzx_top.specs.Words.{Command}
 use Rattle.raidzx_top.proofs.Spelling.{create_no_script, run_no_replay}
 
 -- the command that carries a script out in this manner
-abbrev pub command_in : Manner → Command
-command_in how = command_of (served_by how)
+abbrev pub command_in : Order → Command
+command_in order = command_of (served_by order)
 
 -- It reads a script,
-pub reads : (how : Manner) → ReadsScript (command_in how)
-reads manner.Whole = tt
-reads manner.ByTurns = tt
+pub reads : (order : Order) → ReadsScript (command_in order)
+reads OfLines = tt
+reads AsListed = tt
 
 -- opens a pool,
-pub opens : (how : Manner) → Opens (command_in how)
-opens manner.Whole = tt
-opens manner.ByTurns = tt
+pub opens : (order : Order) → Opens (command_in order)
+opens OfLines = tt
+opens AsListed = tt
 
 -- and has no size that may be too small.
-no_size : (call : Call) (how : Manner) → IsTooSmall call (command_in how) → ⊥
-no_size call manner.Whole less = apart less.0 less.1
+no_size : (call : Call) (order : Order) → IsTooSmall call (command_in order) → ⊥
+no_size call OfLines less = apart less.0 less.1
   where
     apart : (size : ℕ × ℕ) → None ≡ Some size → ⊥
     apart size same = cc
-no_size call manner.ByTurns less = apart less.0 less.1
+no_size call AsListed less = apart less.0 less.1
   where
     apart : (size : ℕ × ℕ) → None ≡ Some size → ⊥
     apart size same = cc
 
 -- What an opening finds is what the bank holds at entry.
-pub held_at_entry : (call : Call) (how : Manner) (image : Image) → IsFoundImage call (command_in how) image
+pub held_at_entry : (call : Call) (order : Order) (image : Image) → IsFoundImage call (command_in order) image
     → HoldsImage call.old image
-held_at_entry call manner.Whole image found = subst (λ (disk : Disk). HoldsImage disk image) found.is found.holds
-held_at_entry call manner.ByTurns image found = subst (λ (disk : Disk). HoldsImage disk image) found.is found.holds
+held_at_entry call OfLines image found = subst (λ (disk : Disk). HoldsImage disk image) found.is found.holds
+held_at_entry call AsListed image found = subst (λ (disk : Disk). HoldsImage disk image) found.is found.holds
 
 -- What has to be shown of a script that a call carried out, or was to carry out, however it ended.
-pub record IsRunEnd (how : Manner) (call : Call) : Type 0 where
-  pub cause : IsCause call (command_in how) call.status
+pub record IsRunEnd (order : Order) (call : Call) : Type 0 where
+  pub cause : IsCause call (command_in order) call.status
   pub no_usage : call.status ≢ status.Usage
   pub no_small : call.status ≢ status.TooSmall
-  pub limit : (bytes : List ℕ) → IsReadWhole call (command_in how) bytes → IsOverLimit bytes
+  pub limit : (bytes : List ℕ) → IsReadWhole call (command_in order) bytes → IsOverLimit bytes
       → IsOrNoMemory call status.Limit
-  pub fault : (bytes : List ℕ) (line : ℕ) → IsReadWhole call (command_in how) bytes → IsFaultAt bytes line
+  pub fault : (bytes : List ℕ) (line : ℕ) → IsReadWhole call (command_in order) bytes → IsFaultAt bytes line
       → IsOrNoMemory call (status.ScriptFault line)
-  pub no_pool : FindsNoPool call (command_in how) → IsOrNoMemory call status.NotPool
+  pub no_pool : FindsNoPool call (command_in order) → IsOrNoMemory call status.NotPool
   pub refused : call.journal ≡ [] → (IsCarriedOut call → ⊥) → TextIsRight call []
-  pub opened : call.journal ≢ [] → RunPromises how call
+  pub opened : call.journal ≢ [] → RunPromises order call
   pub unopened : call.journal ≡ [] → LeavesNone call
   pub carried_out : IsCarriedOut call → call.journal ≢ []
-  pub whole : how ≡ manner.Whole → call.turns ≡ 0
-  pub completes : IsSmooth how call → CompletesAll how call
+  pub completes : IsSmooth order call → CompletesAll order call
 
 -- Where no device failed, none was silent.
 pub none_silent : (old new : Disk) (silent : ℕ) → HaveFailed old new silent
@@ -75,48 +74,40 @@ pub none_silent : (old new : Disk) (silent : ℕ) → HaveFailed old new silent
 none_silent old new silent failed quiet = none_empty silent (λ device has. quiet device (failed device has).1)
 
 -- Words are served in one manner.
-one_manner : (words : List (List ℕ)) (how other : Manner) → IsServedAs words (served_by how)
-    → IsServedAs words (served_by other) → how ≡ other
-one_manner words manner.Whole manner.Whole is same = refl
-one_manner words manner.ByTurns manner.ByTurns is same = refl
-one_manner words manner.Whole manner.ByTurns run replay = absurd (run_no_replay words run replay)
-one_manner words manner.ByTurns manner.Whole replay run = absurd (run_no_replay words run replay)
+one_manner : (words : List (List ℕ)) (order other : Order) → IsServedAs words (served_by order)
+    → IsServedAs words (served_by other) → order ≡ other
+one_manner words OfLines OfLines is same = refl
+one_manner words AsListed AsListed is same = refl
+one_manner words OfLines AsListed run replay = absurd (run_no_replay words run replay)
+one_manner words AsListed OfLines replay run = absurd (run_no_replay words run replay)
 
-module _ (how : Manner) (call : Call) (served_as : IsServedAs call.words (served_by how)) (ends : IsRunEnd how call) where
+module _ (order : Order) (call : Call) (served_as : IsServedAs call.words (served_by order)) (ends : IsRunEnd order call) where
   no_create : {A : Type 0} → (made : NewPool) → IsServedAs call.words (served.Create made) → A
-  no_create made is = absurd (create_no_script call.words made how is served_as)
+  no_create made is = absurd (create_no_script call.words made order is served_as)
 
   -- The words ask for this, and for nothing else.
-  for_script : (P : Command → Type 0) → P (command_in how) → (given : ServedCommand) → IsServedAs call.words given
+  for_script : (P : Command → Type 0) → P (command_in order) → (given : ServedCommand) → IsServedAs call.words given
       → P (command_of given)
   for_script P right (served.Create made) is = no_create made is
   for_script P right served.Run is =
-      subst (λ (m : Manner). P (command_in m)) (one_manner call.words how manner.Whole served_as is) right
+      subst (λ (m : Order). P (command_in m)) (one_manner call.words order OfLines served_as is) right
   for_script P right served.Replay is =
-      subst (λ (m : Manner). P (command_in m)) (one_manner call.words how manner.ByTurns served_as is) right
+      subst (λ (m : Order). P (command_in m)) (one_manner call.words order AsListed served_as is) right
 
   -- What is promised in this manner is promised in each that the words ask for.
-  kept : (other : Manner) → RunIsKept other call
+  kept : (other : Order) → RunIsKept other call
   kept other = record {
-    opened = λ is some. subst (λ (m : Manner). RunPromises m call) (one_manner call.words how other served_as is)
+    opened = λ is some. subst (λ (m : Order). RunPromises m call) (one_manner call.words order other served_as is)
         (ends.opened some);
     unopened = λ is none. ends.unopened none;
     carried_out = λ is carried. ends.carried_out carried;
   }
 
-  completing : (other : Manner) → IsSmooth other call → CompletesAll other call
+  completing : (other : Order) → IsSmooth other call → CompletesAll other call
   completing other smooth =
-      let same = one_manner call.words how other served_as smooth.served in
-      subst (λ (m : Manner). CompletesAll m call) same
-      (ends.completes (subst (λ (m : Manner). IsSmooth m call) (sym same) smooth))
-
-  no_turns : (IsServedAs call.words served.Replay → ⊥) → call.turns ≡ 0
-  no_turns no_replay = by how refl
-    where
-      by : (m : Manner) → how ≡ m → call.turns ≡ 0
-      by manner.Whole is = ends.whole is
-      by manner.ByTurns is =
-          absurd (no_replay (subst (λ (m : Manner). IsServedAs call.words (served_by m)) is served_as))
+      let same = one_manner call.words order other served_as smooth.served in
+      subst (λ (m : Order). CompletesAll m call) same
+      (ends.completes (subst (λ (m : Order). IsSmooth m call) (sym same) smooth))
 
   pub run_keeps_promises : CallPromises call
   run_keeps_promises = record {
@@ -125,7 +116,7 @@ module _ (how : Manner) (call : Call) (served_as : IsServedAs call.words (served
       others = for_script (λ (c : Command). IsCause call c call.status) ends.cause;
     };
     comes = record {
-      usage = λ none. absurd (none (served_by how, served_as));
+      usage = λ none. absurd (none (served_by order, served_as));
       limit = λ given bytes is read over.
           for_script (λ (c : Command). IsReadWhole call c bytes → IsOrNoMemory call status.Limit)
           (λ whole. ends.limit bytes whole over) given is read;
@@ -134,15 +125,15 @@ module _ (how : Manner) (call : Call) (served_as : IsServedAs call.words (served
           (λ whole. ends.fault bytes line whole at) given is read;
       too_small = λ given is small.
           for_script (λ (c : Command). IsTooSmall call c → IsOrNoMemory call status.TooSmall)
-          (λ less. absurd (no_size call how less)) given is small;
+          (λ less. absurd (no_size call order less)) given is small;
       no_pool = λ command finds. for_script
           (λ (c : Command). FindsNoPool call c → IsOrNoMemory call status.NotPool)
           ends.no_pool finds.given finds.served
           (subst (λ (c : Command). FindsNoPool call c) (sym finds.command_is) finds);
     };
     refused = ends.refused;
-    quiet = λ none. absurd (none (served_by how, served_as));
-    turns = no_turns;
+    quiet = λ none. absurd (none (served_by order, served_as));
+    turns = λ none. (ends.unopened none).turns;
     create = record {
       quiet = λ made is. no_create made is;
       keeps = λ made is carried tells. no_create made is;
@@ -150,8 +141,8 @@ module _ (how : Manner) (call : Call) (served_as : IsServedAs call.words (served
       others = λ made is. no_create made is;
       untouched = λ refusal. ⊎_elim (λ usage. absurd (ends.no_usage usage)) (λ small. absurd (ends.no_small small)) refusal;
     };
-    run = kept manner.Whole;
-    replay = kept manner.ByTurns;
+    run = kept OfLines;
+    replay = kept AsListed;
     complete = record { done = λ made is fits quiet sink. no_create made is };
     completes = completing;
   }

@@ -2,10 +2,10 @@
 use Rattle.std.proofs.Common.{◌≡◌, ℕ, ◌<◌, ◌≤◌, List, [], ◌∷◌, length, Some, refl, sym, ◌∙◌, ap, arith}
 use Rattle.std.proofs.lemmas.Fmt.{decimal_injective}
 use Rattle.std.specs.Prelude.{◌^◌, slice_get, codes, decimal, ◌++◌}
-use Rattle.raidzx_top.specs.Carrying.{served_by}
+use Rattle.raidzx_top.specs.Order.{served_by}
 use Rattle.raidzx_top.specs.Words.{with_value}
-use Rattle.raidzx_top.specs.declared.carrying.Manner.{Manner}
-use Rattle.raidzx_top.specs.declared.carrying.Manner.TheVariants as manner
+use Rattle.raidzx_top.specs.declared.order.Order.{Order}
+use Rattle.raidzx_top.specs.declared.order.Order.TheVariants.{OfLines, AsListed}
 use Rattle.raidzx_top.specs.declared.words.NewPool.{NewPool}
 use Rattle.raidzx_top.specs.declared.words.ServedCommand.TheVariants as served
 use Rattle.raidzx_top.specs.Spelled.{SpellsCreate, SpellsAlone, IsServedAs, IsServed}
@@ -111,36 +111,36 @@ two (w ∷ []) name long is = absurd (omega (arith, long))
 two (w ∷ name' ∷ x ∷ words) name long is = absurd (omega (arith, long))
 
 -- the word that asks for a script to be carried out in this manner
-abbrev pub word_of : Manner → List ℕ
-word_of manner.Whole = codes "run"
-word_of manner.ByTurns = codes "replay"
+abbrev pub word_of : Order → List ℕ
+word_of OfLines = codes "run"
+word_of AsListed = codes "replay"
 
-pub alone_is_served : (words : List (List ℕ)) (how : Manner) → SpellsAlone (word_of how) words
-    → IsServedAs words (served_by how)
-alone_is_served words manner.Whole is =
+pub alone_is_served : (words : List (List ℕ)) (order : Order) → SpellsAlone (word_of order) words
+    → IsServedAs words (served_by order)
+alone_is_served words OfLines is =
     let list = two words (codes "run") is.count is.word in
     record { first = list.0; rest = _; words_are = list.1; spelled = refl; in_range = tt }
-alone_is_served words manner.ByTurns is =
+alone_is_served words AsListed is =
     let list = two words (codes "replay") is.count is.word in
     record { first = list.0; rest = _; words_are = list.1; spelled = refl; in_range = tt }
 
-pub served_alone : (words : List (List ℕ)) (how : Manner) → IsServedAs words (served_by how)
-    → SpellsAlone (word_of how) words
-served_alone words manner.Whole is =
+pub served_alone : (words : List (List ℕ)) (order : Order) → IsServedAs words (served_by order)
+    → SpellsAlone (word_of order) words
+served_alone words OfLines is =
     let all : words ≡ is.first ∷ codes "run" ∷ [] =
     is.words_are ∙ ap (λ (l : List (List ℕ)). is.first ∷ l) is.spelled in
     record { count = ap length all; word = ap (λ (l : List (List ℕ)). slice_get l 1) all }
-served_alone words manner.ByTurns is =
+served_alone words AsListed is =
     let all : words ≡ is.first ∷ codes "replay" ∷ [] =
     is.words_are ∙ ap (λ (l : List (List ℕ)). is.first ∷ l) is.spelled in
     record { count = ap length all; word = ap (λ (l : List (List ℕ)). slice_get l 1) all }
 
 -- Words that ask for a script to be carried out make no pool.
-pub create_no_script : (words : List (List ℕ)) (s : NewPool) (how : Manner) → IsServedAs words (served.Create s)
-    → IsServedAs words (served_by how) → ⊥
-create_no_script words s how create alone =
+pub create_no_script : (words : List (List ℕ)) (s : NewPool) (order : Order) → IsServedAs words (served.Create s)
+    → IsServedAs words (served_by order) → ⊥
+create_no_script words s order create alone =
     let eight_words = (create_spells words s create).count in
-    let two_words = (served_alone words how alone).count in
+    let two_words = (served_alone words order alone).count in
     omega (arith, eight_words, two_words)
 
 -- A run is no replay.
@@ -148,7 +148,7 @@ pub run_no_replay : (words : List (List ℕ)) → IsServedAs words served.Run �
 run_no_replay words run replay =
     let same : codes "run" ≡ codes "replay" =
     some_injective (codes "run") (codes "replay")
-    (sym (served_alone words manner.Whole run).word ∙ (served_alone words manner.ByTurns replay).word) in
+    (sym (served_alone words OfLines run).word ∙ (served_alone words AsListed replay).word) in
     let long : 3 ≡ 6 = ap length same in
     omega (arith, long)
 
@@ -158,5 +158,5 @@ pub none_served : (words : List (List ℕ)) → (SpellsAlone (codes "run") words
     → IsServed words
     → ⊥
 none_served words no_run no_replay no_create (served.Create s, is) = no_create s (create_spells words s is)
-none_served words no_run no_replay no_create (served.Run, is) = no_run (served_alone words manner.Whole is)
-none_served words no_run no_replay no_create (served.Replay, is) = no_replay (served_alone words manner.ByTurns is)
+none_served words no_run no_replay no_create (served.Run, is) = no_run (served_alone words OfLines is)
+none_served words no_run no_replay no_create (served.Replay, is) = no_replay (served_alone words AsListed is)

@@ -7,8 +7,12 @@ use Rattle.core_state.specs.declared.item.Entry.{Entry}
 use Rattle.core_state.specs.declared.item.Item.{Item}
 use Rattle.core_state.specs.declared.item.Item.TheVariants.{Group, Call}
 use Rattle.core_state.specs.Legal.{CallAt}
+use Rattle.schedule.specs.declared.whole_run.Ended.{Ended}
+use Rattle.schedule.specs.declared.whole_run.Ended.TheVariants as ended
+use Rattle.schedule.specs.declared.whole_run.Ran.{Ran}
 use Rattle.raidzx_top.specs.declared.running.Trouble.{Trouble}
-use Rattle.raidzx_top.specs.Running.{AnswersSo, IsTold, ItemTells}
+use Rattle.raidzx_top.specs.declared.running.Trouble.TheVariants as why
+use Rattle.raidzx_top.specs.Running.{AnswersSo, IsTold, ItemTells, StoppedFor}
 
 -- The element that a loop is given stands at its place.
 there : (items : List Item) (index : ℕ) (item : Item) → index < length items → item ≡ get_or items index item
@@ -57,3 +61,13 @@ none_tells trouble items count all none (index, entry, there_entry, told) =
       where
         apart : slice_get items index ≡ None → ⊥
         apart none = cc
+
+-- A run that neither want of memory nor a limit stopped answered each call.
+pub ended_whole : (ran : Ran) → (StoppedFor ran why.NoMemory → ⊥) → (StoppedFor ran why.Limit → ⊥)
+    → ran.ended ≡ ended.Whole
+ended_whole ran memory limit = by ran.ended refl
+  where
+    by : (how : Ended) → ran.ended ≡ how → ran.ended ≡ ended.Whole
+    by ended.Whole is = is
+    by ended.NoMemory is = absurd (memory is)
+    by ended.Limit is = absurd (limit is)

@@ -1,11 +1,11 @@
 -- How a call ends.
 use Rattle.std.specs.Prelude.{◌≡◌}
-use Rattle.raidzx_top.specs.declared.carrying.Manner.{Manner}
+use Rattle.raidzx_top.specs.declared.order.Order.{Order}
 use Rattle.raidzx_top.specs.declared.status.Status.TheVariants as status
 use Rattle.raidzx_top.specs.declared.words.NewPool.{NewPool}
 use Rattle.raidzx_top.specs.declared.words.ServedCommand.TheVariants as served
 use Rattle.raidzx_top.specs.Call.{Call}
-use Rattle.raidzx_top.specs.Carrying.{served_by}
+use Rattle.raidzx_top.specs.Order.{served_by}
 use Rattle.raidzx_top.specs.Making.{EndsCreate, IsSaid}
 use Rattle.raidzx_top.specs.Promises.{IsQuiet}
 use Rattle.raidzx_top.specs.Running.{EndsRun}
@@ -31,9 +31,9 @@ pub record EndsAsCreate (call : Call) : Type 0 where
 
 -- They asked for a run or a replay.
 pub record EndsAsRun (call : Call) : Type 0 where
-  pub manner : Manner
-  pub served_as : IsServedAs call.words (served_by manner)
-  pub ends : EndsRun manner call.source call.source_after call.sink call.sink_after call.old
+  pub order : Order
+  pub served_as : IsServedAs call.words (served_by order)
+  pub ends : EndsRun order call.source call.source_after call.sink call.sink_after call.old
       call.new call.journal call.status call.turns
 
 -- how a call ends

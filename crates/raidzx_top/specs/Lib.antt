@@ -7,7 +7,7 @@ pub mod Causes
 pub mod Answers
 pub mod RunJournal
 pub mod RunText
-pub mod Carrying
+pub mod Order
 pub mod Reopened
 pub mod Promises
 pub mod Making

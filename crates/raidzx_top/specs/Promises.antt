@@ -21,9 +21,10 @@ use Rattle.core_open.specs.Opens.{IsUnhindered, LeavesOthers}
 use Rattle.open_pool.specs.Opening.{CutsOpening, MayBegin}
 use Rattle.client_script.specs.Script.{Script, IsScript, asked_by}
 use Rattle.client_script.specs.Texts.{journal_text}
-use Rattle.raidzx_top.specs.declared.carrying.Carried.{Carried}
-use Rattle.raidzx_top.specs.declared.carrying.Manner.{Manner}
-use Rattle.raidzx_top.specs.declared.carrying.Manner.TheVariants as manner
+use Rattle.schedule.specs.WholeRun.{HasRun, HasTakenTurns}
+use Rattle.schedule.specs.declared.whole_run.Ran.{Ran}
+use Rattle.raidzx_top.specs.declared.order.Order.{Order}
+use Rattle.raidzx_top.specs.declared.order.Order.TheVariants.{OfLines, AsListed}
 use Rattle.raidzx_top.specs.declared.running.Trouble.TheVariants as trouble
 use Rattle.raidzx_top.specs.declared.status.Status.{Status}
 use Rattle.raidzx_top.specs.declared.status.Status.TheVariants as status
@@ -32,9 +33,9 @@ use Rattle.raidzx_top.specs.declared.words.NewPool.{NewPool}
 use Rattle.raidzx_top.specs.declared.words.ServedCommand.TheVariants as served
 use Rattle.raidzx_top.specs.Spelled.{IsServedAs, command_of}
 use Rattle.raidzx_top.specs.Call.{Call, HoldsImage, shape_of}
-use Rattle.raidzx_top.specs.Carrying.{CarriesOut, served_by, turns_of}
+use Rattle.raidzx_top.specs.Order.{listed_by, served_by}
 use Rattle.raidzx_top.specs.Causes.{NoneRose, IsTooSmall, MeetsLimit, IsNoCommand, IsCaused, ComesWhere, most_turns}
-use Rattle.raidzx_top.specs.Reopened.{BearsCut, BearsFailures, SurvivesOpening, SurvivesStops}
+use Rattle.raidzx_top.specs.Reopened.{BearsCut, MayFail, SurvivesOpening, SurvivesStops}
 use Rattle.raidzx_top.specs.RunJournal.{NoneWantsMemory}
 use Rattle.raidzx_top.specs.RunText.{IsWritten, TextIsRight, create_text, status_line}
 use Rattle.raidzx_top.specs.Running.{IsStatusOf, StoppedFor, after_fault}
@@ -87,40 +88,43 @@ pub record CreateIsKept (call : Call) : Type 0 where
 -- The status of a script that was carried out is the first of want of memory, a limit, a failed sink and too
 -- many failed devices that it met; else it is Done. The text ends with the line that it has where no sink
 -- fails.
-pub record StatusIsRight (call : Call) (carried : Carried) : Type 0 where
+pub record StatusIsRight (call : Call) (ran : Ran) : Type 0 where
   pub line : Status
-  pub line_is : IsStatusOf carried call.journal line
+  pub line_is : IsStatusOf ran call.journal line
   pub given : (call.status ≡ line)
       ⊎ ((call.status ≡ after_fault line) × Rose call.sink.faults call.sink_after.faults)
   pub written : (held : List ℕ) → call.sink.bytes ≡ Some held
       → IsWritten call held (journal_text call.journal ++ status_line line)
 
--- what a run that opened its pool promises, or a replay: its calls are carried out whole, or turn by turn
-pub record RunPromises (manner : Manner) (call : Call) : Type 0 where
+-- what a run that opened its pool promises, or a replay
+pub record RunPromises (order : Order) (call : Call) : Type 0 where
   -- The script that was read,
   pub script : Script
   pub script_is : (bytes : List ℕ) → call.source.bytes ≡ Some bytes → IsScript bytes script
   -- and how its calls ended.
-  pub carried : Carried
+  pub ran : Ran
   -- The journal is legal for the script, and what it tells is kept, at each moment and in the end.
-  pub run : CarriesOut manner script call.old call.new call.journal carried
-  pub turns : call.turns ≡ turns_of carried
+  pub run : HasRun script call.old call.new call.journal ran.out
+  -- Each turn was that of the client whose turn it was: of a run in the order of the lines, of a replay in that which
+  -- the script lists.
+  pub taken : HasTakenTurns script (listed_by order script) call.old call.new call.journal ran
+  pub turns : call.turns ≡ ran.turns
   -- What a stop leaves of it, at any moment, the next run or replay reads back.
   pub survives : (setting : Setting) (first : Kept) (later : List Kept) → MayBegin setting first later call.old
-      → BearsFailures setting first.uber.reflow.to manner script call.old call.new call.journal carried run
+      → MayFail setting first.uber.reflow.to run.silent run.borne
       → SurvivesStops setting first later script call.old call.new call.journal
   -- Each call is answered, unless memory was wanting, and then the status tells so, or the turns were used up.
-  pub complete : call.status ≢ status.NoMemory → (StoppedFor carried trouble.Limit → ⊥)
+  pub complete : call.status ≢ status.NoMemory → (StoppedFor ran trouble.Limit → ⊥)
       → IsComplete (asked_by script) call.journal
   pub memory : call.status ≢ status.NoMemory → NoneWantsMemory call.journal
-  pub used_up : StoppedFor carried trouble.Limit → most_turns ≤ call.turns
+  pub used_up : StoppedFor ran trouble.Limit → most_turns ≤ call.turns
   -- A call that tells of too many failed devices lists devices that are out or have failed.
   pub too_many : (index listed : ℕ) (entry : Entry) → CallAt call.journal index entry
       → entry.answer ≡ answer.TooManyFailed listed
       → (image : Image) → HoldsImage call.old image
       → AreTooMany call.old call.new image listed
   pub text : TextIsRight call (journal_text call.journal)
-  pub status_is : StatusIsRight call carried
+  pub status_is : StatusIsRight call ran
 
 -- what a run or a replay that opened no pool leaves: what was there, but for counts of faults; or an opening
 -- that was cut short, for want of memory or as too many devices failed
@@ -138,18 +142,18 @@ pub record LeavesNone (call : Call) : Type 0 where
   pub turns : call.turns ≡ 0
 
 -- what a call of `run` or of `replay` promises
-pub record RunIsKept (manner : Manner) (call : Call) : Type 0 where
-  pub opened : IsServedAs call.words (served_by manner) → call.journal ≢ []
-      → RunPromises manner call
-  pub unopened : IsServedAs call.words (served_by manner) → call.journal ≡ [] → LeavesNone call
+pub record RunIsKept (order : Order) (call : Call) : Type 0 where
+  pub opened : IsServedAs call.words (served_by order) → call.journal ≢ []
+      → RunPromises order call
+  pub unopened : IsServedAs call.words (served_by order) → call.journal ≡ [] → LeavesNone call
   -- One that was carried out has opened its pool.
-  pub carried_out : IsServedAs call.words (served_by manner) → IsCarriedOut call
+  pub carried_out : IsServedAs call.words (served_by order) → IsCarriedOut call
       → call.journal ≢ []
 
 -- Nothing was in the way of a run or a replay: the source told a script, the bank keeps groups of which none is
 -- too near the greatest number, no device is out, and nothing failed.
-pub record IsSmooth (manner : Manner) (call : Call) : Type 0 where
-  pub served : IsServedAs call.words (served_by manner)
+pub record IsSmooth (order : Order) (call : Call) : Type 0 where
+  pub served : IsServedAs call.words (served_by order)
   pub bytes : List ℕ
   pub told : call.source.bytes ≡ Some bytes
   pub script : Script
@@ -182,9 +186,9 @@ CopiesOn call = (index : ℕ) (entry : Entry) (width group : ℕ) → CallAt cal
 
 -- Then the status is Done and each answer is smooth; or memory was wanting, or a group met the greatest
 -- number, or the turns were used up.
-pub record CompletesAll (manner : Manner) (call : Call) : Type 0 where
+pub record CompletesAll (order : Order) (call : Call) : Type 0 where
   pub status_is : (call.status ≡ status.Done) ⊎ ((call.status ≡ status.NoMemory)
-      ⊎ ((call.status ≡ status.Limit) × MeetsLimit call (command_of (served_by manner))))
+      ⊎ ((call.status ≡ status.Limit) × MeetsLimit call (command_of (served_by order))))
   pub answers : (index : ℕ) (entry : Entry) → CallAt call.journal index entry
       → IsSmoothAnswer entry.answer
 
@@ -196,8 +200,8 @@ pub record CreateCompletes (call : Call) : Type 0 where
       → call.status ≡ status.Done
 
 -- A run or a replay that has nothing in its way completes.
-abbrev pub RunCompletes : Manner → Call → Type 0
-RunCompletes manner call = IsSmooth manner call → CompletesAll manner call
+abbrev pub RunCompletes : Order → Call → Type 0
+RunCompletes order call = IsSmooth order call → CompletesAll order call
 
 -- what every call promises
 pub record CallPromises (call : Call) : Type 0 where
@@ -209,13 +213,13 @@ pub record CallPromises (call : Call) : Type 0 where
   pub refused : call.journal ≡ [] → (IsCarriedOut call → ⊥) → TextIsRight call []
   -- words that are no command do nothing
   pub quiet : IsNoCommand call → IsQuiet call
-  -- no turn is taken but by a replay: calls are carried out whole
-  pub turns : (IsServedAs call.words served.Replay → ⊥) → call.turns ≡ 0
+  -- no turn is taken where no pool was opened
+  pub turns : call.journal ≡ [] → call.turns ≡ 0
   -- a new pool is kept, and what was written is the text
   pub create : CreateIsKept call
   -- what a run answers is right and kept, and what was written is the text; so it is with a replay
-  pub run : RunIsKept manner.Whole call
-  pub replay : RunIsKept manner.ByTurns call
+  pub run : RunIsKept OfLines call
+  pub replay : RunIsKept AsListed call
   -- what has nothing in its way is carried out
   pub complete : CreateCompletes call
-  pub completes : (manner : Manner) → RunCompletes manner call
+  pub completes : (order : Order) → RunCompletes order call

@@ -1,6 +1,6 @@
 -- What the next run or replay reads back of one that was stopped.
 use Rattle.std.proofs.Common.{inl, inr}
-use Rattle.std.specs.Prelude.{◌≡◌, ◌≢◌, ◌⊎◌, ℕ, ◌+◌, ◌≤◌, List, ◌∷◌, ◌++◌, length, take, Contains, ⊤}
+use Rattle.std.specs.Prelude.{◌≡◌, ◌≢◌, ◌⊎◌, ℕ, ◌+◌, ◌≤◌, List, ◌∷◌, ◌++◌, length, Contains, ⊤}
 use Rattle.bank_trait.specs.Disk.{Image, Disk}
 use Rattle.uberblock_ring.specs.Devices.{IsWithin}
 use Rattle.core_state.specs.declared.answer.Answer.TheVariants as answer
@@ -19,26 +19,12 @@ use Rattle.open_pool.specs.Opening.{CutsOpening, MayBegin}
 use Rattle.open_pool.specs.Stopped.{IsImageOf, HoldsAlone}
 use Rattle.journal_law.specs.Moments.{KeepsLast, KeepsUntil}
 use Rattle.schedule.specs.Moments.{KeepsTurnByTurn}
-use Rattle.raidzx_top.specs.declared.carrying.Carried.{Carried}
-use Rattle.raidzx_top.specs.declared.carrying.Carried.TheVariants as carried
-use Rattle.raidzx_top.specs.declared.carrying.Manner.{Manner}
-use Rattle.raidzx_top.specs.declared.carrying.Manner.TheVariants as manner
-use Rattle.raidzx_top.specs.Carrying.{CarriesOut}
+use Rattle.schedule.specs.WholeRun.{HasRun}
 
 -- The devices that were silent when a pool of this width was looked for, and those that have to be borne, may fail.
 pub record MayFail (setting : Setting) (width silent borne : ℕ) : Type 0 where
   pub silent_in : IsWithinBelow width silent setting.failed
   pub borne_in : IsWithin borne setting.failed
-
--- So it is with those of a script that was carried out.
-abbrev pub BearsFailures : Setting → ℕ → (how : Manner) (script : Script) (old new : Disk) (items : List Item)
-    (given : Carried) → CarriesOut how script old new items given → Type 0
-BearsFailures setting width manner.Whole script old new items (carried.Run ran) run =
-    MayFail setting width run.silent run.borne
-BearsFailures setting width manner.ByTurns script old new items (carried.Replay replayed) run =
-    MayFail setting width run.silent run.borne
-BearsFailures setting width manner.Whole script old new items (carried.Replay replayed) run = ⊥
-BearsFailures setting width manner.ByTurns script old new items (carried.Run ran) run = ⊥
 
 -- A crash at this moment might have left the image on the bank, and no uberblock in it is valid by chance.
 pub record IsLeft (setting : Setting) (disk : Disk) (moment : ℕ) (image : Image) : Type 0 where
@@ -69,12 +55,11 @@ pub record ReadsBack (groups : List Kept) (script : Script) (items : List Item) 
   pub sound : (index : ℕ) (entry : Entry) → CallAt items index entry → entry.answer ≢ answer.Damaged
 
 -- A bank that holds the image alone may be opened with some of these groups, and each script that is carried out on
--- it, whole or turn by turn, reads back one of them, where the devices that were silent or have to be borne may fail.
+-- it reads back one of them, where the devices that were silent or have to be borne may fail.
 pub record IsReadBack (setting : Setting) (width : ℕ) (groups : List Kept) (image : Image) : Type 0 where
   pub opened : (disk : Disk) → IsLeftOn setting groups image disk → MayBeginAmong setting width groups disk
-  pub each : (how : Manner) (script : Script) (old new : Disk) (items : List Item) (given : Carried)
-      → (run : CarriesOut how script old new items given)
-      → IsLeftOn setting groups image old → BearsFailures setting width how script old new items given run
+  pub each : (script : Script) (old new : Disk) (items : List Item) (out : ℕ) → (run : HasRun script old new items out)
+      → IsLeftOn setting groups image old → MayFail setting width run.silent run.borne
       → ReadsBack groups script items
 
 -- what is kept from one item of a journal to the next: the last group listed, and at most one begun after it

@@ -1,5 +1,5 @@
 -- How a run or a replay ends: its script is read, its pool opened, its calls answered, its text written.
-use Rattle.std.specs.Prelude.{◌≡◌, ◌⊎◌, ℕ, ◌<◌, ◌≤◌, List, [], ◌++◌, Some, false, All, Result, Ok, Err}
+use Rattle.std.specs.Prelude.{◌≡◌, ◌⊎◌, ℕ, ◌<◌, ◌≤◌, List, [], ◌++◌, Some, All, Result, Ok, Err}
 use Rattle.bank_trait.specs.Causes.{Rose}
 use Rattle.bank_trait.specs.Disk.{Disk}
 use Rattle.core_state.specs.declared.answer.Answer.{Answer}
@@ -20,16 +20,16 @@ use Rattle.client_script.specs.Written.{IsAdded, IsPartAdded}
 use Rattle.client_script.specs.declared.refused.ReadRefused.{ReadRefused}
 use Rattle.client_script.specs.declared.refused.ReadRefused.TheVariants as read
 use Rattle.schedule.specs.Playing.{most_turns}
+use Rattle.schedule.specs.WholeRun.{HasRun, HasTakenTurns}
 use Rattle.schedule.specs.declared.whole_run.Ended.TheVariants as ended
-use Rattle.raidzx_top.specs.declared.carrying.Carried.{Carried}
-use Rattle.raidzx_top.specs.declared.carrying.Carried.TheVariants as carried
-use Rattle.raidzx_top.specs.declared.carrying.Manner.{Manner}
+use Rattle.schedule.specs.declared.whole_run.Ran.{Ran}
+use Rattle.raidzx_top.specs.declared.order.Order.{Order}
 use Rattle.raidzx_top.specs.declared.running.Trouble.{Trouble}
 use Rattle.raidzx_top.specs.declared.running.Trouble.TheVariants as trouble
 use Rattle.raidzx_top.specs.declared.status.Status.{Status}
 use Rattle.raidzx_top.specs.declared.status.Status.TheVariants as status
 use Rattle.raidzx_top.specs.Call.{Stream}
-use Rattle.raidzx_top.specs.Carrying.{CarriesOut, out_of, turns_of}
+use Rattle.raidzx_top.specs.Order.{listed_by}
 use Rattle.raidzx_top.specs.Exit.{read_status, why_status}
 use Rattle.raidzx_top.specs.Making.{IsSaid}
 use Rattle.raidzx_top.specs.RunText.{status_line}
@@ -82,28 +82,28 @@ pub data IsRefused (source source_after : Stream) (old new : Disk) (given : Stat
 
 -- Calls were left unanswered for this trouble: room for the next answer was wanting, or no more turns could be
 -- counted.
-abbrev pub StoppedFor : Carried → Trouble → Type 0
-StoppedFor (carried.Run ran) trouble.NoMemory = ran.finished ≡ false
-StoppedFor (carried.Replay replayed) trouble.NoMemory = replayed.ended ≡ ended.NoMemory
-StoppedFor (carried.Replay replayed) trouble.Limit = replayed.ended ≡ ended.Limit
-StoppedFor given other = ⊥
+abbrev pub StoppedFor : Ran → Trouble → Type 0
+StoppedFor ran trouble.NoMemory = ran.ended ≡ ended.NoMemory
+StoppedFor ran trouble.Limit = ran.ended ≡ ended.Limit
+StoppedFor ran trouble.TooManyFailed = ⊥
 
--- A script was carried out on the pool in this manner. Each call is answered, but where memory was wanting or no
--- more turns could be counted.
-pub record HasCarried (manner : Manner) (script : Script) (old new : Disk) (items : List Item)
-    (given : Carried) : Type 0 where
-  pub run : CarriesOut manner script old new items given
-  pub complete : (StoppedFor given trouble.NoMemory → ⊥) → (StoppedFor given trouble.Limit → ⊥)
-      → IsComplete (asked_by script) items
-  pub used_up : StoppedFor given trouble.Limit → most_turns ≤ turns_of given
+-- A script was carried out on the pool in this order. Each call is answered, but where memory was wanting or no more
+-- turns could be counted.
+pub record HasCarried (order : Order) (script : Script) (old new : Disk) (items : List Item) (ran : Ran) : Type 0
+  where
+    pub run : HasRun script old new items ran.out
+    pub turns : HasTakenTurns script (listed_by order script) old new items ran
+    pub complete : (StoppedFor ran trouble.NoMemory → ⊥) → (StoppedFor ran trouble.Limit → ⊥)
+        → IsComplete (asked_by script) items
+    pub used_up : StoppedFor ran trouble.Limit → most_turns ≤ ran.turns
 
 -- A script was read and carried out, or there was none, or no pool.
-abbrev pub EndsCarrying : Manner → Stream → Stream → Disk → Disk → List Item
-    → Result Carried Status → Type 0
-EndsCarrying manner source source_after old new items (Ok given) =
+abbrev pub EndsCarrying : Order → Stream → Stream → Disk → Disk → List Item
+    → Result Ran Status → Type 0
+EndsCarrying order source source_after old new items (Ok ran) =
     (script : Script) × HasRead source source_after script
-    × HasCarried manner script old new items given
-EndsCarrying manner source source_after old new items (Err given) =
+    × HasCarried order script old new items ran
+EndsCarrying order source source_after old new items (Err given) =
     (items ≡ []) × IsRefused source source_after old new given
 
 -- The answer tells of this trouble.
@@ -123,22 +123,22 @@ AnswersSo items trouble =
     (index : ℕ) × (entry : Entry) × CallAt items index entry × IsTold trouble entry.answer
 
 -- Some call met this trouble: it was left unanswered for it, or answered so.
-abbrev pub HasMet : Carried → List Item → Trouble → Type 0
-HasMet given items met = StoppedFor given met ⊎ AnswersSo items met
+abbrev pub HasMet : Ran → List Item → Trouble → Type 0
+HasMet ran items met = StoppedFor ran met ⊎ AnswersSo items met
 
 -- The status of a script that was carried out and whose text is written: the first of want of memory, a limit
 -- and too many failed devices that some call met.
-abbrev pub IsStatusOf : Carried → List Item → Status → Type 0
-IsStatusOf given items status.NoMemory = HasMet given items trouble.NoMemory
-IsStatusOf given items status.Limit =
-    (HasMet given items trouble.NoMemory → ⊥) × HasMet given items trouble.Limit
-IsStatusOf given items (status.TooManyFailed listed) = (listed ≡ out_of given)
-    × (HasMet given items trouble.NoMemory → ⊥) × (HasMet given items trouble.Limit → ⊥)
-    × HasMet given items trouble.TooManyFailed
-IsStatusOf given items status.Done =
-    (HasMet given items trouble.NoMemory → ⊥) × (HasMet given items trouble.Limit → ⊥)
-    × (HasMet given items trouble.TooManyFailed → ⊥)
-IsStatusOf given items other = ⊥
+abbrev pub IsStatusOf : Ran → List Item → Status → Type 0
+IsStatusOf ran items status.NoMemory = HasMet ran items trouble.NoMemory
+IsStatusOf ran items status.Limit =
+    (HasMet ran items trouble.NoMemory → ⊥) × HasMet ran items trouble.Limit
+IsStatusOf ran items (status.TooManyFailed listed) = (listed ≡ ran.out)
+    × (HasMet ran items trouble.NoMemory → ⊥) × (HasMet ran items trouble.Limit → ⊥)
+    × HasMet ran items trouble.TooManyFailed
+IsStatusOf ran items status.Done =
+    (HasMet ran items trouble.NoMemory → ⊥) × (HasMet ran items trouble.Limit → ⊥)
+    × (HasMet ran items trouble.TooManyFailed → ⊥)
+IsStatusOf ran items other = ⊥
 
 -- the status where the text wasn't written whole
 abbrev pub after_fault : Status → Status
@@ -163,20 +163,20 @@ pub record WasRefused (source source_after sink sink_after : Stream) (old new : 
   pub said : IsSaid sink.bytes sink_after.bytes sink.faults sink_after.faults (status_line given)
 
 -- One that opened its pool told its journal, its status, and how many turns it took.
-pub record WasCarriedOut (manner : Manner) (source source_after sink sink_after : Stream)
+pub record WasCarriedOut (order : Order) (source source_after sink sink_after : Stream)
     (old new : Disk) (items : List Item) (given : Status) (turns : ℕ) : Type 0 where
   pub script : Script
   pub read : HasRead source source_after script
-  pub carried : Carried
-  pub done : HasCarried manner script old new items carried
-  pub turns_are : turns ≡ turns_of carried
+  pub ran : Ran
+  pub done : HasCarried order script old new items ran
+  pub turns_are : turns ≡ ran.turns
   pub line : Status
-  pub line_is : IsStatusOf carried items line
+  pub line_is : IsStatusOf ran items line
   pub told : EndsTelling sink sink_after items line given
 
 -- how a run or a replay ends
-abbrev pub EndsRun : Manner → Stream → Stream → Stream → Stream → Disk → Disk → List Item → Status
+abbrev pub EndsRun : Order → Stream → Stream → Stream → Stream → Disk → Disk → List Item → Status
     → ℕ → Type 0
-EndsRun manner source source_after sink sink_after old new items given turns =
+EndsRun order source source_after sink sink_after old new items given turns =
     WasRefused source source_after sink sink_after old new items given turns
-    ⊎ WasCarriedOut manner source source_after sink sink_after old new items given turns
+    ⊎ WasCarriedOut order source source_after sink sink_after old new items given turns

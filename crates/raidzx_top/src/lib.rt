@@ -4,9 +4,9 @@
 //! for each answer of the journal, and `specs/Promises.antt` for what a run and a replay keep.
 #![tactic(auto)]
 
-mod carrying;
 mod images;
 mod making;
+mod order;
 mod report;
 mod running;
 mod status;

@@ -3,13 +3,13 @@ ghost use Rattle.std.specs.Prelude.{◌≡◌, ◌↔◌, [], IsTrue};
 ghost use Rattle.raidzx_top.specs.Call.{stream_of};
 ghost use Rattle.raidzx_top.specs.Running.{AnswersSo, EndsCarrying, EndsRun, EndsTelling, HasMet, IsStatusOf, IsTold, ItemTells, StoppedFor};
 
-use crate::carrying::{Carried, Manner, carry_calls};
+use crate::order::Order;
 use crate::report::{refuse, write_run};
 use crate::status::{Ending, Status};
 use bank_trait::{Bank, Sink, Source};
 use client_script::read_script;
 use core_state::{Answer, Item, Journal};
-use schedule::Ended;
+use schedule::{Ended, Ran, run_pool};
 use std::alloc::Global;
 
 /// What an answer may tell, or the end of a script, that the status tells too.
@@ -52,39 +52,33 @@ fn answers_so(journal: &Journal, trouble: Trouble) -> bool
 }
 
 /// Whether calls were left unanswered for this trouble.
-fn stopped_for(carried: &Carried, trouble: Trouble) -> bool
-    ensures { IsTrue result ↔ StoppedFor carried.now trouble }
+fn stopped_for(ran: &Ran, trouble: Trouble) -> bool
+    ensures { IsTrue result ↔ StoppedFor ran.now trouble }
 {
-    match carried {
-        Carried::Run(ran) => match trouble {
-            Trouble::NoMemory => !ran.finished,
-            Trouble::Limit | Trouble::TooManyFailed => false,
-        },
-        Carried::Replay(replayed) => match trouble {
-            Trouble::NoMemory => matches!(replayed.ended, Ended::NoMemory),
-            Trouble::Limit => matches!(replayed.ended, Ended::Limit),
-            Trouble::TooManyFailed => false,
-        },
+    match trouble {
+        Trouble::NoMemory => matches!(ran.ended, Ended::NoMemory),
+        Trouble::Limit => matches!(ran.ended, Ended::Limit),
+        Trouble::TooManyFailed => false,
     }
 }
 
 /// Whether some call met this trouble.
-fn met(carried: &Carried, journal: &Journal, trouble: Trouble) -> bool
-    ensures { IsTrue result ↔ HasMet carried.now journal.now.items trouble }
+fn met(ran: &Ran, journal: &Journal, trouble: Trouble) -> bool
+    ensures { IsTrue result ↔ HasMet ran.now journal.now.items trouble }
 {
-    stopped_for(carried, trouble) || answers_so(journal, trouble)
+    stopped_for(ran, trouble) || answers_so(journal, trouble)
 }
 
 /// The status of a script that was carried out, where its text is written.
-fn status_of(carried: &Carried, journal: &Journal) -> Status
-    ensures { IsStatusOf carried.now journal.now.items result }
+fn status_of(ran: &Ran, journal: &Journal) -> Status
+    ensures { IsStatusOf ran.now journal.now.items result }
 {
-    if met(carried, journal, Trouble::NoMemory) {
+    if met(ran, journal, Trouble::NoMemory) {
         Status::NoMemory
-    } else if met(carried, journal, Trouble::Limit) {
+    } else if met(ran, journal, Trouble::Limit) {
         Status::Limit
-    } else if met(carried, journal, Trouble::TooManyFailed) {
-        Status::TooManyFailed { out: carried.out() }
+    } else if met(ran, journal, Trouble::TooManyFailed) {
+        Status::TooManyFailed { out: ran.out }
     } else {
         Status::Done
     }
@@ -93,20 +87,20 @@ fn status_of(carried: &Carried, journal: &Journal) -> Status
 /// Reads the script, and carries it out on the pool that the devices show.
 fn carry_script<B: Bank, S: Source>(
     alloc: Global,
-    manner: Manner,
+    order: Order,
     bank: &mut B,
     source: &mut S,
     journal: &mut Journal,
-) -> Result<Carried, Status>
+) -> Result<Ran, Status>
     requires empty { journal.old.items ≡ [] }
-    ensures { EndsCarrying manner (stream_of (S.left source.old) (S.faults source.old))
+    ensures { EndsCarrying order (stream_of (S.left source.old) (S.faults source.old))
         (stream_of (S.left source.new) (S.faults source.new))
         (B.disk bank.old) (B.disk bank.new) journal.new.items result }
 {
     let script = read_script(alloc, source)?;
     journal.reserve(1)?;
-    let carried = carry_calls(alloc, manner, bank, &script, journal)?;
-    Ok(carried)
+    let ran = run_pool(alloc, bank, &script, order.listed(&script), journal)?;
+    Ok(ran)
 }
 
 /// Writes the text of a script that was carried out. A failed write is told where neither memory nor a limit is.
@@ -123,29 +117,29 @@ fn tell<K: Sink>(out: &mut K, journal: &Journal, status: Status) -> Status
     }
 }
 
-/// Reads a script from a source, opens the pool that the devices show, and carries the script out on it, its
-/// calls whole or turn by turn. Writes what was answered, and the line of the status.
+/// Reads a script from a source, opens the pool that the devices show, and carries the script out on it in
+/// this order. Writes what was answered, and the line of the status.
 pub fn run<B: Bank, S: Source, K: Sink>(
     alloc: Global,
-    manner: Manner,
+    order: Order,
     bank: &mut B,
     source: &mut S,
     out: &mut K,
     journal: &mut Journal,
 ) -> Ending
     requires empty { journal.old.items ≡ [] }
-    ensures { EndsRun manner (stream_of (S.left source.old) (S.faults source.old))
+    ensures { EndsRun order (stream_of (S.left source.old) (S.faults source.old))
         (stream_of (S.left source.new) (S.faults source.new))
         (stream_of (K.held out.old) (K.faults out.old))
         (stream_of (K.held out.new) (K.faults out.new))
         (B.disk bank.old) (B.disk bank.new) journal.new.items result.status result.turns }
 {
-    match carry_script(alloc, manner, bank, source, journal) {
-        Ok(carried) => {
-            let status = status_of(&carried, journal);
+    match carry_script(alloc, order, bank, source, journal) {
+        Ok(ran) => {
+            let status = status_of(&ran, journal);
             Ending {
                 status: tell(out, journal, status),
-                turns: carried.turns(),
+                turns: ran.turns,
             }
         }
         Err(status) => Ending::without_turns(refuse(out, status)),

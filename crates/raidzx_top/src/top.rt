@@ -6,8 +6,8 @@ ghost use Rattle.raidzx_top.specs.Ending.{Ends};
 ghost use Rattle.raidzx_top.specs.Promises.{CallPromises};
 ghost use Rattle.raidzx_top.specs.Words.{IsSize};
 
-use crate::carrying::Manner;
 use crate::making::make_pool;
+use crate::order::Order;
 use crate::report::{refuse, write_created};
 use crate::running::run;
 use crate::status::{Ending, Status};
@@ -18,7 +18,7 @@ use core_state::Journal;
 use std::alloc::Global;
 
 /// How a call ended, the bank, what was answered (nothing where no pool was opened), and how many turns
-/// were taken: none but by `replay`.
+/// were taken.
 #[derive(Drop)]
 pub struct Outcome<B> {
     pub status: Status,
@@ -63,8 +63,8 @@ fn carry_out<B: Bank, S: Source, K: Sink>(
     match read_command(words) {
         None => Ending::without_turns(refuse(out, Status::Usage)),
         Some(ServedCommand::Create(made)) => Ending::without_turns(create_pool(bank, &made, out)),
-        Some(ServedCommand::Run) => run(alloc, Manner::Whole, bank, script, out, journal),
-        Some(ServedCommand::Replay) => run(alloc, Manner::ByTurns, bank, script, out, journal),
+        Some(ServedCommand::Run) => run(alloc, Order::OfLines, bank, script, out, journal),
+        Some(ServedCommand::Replay) => run(alloc, Order::AsListed, bank, script, out, journal),
     }
 }
 

@@ -40,7 +40,7 @@ use Rattle.schedule.specs.InTurn.{Cursor, InOrder, replay_at}
 use Rattle.schedule.specs.Playing.{EndsSo}
 use Rattle.schedule.specs.Replaying.{blank_clients}
 use Rattle.schedule.specs.Running.{Runs}
-use Rattle.schedule.specs.WholeRun.{TurnsKeep, HasTakenTurns}
+use Rattle.schedule.specs.WholeRun.{HasRun, HasTakenTurns, RunKeeps}
 use Rattle.schedule.proofs.Beginning.{no_call}
 use Rattle.schedule.proofs.Opened.{resting, opened_world, runs_first}
 use Rattle.schedule.proofs.OpenedBirths.{opened_births}
@@ -156,9 +156,9 @@ module _ (script : Script) (old mid : Disk) (pool : Pool) (silent : ℕ) (items 
         (opened_births setting first later old may pool silent mid lawful begun silent_in out_in) loaded)).caused
 
     -- What the run keeps, where these devices may fail.
-    pub turns_keep : TurnsKeep script setting first later old final.disk items pool.uber.parity
+    pub run_keeps : RunKeeps script setting first later old final.disk items pool.uber.parity
     unfolding begins
-    turns_keep = record {
+    run_keeps = record {
       chosen = begins.opened.chosen;
       known = begins.opened.listed;
       choice = λ image holds. let shown = begins.opened.choice image holds in
@@ -177,28 +177,11 @@ module _ (script : Script) (old mid : Disk) (pool : Pool) (silent : ℕ) (items 
       parity_is = sym (opened_width may.may begins.opened).1;
     }
 
-  -- The calls of the script were carried out on the pool that the devices showed.
-  pub has_taken_turns : (letters : List ℕ) (ended : Ended) (turns : ℕ) (cursor : Cursor) → EndsSo script
-      (replay_at (turns_of (at_disk (resting pool) mid) (Group (first_item pool) ∷ []) (blank_clients script.clients))
-      0 (InOrder letters))
-      (replay_at (turns_of final items clients) turns cursor) ended
-      → HasTakenTurns script letters old final.disk items
-      (record { ended = ended; turns = turns; out = final.core.pool.out })
-  has_taken_turns letters ended turns cursor ends = record {
+  -- The calls of the script were carried out on the pool that the devices showed,
+  pub has_run : HasRun script old final.disk items final.core.pool.out
+  has_run = record {
     opened = item;
     there = come.listed 0 (Group item) refl;
-    taken = record {
-      start = at_disk (resting pool) mid;
-      rest = record { holds = refl; committing = refl; blocks = rest };
-      opened_is = refl;
-      bank = bank;
-      later = opened_later;
-      now = final;
-      disk = refl;
-      clients = clients;
-      cursor = cursor;
-      ends = ends;
-    };
     silent = silent;
     failed = failed_later old mid final.disk come.later silent failed;
     parity = pool.uber.parity;
@@ -210,5 +193,29 @@ module _ (script : Script) (old mid : Disk) (pool : Pool) (silent : ℕ) (items 
     borne = come.borne;
     within = come.within;
     few = come.few;
-    keeps = turns_keep;
+    keeps = run_keeps;
   }
+
+-- and each turn was that of the client whose turn it was.
+pub has_taken_turns : (script : Script) (listed : List ℕ) (old mid : Disk) (pool : Pool) (items : List Item)
+    (clients : List Client) (final : CoreState) → Later old mid → AreUnderWay pool.blocks []
+    → HasBank pool.uber pool.out mid
+    → (ended : Ended) (turns : ℕ) (cursor : Cursor) → EndsSo script
+    (replay_at (turns_of (at_disk (resting pool) mid) (Group (first_item pool) ∷ []) (blank_clients script.clients))
+    0 (InOrder listed))
+    (replay_at (turns_of final items clients) turns cursor) ended
+    → HasTakenTurns script listed old final.disk items
+    (record { ended = ended; turns = turns; out = final.core.pool.out })
+has_taken_turns script listed old mid pool items clients final opened_later rest bank ended turns cursor ends = record {
+  opened = first_item pool;
+  start = at_disk (resting pool) mid;
+  rest = record { holds = refl; committing = refl; blocks = rest };
+  opened_is = refl;
+  bank = bank;
+  later = opened_later;
+  now = final;
+  disk = refl;
+  clients = clients;
+  cursor = cursor;
+  ends = ends;
+}

@@ -28,7 +28,7 @@ use Rattle.journal_law.specs.Widths.{HaveWidthOf}
 use Rattle.journal_law.specs.FirstGroup.{BeginsAfter}
 use Rattle.open_pool.specs.Pool.{first_item}
 use Rattle.schedule.specs.declared.client.Client.{Client}
-use Rattle.schedule.specs.declared.whole_run.Replayed.{Replayed}
+use Rattle.schedule.specs.declared.whole_run.Ran.{Ran}
 use Rattle.schedule.specs.Coming.{turns_of}
 use Rattle.schedule.specs.InTurn.{Cursor, InOrder, replay_at}
 use Rattle.schedule.specs.Moments.{KeepsTurnByTurn}
@@ -36,14 +36,14 @@ use Rattle.schedule.specs.Playing.{EndsSo}
 use Rattle.schedule.specs.Recorded.{GroupsAreCounted}
 use Rattle.schedule.specs.Replaying.{IsAtRest, blank_clients}
 
--- A run of turns began with one of the groups that the bank kept, and its journal is legal from that group's map on.
+-- A run began with one of the groups that the bank kept, and its journal is legal from that group's map on.
 -- Whatever a stop leaves, at any moment of the run, keeps some of the groups in a row: those kept before, the
 -- journal's, and at most one that was begun after them; and none older than the last one listed by then. At its end
 -- that is the journal's last one, and what the bank keeps then is among these groups. All of them have the width and
 -- the parity of the first one that the bank kept, and that is the run's parity. No read is told as damaged. An answer
 -- that tells of a limit has its cause: the last group, or more ids than a table has room for. Where one says `NoSpace`,
 -- the chosen group's index and the script have too many blocks.
-pub record TurnsKeep (script : Script) (setting : Setting) (first : Kept) (later : List Kept) (old new : Disk)
+pub record RunKeeps (script : Script) (setting : Setting) (first : Kept) (later : List Kept) (old new : Disk)
     (items : List Item) (parity : ℕ) : Type 0 where
   pub chosen : Kept
   pub known : Contains (first ∷ later) chosen
@@ -65,46 +65,46 @@ pub record TurnsKeep (script : Script) (setting : Setting) (first : Kept) (later
       ((first ∷ later) ++ any_moment.groups.answered ++ any_moment.groups.begun)
   pub parity_is : first.uber.parity ≡ parity
 
--- From a core at rest whose pool is of the opening's group, a journal of that group and clients that had begun no call,
--- the turns were taken whose turn it was, as many as are told, and they ended as is told.
-pub record TakesItsTurns (script : Script) (letters : List ℕ) (opened : GroupItem) (old new : Disk) (items : List Item)
-    (replayed : Replayed) : Type 0 where
-  pub start : CoreState
-  pub rest : IsAtRest start.core
-  pub opened_is : opened ≡ first_item start.core.pool
-  pub bank : HasBank start.core.pool.uber start.core.pool.out start.disk
-  pub later : Later old start.disk
-  pub now : CoreState
-  pub disk : now.disk ≡ new
-  pub clients : List Client
-  pub cursor : Cursor
-  pub ends : EndsSo script
-      (replay_at (turns_of start (Group opened ∷ []) (blank_clients script.clients)) 0 (InOrder letters))
-      (replay_at (turns_of now items clients) replayed.turns cursor) replayed.ended
-
--- A script's calls were carried out turn by turn on the pool that the devices showed; the journal begins with a
--- group. Each turn was that of the client whose turn it was. Each device that is out at the end was out at the opening,
--- or failed in the run. A call that tells of too many devices lists devices that are out, more than there are parities.
--- All that a run keeps it keeps where the devices that were silent when the pool was looked for may fail, and those of
--- the devices out that have to be borne, no more than there are parities. No device is touched but those of the pool.
-pub record HasTakenTurns (script : Script) (letters : List ℕ) (old new : Disk) (items : List Item) (replayed : Replayed) : Type 0 where
+-- A script's calls were carried out on the pool that the devices showed, whoever's turns they were; the journal begins
+-- with a group. Each device that is out at the end was out at the opening, or failed in the run. A call that tells of too
+-- many devices lists devices that are out, more than there are parities. All that a run keeps it keeps where the devices
+-- that were silent when the pool was looked for may fail, and those of the devices out that have to be borne, no more
+-- than there are parities. No device is touched but those of the pool.
+pub record HasRun (script : Script) (old new : Disk) (items : List Item) (out : ℕ) : Type 0 where
   pub opened : GroupItem
   pub there : GroupAt items 0 opened
-  pub taken : TakesItsTurns script letters opened old new items replayed
   pub silent : ℕ
   pub failed : HaveFailed old new silent
   pub parity : ℕ
   pub only : TouchesOnly (IsOnBelow opened.to) old new
   pub each : (image : Image) → HoldsImage old image
-      → (shown : IsShownChoice old new image) × (shown.uber.parity ≡ parity) × AreOutFor shown replayed.out
+      → (shown : IsShownChoice old new image) × (shown.uber.parity ≡ parity) × AreOutFor shown out
   pub too_many : (index listed : ℕ) (entry : Entry) → CallAt items index entry
       → entry.answer ≡ answer.TooManyFailed listed
-      → (parity < count_of listed) × IsWithin listed replayed.out
+      → (parity < count_of listed) × IsWithin listed out
   pub borne : ℕ
-  pub within : IsWithin borne replayed.out
+  pub within : IsWithin borne out
   pub few : count_of borne ≤ parity
   pub keeps : (setting : Setting) (first : Kept) (later : List Kept)
       → MayBegin setting first later old
       → IsWithinBelow first.uber.reflow.to silent setting.failed
       → IsWithin borne setting.failed
-      → TurnsKeep script setting first later old new items parity
+      → RunKeeps script setting first later old new items parity
+
+-- From a core at rest whose pool is of the opening's group, a journal of that group and clients that had begun no call,
+-- the turns were taken whose turn it was, first those that were listed, as many as are told, and they ended as is told.
+pub record HasTakenTurns (script : Script) (listed : List ℕ) (old new : Disk) (items : List Item) (ran : Ran) : Type 0
+  where
+    pub opened : GroupItem
+    pub start : CoreState
+    pub rest : IsAtRest start.core
+    pub opened_is : opened ≡ first_item start.core.pool
+    pub bank : HasBank start.core.pool.uber start.core.pool.out start.disk
+    pub later : Later old start.disk
+    pub now : CoreState
+    pub disk : now.disk ≡ new
+    pub clients : List Client
+    pub cursor : Cursor
+    pub ends : EndsSo script
+        (replay_at (turns_of start (Group opened ∷ []) (blank_clients script.clients)) 0 (InOrder listed))
+        (replay_at (turns_of now items clients) ran.turns cursor) ran.ended

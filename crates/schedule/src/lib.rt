@@ -3,7 +3,7 @@
 //! Each client carries out its calls one after the other; a turn of a client is the first turn of its next
 //! call, or the next one of its call under way. Read `specs/WholeRun.antt` for what a run promises and
 //! `specs/InTurn.antt` for whose turn is next, then `specs/Running.antt`, `specs/Turned.antt` and
-//! `specs/Coming.antt` for how it goes on. Stands on `core_turns`, `client_script` and `journal_law`.
+//! `specs/Coming.antt` for how it goes on. Stands on `core_turns`, `open_pool`, `client_script` and `journal_law`.
 #![tactic(auto)]
 
 mod client;
@@ -16,4 +16,4 @@ mod whole_run;
 pub use client::{Client, UnderWay, Work};
 pub use replay::{CarriedOut, carry_out};
 pub use station::take_turn;
-pub use whole_run::{Ended, Replayed, replay_pool};
+pub use whole_run::{Ended, Ran, run_pool};

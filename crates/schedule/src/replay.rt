@@ -98,7 +98,7 @@ fn take_order<B: Bank>(
     bank: &mut B,
     core: &mut Core,
     script: &Script,
-    letters: &[u8],
+    listed: &[u8],
     journal: &mut Journal,
     progress: &mut Progress,
 ) -> Result<(), UsedUp>
@@ -106,13 +106,13 @@ fn take_order<B: Bank>(
     requires ready { IsReady script.now
         (turns_by core.old (B.disk bank.old) journal.old progress.old) journal.old.room }
     ensures played { OnOk result (HasPlayed script.now
-        (replay_by core.old (B.disk bank.old) journal.old progress.old (InOrder letters.now))
+        (replay_by core.old (B.disk bank.old) journal.old progress.old (InOrder listed.now))
         (replay_by core.new (B.disk bank.new) journal.new progress.new (InOrder [])) journal.new.room) }
     ensures stopped { OnErr result (HasStopped script.now
-        (replay_by core.old (B.disk bank.old) journal.old progress.old (InOrder letters.now))
+        (replay_by core.old (B.disk bank.old) journal.old progress.old (InOrder listed.now))
         (turns_by core.new (B.disk bank.new) journal.new progress.new) progress.new.turns journal.new.room) }
 {
-    for actor in letters {
+    for actor in listed {
         count_turn_of(alloc, bank, core, script, journal, progress, *actor)?;
     }
     Ok(())
@@ -281,7 +281,7 @@ fn take_turns<B: Bank>(
     bank: &mut B,
     core: &mut Core,
     script: &Script,
-    letters: &[u8],
+    listed: &[u8],
     journal: &mut Journal,
     progress: &mut Progress,
 ) -> Result<(), UsedUp>
@@ -289,16 +289,16 @@ fn take_turns<B: Bank>(
     requires ready { IsReady script.now
         (turns_by core.old (B.disk bank.old) journal.old progress.old) journal.old.room }
     ensures played { OnOk result (HasPlayed script.now
-        (replay_by core.old (B.disk bank.old) journal.old progress.old (InOrder letters.now))
+        (replay_by core.old (B.disk bank.old) journal.old progress.old (InOrder listed.now))
         (replay_by core.new (B.disk bank.new) journal.new progress.new (InRest (length script.now.calls)))
         journal.new.room) }
     ensures stopped { OnErr result (HasStopped script.now
-        (replay_by core.old (B.disk bank.old) journal.old progress.old (InOrder letters.now))
+        (replay_by core.old (B.disk bank.old) journal.old progress.old (InOrder listed.now))
         (turns_by core.new (B.disk bank.new) journal.new progress.new) progress.new.turns journal.new.room) }
     ensures begun { OnOk result (HaveBegun script.now (length script.now.calls) progress.new.clients.items) }
     ensures idle { OnOk result (AreIdle progress.new.clients.items) }
 {
-    take_order(alloc, bank, core, script, letters, journal, progress)?;
+    take_order(alloc, bank, core, script, listed, journal, progress)?;
     take_rounds(alloc, bank, core, script, journal, progress)?;
     take_rest(alloc, bank, core, script, journal, progress)
 }
@@ -328,7 +328,7 @@ pub fn carry_out<B: Bank>(
     bank: &mut B,
     core: &mut Core,
     script: &Script,
-    letters: &[u8],
+    listed: &[u8],
     journal: &mut Journal,
 ) -> CarriedOut
     requires bank { HasBank core.old.pool.uber core.old.pool.out (B.disk bank.old) }
@@ -341,7 +341,7 @@ pub fn carry_out<B: Bank>(
         (turns_of (at_disk core.new (B.disk bank.new)) journal.new.items clients)
         × EndsSo script.now
         (replay_at (turns_of (at_disk core.old (B.disk bank.old)) journal.old.items
-        (blank_clients script.now.clients)) 0 (InOrder letters.now))
+        (blank_clients script.now.clients)) 0 (InOrder listed.now))
         (replay_at (turns_of (at_disk core.new (B.disk bank.new)) journal.new.items clients) result.turns cursor)
         result.ended }
     ensures calls { CallsAreRight (asked_by script.now) journal.new.items }
@@ -353,7 +353,7 @@ pub fn carry_out<B: Bank>(
             turns: 0,
         };
     };
-    match take_turns(alloc, bank, core, script, letters, journal, &mut progress) {
+    match take_turns(alloc, bank, core, script, listed, journal, &mut progress) {
         Ok(()) => CarriedOut {
             ended: Ended::Whole,
             turns: progress.turns,

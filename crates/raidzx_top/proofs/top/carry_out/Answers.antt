@@ -1,6 +1,6 @@
 use Rattle.std.proofs.Common.{refl, subst}
 use Rattle.std.specs.Prelude.{map, string_bytes}
-use Rattle.raidzx_top.specs.declared.carrying.Manner.TheVariants as manner
+use Rattle.raidzx_top.specs.declared.order.Order.TheVariants.{OfLines, AsListed}
 use Rattle.raidzx_top.specs.declared.words.ServedCommand.{ServedCommand}
 use Rattle.raidzx_top.specs.Ending.{AsUsage, AsCreate, AsRun}
 use Rattle.raidzx_top.specs.Spelled.{IsServedAs}
@@ -27,7 +27,7 @@ returns-in-Some-Create g c = rw (c.without_turns-in-Some-Create.ensures.status, 
 
 pub returns-in-Some-Run : goal.returns-in-Some-Run
 returns-in-Some-Run g c = AsRun (record {
-  manner = manner.Whole;
+  order = OfLines;
   served_as = subst (λ (given : ServedCommand). IsServedAs (map string_bytes c.args.words.now) given)
       c.in-Some-Run.field-0-is c.in-Some-Run.ensures.some;
   ends = c.run.ensures;
@@ -35,7 +35,7 @@ returns-in-Some-Run g c = AsRun (record {
 
 pub returns-in-Some-Replay : goal.returns-in-Some-Replay
 returns-in-Some-Replay g c = AsRun (record {
-  manner = manner.ByTurns;
+  order = AsListed;
   served_as = subst (λ (given : ServedCommand). IsServedAs (map string_bytes c.args.words.now) given)
       c.in-Some-Replay.field-0-is c.in-Some-Replay.ensures.some;
   ends = c.run-in-Some-Replay.ensures;

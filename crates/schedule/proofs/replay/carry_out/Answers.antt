@@ -14,7 +14,7 @@ use Rattle.schedule.proofs.replay.carry_out.Goals as goal
 pub returns-in_default-clause-taken : goal.returns-in_default-clause-taken
 returns-in_default-clause-taken g c = (
   blank_clients c.args.script.now.clients,
-  InOrder c.args.letters.now,
+  InOrder c.args.listed.now,
   subst (λ (items : List Item). HasCome c.args.script.now (turns_of (at_disk c.args.core.now (g.B.Bank.disk c.args.bank.now)) c.args.journal.now.items
       (blank_clients c.args.script.now.clients))
       (turns_of (at_disk c.args.core.now (g.B.Bank.disk c.args.bank.now)) items
@@ -22,7 +22,7 @@ returns-in_default-clause-taken g c = (
       (came_nowhere c.args.script.now (turns_of (at_disk c.args.core.now (g.B.Bank.disk c.args.bank.now)) c.args.journal.now.items
       (blank_clients c.args.script.now.clients))),
   ap (λ (items : List Item). replay_at (turns_of (at_disk c.args.core.now (g.B.Bank.disk c.args.bank.now)) items
-      (blank_clients c.args.script.now.clients)) 0 (InOrder c.args.letters.now)) c.begin.ensures.same,
+      (blank_clients c.args.script.now.clients)) 0 (InOrder c.args.listed.now)) c.begin.ensures.same,
 )
 
 pub returns-in_default-clause-calls : goal.returns-in_default-clause-calls
@@ -42,7 +42,7 @@ returns-in-Ok-take_turns-clause-taken g c =
     (replay_at (turns_by c.take_turns.new.core (g.B.Bank.disk c.take_turns.new.bank) c.take_turns.new.journal c.take_turns.new.progress) c.take_turns.new.progress.turns (InRest (length c.args.script.now.calls)))
     c.take_turns.new.journal.room)
     (first_is c.args.script.now c.args.core.now (g.B.Bank.disk c.args.bank.now) c.args.journal.now.items
-    c.begin.new.journal c.in-Ok.progress (InOrder c.args.letters.now) c.begin.ensures.same c.in-Ok.ensures.clients
+    c.begin.new.journal c.in-Ok.progress (InOrder c.args.listed.now) c.begin.ensures.same c.in-Ok.ensures.clients
     c.in-Ok.ensures.turns) c.in-Ok-take_turns.ensures.played in (
       c.take_turns.new.progress.clients.items,
       InRest (length c.args.script.now.calls),
@@ -64,7 +64,7 @@ returns-clause-taken g c =
     let stopped = subst (λ (first : Replay). HasStopped c.args.script.now first (turns_by c.take_turns.new.core (g.B.Bank.disk c.take_turns.new.bank) c.take_turns.new.journal c.take_turns.new.progress)
     c.take_turns.new.progress.turns c.take_turns.new.journal.room)
     (first_is c.args.script.now c.args.core.now (g.B.Bank.disk c.args.bank.now) c.args.journal.now.items
-    c.begin.new.journal c.in-Ok.progress (InOrder c.args.letters.now) c.begin.ensures.same c.in-Ok.ensures.clients
+    c.begin.new.journal c.in-Ok.progress (InOrder c.args.listed.now) c.begin.ensures.same c.in-Ok.ensures.clients
     c.in-Ok.ensures.turns) c.in-Err.ensures.stopped in (
       c.take_turns.new.progress.clients.items,
       stopped.cursor,

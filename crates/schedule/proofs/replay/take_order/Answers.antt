@@ -5,7 +5,7 @@ use Rattle.schedule.proofs.Playing.{at_err, played_at, played_letter, played_non
 use Rattle.schedule.proofs.replay.take_order.Goals as goal
 
 pub loop-actor-init : goal.loop-actor-init
-loop-actor-init g c = played_none c.args.script.now (replay_by c.args.core.now (g.B.Bank.disk c.args.bank.now) c.args.journal.now c.args.progress.now (InOrder c.args.letters.now))
+loop-actor-init g c = played_none c.args.script.now (replay_by c.args.core.now (g.B.Bank.disk c.args.bank.now) c.args.journal.now c.args.progress.now (InOrder c.args.listed.now))
     c.args.journal.now.room c.requires.ready
 
 pub count_turn_of-requires-clause-ready : goal.count_turn_of-requires-clause-ready
@@ -13,8 +13,8 @@ count_turn_of-requires-clause-ready g c = c.loop-actor.invariant.ready
 
 pub loop-actor-preserved : goal.loop-actor-preserved
 loop-actor-preserved g c =
-    let order = c.args.letters.now in
-    let listed = c.args.letters.now in
+    let order = c.args.listed.now in
+    let listed = c.args.listed.now in
     let index = c.loop-actor.actor-index in
     let same : listed ≡ order = refl in
     let low : index < length order = omega (arith, c.loop-actor-test.true, ap (λ (l : List ℕ). length l) same) in
@@ -26,8 +26,8 @@ loop-actor-preserved g c =
 
 pub returns-in_err-count_turn_of-clause-stopped : goal.returns-in_err-count_turn_of-clause-stopped
 returns-in_err-count_turn_of-clause-stopped g c = at_err _ c.from_residual.result (
-    let left = drop c.loop-actor.actor-index c.args.letters.now in
-    stopped_then c.args.script.now (replay_by c.args.core.now (g.B.Bank.disk c.args.bank.now) c.args.journal.now c.args.progress.now (InOrder c.args.letters.now))
+    let left = drop c.loop-actor.actor-index c.args.listed.now in
+    stopped_then c.args.script.now (replay_by c.args.core.now (g.B.Bank.disk c.args.bank.now) c.args.journal.now c.args.progress.now (InOrder c.args.listed.now))
     (replay_by c.loop-actor.core (g.B.Bank.disk c.loop-actor.bank) c.loop-actor.journal c.loop-actor.progress (InOrder left)) (turns_by c.count_turn_of.new.core (g.B.Bank.disk c.count_turn_of.new.bank) c.count_turn_of.new.journal c.count_turn_of.new.progress)
     c.count_turn_of.new.progress.turns c.loop-actor.journal.room c.count_turn_of.new.journal.room c.loop-actor.invariant
     (c.in_err-count_turn_of.ensures.stopped (InOrder left))
@@ -35,7 +35,7 @@ returns-in_err-count_turn_of-clause-stopped g c = at_err _ c.from_residual.resul
 
 pub returns-clause-played : goal.returns-clause-played
 returns-clause-played g c =
-    let order = c.args.letters.now in
+    let order = c.args.listed.now in
     played_at c.args.script.now (replay_by c.args.core.now (g.B.Bank.disk c.args.bank.now) c.args.journal.now c.args.progress.now (InOrder order)) (turns_by c.loop-actor.core (g.B.Bank.disk c.loop-actor.bank) c.loop-actor.journal c.loop-actor.progress) c.loop-actor.progress.turns c.loop-actor.journal.room
     (InOrder (drop c.loop-actor.actor-index order)) (InOrder [])
     (ap InOrder (drop_all c.loop-actor.actor-index order
