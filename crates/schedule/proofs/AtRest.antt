@@ -18,7 +18,8 @@ use Rattle.core_turns.specs.Core.{Core, at_disk}
 use Rattle.schedule.specs.declared.client.Client.{Client}
 use Rattle.schedule.specs.declared.progress.Progress.{Progress}
 use Rattle.schedule.specs.Clients.{AreAnswered, answered_of}
-use Rattle.schedule.specs.Coming.{IsSchedule, turns_of}
+use Rattle.schedule.specs.Coming.{IsSchedule}
+use Rattle.schedule.specs.Turns.{turns_of}
 use Rattle.schedule.specs.InTurn.{Cursor, replay_at, replay_by, turns_by}
 use Rattle.schedule.specs.Playing.{IsReady}
 use Rattle.schedule.specs.Replaying.{AreIdle, HaveBegun, IsAtRest, OnlyShared, blank_client, blank_clients}

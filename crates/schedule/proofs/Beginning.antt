@@ -23,7 +23,8 @@ use Rattle.journal_law.proofs.GrownRun.{groups_one}
 use Rattle.journal_law.proofs.Moments.{last_alike}
 use Rattle.journal_law.proofs.Widths.{widths_opened}
 use Rattle.schedule.specs.Recorded.{Recorded}
-use Rattle.schedule.proofs.Moments.{AreLatest, turns_first}
+use Rattle.schedule.proofs.Moments.{AreLatest, kept_first, on_now}
+use Rattle.schedule.specs.Moments.{Past, KeepsOn}
 
 -- A journal of a group alone has no entries.
 pub no_call : (group : GroupItem) (index : ℕ) (entry : Entry) → CallAt (Group group ∷ []) index entry → ⊥
@@ -70,15 +71,16 @@ module _ {setting : Setting} {first : Kept} {later : List Kept} {pool : Pool} {o
   }
 
   -- The groups known before, and that of the opening, which holds the map of the group that it renews.
-  pub recorded_first : Later old mid
+  pub recorded_first : (past : Past) → past.origin ≡ old → past.banks 1 ≡ mid → Later old mid
       → Recorded
       (record { setting = setting; known = first ∷ later; opening = begins.opened.chosen.map; handed = handed })
-      old (Group (first_item pool) ∷ []) begins.opened.next [] pool.uber mid
-  recorded_first opened_later =
+      past (Group (first_item pool) ∷ []) begins.opened.next [] pool.uber mid
+  recorded_first past origin here opened_later =
       let one = groups_one handed begins.opened.chosen.map (first ∷ later) item next next_is in
       let groups_are = row (first ∷ later) one.0.answered one.0.begun one.1 one.2 in
-      let since = subst (λ (l : List Kept). KeepsSince setting l old.clock mid) groups_are begins.opened.since in
-      let by = turns_first opened_later (record { groups = one.0; since = since }) next_latest begins.opened.knows in
+      let since = subst (λ (d : Disk). KeepsSince setting ((first ∷ later) ++ one.0.answered ++ one.0.begun) d.clock mid)
+      (sym origin)
+      (subst (λ (l : List Kept). KeepsSince setting l old.clock mid) groups_are begins.opened.since) in
       record {
         groups = one.0;
         earlier = [];
@@ -93,6 +95,8 @@ module _ {setting : Setting} {first : Kept} {later : List Kept} {pool : Pool} {o
         counted = record { each = λ index reached entry there limit. absurd (no_call item index entry there) };
         since = since;
         widths = subst (λ (l : List Kept). HaveWidthOf pool.uber l) groups_are (widths_opened may begins.opened);
-        no_older = by.0;
-        kept_on = by.1;
+        no_older = kept_first here (subst (λ (d : Disk). Later d mid) (sym origin) opened_later)
+            (record { groups = one.0; since = since });
+        kept_on = subst (λ (d : Disk). KeepsOn setting handed begins.opened.chosen.map (Group item ∷ []) item next [] d mid)
+            (sym here) (on_now next_latest begins.opened.knows);
       }

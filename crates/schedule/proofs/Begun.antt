@@ -15,6 +15,7 @@ use Rattle.journal_law.proofs.Grown.{map_before, map_at_end}
 use Rattle.journal_law.proofs.GrownGroups.{latest_grown_call}
 use Rattle.schedule.specs.Recorded.{Recorded, IsBegunAt}
 use Rattle.schedule.proofs.Recording.{after_few}
+use Rattle.schedule.specs.Moments.{Past}
 
 -- The last group before an index is one alone.
 pub one_latest : {items : List Item} {index : ℕ} {one other : GroupItem} → IsGroupBefore items index one
@@ -32,19 +33,19 @@ one_latest {items = items} {one = one} {other = other} first second = ⊎_elim
     same : Some (Group one) ≡ Some (Group other) → one ≡ other
     same is = cc
 
-module _ {world : World} {origin : Disk} {items : List Item} {last next : Kept} {begun : List Kept} {uber : Uber}
-    {now : Disk} {point : ℕ} (before : Recorded world origin items last begun uber now)
+module _ {world : World} {past : Past} {items : List Item} {last next : Kept} {begun : List Kept} {uber : Uber}
+    {now : Disk} {point : ℕ} (before : Recorded world past items last begun uber now)
     (is : IsBegunAt world items before.item point next) where
   -- While the journal is the same,
   pub begun_same : {newer : Kept} {left : List Kept} {other : Uber} {later : Disk}
-      → (after : Recorded world origin items newer left other later)
+      → (after : Recorded world past items newer left other later)
       → IsBegunAt world items after.item point next
   begun_same after = subst (λ (item : GroupItem). IsBegunAt world items item point next)
       (one_latest before.latest after.latest) is
 
   -- and when a call is answered.
   pub begun_answers : {newer : Kept} {left : List Kept} {other : Uber} {later : Disk} (entry : Entry)
-      → (after : Recorded world origin (items ++ Call entry ∷ []) newer left other later)
+      → (after : Recorded world past (items ++ Call entry ∷ []) newer left other later)
       → IsBegunAt world (items ++ Call entry ∷ []) after.item point next
   begun_answers entry after =
       subst (λ (item : GroupItem). IsBegunAt world (items ++ Call entry ∷ []) item point next)
@@ -57,8 +58,8 @@ module _ {world : World} {origin : Disk} {items : List Item} {last next : Kept} 
       })
 
 -- A commit begins now: the group after the last one, with its widths and the map of all items.
-pub begun_now : {world : World} {origin : Disk} {items : List Item} {last next : Kept} {begun : List Kept} {uber : Uber}
-    {now : Disk} (so_far : Recorded world origin items last begun uber now) → next.uber.group ≡ last.uber.group + 1
+pub begun_now : {world : World} {past : Past} {items : List Item} {last next : Kept} {begun : List Kept} {uber : Uber}
+    {now : Disk} (so_far : Recorded world past items last begun uber now) → next.uber.group ≡ last.uber.group + 1
     → (next.uber.reflow.from ≡ last.uber.reflow.from) × (next.uber.reflow.to ≡ last.uber.reflow.to)
     → SameMap next.map (map_of world.handed world.opening items)
     → IsBegunAt world items so_far.item (length items) next

@@ -9,7 +9,7 @@ use Rattle.client_script.specs.declared.call.ScriptCall.{ScriptCall}
 use Rattle.client_script.specs.InOrder.{InOrder, IsNextCall, given_of}
 use Rattle.client_script.specs.Script.{Placed, Script, calls_of}
 use Rattle.schedule.specs.declared.client.Client.{Client}
-use Rattle.schedule.specs.Coming.{Turns}
+use Rattle.schedule.specs.Turns.{Turns}
 use Rattle.schedule.specs.InTurn.{IsCallOf}
 use Rattle.schedule.specs.Replaying.{AreIdle, HasTurn, BeginsOne, HaveBegun, left_at, left_in}
 use Rattle.schedule.proofs.Theirs.{some_is}

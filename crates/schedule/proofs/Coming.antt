@@ -25,9 +25,11 @@ use Rattle.client_script.specs.Script.{Script, handed_by}
 use Rattle.journal_law.proofs.Grown.{grown_has, new_or_before}
 use Rattle.core_turns.specs.Getting.{HasTooManyOut}
 use Rattle.core_turns.specs.UnderWay.{TurnGoesOn}
-use Rattle.schedule.specs.Coming.{Turns, HasCome, KeepsUsing}
+use Rattle.schedule.specs.Coming.{HasCome, KeepsUsing}
+use Rattle.schedule.specs.Turns.{Turns, TurnTaken, last_left, AreListedWith, IsListedWith, taken_by}
 use Rattle.schedule.specs.Running.{Runs}
 use Rattle.schedule.proofs.Fulls.{FullStays}
+use Rattle.schedule.specs.Moments.{Past}
 
 -- how far the devices' failure has to be borne where nothing was done: those that are out, unless they are too many
 borne_by : (out parity : ℕ) → (count_of out ≤ parity) ⊎ (parity < count_of out) → ℕ
@@ -40,13 +42,15 @@ few_or_many out parity = ⊎_elim (λ many. inr many) (λ few. inl few) (cases_l
 none_out : (device : ℕ) → has_device 0 device ≡ true → ⊥
 none_out device out = true≢false (sym out ∙ none_in device)
 
--- Nothing was done.
-pub came_nowhere : (script : Script) (turns : Turns) → HasCome script turns turns
-came_nowhere script turns = by (few_or_many turns.state.core.pool.out turns.state.core.pool.uber.parity)
+-- Nothing was done, also where a turn was taken that did nothing.
+pub came_nowhere : (script : Script) (turns : Turns) (passed : List TurnTaken) → last_left turns passed ≡ turns
+    → HasCome script turns passed turns
+came_nowhere script turns passed same = by (few_or_many turns.state.core.pool.out turns.state.core.pool.uber.parity)
   where
     by : (count_of turns.state.core.pool.out ≤ turns.state.core.pool.uber.parity)
-        ⊎ (turns.state.core.pool.uber.parity < count_of turns.state.core.pool.out) → HasCome script turns turns
+        ⊎ (turns.state.core.pool.uber.parity < count_of turns.state.core.pool.out) → HasCome script turns passed turns
     by (inl few) = record {
+      ends = same;
       later = later_refl turns.state.disk;
       parity = refl;
       widths = refl;
@@ -59,11 +63,12 @@ came_nowhere script turns = by (few_or_many turns.state.core.pool.out turns.stat
       from_start = λ still device out. out;
       stopped = λ many. absurd (omega (arith, few, many));
       within = λ device out. out;
-      runs = λ world origin same runs within. runs;
-      full = λ world origin same runs within caused. caused;
+      runs = λ world past handed runs within listed. runs;
+      full = λ world past handed runs within listed caused. caused;
       space = λ uber entries used. used;
     }
     by (inr many) = record {
+      ends = same;
       later = later_refl turns.state.disk;
       parity = refl;
       widths = refl;
@@ -76,14 +81,38 @@ came_nowhere script turns = by (few_or_many turns.state.core.pool.out turns.stat
       from_start = λ few. absurd (omega (arith, few, many));
       stopped = λ still device out. out;
       within = λ device out. absurd (none_out device out);
-      runs = λ world origin same runs within. runs;
-      full = λ world origin same runs within caused. caused;
+      runs = λ world past handed runs within listed. runs;
+      full = λ world past handed runs within listed caused. caused;
       space = λ uber entries used. used;
     }
 
+-- What turns left that go on after turns.
+last_then : (start : Turns) (one two : List TurnTaken)
+    → last_left start (one ++ two) ≡ last_left (last_left start one) two
+last_then start [] two = refl
+last_then start (turn ∷ one) two = last_then turn.left one two
+
+listed_split : (banks : ℕ → Disk) (start : Turns) (one two : List TurnTaken) → AreListedWith banks start (one ++ two)
+    → AreListedWith banks start one × AreListedWith banks (last_left start one) two
+listed_split banks start [] two listed = (tt, listed)
+listed_split banks start (turn ∷ one) two listed =
+    let rest = listed_split banks turn.left one two listed.1 in ((listed.0, rest.0), rest.1)
+
 -- Turns after turns.
-module _ (script : Script) (start middle now : Turns) (first : HasCome script start middle)
-    (second : HasCome script middle now) where
+module _ (script : Script) (start middle now : Turns) (one two : List TurnTaken) (first : HasCome script start one middle)
+    (second : HasCome script middle two now) where
+  -- what they left
+  ends : last_left start (one ++ two) ≡ now
+  ends = last_then start one two ∙ ap (λ (turns : Turns). last_left turns two) first.ends ∙ second.ends
+
+  -- with whose banks items were listed
+  split : (banks : ℕ → Disk) → AreListedWith banks start (one ++ two)
+      → AreListedWith banks start one × AreListedWith banks middle two
+  split banks listed = let parts = listed_split banks start one two listed in (
+    parts.0,
+    subst (λ (turns : Turns). AreListedWith banks turns two) first.ends parts.1,
+  )
+
   parity_is : now.state.core.pool.uber.parity ≡ start.state.core.pool.uber.parity
   parity_is = second.parity ∙ first.parity
 
@@ -112,8 +141,9 @@ module _ (script : Script) (start middle now : Turns) (first : HasCome script st
 
   -- the devices that have to be borne in both
   by : (count_of middle.state.core.pool.out ≤ middle.state.core.pool.uber.parity)
-      ⊎ (middle.state.core.pool.uber.parity < count_of middle.state.core.pool.out) → HasCome script start now
+      ⊎ (middle.state.core.pool.uber.parity < count_of middle.state.core.pool.out) → HasCome script start (one ++ two) now
   by (inl few) = record {
+    ends = ends;
     later = later_trans first.later second.later;
     parity = parity_is;
     widths = second.widths ∙ first.widths;
@@ -129,17 +159,19 @@ module _ (script : Script) (start middle now : Turns) (first : HasCome script st
     stopped = λ many. absurd (let more = count_grows start.state.core.pool.out middle.state.core.pool.out first.out.still in
         let same = first.parity in omega (arith, more, few, many, same));
     within = second.within;
-    runs = λ world origin same runs within. second.runs world origin same
-        (first.runs world origin same runs
-        (λ device out. within device (second.from_start few device (first.within device out))))
-        within;
-    full = λ world origin same runs within caused.
+    runs = λ world past same runs within listed. let parts = split past.banks listed in
+        second.runs world past same
+        (first.runs world past same runs
+        (λ device out. within device (second.from_start few device (first.within device out))) parts.0)
+        within parts.1;
+    full = λ world past same runs within listed caused. let parts = split past.banks listed in
         let earlier : IsWithin first.borne world.setting.failed = λ device out. within device (second.from_start few device (first.within device out)) in
-        second.full world origin same (first.runs world origin same runs earlier) within
-        (first.full world origin same runs earlier caused);
+        second.full world past same (first.runs world past same runs earlier parts.0) within parts.1
+        (first.full world past same runs earlier parts.0 caused);
     space = λ uber entries used. second.space uber entries (first.space uber entries used);
   }
   by (inr many) = record {
+    ends = ends;
     later = later_trans first.later second.later;
     parity = parity_is;
     widths = second.widths ∙ first.widths;
@@ -154,34 +186,38 @@ module _ (script : Script) (start middle now : Turns) (first : HasCome script st
     from_start = first.from_start;
     stopped = first.stopped;
     within = λ device out. second.out.still device (first.within device out);
-    runs = λ world origin same runs within. second.runs world origin same
-        (first.runs world origin same runs within)
-        (λ device out. absurd (none_out device (second.stopped many device out)));
-    full = λ world origin same runs within caused. second.full world origin same
-        (first.runs world origin same runs within)
-        (λ device out. absurd (none_out device (second.stopped many device out)))
-        (first.full world origin same runs within caused);
+    runs = λ world past same runs within listed. let parts = split past.banks listed in
+        second.runs world past same
+        (first.runs world past same runs within parts.0)
+        (λ device out. absurd (none_out device (second.stopped many device out))) parts.1;
+    full = λ world past same runs within listed caused. let parts = split past.banks listed in
+        second.full world past same
+        (first.runs world past same runs within parts.0)
+        (λ device out. absurd (none_out device (second.stopped many device out))) parts.1
+        (first.full world past same runs within parts.0 caused);
     space = λ uber entries used. second.space uber entries (first.space uber entries used);
   }
 
-  pub came_on : HasCome script start now
+  pub came_on : HasCome script start (one ++ two) now
   came_on = by (few_or_many middle.state.core.pool.out middle.state.core.pool.uber.parity)
 
 -- One turn, in which these items were listed.
-module _ (script : Script) (before after : Turns) (goes : TurnGoesOn before.state after.state)
+module _ (script : Script) (actor : ℕ) (before after : Turns) (goes : TurnGoesOn before.state after.state)
     (space : KeepsUsing script before after) (more : List Item) (items : after.items ≡ before.items ++ more)
     (told : (index listed : ℕ) (entry : Entry) → CallAt after.items index entry
     → entry.answer ≡ answer.TooManyFailed listed → CallAt before.items index entry
     ⊎ ((before.state.core.pool.uber.parity < count_of listed) × IsWithin listed after.state.core.pool.out))
-    (runs : (world : World) (origin : Disk) → world.handed ≡ handed_by script
+    (runs : (world : World) (past : Past) → world.handed ≡ handed_by script
     → (count_of before.state.core.pool.out ≤ before.state.core.pool.uber.parity
     → IsWithin before.state.core.pool.out world.setting.failed)
-    → Runs world script origin before.state before.items before.clients
-    → Runs world script origin after.state after.items after.clients)
+    → IsListedWith past.banks before.items after.items after.state.disk
+    → Runs world script past before.state before.items before.clients
+    → Runs world script past after.state after.items after.clients)
     (full : FullStays script before after) where
   turn : (count_of before.state.core.pool.out ≤ before.state.core.pool.uber.parity)
-      ⊎ (before.state.core.pool.uber.parity < count_of before.state.core.pool.out) → HasCome script before after
+      ⊎ (before.state.core.pool.uber.parity < count_of before.state.core.pool.out) → HasCome script before (taken_by actor after ∷ []) after
   turn (inl few) = record {
+    ends = refl;
     later = goes.later;
     parity = goes.parity;
     widths = goes.widths;
@@ -195,11 +231,12 @@ module _ (script : Script) (before after : Turns) (goes : TurnGoesOn before.stat
     from_start = λ still device out. out;
     stopped = λ many. absurd (omega (arith, few, many));
     within = goes.out.still;
-    runs = λ world origin same stood within. runs world origin same (λ still. within) stood;
-    full = λ world origin same stood within. full world origin same stood;
+    runs = λ world past same stood within listed. runs world past same (λ still. within) listed.0 stood;
+    full = λ world past same stood within listed. full world past same stood;
     space = space;
   }
   turn (inr many) = record {
+    ends = refl;
     later = goes.later;
     parity = goes.parity;
     widths = goes.widths;
@@ -213,12 +250,13 @@ module _ (script : Script) (before after : Turns) (goes : TurnGoesOn before.stat
     from_start = λ few. absurd (omega (arith, few, many));
     stopped = λ still device out. out;
     within = λ device out. absurd (none_out device out);
-    runs = λ world origin same stood within. runs world origin same (λ few. absurd (omega (arith, few, many))) stood;
-    full = λ world origin same stood within. full world origin same stood;
+    runs = λ world past same stood within listed. runs world past same (λ few. absurd (omega (arith, few, many)))
+        listed.0 stood;
+    full = λ world past same stood within listed. full world past same stood;
     space = space;
   }
 
-  pub came_turn : HasCome script before after
+  pub came_turn : HasCome script before (taken_by actor after ∷ []) after
   came_turn = turn (few_or_many before.state.core.pool.out before.state.core.pool.uber.parity)
 
 -- Where nothing was listed, nothing more is told.

@@ -78,7 +78,7 @@ module _ (script : Script) (actor : ℕ) (before after : Station) (clients news 
   free_no_put same = cc
 
   -- A free is answered at once.
-  pub free_at_once : Comes script before after clients news
+  pub free_at_once : Comes script actor before after clients news
   free_at_once =
       let of = frees_of before.state.core after.state.core id given frees.frees in
       comes_at_once script actor before after clients news takes call given idle next
@@ -89,7 +89,7 @@ module _ (script : Script) (actor : ℕ) (before after : Station) (clients news 
       (λ full. absurd (put_alone kind.Free given free_no_put of.0 full))
       (frees_calls before.state.core after.state.core id given takes.schedule.going.calls frees.frees frees.under
       takes.schedule.going.are)
-      (λ world origin runs.
+      (λ world past runs.
       let map = map_of world.handed world.opening before.items in
       let entry = first_entry call actor before given in (
         free_right world before.items entry asked of.1

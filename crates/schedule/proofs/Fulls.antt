@@ -35,8 +35,10 @@ use Rattle.schedule.specs.declared.client.Client.{Client}
 use Rattle.schedule.specs.declared.client.Work.{Work}
 use Rattle.schedule.specs.declared.client.Work.TheVariants as work
 use Rattle.schedule.specs.Caused.{FullIsCaused}
-use Rattle.schedule.specs.Coming.{Turns, IsSchedule}
+use Rattle.schedule.specs.Coming.{IsSchedule}
+use Rattle.schedule.specs.Turns.{Turns}
 use Rattle.schedule.specs.Running.{IsWorkOf, IsWorkFor, AreGoing, Runs}
+use Rattle.schedule.specs.Moments.{Past}
 
 -- ---- the ids that are reserved
 
@@ -102,11 +104,11 @@ reserved_put script core clients opening id going there =
 
 -- Where these turns have come to what stands, the map that the run began with and the script's puts have too many ids.
 abbrev pub HasManyAt : Script → Turns → Type 0
-HasManyAt script turns = (world : World) (origin : Disk) → world.handed ≡ handed_by script
-    → Runs world script origin turns.state turns.items turns.clients → HasTooManyIds script world.opening
+HasManyAt script turns = (world : World) (past : Past) → world.handed ≡ handed_by script
+    → Runs world script past turns.state turns.items turns.clients → HasTooManyIds script world.opening
 
-module _ (script : Script) (turns : Turns) (schedule : IsSchedule script turns) (world : World) (origin : Disk)
-    (runs : Runs world script origin turns.state turns.items turns.clients) where
+module _ (script : Script) (turns : Turns) (schedule : IsSchedule script turns) (world : World) (past : Past)
+    (runs : Runs world script past turns.state turns.items turns.clients) where
   -- An id of a block is one of the map that the run began with, or one that a call of the script puts,
   block_put : (id : ℕ) → is_member nat_eq (ids_of turns.state.core.pool.blocks.table.entries) id ≡ true
       → IsHeldOrPut script world.opening id
@@ -130,19 +132,19 @@ pub full_put : (script : Script) (turns : Turns) → IsSchedule script turns →
     (id : ℕ) → slice_get (calls_of script actor) number ≡ Some call → call.kind ≡ kind.Put → call.id ≡ Some id
     → IsFull turns.state.core.pool.blocks.table id → HasManyAt script turns
 unfolding ids_in_use
-full_put script turns schedule actor number call id next asked id_is full world origin handed runs =
+full_put script turns schedule actor number call id next asked id_is full world past handed runs =
     let known = known_ids turns.state.core.pool.blocks.table in
     one_too_many script world.opening (λ other. is_member nat_eq known other ≡ true) id (unique_keys nat_eq known)
     (λ there. false≢true (sym full.others ∙ there)) (unique_distinct known) full.all_used (unique_among known)
     (call_puts script world.opening actor number call id next asked id_is)
-    (known_put script turns schedule world origin runs)
+    (known_put script turns schedule world past runs)
 
 -- ---- what a turn lists
 
 -- Answers that the table is full have their cause after the turn, if they had it before.
 abbrev pub FullStays : Script → Turns → Turns → Type 0
-FullStays script before after = (world : World) (origin : Disk) → world.handed ≡ handed_by script
-    → Runs world script origin before.state before.items before.clients
+FullStays script before after = (world : World) (past : Past) → world.handed ≡ handed_by script
+    → Runs world script past before.state before.items before.clients
     → FullIsCaused script world.opening before.items → FullIsCaused script world.opening after.items
 
 -- A new answer that has its cause,
@@ -175,20 +177,20 @@ full_group script opening items group caused = record {
 module _ (script : Script) (before after : Turns) where
   -- A turn that lists nothing,
   pub full_same : after.items ≡ before.items → FullStays script before after
-  full_same items world origin handed runs caused = subst (FullIsCaused script world.opening) (sym items) caused
+  full_same items world past handed runs caused = subst (FullIsCaused script world.opening) (sym items) caused
 
   -- one that lists an answer,
   pub full_answer : (last : Entry) → after.items ≡ before.items ++ CallItem last ∷ []
       → (last.answer ≡ answer.Full → HasManyAt script before) → FullStays script before after
-  full_answer last items many world origin handed runs caused =
+  full_answer last items many world past handed runs caused =
       subst (FullIsCaused script world.opening) (sym items)
-      (full_entry script world.opening before.items last (λ is. many is world origin handed runs) caused)
+      (full_entry script world.opening before.items last (λ is. many is world past handed runs) caused)
 
   -- and one that lists a group before the answer to the sync that made it.
   pub full_synced : (group : GroupItem) (last : Entry)
       → after.items ≡ (before.items ++ Group group ∷ []) ++ CallItem last ∷ [] → last.answer ≢ answer.Full
       → FullStays script before after
-  full_synced group last items other world origin handed runs caused =
+  full_synced group last items other world past handed runs caused =
       subst (FullIsCaused script world.opening) (sym items)
       (full_entry script world.opening (before.items ++ Group group ∷ []) last (λ is. absurd (other is))
       (full_group script world.opening before.items group caused))

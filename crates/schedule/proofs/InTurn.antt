@@ -1,34 +1,99 @@
 -- Whose turn is next, and steps after steps.
-use Rattle.std.proofs.Common.{◌≡◌, ℕ, ◌+◌, ◌<◌, ◌≤◌, List, length, Option, Some, None, zero, suc, refl, sym, ◌∙◌, ap, subst, arith}
+use Rattle.std.proofs.Common.{◌≡◌, ℕ, ◌+◌, ◌<◌, ◌≤◌, List, length, Option, Some, None, zero, suc, refl, sym, ◌∙◌, ap, subst, arith, [], ◌++◌, append_assoc, append-nil, ◌∷◌}
 use Rattle.std.specs.Prelude.{Bool, true, false, ◌||◌, if◌then◌else◌, is_some, slice_get}
 use Rattle.std.proofs.lemmas.Bool.{lt-ltb, le-ltb, ltb-true, ltb-false, true≢false}
 use Rattle.std.proofs.lemmas.Option.{slice_get_within}
+use Rattle.std.proofs.lemmas.List.{append-nil}
 use Rattle.client_script.specs.InOrder.{given_of}
 use Rattle.client_script.specs.Script.{Script}
 use Rattle.schedule.specs.declared.client.Client.{Client}
 use Rattle.schedule.specs.declared.client.UnderWay.{UnderWay}
-use Rattle.schedule.specs.InTurn.{Goes, HasGone, InRest, InRound, IsCallOf, Replay, Steps, after_round, cursor_after, has_left, has_left_at, is_any_busy, is_busy_at, is_under_way, turn_at, turn_in_rest}
+use Rattle.schedule.specs.InTurn.{Goes, HasGone, InRest, InRound, IsCallOf, Replay, Steps, after_round, cursor_after, has_left, has_left_at, is_any_busy, is_busy_at, is_under_way, turn_at, turn_in_rest, HaveTaken, IsTurnOf, IsStepOf}
 use Rattle.schedule.specs.Left.{left_under}
 use Rattle.schedule.specs.Replaying.{AreIdle, left_at, left_in}
 use Rattle.schedule.proofs.Left.{some_left}
+use Rattle.schedule.specs.Turns.{TurnTaken, Turns, last_left, taken_by}
 
 -- ---- steps
 
-pub gone_none : (script : Script) (start : Replay) → HasGone script start start
-gone_none script start = record { steps = 0; goes = refl }
+pub gone_none : (script : Script) (start : Replay) → HasGone script start [] start
+gone_none script start = record { steps = 0; goes = (refl, refl) }
 
-pub gone_more : (script : Script) (start middle now : Replay) → HasGone script start middle → Steps script middle now
-    → HasGone script start now
-gone_more script start middle now gone step =
-    record { steps = suc gone.steps; goes = (middle, gone.goes, step) }
+pub gone_more : (script : Script) (start middle now : Replay) (passed more : List TurnTaken)
+    → HasGone script start passed middle → Steps script middle passed more now → HasGone script start more now
+gone_more script start middle now passed more gone step =
+    record { steps = suc gone.steps; goes = (middle, passed, gone.goes, step) }
 
-pub gone_then : (script : Script) (start middle now : Replay) → HasGone script start middle
-    → HasGone script middle now → HasGone script start now
-gone_then script start middle now first second = by second.steps now second.goes
+-- A step is the same after other turns.
+step_after : (script : Script) (before after : Replay) (earlier passed more : List TurnTaken)
+    → Steps script before passed more after → Steps script before (earlier ++ passed) (earlier ++ more) after
+step_after script before after earlier passed more step = record {
+  turn = by (turn_at script before.turns.clients before.cursor) step.turn;
+  cursor = step.cursor;
+}
   where
-    by : (steps : ℕ) (end : Replay) → Goes script steps middle end → HasGone script start end
-    by zero end same = subst (HasGone script start) (sym same) first
-    by (suc steps) end goes = gone_more script start goes.0 end (by steps goes.0 goes.1) goes.2
+    by : (whose : Option ℕ) → IsStepOf script before passed more after whose
+        → IsStepOf script before (earlier ++ passed) (earlier ++ more) after whose
+    by None is = (is.0, is.1, ap (λ (l : List TurnTaken). earlier ++ l) is.2)
+    by (Some actor) is = (
+      is.0,
+      is.1,
+      ap (λ (l : List TurnTaken). earlier ++ l) is.2
+          ∙ sym (append_assoc earlier passed (taken_by actor after.turns ∷ [])),
+    )
+
+pub gone_then : (script : Script) (start middle now : Replay) (one two : List TurnTaken)
+    → HasGone script start one middle → HasGone script middle two now → HasGone script start (one ++ two) now
+gone_then script start middle now one two first second = by second.steps now two second.goes
+  where
+    by : (steps : ℕ) (end : Replay) (more : List TurnTaken) → Goes script steps middle more end
+        → HasGone script start (one ++ more) end
+    by zero end more goes = subst (λ (l : List TurnTaken). HasGone script start l end)
+        (sym (append-nil one) ∙ ap (λ (l : List TurnTaken). one ++ l) (sym goes.1))
+        (subst (HasGone script start one) (sym goes.0) first)
+    by (suc steps) end more goes = gone_more script start goes.0 end (one ++ goes.1) (one ++ more)
+        (by steps goes.0 goes.1 goes.2) (step_after script goes.0 end one goes.1 more goes.3)
+
+-- ---- what the turns are
+
+-- A turn more was taken at the end.
+pub taken_more : (script : Script) (start : Turns) (passed : List TurnTaken) (turn : TurnTaken)
+    → HaveTaken script start passed → IsTurnOf script turn.actor (last_left start passed) turn.left
+    → HaveTaken script start (passed ++ turn ∷ [])
+taken_more script start [] turn taken is = (is, tt)
+taken_more script start (first ∷ passed) turn taken is =
+    (taken.0, taken_more script first.left passed turn taken.1 is)
+
+pub left_more : (start : Turns) (passed : List TurnTaken) (turn : TurnTaken)
+    → last_left start (passed ++ turn ∷ []) ≡ turn.left
+left_more start [] turn = refl
+left_more start (first ∷ passed) turn = left_more first.left passed turn
+
+-- These turns were taken from one state to another.
+abbrev Are : Script → Turns → List TurnTaken → Turns → Type 0
+Are script start passed end = HaveTaken script start passed × (last_left start passed ≡ end)
+
+-- The steps of a replay are turns that were taken.
+pub gone_taken : (script : Script) (start now : Replay) (passed : List TurnTaken) → HasGone script start passed now
+    → HaveTaken script start.turns passed × (last_left start.turns passed ≡ now.turns)
+gone_taken script start now passed gone = by gone.steps now passed gone.goes
+  where
+    one : (middle end : Replay) (before more : List TurnTaken) (whose : Option ℕ)
+        → IsStepOf script middle before more end whose → Are script start.turns before middle.turns
+        → Are script start.turns more end.turns
+    one middle end before more None step are =
+        subst (λ (l : List TurnTaken). Are script start.turns l end.turns) (sym step.2) (are.0, are.1 ∙ sym step.0)
+    one middle end before more (Some actor) step are = subst (λ (l : List TurnTaken). Are script start.turns l end.turns) (sym step.2) (
+      taken_more script start.turns before (taken_by actor end.turns) are.0
+          (subst (λ (turns : Turns). IsTurnOf script actor turns end.turns) (sym are.1) step.0),
+      left_more start.turns before (taken_by actor end.turns),
+    )
+
+    by : (steps : ℕ) (end : Replay) (passed : List TurnTaken) → Goes script steps start passed end → Are script start.turns passed end.turns
+    by zero end passed goes = subst (λ (l : List TurnTaken). Are script start.turns l end.turns) (sym goes.1)
+        (tt, sym (ap (λ (r : Replay). r.turns) goes.0))
+    by (suc steps) end passed goes = one goes.0 end goes.1 passed
+        (turn_at script goes.0.turns.clients goes.0.cursor) goes.3.turn (by steps goes.0 goes.1 goes.2)
 
 -- ---- clients
 

@@ -18,8 +18,8 @@ use Rattle.core_state.proofs.Since.{since_now}
 use Rattle.open_pool.proofs.Committing.{since_wider}
 use Rattle.journal_law.specs.Moments.{KeepsUntil}
 use Rattle.journal_law.specs.Widths.{HaveWidthOfEach}
-use Rattle.journal_law.proofs.Moments.{moved, with_bank, bank_below, bank_at}
-use Rattle.schedule.specs.Moments.{KeepsTurnByTurn, KeepsOn}
+use Rattle.journal_law.proofs.Moments.{moved}
+use Rattle.schedule.specs.Moments.{KeepsTurnByTurn, KeepsOn, KeptSoFar, Past}
 
 -- The last group of a journal, and at most one that was begun after it, alike to the groups known.
 pub record AreLatest (handed : Handed) (opening : Map) (known : List Kept) (items : List Item) (item : GroupItem)
@@ -65,7 +65,7 @@ module _ {setting : Setting} {handed : Handed} {opening : Map} {items : List Ite
 module _ {setting : Setting} {handed : Handed} {opening : Map} {known : List Kept} {items : List Item}
     {item : GroupItem} {last : Kept} {begun : List Kept} where
   -- What is certain now the bank keeps, and each image from now on.
-  on_now : {now : Disk} → AreLatest handed opening known items item last begun → Knows setting last begun now
+  pub on_now : {now : Disk} → AreLatest handed opening known items item last begun → Knows setting last begun now
       → KeepsOn setting handed opening items item last begun now now
   on_now {now = now} are knows = record {
     later = later_refl now;
@@ -77,7 +77,7 @@ module _ {setting : Setting} {handed : Handed} {opening : Map} {known : List Kep
   }
 
   -- So the bank kept the last group until then.
-  until_of : {from now : Disk} → AreLatest handed opening known items item last begun
+  pub until_of : {from now : Disk} → AreLatest handed opening known items item last begun
       → KeepsOn setting handed opening items item last begun from now
       → KeepsUntil setting handed opening known items from now
   until_of are on = record {
@@ -100,120 +100,54 @@ module _ {setting : Setting} {handed : Handed} {opening : Map} {known : List Kep
   }
 
 -- The opening's item alone.
-pub turns_first : {setting : Setting} {handed : Handed} {opening : Map} {known : List Kept} {origin now : Disk}
-    {item : Item} {group : GroupItem} {last : Kept} {begun : List Kept} → Later origin now
-    → KeepsThroughout setting handed opening known (item ∷ []) origin now
-    → AreLatest handed opening known (item ∷ []) group last begun → Knows setting last begun now
-    → (by : KeepsTurnByTurn setting handed opening known (item ∷ []) origin now)
-    × KeepsOn setting handed opening (item ∷ []) group last begun (by.bank 1) now
-turns_first {setting = setting} {handed = handed} {opening = opening} {known = known} {now = now} {item = item} later
-    opened are knows = (
-      record { bank = λ count. now; later = later; opened = opened; each = each; ends = refl },
-      on_now are knows,
-    )
-  where
-    each : (count : ℕ) → 1 ≤ count → count ≤ length (item ∷ [])
-        → KeepsUntil setting handed opening known (take count (item ∷ [])) now now
-    each count from below =
-        let end : count ≡ 1 = omega (arith, from, below) in
-        subst (λ (k : ℕ). KeepsUntil setting handed opening known (take k (item ∷ [])) now now) (sym end)
-        (until_of are (on_now are knows))
+pub kept_first : {setting : Setting} {handed : Handed} {opening : Map} {known : List Kept} {past : Past} {now : Disk}
+    {item : Item} → past.banks 1 ≡ now → Later past.origin now
+    → KeepsThroughout setting handed opening known (item ∷ []) past.origin now
+    → KeptSoFar setting handed opening known (item ∷ []) past
+kept_first {setting = setting} {handed = handed} {opening = opening} {known = known} {past = past} {item = item} here
+    later opened = record {
+      later = subst (λ (d : Disk). Later past.origin d) (sym here) later;
+      opened = subst (λ (d : Disk). KeepsThroughout setting handed opening known (item ∷ []) past.origin d) (sym here)
+          opened;
+      each = λ count from below. absurd (omega (arith, from, below));
+    }
 
 module _ {setting : Setting} {handed : Handed} {opening : Map} {known : List Kept} {items : List Item}
-    {origin now : Disk} (by : KeepsTurnByTurn setting handed opening known items origin now) (some : 1 ≤ length items)
-  where
-    -- The devices go on to this bank, and the journal does not grow.
-    module _ (next : Disk) where
-      abbrev bank_on : ℕ → Disk
-      bank_on = with_bank by.bank (length items + 1) next
+    {past : Past} (by : KeptSoFar setting handed opening known items past) (some : 1 ≤ length items) {now : Disk}
+    {item : GroupItem} {last : Kept} {begun : List Kept}
+    (are : AreLatest handed opening known items item last begun)
+    (on : KeepsOn setting handed opening items item last begun (past.banks (length items)) now) where
+  -- Until now the bank kept the last group of so many items, if this is the bank of one more.
+  until : (count : ℕ) → past.banks (length items + 1) ≡ now → 1 ≤ count → count ≤ length items
+      → KeepsUntil setting handed opening known (take count items) (past.banks count) (past.banks (count + 1))
+  until count next from below = ⊎_elim
+      (λ (less : count < length items). by.each count from less)
+      (λ (not_less : length items ≤ count).
+      let end : count ≡ length items = omega (arith, not_less, below) in
+      moved setting handed opening known items _ (past.banks (length items)) now _ _
+      (ap (λ (k : ℕ). take k items) end ∙ take-length items) (ap past.banks end)
+      (ap (λ (k : ℕ). past.banks (k + 1)) end ∙ next) (until_of are on))
+      (cases_lt count (length items))
 
-      on_below : (count : ℕ) → count ≤ length items → bank_on count ≡ by.bank count
-      on_below count below = bank_below by.bank (length items + 1) next count (omega (arith, below))
+  -- One item more is listed with this bank,
+  pub kept_more : (new : Item) → past.banks (length items + 1) ≡ now
+      → KeptSoFar setting handed opening known (items ++ new ∷ []) past
+  kept_more new next = record {
+    later = by.later;
+    opened = subst (λ (l : List Item). KeepsThroughout setting handed opening known l past.origin (past.banks 1))
+        (sym (take-append-le 1 items (new ∷ []) some)) by.opened;
+    each = λ count from below.
+        let low : count ≤ length items = omega (arith, below, length-append items (new ∷ [])) in
+        subst (λ (l : List Item). KeepsUntil setting handed opening known l (past.banks count) (past.banks (count + 1)))
+        (sym (take-append-le count items (new ∷ []) low)) (until count next from low);
+  }
 
-      each_on : KeepsUntil setting handed opening known items (by.bank (length items)) next
-          → (count : ℕ) → 1 ≤ count → count ≤ length items
-          → KeepsUntil setting handed opening known (take count items) (bank_on count) (bank_on (count + 1))
-      each_on until count from below = ⊎_elim
-          (λ (less : count < length items).
-          moved setting handed opening known (take count items) _ (by.bank count) (by.bank (count + 1)) _ _ refl
-          (on_below count below) (on_below (count + 1) (omega (arith, less))) (by.each count from below))
-          (λ (not_less : length items ≤ count).
-          let end : count ≡ length items = omega (arith, not_less, below) in
-          moved setting handed opening known items _ (by.bank (length items)) next _ _
-          (ap (λ (k : ℕ). take k items) end ∙ take-length items)
-          (ap bank_on end ∙ on_below (length items) (omega arith))
-          (ap (λ (k : ℕ). bank_on (k + 1)) end ∙ bank_at by.bank (length items + 1) next) until)
-          (cases_lt count (length items))
-
-      pub turns_go : {item : GroupItem} {last : Kept} {begun : List Kept}
-          → AreLatest handed opening known items item last begun
-          → KeepsOn setting handed opening items item last begun (by.bank (length items)) next
-          → (go : KeepsTurnByTurn setting handed opening known items origin next)
-          × KeepsOn setting handed opening items item last begun (go.bank (length items)) next
-      turns_go {item = item} {last = last} {begun = begun} are on = (
-        record {
-          bank = bank_on;
-          later = subst (λ (d : Disk). Later origin d) (sym (on_below 1 some)) by.later;
-          opened = subst (λ (d : Disk). KeepsThroughout setting handed opening known (take 1 items) origin d)
-              (sym (on_below 1 some)) by.opened;
-          each = each_on (until_of are on);
-          ends = bank_at by.bank (length items + 1) next;
-        },
-        subst (λ (d : Disk). KeepsOn setting handed opening items item last begun d next)
-            (sym (on_below (length items) (omega arith))) on,
-      )
-
-    -- One item more is listed now.
-    module _ (new : Item) where
-      abbrev more : List Item
-      more = items ++ new ∷ []
-
-      abbrev bank_more : ℕ → Disk
-      bank_more = with_bank by.bank (length items + 1 + 1) now
-
-      long : length more ≡ length items + 1
-      long = length-append items (new ∷ [])
-
-      more_below : (count : ℕ) → count ≤ length items + 1 → bank_more count ≡ by.bank count
-      more_below count below = bank_below by.bank (length items + 1 + 1) now count (omega (arith, below))
-
-      bank_listed : bank_more (length items + 1) ≡ now
-      bank_listed = more_below (length items + 1) (omega arith) ∙ by.ends
-
-      take_before : (count : ℕ) → count ≤ length items → take count more ≡ take count items
-      take_before count below = take-append-le count items (new ∷ []) below
-
-      each_more : KeepsUntil setting handed opening known more now now → (count : ℕ) → 1 ≤ count → count ≤ length more
-          → KeepsUntil setting handed opening known (take count more) (bank_more count) (bank_more (count + 1))
-      each_more until count from below = ⊎_elim
-          (λ (less : count < length items + 1).
-          moved setting handed opening known (take count items) _ (by.bank count) (by.bank (count + 1)) _ _
-          (take_before count (omega (arith, less))) (more_below count (omega (arith, less)))
-          (more_below (count + 1) (omega (arith, less))) (by.each count from (omega (arith, less))))
-          (λ (not_less : length items + 1 ≤ count).
-          let end : count ≡ length items + 1 = omega (arith, not_less, below, long) in
-          moved setting handed opening known more _ now now _ _
-          (ap (λ (k : ℕ). take k more) (end ∙ sym long) ∙ take-length more)
-          (ap bank_more end ∙ bank_listed)
-          (ap (λ (k : ℕ). bank_more (k + 1)) end ∙ bank_at by.bank (length items + 1 + 1) now) until)
-          (cases_lt count (length items + 1))
-
-      pub turns_list : {item : GroupItem} {last : Kept} {begun : List Kept}
-          → AreLatest handed opening known (items ++ new ∷ []) item last begun → Knows setting last begun now
-          → (listed : KeepsTurnByTurn setting handed opening known (items ++ new ∷ []) origin now)
-          × KeepsOn setting handed opening (items ++ new ∷ []) item last begun
-          (listed.bank (length (items ++ new ∷ []))) now
-      turns_list {item = item} {last = last} {begun = begun} are knows = (
-        record {
-          bank = bank_more;
-          later = subst (λ (d : Disk). Later origin d) (sym (more_below 1 (omega (arith, some)))) by.later;
-          opened = subst (λ (l : List Item). KeepsThroughout setting handed opening known l origin (bank_more 1))
-              (sym (take_before 1 some))
-              (subst (λ (d : Disk). KeepsThroughout setting handed opening known (take 1 items) origin d)
-              (sym (more_below 1 (omega (arith, some)))) by.opened);
-          each = each_more (until_of are (on_now are knows));
-          ends = ap (λ (k : ℕ). bank_more (k + 1)) long ∙ bank_at by.bank (length items + 1 + 1) now;
-        },
-        subst (λ (d : Disk). KeepsOn setting handed opening more item last begun d now)
-            (sym (ap bank_more long ∙ bank_listed)) (on_now are knows),
-      )
+  -- or the run ends with it.
+  pub kept_to_end : past.banks (length items + 1) ≡ now
+      → KeepsTurnByTurn setting handed opening known items past now
+  kept_to_end next = record {
+    later = by.later;
+    opened = by.opened;
+    each = λ count from below. until count next from below;
+    ends = next;
+  }

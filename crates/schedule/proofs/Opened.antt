@@ -22,6 +22,7 @@ use Rattle.schedule.specs.Running.{IsGoing, Runs}
 use Rattle.schedule.specs.Replaying.{blank_client, blank_clients}
 use Rattle.schedule.proofs.Beginning.{recorded_first}
 use Rattle.schedule.proofs.Theirs.{none_some}
+use Rattle.schedule.specs.Moments.{Past}
 
 -- the core of a pool of which no call is under way
 abbrev pub resting : Pool → Core
@@ -82,17 +83,17 @@ module _ {setting : Setting} {first : Kept} {later : List Kept} {pool : Pool} {o
   }
 
   -- So a run of turns begins, with its journal's first group.
-  pub runs_first : Later old mid → HasBank pool.uber pool.out mid → AreUnderWay pool.blocks []
+  pub runs_first : (past : Past) → past.origin ≡ old → past.banks 1 ≡ mid → Later old mid → HasBank pool.uber pool.out mid → AreUnderWay pool.blocks []
       → (script : Script) (count : ℕ)
-      → Runs opened_world script old (at_disk (resting pool) mid) (Group (first_item pool) ∷ []) (blank_clients count)
-  runs_first opened_later bank rest script count = record {
+      → Runs opened_world script past (at_disk (resting pool) mid) (Group (first_item pool) ∷ []) (blank_clients count)
+  runs_first past origin here opened_later bank rest script count = record {
     last = begins.opened.next;
     begun = [];
     calls = [];
     commit = None;
     item = first_item pool;
     latest = latest_alone (first_item pool);
-    recorded = recorded_first handed may begins opened_later;
+    recorded = recorded_first handed may begins past origin here opened_later;
     stands = stands_first bank rest;
     theirs = record {
       of = λ call has. absurd (contains_none call has);

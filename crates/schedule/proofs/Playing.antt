@@ -1,5 +1,5 @@
 -- Turns of a script, one after the other.
-use Rattle.std.proofs.Common.{◌≡◌, ℕ, ◌+◌, ◌<◌, ◌≤◌, List, [], ◌∷◌, length, drop, get_or, Some, None, refl, sym, ◌∙◌, ap, subst, arith}
+use Rattle.std.proofs.Common.{◌≡◌, ℕ, ◌+◌, ◌<◌, ◌≤◌, List, [], ◌∷◌, length, drop, get_or, Some, None, refl, sym, ◌∙◌, ap, subst, arith, ◌++◌}
 use Rattle.std.specs.Prelude.{true, false, slice_get, Result, Ok, Err, OnErr}
 use Rattle.std.proofs.lemmas.List.{drop_more}
 use Rattle.bank_trait.specs.Disk.{Disk}
@@ -9,7 +9,7 @@ use Rattle.core_state.specs.JournalRoom.{Journal}
 use Rattle.core_turns.specs.Core.{Core, at_disk}
 use Rattle.schedule.specs.declared.client.Client.{Client}
 use Rattle.schedule.specs.declared.progress.Progress.{Progress}
-use Rattle.schedule.specs.Coming.{Turns, turns_of}
+use Rattle.schedule.specs.Turns.{Turns, turns_of, taken_by}
 use Rattle.schedule.specs.InTurn.{Cursor, InOrder, InRest, InRound, IsCallOf, IsStepOf, Replay, after_round, cursor_after, has_left_at, is_any_busy, is_busy_at, replay_at, replay_by, rest_after, turn_at, turns_by}
 use Rattle.schedule.specs.Playing.{HasPlayed, HasStopped, IsReady, most_turns}
 use Rattle.schedule.specs.Replaying.{AreIdle, HasTurn, HaveBegun}
@@ -26,14 +26,15 @@ at_err P (Err error) holds = holds
 pub played_none : (script : Script) (now : Replay) (room : ℕ) → IsReady script now.turns room
     → HasPlayed script now now room
 played_none script now room ready =
-    record { come = came_nowhere script now.turns; gone = gone_none script now; ready = ready }
+    record { passed = []; come = came_nowhere script now.turns [] refl; gone = gone_none script now; ready = ready }
 
 -- Turns go on after turns,
 pub played_then : (script : Script) (start middle now : Replay) (before after : ℕ)
     → HasPlayed script start middle before → HasPlayed script middle now after → HasPlayed script start now after
 played_then script start middle now before after first second = record {
-  come = came_on script start.turns middle.turns now.turns first.come second.come;
-  gone = gone_then script start middle now first.gone second.gone;
+  passed = first.passed ++ second.passed;
+  come = came_on script start.turns middle.turns now.turns first.passed second.passed first.come second.come;
+  gone = gone_then script start middle now first.passed second.passed first.gone second.gone;
   ready = second.ready;
 }
 
@@ -69,12 +70,15 @@ pub played_turn : (script : Script) (start : Replay) (before after : Turns) (tak
     → HasTurn script actor before after → counted ≡ taken + 1 → IsReady script after left
     → HasPlayed script start (replay_at after counted to) left
 played_turn script start before after taken counted room left actor from to played whose goes turn one ready = record {
-  come = came_on script start.turns before after played.come turn.come;
-  gone = gone_more script start (replay_at before taken from) (replay_at after counted to) played.gone (record {
-    turn = subst (IsStepOf script (replay_at before taken from) (replay_at after counted to)) (sym whose)
-        (turn.is, one);
-    cursor = sym goes;
-  });
+  passed = played.passed ++ taken_by actor after ∷ [];
+  come = came_on script start.turns before after played.passed (taken_by actor after ∷ []) played.come turn.come;
+  gone = gone_more script start (replay_at before taken from) (replay_at after counted to) played.passed
+      (played.passed ++ taken_by actor after ∷ []) played.gone (record {
+        turn = subst (IsStepOf script (replay_at before taken from) played.passed
+            (played.passed ++ taken_by actor after ∷ []) (replay_at after counted to)) (sym whose)
+            (turn.is, one, refl);
+        cursor = sym goes;
+      });
   ready = ready;
 }
 
@@ -84,11 +88,14 @@ pub played_past : (script : Script) (start : Replay) (turns : Turns) (taken room
     → turn_at script turns.clients from ≡ None → cursor_after script turns.clients from ≡ to
     → HasPlayed script start (replay_at turns taken to) room
 played_past script start turns taken room from to played whose goes = record {
+  passed = played.passed;
   come = played.come;
-  gone = gone_more script start (replay_at turns taken from) (replay_at turns taken to) played.gone (record {
-    turn = subst (IsStepOf script (replay_at turns taken from) (replay_at turns taken to)) (sym whose) (refl, refl);
-    cursor = sym goes;
-  });
+  gone = gone_more script start (replay_at turns taken from) (replay_at turns taken to) played.passed played.passed
+      played.gone (record {
+        turn = subst (IsStepOf script (replay_at turns taken from) played.passed played.passed
+            (replay_at turns taken to)) (sym whose) (refl, refl, refl);
+        cursor = sym goes;
+      });
   ready = played.ready;
 }
 

@@ -26,7 +26,7 @@ use Rattle.schedule.specs.declared.client.Client.{Client}
 use Rattle.schedule.specs.declared.client.UnderWay.{UnderWay}
 use Rattle.schedule.specs.declared.client.Work.TheVariants as work
 use Rattle.schedule.specs.Running.{IsGoing, IsSync, AreGoing, Runs}
-use Rattle.schedule.specs.Coming.{turns_of}
+use Rattle.schedule.specs.Turns.{turns_of}
 use Rattle.schedule.specs.Turned.{Station, LeavesBegun}
 use Rattle.schedule.specs.Comes.{TakesTurn, Comes}
 use Rattle.schedule.proofs.RightNext.{put_right}
@@ -39,6 +39,7 @@ use Rattle.schedule.proofs.TurnComes.{comes_on, comes_at_once, first_entry}
 use Rattle.schedule.proofs.Puts.{Refuses, put_no_sync, put_refused, unstored_plain, unstored_answers, unstored_map, rearranged_leaves}
 use Rattle.schedule.proofs.Lists.{gains_first}
 use Rattle.schedule.proofs.LeavesPool.{LeavesPool, leaves_commit, leaves_many, turn_still}
+use Rattle.schedule.specs.Moments.{Past}
 
 module _ (script : Script) (actor : ℕ) (before after : Station) (clients news : List Client)
     (takes : TakesTurn script actor before after clients news) (call : ScriptCall) (id : ℕ)
@@ -99,11 +100,11 @@ module _ (script : Script) (actor : ℕ) (before after : Station) (clients news 
         (calls_of_others clients actor before.client takes.was idle going.calls going.theirs)
         (gains_first (Putting run content) going.calls))
 
-    begins_stands : (world : World) (origin : Disk)
-        → (runs : Runs world script origin before.state before.items clients)
+    begins_stands : (world : World) (past : Past)
+        → (runs : Runs world script past before.state before.items clients)
         → Stands world.setting runs.last runs.begun (map_of world.handed world.opening before.items)
         (Putting run content ∷ runs.calls) runs.commit after.state
-    begins_stands world origin runs =
+    begins_stands world past runs =
         let map = map_of world.handed world.opening before.items in
         let calls : List Call = Putting run content ∷ runs.calls in
         subst (λ (d : Disk). Stands world.setting runs.last runs.begun map calls runs.commit (at_disk now d)) (sym disk)
@@ -112,24 +113,24 @@ module _ (script : Script) (actor : ℕ) (before after : Station) (clients news 
         (calls_of_others clients actor before.client takes.was idle runs.calls runs.theirs)
         (gains_first (Putting run content) runs.calls))
 
-    pub put_begins : Comes script before after clients news
+    pub put_begins : Comes script actor before after clients news
     put_begins = comes_on script actor before after clients news takes
         (turn_still before.state after.state change.uber change.out disk) leaves.0
         (answered_going after.client under_is ∙ one_less ∙ sym (answered_idle before.client idle))
         (omega (arith, begun_is, within)) (λ its_under is. omega (arith, begun_is)) begins_going
-        (λ world origin handed fits runs. runs_begins world script origin before.state after.state before.items clients
+        (λ world past handed fits listed runs. runs_begins world script past before.state after.state before.items clients
         news actor before.client after.client takes.changes takes.was runs idle (Putting run content ∷ runs.calls)
         (Putting run content) (work.Put run) change.uber disk leaves.1 (λ sync. sync)
         (gains_first (Putting run content) runs.calls) its refl
         (λ other is. ap (λ (c : ScriptCall). fill_bytes c.fill) (some_is (sym next ∙ is)))
-        (begins_stands world origin runs))
+        (begins_stands world past runs))
 
   -- A refusal leaves what stands.
-  refused_stands : LeavesBlocks old now → (world : World) (origin : Disk)
-      → (runs : Runs world script origin before.state before.items clients)
+  refused_stands : LeavesBlocks old now → (world : World) (past : Past)
+      → (runs : Runs world script past before.state before.items clients)
       → Stands world.setting runs.last runs.begun (map_of world.handed world.opening before.items) runs.calls
       runs.commit after.state
-  refused_stands leaves world origin runs =
+  refused_stands leaves world past runs =
       let map = map_of world.handed world.opening before.items in
       subst (λ (d : Disk). Stands world.setting runs.last runs.begun map runs.calls runs.commit (at_disk now d))
       (sym disk)
@@ -140,7 +141,7 @@ module _ (script : Script) (actor : ℕ) (before after : Station) (clients news 
   pub put_waits : (by : ℕ)
       → BeginsPutTurn before.state.core after.state.core actor id (length (fill_bytes call.fill)) (Busy by)
       → LeavesBegun actor call before after (Busy by)
-      → Comes script before after clients news
+      → Comes script actor before after clients news
   put_waits by waits leaves =
       let change = rearranged_leaves old now (leaves_rearranges old now waits.1) in
       let still : after.client.under_way ≡ None = ap (λ (c : Client). c.under_way) leaves.1 ∙ idle in
@@ -152,16 +153,16 @@ module _ (script : Script) (actor : ℕ) (before after : Station) (clients news 
       change.committing (leaves_commit old now change) (leaves_many old now change)
       was_no_sync (λ its_under is. absurd (none_some (sym still ∙ is))) idle still
       (put_refused_calls going.calls old now waits.1 going.are))
-      (λ world origin handed fits runs.
-      runs_waits world script origin before.state after.state before.items clients news
+      (λ world past handed fits listed runs.
+      runs_waits world script past before.state after.state before.items clients news
       actor before.client after.client takes.changes takes.was runs idle still change.uber disk
-      (refused_stands waits.1 world origin runs))
+      (refused_stands waits.1 world past runs))
 
   -- One is refused: too many devices are out, the table is full, no run of free sectors fits, or memory is wanting.
   pub put_at_once : (given : Answer)
       → BeginsPutTurn before.state.core after.state.core actor id (length (fill_bytes call.fill)) (Done given)
       → LeavesBegun actor call before after (Done given)
-      → Comes script before after clients news
+      → Comes script actor before after clients news
   put_at_once given is leaves =
       let refuses : Refuses old now given = put_refused old now id (length content) given is in
       let entry : Entry = first_entry call actor before given in
@@ -172,10 +173,10 @@ module _ (script : Script) (actor : ℕ) (before after : Station) (clients news 
       full_put script (turns_of before.state before.items clients) takes.schedule actor before.client.begun call
       id next asked id_is (subst (IsPutRefused old now id (length content)) full is).1)
       (put_refused_calls takes.schedule.going.calls old now refuses.leaves takes.schedule.going.are)
-      (λ world origin runs. (
+      (λ world past runs. (
         put_right world before.items entry asked (unstored_plain given refuses.unstored),
         subst (λ (m : Map). Stands world.setting runs.last runs.begun m runs.calls runs.commit after.state)
             (sym (unstored_map world.handed (map_of world.handed world.opening before.items) entry given
             refuses.unstored))
-            (refused_stands refuses.leaves world origin runs),
+            (refused_stands refuses.leaves world past runs),
       ))

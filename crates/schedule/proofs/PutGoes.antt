@@ -43,6 +43,7 @@ use Rattle.schedule.proofs.Answered.{answered_going}
 use Rattle.schedule.proofs.Syncs.{groups_know}
 use Rattle.schedule.proofs.LeavesPool.{LeavesPool, commit_still, leaves_commit, leaves_many}
 use Rattle.schedule.proofs.PutEnds.{IsGivenUp, IsWhole, fills_same, fills_calls, fills_stands, put_ended}
+use Rattle.schedule.specs.Moments.{Past}
 
 module _ (script : Script) (actor : ℕ) (before after : Station) (clients news : List Client)
     (takes : TakesTurn script actor before after clients news) (call : ScriptCall) (under : UnderWay) (run : PutRun)
@@ -85,7 +86,7 @@ module _ (script : Script) (actor : ℕ) (before after : Station) (clients news 
       fills_calls among.left going.calls old call run filled among.content fills asked_for.2 going.are among.gains
 
   -- With a world, the put has the bytes that the script hands it.
-  module _ (world : World) (origin : Disk) (runs : Runs world script origin before.state before.items clients) where
+  module _ (world : World) (past : Past) (runs : Runs world script past before.state before.items clients) where
     among_runs : IsAmong runs.calls actor run
     among_runs = put_among clients runs.calls actor before.client under run runs.theirs takes.was under_is does_is
 
@@ -155,18 +156,18 @@ module _ (script : Script) (actor : ℕ) (before after : Station) (clients news 
         (put_writes_calls among.left filled.0 nexts before.state after.state puts.filled next among.content writes
         filled.2 filled.1 first)
 
-    goes_runs : (world : World) (origin : Disk) → Runs world script origin before.state before.items clients
-        → Runs world script origin after.state before.items news
-    goes_runs world origin runs =
-        let mine = among_runs world origin runs in
-        let filled = filled_stands world origin runs puts.filled puts.fills in
+    goes_runs : (world : World) (past : Past) → Runs world script past before.state before.items clients
+        → Runs world script past after.state before.items news
+    goes_runs world past runs =
+        let mine = among_runs world past runs in
+        let filled = filled_stands world past runs puts.filled puts.fills in
         let map = map_of world.handed world.opening before.items in
         let nexts : List Call = Putting next mine.content ∷ mine.left in
         let first = gains_first (Putting next mine.content) mine.left in
         let since : GoesOnSince world runs.last runs.begun before.state.disk after.state.disk =
         put_writes_since world.setting runs.last runs.begun map mine.left filled.0 before.state after.state puts.filled
         next mine.content takes.is takes.lawful writes filled.1 runs.commit filled.2 in
-        runs_goes_on world script origin before.state after.state before.items clients news actor before.client
+        runs_goes_on world script past before.state after.state before.items clients news actor before.client
         after.client takes.changes takes.was runs (ap (λ (core : Core). core.pool.uber) writes.rest) goes.later since
         mine.left nexts (Putting run mine.content) (Putting next mine.content) under (work.Put next) under_is leaves.1
         no_sync (λ sync. sync) mine.gains first mine.its (still_its mine.its) refl (λ asked has. has)
@@ -174,7 +175,7 @@ module _ (script : Script) (actor : ℕ) (before after : Station) (clients news 
         puts.filled next mine.content takes.is takes.lawful writes filled.1 runs.commit filled.2 nexts takes.is.step
         takes.still_lawful first)
 
-    pub put_goes_on : Comes script before after clients news
+    pub put_goes_on : Comes script actor before after clients news
     put_goes_on =
         let few = takes.schedule.answered.few actor before.client takes.was in
         let some = takes.schedule.answered.some actor before.client under takes.was under_is in
@@ -182,7 +183,7 @@ module _ (script : Script) (actor : ℕ) (before after : Station) (clients news 
         (answered_going after.client next_under_is ∙ ap (λ (begun : ℕ). begun - 1) begun_is
         ∙ sym (answered_going before.client under_is))
         (omega (arith, begun_is, few)) (λ its_under its_is. omega (arith, begun_is, some)) goes_going
-        (λ world origin handed fits runs. goes_runs world origin runs)
+        (λ world past handed fits listed runs. goes_runs world past runs)
 
   -- the entry of its answer
   abbrev entry : Answer → Entry
@@ -197,12 +198,12 @@ module _ (script : Script) (actor : ℕ) (before after : Station) (clients news 
     ended = ap (λ (c : Client). c.under_way) leaves.1
 
     ends_with : after.items ≡ before.items ++ CallItem (entry given) ∷ [] → AreCallsOf now among.left
-        → ((world : World) (origin : Disk) → world.handed ≡ handed_by script
-        → (runs : Runs world script origin before.state before.items clients)
+        → ((world : World) (past : Past) → world.handed ≡ handed_by script
+        → (runs : Runs world script past before.state before.items clients)
         → Stands world.setting runs.last runs.begun
         (map_after_answer world.handed (map_of world.handed world.opening before.items) (entry given) given)
-        (among_runs world origin runs).left runs.commit after.state)
-        → Comes script before after clients news
+        (among_runs world past runs).left runs.commit after.state)
+        → Comes script actor before after clients news
     ends_with listed are stands =
         let some = takes.schedule.answered.some actor before.client under takes.was under_is in
         let count = answered_going before.client under_is in
@@ -213,21 +214,21 @@ module _ (script : Script) (actor : ℕ) (before after : Station) (clients news 
         change.committing (leaves_commit old now change) (leaves_many old now change)
         was_no_sync (λ its_under its_is. absurd (none_some (sym ended ∙ its_is))) among.left
         (Putting run among.content) ended among.gains among.its are)
-        (λ world origin handed fits runs.
-        let mine = among_runs world origin runs in
-        runs_ends world script origin before.state after.state before.items clients news actor before.client
+        (λ world past handed fits listed runs.
+        let mine = among_runs world past runs in
+        runs_ends world script past before.state after.state before.items clients news actor before.client
         after.client takes.changes takes.was runs (entry given) refl ended change.uber disk
         (groups_know world.setting runs.last runs.begun runs.calls runs.commit before.state runs.stands.groups)
         (put_right world before.items (entry given) asked_for.0 plain)
-        (subst (λ (k : Kind). IsAnswerOf k given) (sym asked_for.0) answers)
+        (subst (λ (k : Kind). IsAnswerOf k given) (sym asked_for.0) answers) listed
         mine.left (Putting run mine.content) under under_is no_sync mine.gains mine.its
-        (stands world origin handed runs))
+        (stands world past handed runs))
 
   module _ (given : Answer) (leaves : LeavesGoing actor call before after under (Done given))
       (disk : after.state.disk ≡ before.state.disk) (filled : PutRun) (fills : IsFilledIn call run filled) where
     -- Its block is stored: the map has the bytes that the script hands it.
     put_stored : given ≡ answer.Stored → StoresBlock old now filled → IsWhole filled
-        → Comes script before after clients news
+        → Comes script actor before after clients news
     put_stored given_is stores whole =
         let among_filled = filled_calls filled fills in
         ends_with given disk (rearranged_leaves old now (ends_rearranges old now filled stores))
@@ -237,12 +238,12 @@ module _ (script : Script) (actor : ℕ) (before after : Station) (clients news 
         (leaves.0 ∙ subst (λ (a : Answer). listed_for old before.items under.at (entry given) a
         ≡ before.items ++ CallItem (entry given) ∷ []) (sym given_is) refl)
         (put_ends_calls among.left among_filled.0 old now filled among.content stores among_filled.2 among_filled.1)
-        (λ world origin handed runs.
-        let mine = among_runs world origin runs in
-        let filled_in = filled_stands world origin runs filled fills in
+        (λ world past handed runs.
+        let mine = among_runs world past runs in
+        let filled_in = filled_stands world past runs filled fills in
         let map = map_of world.handed world.opening before.items in
         subst (λ (m : Map). Stands world.setting runs.last runs.begun m mine.left runs.commit after.state)
-        (sym (map_is world handed map mine.content (content_is world origin runs)))
+        (sym (map_is world handed map mine.content (content_is world past runs)))
         (subst (λ (d : Disk). Stands world.setting runs.last runs.begun
         (with_block map (Some filled.range.id) (Some mine.content)) mine.left runs.commit (at_disk now d)) (sym disk)
         (put_ends_stands world.setting runs.last runs.begun map mine.left filled_in.0 runs.commit old now
@@ -270,7 +271,7 @@ module _ (script : Script) (actor : ℕ) (before after : Station) (clients news 
             ∙ (λ i. with_block map (id_is i) (Some ((bytes_are world handed ∙ sym same) i)))
 
     -- It is given up: too many devices are out, or memory is wanting.
-    put_given_up : IsGivenUp old now filled given → Comes script before after clients news
+    put_given_up : IsGivenUp old now filled given → Comes script actor before after clients news
     put_given_up given_up =
         let among_filled = filled_calls filled fills in
         ends_with given disk (rearranged_leaves old now (gives_up_rearranges old now filled given_up.gives_up))
@@ -279,9 +280,9 @@ module _ (script : Script) (actor : ℕ) (before after : Station) (clients news 
         (leaves.0 ∙ unstored_listed old before.items under.at (entry given) given given_up.unstored)
         (put_gives_up_calls among.left among_filled.0 old now filled among.content given_up.gives_up among_filled.2
         among_filled.1)
-        (λ world origin handed runs.
-        let mine = among_runs world origin runs in
-        let filled_in = filled_stands world origin runs filled fills in
+        (λ world past handed runs.
+        let mine = among_runs world past runs in
+        let filled_in = filled_stands world past runs filled fills in
         let map = map_of world.handed world.opening before.items in
         subst (λ (m : Map). Stands world.setting runs.last runs.begun m mine.left runs.commit after.state)
         (sym (unstored_map world.handed map (entry given) given given_up.unstored))
@@ -293,7 +294,7 @@ module _ (script : Script) (actor : ℕ) (before after : Station) (clients news 
   -- It ends: its block is stored, or it is given up.
   pub put_ends : (given : Answer) → EndsPutting before.state after.state call run given
       → LeavesGoing actor call before after under (Done given)
-      → Comes script before after clients news
+      → Comes script actor before after clients news
   put_ends given ends leaves = ⊎_elim
       (λ stored. put_stored given leaves ends.disk ends.filled ends.fills stored.0 stored.1 stored.2)
       (λ given_up. put_given_up given leaves ends.disk ends.filled ends.fills given_up)

@@ -117,13 +117,13 @@ module _ (script : Script) (actor : ℕ) (before after : Station) (clients news 
         (gains_first (Reading run []) was.calls) was.are)
 
     runs_on : RunsOn script before after clients news before.items
-    runs_on world origin handed within runs =
+    runs_on world past handed within listed runs =
         let map = map_of world.handed world.opening before.items in
         let found = get_begins_stands world.setting runs.last runs.begun map runs.commit before.state.core
         after.state.core before.state.disk actor id call.kind run runs.calls is takes.is begins
         (calls_of_others clients actor before.client takes.was idle runs.calls runs.theirs) runs.stands in
         let calls = Reading run found.0 ∷ runs.calls in
-        runs_begins world script origin before.state after.state before.items clients news actor before.client
+        runs_begins world script past before.state after.state before.items clients news actor before.client
         after.client takes.changes takes.was runs idle calls (Reading run found.0) (work.Read run) leaves.uber disk
         left.1 (λ sync. sync) (gains_first (Reading run found.0) runs.calls) its_actor refl
         (λ asked asked_is. ap (λ (m : Map). m run.entry.id) (map_at_end world.handed world.opening before.items)
@@ -132,7 +132,7 @@ module _ (script : Script) (actor : ℕ) (before after : Station) (clients news 
         (at_disk after.state.core d)) (sym disk) (found.2 calls (gains_first (Reading run found.0) runs.calls)))
 
     -- A read begins.
-    pub read_begins : Comes script before after clients news
+    pub read_begins : Comes script actor before after clients news
     read_begins = comes_on script actor before after clients news takes
         (turn_still before.state after.state leaves.uber leaves.out disk) left.0
         (let one = answered_going after.client under_is in let other = answered_idle before.client idle in
@@ -148,7 +148,7 @@ module _ (script : Script) (actor : ℕ) (before after : Station) (clients news 
       → slice_get (calls_of script actor) before.client.begun ≡ Some call
       → BeginsGet before.state.core after.state.core actor call.kind id (Busy by)
       → after.state.disk ≡ before.state.disk → LeavesBegun actor call before after (Busy by)
-      → Comes script before after clients news
+      → Comes script actor before after clients news
   read_waits id by is id_is idle next begins disk left = comes_nowhere script actor before after clients news takes
       (λ i. record { state = at_disk (begins.1 i) (disk i); items = left.0 i; client = left.1 i })
 
@@ -157,7 +157,7 @@ module _ (script : Script) (actor : ℕ) (before after : Station) (clients news 
       (begins : BeginsGet before.state.core after.state.core actor call.kind id (Done given))
       (disk : after.state.disk ≡ before.state.disk) (left : LeavesBegun actor call before after (Done given)) where
     -- It is answered at once.
-    pub read_at_once : Comes script before after clients news
+    pub read_at_once : Comes script actor before after clients news
     read_at_once =
         let of = refused_of before.state.core id call.kind given is begins.1 in
         comes_at_once script actor before after clients news takes call given idle next
@@ -166,7 +166,7 @@ module _ (script : Script) (actor : ℕ) (before after : Station) (clients news 
         (λ out tells. subst (IsGetRefused before.state.core id) tells begins.1)
         (λ full. absurd (put_alone call.kind given (read_no_put call.kind is) of full))
         (subst (λ (c : Core). AreCallsOf c takes.schedule.going.calls) (sym begins.0) takes.schedule.going.are)
-        (λ world origin runs.
+        (λ world past runs.
         let map = map_of world.handed world.opening before.items in
         let map_now = map_after world.handed world.opening before.items (length before.items) in
         let none : given ≡ answer.Absent → map id ≡ None = get_finds map before.state.core after.state.core
@@ -261,9 +261,9 @@ module _ (script : Script) (actor : ℕ) (before after : Station) (clients news 
         was.are)
 
     still_runs : RunsOn script before after clients news before.items
-    still_runs world origin handed within runs =
+    still_runs world past handed within listed runs =
         let has = among under run work_is under_is runs.calls runs.theirs in
-        goes_on world script origin before.state after.state before.items clients news actor before.client after.client
+        goes_on world script past before.state after.state before.items clients news actor before.client after.client
         takes.changes takes.was runs (reads_uber before.state after.state run (More next) reads.reads) turn.later
         (λ groups time row. since_read world.setting groups time before.state.disk after.state.disk reads.unchanged)
         has.left (Reading next has.content ∷ has.left) (Reading run has.content) (Reading next has.content) under
@@ -278,7 +278,7 @@ module _ (script : Script) (actor : ℕ) (before after : Station) (clients news 
         (gains_first (Reading next has.content) has.left) runs.stands)
 
     -- A read goes on.
-    pub read_goes_on : Comes script before after clients news
+    pub read_goes_on : Comes script actor before after clients news
     read_goes_on = comes_on script actor before after clients news takes turn left.0
         (let one = answered_going after.client under_now in let other = answered_going before.client under_is in
         omega (arith, one, other, begun))
@@ -329,7 +329,7 @@ module _ (script : Script) (actor : ℕ) (before after : Station) (clients news 
         has.its (ends.calls has.content has.left was.calls has.gains was.are)
 
     end_runs : RunsOn script before after clients news (before.items ++ CallItem entry ∷ [])
-    end_runs world origin handed within runs =
+    end_runs world past handed within listed runs =
         let map = map_of world.handed world.opening before.items in
         let has = among under run work_is under_is runs.calls runs.theirs in
         let mine = runs.each actor before.client under (record { there = takes.was; under_way = under_is }) in
@@ -337,7 +337,7 @@ module _ (script : Script) (actor : ℕ) (before after : Station) (clients news 
         has.gains runs.stands in
         let content = mine.content call (Reading run has.content) is
         (gains_item has.left runs.calls (Reading run has.content) has.gains) has.its in
-        runs_ends world script origin before.state after.state before.items clients news actor before.client
+        runs_ends world script past before.state after.state before.items clients news actor before.client
         after.client takes.changes takes.was runs entry refl ended ends.leaves.uber ending.disk
         (groups_know world.setting runs.last runs.begun runs.calls runs.commit before.state runs.stands.groups)
         (right_read world before.items call actor before.client.begun under.at given call_read mine.at.0 mine.at.1
@@ -345,12 +345,12 @@ module _ (script : Script) (actor : ℕ) (before after : Station) (clients news 
         (subst (λ (held : Option (List ℕ)). IsReadRight held call.kind given)
         (sym (ap (option_and_then (map_after world.handed world.opening before.items under.at)) asked_is.1 ∙ content))
         (subst (λ (k : Kind). IsReadRight (Some has.content) k given) (sym asked_is.0) done.1)))
-        given_is has.left (Reading run has.content) under under_is (not_sync under run work_is under_is) has.gains
+        given_is listed has.left (Reading run has.content) under under_is (not_sync under run work_is under_is) has.gains
         has.its (subst (λ (m : Map). Stands world.setting runs.last runs.begun m has.left runs.commit after.state)
         (sym (map_read world.handed map entry call.kind given call_read given_is)) done.0)
 
     -- A read ends.
-    pub read_ends : Comes script before after clients news
+    pub read_ends : Comes script actor before after clients news
     read_ends = comes_answered script actor before after clients news takes call before.client.begun under.at given
         (its_number under run work_is under_is)
         (ap (slice_get (calls_of script actor)) (answered_going before.client under_is) ∙ is) turn

@@ -1,5 +1,5 @@
 -- A journal goes on to tell what it did, turn by turn: the devices go on, a commit begins or ends, a call is answered.
-use Rattle.std.proofs.Common.{◌≡◌, inl, ⊎_elim, ℕ, ◌≤◌, List, [], ◌∷◌, ◌++◌, length, refl, sym, ◌∙◌, ap, subst, arith, append_assoc}
+use Rattle.std.proofs.Common.{◌≡◌, inl, ⊎_elim, ℕ, ◌≤◌, List, [], ◌∷◌, ◌++◌, length, refl, sym, ◌∙◌, ap, subst, arith, append_assoc, length-append, ◌+◌}
 use Rattle.std.proofs.lemmas.List.{append-nil}
 use Rattle.std.proofs.lemmas.List.Elements.{Contains-append_cases}
 use Rattle.std.specs.Prelude.{◌≢◌, Contains}
@@ -14,7 +14,7 @@ use Rattle.core_state.specs.declared.item.Item.TheVariants.{Group, Call}
 use Rattle.core_state.specs.Map.{Map, Handed, map_after}
 use Rattle.core_state.specs.Legal.{IsGroupBefore, IsAnswerOf}
 use Rattle.core_state.specs.Journal.{Follows}
-use Rattle.core_state.specs.Keeps.{Kept}
+use Rattle.core_state.specs.Keeps.{Kept, Setting}
 use Rattle.core_state.specs.Certain.{Knows}
 use Rattle.core_state.specs.Moment.{IsGroupOf, IsBegunAfter, Groups, IsRowOf, KeepsSince, KeepsThroughout}
 use Rattle.core_state.specs.CoreState.{World}
@@ -32,7 +32,8 @@ use Rattle.journal_law.proofs.Rows.{row_among}
 use Rattle.journal_law.proofs.GrownAnswers.{each_grown_call, each_grown_group}
 use Rattle.schedule.specs.Recorded.{Recorded, IsRightNext, IsBegunAt, AllBelow}
 use Rattle.schedule.proofs.Counted.{counted_call, counted_group}
-use Rattle.schedule.proofs.Moments.{AreLatest, whole_row, on_goes, on_wider, turns_go, turns_list}
+use Rattle.schedule.specs.Moments.{KeepsOn, KeepsTurnByTurn, Past}
+use Rattle.schedule.proofs.Moments.{AreLatest, whole_row, on_goes, on_now, on_wider, kept_more, kept_to_end}
 use Rattle.schedule.proofs.RightNext.{sync_right}
 
 -- Where the groups stand as one is begun, and as it is answered.
@@ -109,11 +110,21 @@ latest_of {handed = handed} {opening = opening} {known = known} {items = items} 
       alike = alike;
     }
 
+-- Just after an item was listed nothing else was done.
+on_listed : {setting : Setting} {handed : Handed} {opening : Map} {item : GroupItem} {last : Kept} {begun : List Kept}
+    {now : Disk} (items : List Item) (new : Item) (past : Past) → past.banks (length items + 1) ≡ now
+    → KeepsOn setting handed opening (items ++ new ∷ []) item last begun now now
+    → KeepsOn setting handed opening (items ++ new ∷ []) item last begun (past.banks (length (items ++ new ∷ []))) now
+on_listed {setting = setting} {handed = handed} {opening = opening} {item = item} {last = last} {begun = begun}
+    {now = now} items new past here on =
+    subst (λ (d : Disk). KeepsOn setting handed opening (items ++ new ∷ []) item last begun d now)
+    (sym (ap past.banks (length-append items (new ∷ [])) ∙ here)) on
+
 abbrev IsSound : Entry → Type 0
 IsSound entry = entry.answer ≢ answer.Damaged
 
-module _ {world : World} {origin : Disk} {items : List Item} {last : Kept} {begun : List Kept} {uber : Uber}
-    {now : Disk} (so_far : Recorded world origin items last begun uber now) where
+module _ {world : World} {past : Past} {items : List Item} {last : Kept} {begun : List Kept} {uber : Uber}
+    {now : Disk} (so_far : Recorded world past items last begun uber now) where
   some_items : 1 ≤ length items
   some_items = let low = so_far.latest.before in omega (arith, low)
 
@@ -143,39 +154,36 @@ module _ {world : World} {origin : Disk} {items : List Item} {last : Kept} {begu
   pub recorded_goes : {next : Disk} → Later now next
       → ((groups : List Kept) (time : ℕ) → IsRowOf groups last begun → KeepsSince world.setting groups time now
       → KeepsSince world.setting groups time next)
-      → Recorded world origin items last begun uber next
-  recorded_goes {next = next} later keeps =
-      let from = so_far.no_older.bank (length items) in
-      let go = turns_go so_far.no_older some_items next latest_now
-      (on_goes so_far.kept_on later (keeps (last ∷ begun) from.clock (whole_row last begun))) in record {
-        groups = so_far.groups;
-        earlier = so_far.earlier;
-        answered_are = so_far.answered_are;
-        begun_are = so_far.begun_are;
-        item = so_far.item;
-        latest = so_far.latest;
-        item_is = so_far.item_is;
-        in_order = so_far.in_order;
-        right = so_far.right;
-        sound = so_far.sound;
-        counted = so_far.counted;
-        since = keeps (world.known ++ so_far.groups.answered ++ so_far.groups.begun) origin.clock row_now so_far.since;
-        widths = so_far.widths;
-        no_older = go.0;
-        kept_on = go.1;
-      }
+      → Recorded world past items last begun uber next
+  recorded_goes later keeps = record {
+    groups = so_far.groups;
+    earlier = so_far.earlier;
+    answered_are = so_far.answered_are;
+    begun_are = so_far.begun_are;
+    item = so_far.item;
+    latest = so_far.latest;
+    item_is = so_far.item_is;
+    in_order = so_far.in_order;
+    right = so_far.right;
+    sound = so_far.sound;
+    counted = so_far.counted;
+    since = keeps (world.known ++ so_far.groups.answered ++ so_far.groups.begun) past.origin.clock row_now so_far.since;
+    widths = so_far.widths;
+    no_older = so_far.no_older;
+    kept_on = on_goes so_far.kept_on later
+        (keeps (last ∷ begun) (past.banks (length items)).clock (whole_row last begun));
+  }
 
   -- A call is answered that ends no group.
-  pub recorded_answers : (entry : Entry) → Knows world.setting last begun now → IsRightNext world items entry
-      → IsAnswerOf entry.kind entry.answer
-      → Recorded world origin (items ++ Call entry ∷ []) last begun uber now
-  recorded_answers entry knows right is_answer =
+  pub recorded_answers : (entry : Entry) → past.banks (length items + 1) ≡ now → Knows world.setting last begun now
+      → IsRightNext world items entry → IsAnswerOf entry.kind entry.answer
+      → Recorded world past (items ++ Call entry ∷ []) last begun uber now
+  recorded_answers entry here knows right is_answer =
       let grown = groups_call world.handed world.opening world.known items so_far.groups so_far.in_order entry in
       let latest = latest_grown_call items entry so_far.item so_far.latest in
       let item_is = group_of_grown world.handed world.opening items so_far.item last (Call entry ∷ []) after_few
       so_far.item_is in
-      let listed = turns_list so_far.no_older some_items (Call entry)
-      (latest_of grown.0 (grown.2 ∙ so_far.begun_are) latest item_is alike_now) knows in record {
+      record {
         groups = grown.0;
         earlier = so_far.earlier;
         answered_are = grown.1 ∙ so_far.answered_are;
@@ -187,17 +195,22 @@ module _ {world : World} {origin : Disk} {items : List Item} {last : Kept} {begu
         right = answers_grown_call world.handed world.opening items entry so_far.right right.right is_answer;
         sound = each_grown_call IsSound items entry so_far.sound right.sound;
         counted = counted_call items entry so_far.counted right.counted;
-        since = subst (λ (l : List Kept). KeepsSince world.setting l origin.clock now)
+        since = subst (λ (l : List Kept). KeepsSince world.setting l past.origin.clock now)
             (λ i. world.known ++ sym grown.1 i ++ sym grown.2 i) so_far.since;
         widths = subst (λ (l : List Kept). HaveWidthOf uber l)
             (λ i. world.known ++ sym grown.1 i ++ sym grown.2 i) so_far.widths;
-        no_older = listed.0;
-        kept_on = listed.1;
+        no_older = kept_more so_far.no_older some_items latest_now so_far.kept_on (Call entry) here;
+        kept_on = on_listed items (Call entry) past here (on_now (latest_of grown.0 (grown.2 ∙ so_far.begun_are) latest item_is alike_now) knows);
       }
 
   -- What each image of the run keeps,
-  abbrev pub recorded_throughout : KeepsThroughout world.setting world.handed world.opening world.known items origin now
+  abbrev pub recorded_throughout : KeepsThroughout world.setting world.handed world.opening world.known items past.origin now
   recorded_throughout = record { groups = so_far.groups; since = so_far.since }
+
+  -- and none older than the last group listed by then,
+  pub recorded_no_older : past.banks (length items + 1) ≡ now
+      → KeepsTurnByTurn world.setting world.handed world.opening world.known items past now
+  recorded_no_older here = kept_to_end so_far.no_older some_items latest_now so_far.kept_on here
 
   -- and what the bank keeps at its end: groups that are among those.
   pub recorded_keeps : Knows world.setting last begun now
@@ -219,14 +232,14 @@ module _ {world : World} {origin : Disk} {items : List Item} {last : Kept} {begu
   )
 
 -- A commit begins the next group.
-module _ {world : World} {origin : Disk} {items : List Item} {last : Kept} {uber : Uber} {now : Disk}
-    (so_far : Recorded world origin items last [] uber now) {after : ℕ} {next : Kept}
+module _ {world : World} {past : Past} {items : List Item} {last : Kept} {uber : Uber} {now : Disk}
+    (so_far : Recorded world past items last [] uber now) {after : ℕ} {next : Kept}
     (is : IsBegunAt world items so_far.item after next) where
   next_after : IsBegunAfter world.handed world.opening items so_far.item next
   next_after = record { number = is.number; after = after; listed = is.listed; map = is.map; widths = inl is.widths }
 
   pub recorded_begins : next.uber.reflow.to ≡ uber.reflow.to → next.uber.parity ≡ uber.parity
-      → Recorded world origin items last (next ∷ []) uber now
+      → Recorded world past items last (next ∷ []) uber now
   recorded_begins to_is parity_is =
       let grown = groups_cut world.handed world.opening world.known items so_far.groups so_far.begun_are so_far.item
       so_far.latest (next ∷ []) (omega arith)
@@ -246,8 +259,8 @@ module _ {world : World} {origin : Disk} {items : List Item} {last : Kept} {uber
         right = so_far.right;
         sound = so_far.sound;
         counted = so_far.counted;
-        since = subst (λ (l : List Kept). KeepsSince world.setting l origin.clock now) row
-            (since_wider world.setting all (next ∷ []) origin.clock now so_far.since);
+        since = subst (λ (l : List Kept). KeepsSince world.setting l past.origin.clock now) row
+            (since_wider world.setting all (next ∷ []) past.origin.clock now so_far.since);
         widths = subst (λ (l : List Kept). HaveWidthOf uber l) row
             (widths_with uber all next to_is parity_is so_far.widths);
         no_older = so_far.no_older;
@@ -255,11 +268,12 @@ module _ {world : World} {origin : Disk} {items : List Item} {last : Kept} {uber
       }
 
 -- A commit has ended the group that was begun.
-module _ {world : World} {origin : Disk} {items : List Item} {last next : Kept} {uber : Uber} {now : Disk}
-    (so_far : Recorded world origin items last (next ∷ []) uber now) {after : ℕ}
+module _ {world : World} {past : Past} {items : List Item} {last next : Kept} {uber : Uber} {now : Disk}
+    (so_far : Recorded world past items last (next ∷ []) uber now) {after : ℕ}
     (is : IsBegunAt world items so_far.item after next) (knows : Knows world.setting next [] now)
     {group : GroupItem} (number : group.group ≡ next.uber.group) (after_is : group.after ≡ after)
-    (from_is : group.from ≡ next.uber.reflow.from) (group_to_is : group.to ≡ next.uber.reflow.to) where
+    (from_is : group.from ≡ next.uber.reflow.from) (group_to_is : group.to ≡ next.uber.reflow.to)
+    (here : past.banks (length items + 1) ≡ now) where
   abbrev with_group : List Item
   with_group = items ++ Group group ∷ []
 
@@ -285,7 +299,7 @@ module _ {world : World} {origin : Disk} {items : List Item} {last next : Kept} 
 
   module _ {other : Uber} (to_is : other.reflow.to ≡ uber.reflow.to) (parity_is : other.parity ≡ uber.parity) where
     -- Its item is listed,
-    pub recorded_group : Recorded world origin (items ++ Group group ∷ []) next [] other now
+    pub recorded_group : Recorded world past (items ++ Group group ∷ []) next [] other now
     recorded_group =
         let none = groups_none so_far.groups in
         let ended = groups_end world.handed world.opening world.known items none.0 none.2 group next next_is
@@ -299,8 +313,7 @@ module _ {world : World} {origin : Disk} {items : List Item} {last next : Kept} 
         so_far.widths) in
         let alike = last_alike other world.known so_far.groups.answered ended.0.answered ended.0.begun [] next
         answered_are ended.2 widths in
-        let listed = turns_list so_far.no_older (some_items so_far) (Group group)
-        (latest_of ended.0 ended.2 latest next_is alike) knows in record {
+        record {
           groups = ended.0;
           earlier = so_far.groups.answered;
           answered_are = answered_are;
@@ -312,17 +325,17 @@ module _ {world : World} {origin : Disk} {items : List Item} {last next : Kept} 
           right = answers_grown_group world.handed world.opening items group so_far.right;
           sound = each_grown_group IsSound items group so_far.sound;
           counted = counted_group items group so_far.counted;
-          since = subst (λ (l : List Kept). KeepsSince world.setting l origin.clock now) row so_far.since;
+          since = subst (λ (l : List Kept). KeepsSince world.setting l past.origin.clock now) row so_far.since;
           widths = widths;
-          no_older = listed.0;
-          kept_on = listed.1;
+          no_older = kept_more so_far.no_older (some_items so_far) (latest_now so_far) so_far.kept_on (Group group) here;
+          kept_on = on_listed items (Group group) past here (on_now (latest_of ended.0 ended.2 latest next_is alike) knows);
         }
 
     -- and the sync that asked for it is answered.
     pub recorded_ends : (entry : Entry) → entry.kind ≡ kind.Sync → entry.answer ≡ answer.Synced group.group → 1 ≤ after
-        → AllBelow items entry.caller after
-        → Recorded world origin ((items ++ Group group ∷ []) ++ Call entry ∷ []) next [] other now
-    recorded_ends entry asked answer_is some below = recorded_answers recorded_group entry knows
+        → AllBelow items entry.caller after → past.banks (length with_group + 1) ≡ now
+        → Recorded world past ((items ++ Group group ∷ []) ++ Call entry ∷ []) next [] other now
+    recorded_ends entry asked answer_is some below then = recorded_answers recorded_group entry then knows
         (sync_right world items group entry asked answer_is (omega (arith, some, after_is))
         (subst (AllBelow items entry.caller) (sym after_is) below))
         (subst (IsAnswerOf entry.kind) (sym answer_is) asked)

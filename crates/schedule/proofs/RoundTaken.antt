@@ -6,7 +6,7 @@ use Rattle.std.proofs.lemmas.Option.{slice_get_within}
 use Rattle.client_script.specs.Script.{Script}
 use Rattle.schedule.specs.declared.client.Client.{Client}
 use Rattle.schedule.specs.declared.client.UnderWay.{UnderWay}
-use Rattle.schedule.specs.Coming.{Turns}
+use Rattle.schedule.specs.Turns.{Turns}
 use Rattle.schedule.specs.InTurn.{is_any_busy}
 use Rattle.schedule.specs.Left.{left_under, most_left, turns_left}
 use Rattle.schedule.specs.Replaying.{AreIdle, HasTurn, HaveFewer, left_at, left_in}

@@ -30,11 +30,12 @@ use Rattle.schedule.proofs.Theirs.{actor_of, some_is, theirs_begins, theirs_stay
 use Rattle.schedule.proofs.Running.{client_stays, sync_free, each_client}
 use Rattle.schedule.proofs.Recording.{recorded_begins}
 use Rattle.schedule.proofs.Begun.{one_latest}
+use Rattle.schedule.specs.Moments.{Past}
 
-module _ (world : World) (script : Script) (origin : Disk) (before after : CoreState) (items : List Item)
+module _ (world : World) (script : Script) (past : Past) (before after : CoreState) (items : List Item)
     (clients news : List Client) (index : ℕ) (old client : Client)
     (changes : Changes clients news index client) (was : slice_get clients index ≡ Some old)
-    (runs : Runs world script origin before items clients) where
+    (runs : Runs world script past before items clients) where
   abbrev map : Map
   map = map_of world.handed world.opening items
 
@@ -54,7 +55,7 @@ module _ (world : World) (script : Script) (origin : Disk) (before after : CoreS
     -- A call waits, and leaves what stood.
     pub waits : client.under_way ≡ None → after.core.pool.uber ≡ before.core.pool.uber → after.disk ≡ before.disk
         → Stands world.setting runs.last runs.begun map runs.calls runs.commit after
-        → Runs world script origin after items news
+        → Runs world script past after items news
     waits idle_still uber disk stands = record {
       last = runs.last;
       begun = runs.begun;
@@ -62,8 +63,8 @@ module _ (world : World) (script : Script) (origin : Disk) (before after : CoreS
       commit = runs.commit;
       item = runs.item;
       latest = runs.latest;
-      recorded = subst (λ (u : Uber). Recorded world origin items runs.last runs.begun u after.disk) (sym uber)
-          (subst (Recorded world origin items runs.last runs.begun before.core.pool.uber) (sym disk) runs.recorded);
+      recorded = subst (λ (u : Uber). Recorded world past items runs.last runs.begun u after.disk) (sym uber)
+          (subst (Recorded world past items runs.last runs.begun before.core.pool.uber) (sym disk) runs.recorded);
       stands = stands;
       theirs = theirs_stays clients news index client changes runs.calls
           (λ its its_under is. absurd (was_idle its its_under is))
@@ -126,7 +127,7 @@ module _ (world : World) (script : Script) (origin : Disk) (before after : CoreS
           client_stays world script items runs.item runs.begun runs.begun runs.calls calls other its its_under
           (among_begun other apart) (λ sync. sync) (runs.each other its its_under is))
 
-      pub begins : Runs world script origin after items news
+      pub begins : Runs world script past after items news
       begins = record {
         last = runs.last;
         begun = runs.begun;
@@ -134,8 +135,8 @@ module _ (world : World) (script : Script) (origin : Disk) (before after : CoreS
         commit = runs.commit;
         item = runs.item;
         latest = runs.latest;
-        recorded = subst (λ (u : Uber). Recorded world origin items runs.last runs.begun u after.disk) (sym uber)
-            (subst (Recorded world origin items runs.last runs.begun before.core.pool.uber) (sym disk) runs.recorded);
+        recorded = subst (λ (u : Uber). Recorded world past items runs.last runs.begun u after.disk) (sym uber)
+            (subst (Recorded world past items runs.last runs.begun before.core.pool.uber) (sym disk) runs.recorded);
         stands = stands;
         theirs = theirs_begins clients news index client changes runs.calls calls call
             (record { at = length items; work = does }) was_idle begun_work gained its work_of runs.theirs;
@@ -161,9 +162,9 @@ module _ (world : World) (script : Script) (origin : Disk) (before after : CoreS
       begun_sync : client.under_way ≡ Some (record { at = length items; work = work.Sync run })
       begun_sync = ap (λ (c : Client). c.under_way) client_is
 
-      recorded_none : Recorded world origin items runs.last [] before.core.pool.uber before.disk
+      recorded_none : Recorded world past items runs.last [] before.core.pool.uber before.disk
       recorded_none = subst
-          (λ (l : List Kept). Recorded world origin items runs.last l before.core.pool.uber before.disk) none_begun
+          (λ (l : List Kept). Recorded world past items runs.last l before.core.pool.uber before.disk) none_begun
           runs.recorded
 
       item_none : recorded_none.item ≡ runs.recorded.item
@@ -202,7 +203,7 @@ module _ (world : World) (script : Script) (origin : Disk) (before after : CoreS
           (no_sync other its its_under is))
           (runs.each other its its_under is))
 
-      pub commit_begins : Runs world script origin after items news
+      pub commit_begins : Runs world script past after items news
       commit_begins = record {
         last = runs.last;
         begun = next ∷ [];
@@ -210,8 +211,8 @@ module _ (world : World) (script : Script) (origin : Disk) (before after : CoreS
         commit = Some run;
         item = runs.item;
         latest = runs.latest;
-        recorded = subst (λ (u : Uber). Recorded world origin items runs.last (next ∷ []) u after.disk) (sym uber)
-            (subst (Recorded world origin items runs.last (next ∷ []) before.core.pool.uber) (sym disk)
+        recorded = subst (λ (u : Uber). Recorded world past items runs.last (next ∷ []) u after.disk) (sym uber)
+            (subst (Recorded world past items runs.last (next ∷ []) before.core.pool.uber) (sym disk)
             (recorded_begins recorded_none
             (subst (λ (g : GroupItem). IsBegunAt world items g (length items) next) (sym item_none) is_begun)
             to_is parity_is));

@@ -1,5 +1,5 @@
 -- What stood before a turn of one client stands after it, where its call is answered.
-use Rattle.std.proofs.Common.{◌≡◌, ◌≢◌, ℕ, List, [], ◌∷◌, ◌++◌, Some, None, sym, ◌∙◌, ap, subst}
+use Rattle.std.proofs.Common.{◌≡◌, ◌≢◌, ℕ, List, [], ◌∷◌, ◌++◌, Some, None, sym, ◌∙◌, ap, subst, length, ◌+◌, ◌<◌, arith, ◌≤◌, length-append}
 use Rattle.std.specs.Prelude.{Contains, slice_get}
 use Rattle.bank_trait.specs.Disk.{Disk}
 use Rattle.space_alloc.specs.Space.{Gains}
@@ -32,11 +32,13 @@ use Rattle.schedule.proofs.Theirs.{actor_of, none_some, sync_gone, theirs_ends, 
 use Rattle.schedule.proofs.Running.{head_is, client_grown, entry_apart, group_apart, sync_grown, sync_free, each_client}
 use Rattle.schedule.proofs.Recording.{recorded_answers, recorded_ends}
 use Rattle.schedule.proofs.Begun.{one_latest}
+use Rattle.schedule.specs.Moments.{Past}
+use Rattle.schedule.specs.Turns.{IsListedWith}
 
-module _ (world : World) (script : Script) (origin : Disk) (before after : CoreState) (items : List Item)
+module _ (world : World) (script : Script) (past : Past) (before after : CoreState) (items : List Item)
     (clients news : List Client) (index : ℕ) (old client : Client)
     (changes : Changes clients news index client) (was : slice_get clients index ≡ Some old)
-    (runs : Runs world script origin before items clients) where
+    (runs : Runs world script past before items clients) where
   abbrev map : Map
   map = map_of world.handed world.opening items
 
@@ -44,14 +46,16 @@ module _ (world : World) (script : Script) (origin : Disk) (before after : CoreS
   module _ (entry : Entry) (caller : entry.caller ≡ index) (ended : client.under_way ≡ None)
       (uber : after.core.pool.uber ≡ before.core.pool.uber) (disk : after.disk ≡ before.disk)
       (knows : Knows world.setting runs.last runs.begun before.disk)
-      (right : IsRightNext world items entry) (answers : IsAnswerOf entry.kind entry.answer) where
+      (right : IsRightNext world items entry) (answers : IsAnswerOf entry.kind entry.answer)
+      (with : IsListedWith past.banks items (items ++ CallItem entry ∷ []) after.disk) where
     abbrev grown : List Item
     grown = items ++ CallItem entry ∷ []
 
-    recorded_entry : Recorded world origin grown runs.last runs.begun after.core.pool.uber after.disk
-    recorded_entry = subst (λ (u : Uber). Recorded world origin grown runs.last runs.begun u after.disk) (sym uber)
-        (subst (Recorded world origin grown runs.last runs.begun before.core.pool.uber) (sym disk)
-        (recorded_answers runs.recorded entry knows right answers))
+    recorded_entry : Recorded world past grown runs.last runs.begun after.core.pool.uber after.disk
+    recorded_entry = subst (λ (u : Uber). Recorded world past grown runs.last runs.begun u after.disk) (sym uber)
+        (subst (Recorded world past grown runs.last runs.begun before.core.pool.uber) (sym disk)
+        (recorded_answers runs.recorded entry (with (length items + 1) (omega arith)
+        (omega (arith, length-append items (CallItem entry ∷ []))) ∙ disk) knows right answers))
 
     its_none : (its_under : UnderWay) → client.under_way ≡ Some its_under → ⊥
     its_none its_under is = none_some (sym ended ∙ is)
@@ -78,7 +82,7 @@ module _ (world : World) (script : Script) (origin : Disk) (before after : CoreS
         → (IsSync under.work → ⊥) → Gains left runs.calls call → actor_of call ≡ index
         → Stands world.setting runs.last runs.begun (map_after_answer world.handed map entry entry.answer) left
         runs.commit after
-        → Runs world script origin after grown news
+        → Runs world script past after grown news
     ends left call under old_is not_sync lost its stands = record {
       last = runs.last;
       begun = runs.begun;
@@ -103,7 +107,7 @@ module _ (world : World) (script : Script) (origin : Disk) (before after : CoreS
     pub answers_at_once : old.under_way ≡ None
         → Stands world.setting runs.last runs.begun (map_after_answer world.handed map entry entry.answer) runs.calls
         runs.commit after
-        → Runs world script origin after grown news
+        → Runs world script past after grown news
     answers_at_once idle stands = record {
       last = runs.last;
       begun = runs.begun;
@@ -130,7 +134,7 @@ module _ (world : World) (script : Script) (origin : Disk) (before after : CoreS
         → IsSync its_under.work → other ≡ index)
         → Stands world.setting runs.last runs.begun (map_after_answer world.handed map entry entry.answer) runs.calls
         None after
-        → Runs world script origin after grown news
+        → Runs world script past after grown news
     commit_is_cut under run old_is does_is only stands = record {
       last = runs.last;
       begun = runs.begun;
@@ -167,7 +171,13 @@ module _ (world : World) (script : Script) (origin : Disk) (before after : CoreS
       })
       (asked : entry.kind ≡ kind.Sync) (answer_is : entry.answer ≡ answer.Synced group.group)
       (knows : Knows world.setting next [] before.disk)
+      (with : IsListedWith past.banks items ((items ++ Group group ∷ []) ++ CallItem entry ∷ []) after.disk)
       (stands : Stands world.setting next [] map runs.calls None after) where
+    -- Both were listed with this bank.
+    both_with : (count : ℕ) → length items < count → count ≤ length items + 1 + 1 → past.banks count ≡ before.disk
+    both_with count from until = with count from (omega (arith, until, length-append items (Group group ∷ []),
+        length-append (items ++ Group group ∷ []) (CallItem entry ∷ []))) ∙ disk
+
     my_end : IsClient world script items runs.item runs.begun runs.calls index old under
     my_end = runs.each index old under (record { there = was; under_way = old_is })
 
@@ -176,8 +186,8 @@ module _ (world : World) (script : Script) (origin : Disk) (before after : CoreS
         let sync = subst (IsSyncOf world items runs.item runs.begun under.at) does_is my_end.sync in
         subst (IsBegunAt world items runs.item under.at) (head_is (sym sync.1 ∙ begun_is)) sync.2
 
-    recorded_one : Recorded world origin items runs.last (next ∷ []) before.core.pool.uber before.disk
-    recorded_one = subst (λ (l : List Kept). Recorded world origin items runs.last l before.core.pool.uber before.disk)
+    recorded_one : Recorded world past items runs.last (next ∷ []) before.core.pool.uber before.disk
+    recorded_one = subst (λ (l : List Kept). Recorded world past items runs.last l before.core.pool.uber before.disk)
         begun_is runs.recorded
 
     item_one : recorded_one.item ≡ runs.item
@@ -186,14 +196,16 @@ module _ (world : World) (script : Script) (origin : Disk) (before after : CoreS
     abbrev with_both : List Item
     with_both = (items ++ Group group ∷ []) ++ CallItem entry ∷ []
 
-    recorded_end : Recorded world origin with_both next [] after.core.pool.uber after.disk
-    recorded_end = subst (Recorded world origin with_both next [] after.core.pool.uber) (sym disk)
+    recorded_end : Recorded world past with_both next [] after.core.pool.uber after.disk
+    recorded_end = subst (Recorded world past with_both next [] after.core.pool.uber) (sym disk)
         (recorded_ends recorded_one
         (subst (λ (g : GroupItem). IsBegunAt world items g under.at next) (sym item_one) is_next) knows
         (ap (λ (g : GroupItem). g.group) group_is) (ap (λ (g : GroupItem). g.after) group_is)
         (ap (λ (g : GroupItem). g.from) group_is) (ap (λ (g : GroupItem). g.to) group_is)
-        to_is parity_is entry asked answer_is my_end.at.0
-        (λ place one there its. my_end.after place one there (its ∙ caller)))
+        (both_with (length items + 1) (omega arith) (omega arith)) to_is parity_is entry asked answer_is my_end.at.0
+        (λ place one there its. my_end.after place one there (its ∙ caller))
+        (both_with (length (items ++ Group group ∷ []) + 1) (omega (arith, length-append items (Group group ∷ [])))
+        (omega (arith, length-append items (Group group ∷ [])))))
 
     end_none : (its_under : UnderWay) → client.under_way ≡ Some its_under → ⊥
     end_none its_under is = none_some (sym ended ∙ is)
@@ -220,7 +232,7 @@ module _ (world : World) (script : Script) (origin : Disk) (before after : CoreS
         (λ place one there its. group_apart items group place one there)
         (runs.each other its its_under is)))
 
-    pub commit_ends : Runs world script origin after with_both news
+    pub commit_ends : Runs world script past after with_both news
     commit_ends = record {
       last = next;
       begun = [];

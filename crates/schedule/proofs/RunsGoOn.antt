@@ -25,24 +25,25 @@ use Rattle.schedule.specs.Running.{IsGoing, IsWorkOf, IsSync, IsSyncOf, HasConte
 use Rattle.schedule.proofs.Theirs.{actor_of, beside_back, some_is, theirs_goes, theirs_stays, sync_stays, going_under}
 use Rattle.schedule.proofs.Running.{client_stays, sync_free, each_client}
 use Rattle.schedule.proofs.Recording.{recorded_goes}
+use Rattle.schedule.specs.Moments.{Past}
 
 -- what each image kept since some moment, it keeps after a turn
 abbrev pub GoesOnSince : World → Kept → List Kept → Disk → Disk → Type 0
 GoesOnSince world last begun before after = (groups : List Kept) (time : ℕ) → IsRowOf groups last begun
     → KeepsSince world.setting groups time before → KeepsSince world.setting groups time after
 
-module _ (world : World) (script : Script) (origin : Disk) (before after : CoreState) (items : List Item)
+module _ (world : World) (script : Script) (past : Past) (before after : CoreState) (items : List Item)
     (clients news : List Client) (index : ℕ) (old client : Client)
     (changes : Changes clients news index client) (was : slice_get clients index ≡ Some old)
-    (runs : Runs world script origin before items clients) where
+    (runs : Runs world script past before items clients) where
   abbrev map : Map
   map = map_of world.handed world.opening items
 
   -- the journal as the disk goes on
   module _ (uber : after.core.pool.uber ≡ before.core.pool.uber) (later : Later before.disk after.disk)
       (since : GoesOnSince world runs.last runs.begun before.disk after.disk) where
-    recorded_on : Recorded world origin items runs.last runs.begun after.core.pool.uber after.disk
-    recorded_on = subst (λ (u : Uber). Recorded world origin items runs.last runs.begun u after.disk) (sym uber)
+    recorded_on : Recorded world past items runs.last runs.begun after.core.pool.uber after.disk
+    recorded_on = subst (λ (u : Uber). Recorded world past items runs.last runs.begun u after.disk) (sym uber)
         (recorded_goes runs.recorded later since)
 
     -- A put or a read goes on.
@@ -94,7 +95,7 @@ module _ (world : World) (script : Script) (origin : Disk) (before after : CoreS
           client_stays world script items runs.item runs.begun runs.begun runs.calls nexts other its its_under
           (among other apart) (λ sync. sync) (runs.each other its its_under is))
 
-      pub goes_on : Runs world script origin after items news
+      pub goes_on : Runs world script past after items news
       goes_on = record {
         last = runs.last;
         begun = runs.begun;
@@ -149,7 +150,7 @@ module _ (world : World) (script : Script) (origin : Disk) (before after : CoreS
           (some_is (sym syncing ∙ is)) sync_here)
           (λ other its its_under apart is. runs.each other its its_under is)
 
-      pub commit_goes_on : Runs world script origin after items news
+      pub commit_goes_on : Runs world script past after items news
       commit_goes_on = record {
         last = runs.last;
         begun = runs.begun;

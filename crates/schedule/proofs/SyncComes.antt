@@ -48,7 +48,7 @@ module _ (script : Script) (actor : ℕ) (before after : Station) (clients news 
       → slice_get (calls_of script actor) before.client.begun ≡ Some call
       → BeginsCommit before.state.core after.state.core actor (More run) → after.state.disk ≡ before.state.disk
       → LeavesBegun actor call before after (More (work.Sync run))
-      → Comes script before after clients news
+      → Comes script actor before after clients news
   sync_begins run table asked no_id idle next begins disk leaves =
       comes_on script actor before after clients news takes goes leaves.0
       (ap answered leaves.1 ∙ number ∙ sym (answered_idle before.client idle))
@@ -86,7 +86,7 @@ module _ (script : Script) (actor : ℕ) (before after : Station) (clients news 
           takes.schedule.going.are)
 
       on : RunsOn script before after clients news before.items
-      on world origin handed within runs =
+      on world past handed within listed runs =
           let map : Map = map_of world.handed world.opening before.items in
           let none : runs.commit ≡ None =
           no_commit world.setting runs.last runs.begun runs.calls runs.commit before.state begins.1
@@ -103,7 +103,7 @@ module _ (script : Script) (actor : ℕ) (before after : Station) (clients news 
           let begun : after.state.core.begun ≡ before.state.core.begun + 1 = ap (λ (c : Core). c.begun) begins.4 in
           let widths : made.0.uber.reflow ≡ runs.last.uber.reflow =
           made.3 ∙ ap (λ (u : Uber). u.reflow) runs.stands.alike in
-          commit_begins world script origin before.state after.state before.items clients news actor before.client
+          commit_begins world script past before.state after.state before.items clients news actor before.client
           after.client takes.changes takes.was runs idle run made.0 empty none
           (ap (λ (c : Core). c.pool.uber) begins.4) disk leaves.1
           (begun_now runs.recorded (let number = made.2 in omega (arith, number, begun, rest, last))
@@ -118,7 +118,7 @@ module _ (script : Script) (actor : ℕ) (before after : Station) (clients news 
       → slice_get (calls_of script actor) before.client.begun ≡ Some call
       → BeginsCommit before.state.core after.state.core actor (Busy by) → after.state.disk ≡ before.state.disk
       → LeavesBegun actor call before after (Busy by)
-      → Comes script before after clients news
+      → Comes script actor before after clients news
   sync_waits by asked no_id idle next waits disk leaves =
       comes_nowhere script actor before after clients news takes
       (λ i. record { state = at_disk (waits.2 i) (disk i); items = leaves.0 i; client = leaves.1 i })
@@ -128,7 +128,7 @@ module _ (script : Script) (actor : ℕ) (before after : Station) (clients news 
       → slice_get (calls_of script actor) before.client.begun ≡ Some call
       → BeginsCommit before.state.core after.state.core actor (Done given) → after.state.disk ≡ before.state.disk
       → LeavesBegun actor call before after (Done given)
-      → Comes script before after clients news
+      → Comes script actor before after clients news
   sync_at_once given asked no_id idle next refused disk leaves =
       let of = refused_answers call.kind before.state.core given refused.0 in
       comes_at_once script actor before after clients news takes call given idle next
@@ -136,7 +136,7 @@ module _ (script : Script) (actor : ℕ) (before after : Station) (clients news 
       disk leaves of (refused_tells before.state.core given refused.0)
       (λ full. absurd (put_alone call.kind given (λ put. no_put (sym asked ∙ put)) of full))
       (subst (λ (c : Core). AreCallsOf c takes.schedule.going.calls) (sym refused.1) takes.schedule.going.are)
-      (λ world origin runs.
+      (λ world past runs.
       let map : Map = map_of world.handed world.opening before.items in
       let entry = first_entry call actor before given in
       let last : before.state.core.pool.uber.group ≡ runs.last.uber.group =

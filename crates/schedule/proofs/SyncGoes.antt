@@ -33,7 +33,7 @@ use Rattle.schedule.specs.declared.client.UnderWay.{UnderWay}
 use Rattle.schedule.specs.declared.client.Work.TheVariants as work
 use Rattle.schedule.specs.Clients.{AreAnswered}
 use Rattle.schedule.specs.Running.{IsGoing, IsSync, IsWorkFor, AreGoing, Runs}
-use Rattle.schedule.specs.Coming.{turns_of}
+use Rattle.schedule.specs.Turns.{turns_of}
 use Rattle.schedule.specs.Turned.{Station, LeavesGoing, entry_for, group_for}
 use Rattle.schedule.specs.Comes.{TakesTurn, Comes}
 use Rattle.schedule.proofs.RightNext.{sync_cut_right, same_out}
@@ -46,6 +46,7 @@ use Rattle.schedule.proofs.RunsGoOn.{commit_goes_on}
 use Rattle.schedule.proofs.RunsEnd.{commit_ends, commit_is_cut}
 use Rattle.schedule.proofs.Syncs.{groups_know, its_commit}
 use Rattle.schedule.proofs.TurnComes.{RunsOn, came_listed, comes_on, comes_answered}
+use Rattle.schedule.specs.Moments.{Past}
 
 module _ (script : Script) (actor : ℕ) (before after : Station) (clients news : List Client) (call : ScriptCall)
     (takes : TakesTurn script actor before after clients news) where
@@ -84,7 +85,7 @@ module _ (script : Script) (actor : ℕ) (before after : Station) (clients news 
     some_begun = takes.schedule.answered.some actor before.client under takes.was was_under
 
     -- and the commit that stands.
-    its_stands : {world : World} {origin : Disk} (runs : Runs world script origin before.state before.items clients)
+    its_stands : {world : World} {past : Past} (runs : Runs world script past before.state before.items clients)
         → Stands world.setting runs.last runs.begun (map_of world.handed world.opening before.items) runs.calls
         (Some run) before.state
     its_stands {world = world} runs = subst (λ (c : Option CommitRun). Stands world.setting runs.last runs.begun
@@ -95,7 +96,7 @@ module _ (script : Script) (actor : ℕ) (before after : Station) (clients news 
     goes_on : (next : CommitRun) → StepsCommit before.state run after.state (More next)
         → TurnGoesOn before.state after.state
         → LeavesGoing actor call before after under (More (work.Sync next))
-        → Comes script before after clients news
+        → Comes script actor before after clients news
     goes_on next steps goes leaves = comes_on script actor before after clients news takes goes leaves.0
         (ap answered leaves.1 ∙ sym (answered_going before.client was_under))
         (let few = takes.schedule.answered.few actor before.client takes.was in omega (arith, few, begun_is))
@@ -114,10 +115,10 @@ module _ (script : Script) (actor : ℕ) (before after : Station) (clients news 
             takes.schedule.going.are)
 
         on : RunsOn script before after clients news before.items
-        on world origin handed within runs =
+        on world past handed within listed runs =
             let map : Map = map_of world.handed world.opening before.items in
             let borne = within (few_out before.state.core steps.0) in
-            commit_goes_on world script origin before.state after.state before.items clients news actor before.client
+            commit_goes_on world script past before.state after.state before.items clients news actor before.client
             after.client takes.changes takes.was runs (ap (λ (c : Core). c.pool.uber) steps.2) goes.later
             (λ groups time row kept. commit_steps_since world.setting runs.last runs.begun map runs.calls before.state
             after.state run next groups time row steps borne (its_stands runs) kept)
@@ -151,7 +152,7 @@ module _ (script : Script) (actor : ℕ) (before after : Station) (clients news 
     -- Its group is answered, and listed before it.
     synced : (number : ℕ) → AnswersGroup before.state run after.state number → TurnGoesOn before.state after.state
         → LeavesGoing actor call before after under (Done (answer.Synced number))
-        → Comes script before after clients news
+        → Comes script actor before after clients news
     synced number answers goes leaves = record {
       come = came_listed script actor before after clients news takes (Group group ∷ CallItem entry ∷ []) goes
           (leaves.0 ∙ both) told (subst (RunsOn script before after clients news) both on)
@@ -206,7 +207,7 @@ module _ (script : Script) (actor : ℕ) (before after : Station) (clients news 
             takes.schedule.going.are)
 
         on : RunsOn script before after clients news ((before.items ++ Group group ∷ []) ++ CallItem entry ∷ [])
-        on world origin handed within runs =
+        on world past handed within listed runs =
             let map : Map = map_of world.handed world.opening before.items in
             let stands = its_stands runs in
             let next : Kept = stands.groups.next in
@@ -219,7 +220,7 @@ module _ (script : Script) (actor : ℕ) (before after : Station) (clients news 
             let reflow_is : before.state.core.pool.uber.reflow ≡ next.uber.reflow =
             sym (ap (λ (u : Uber). u.reflow) stands.groups.of.uber_is)
             ∙ ap (λ (u : Uber). u.reflow) stands.groups.come.alike in
-            commit_ends world script origin before.state after.state before.items clients news actor before.client
+            commit_ends world script past before.state after.state before.items clients news actor before.client
             after.client takes.changes takes.was runs under run next group entry refl ended was_under does_is
             stands.groups.begun_is only disk (ap (λ (r : Reflow). r.to) goes.widths) goes.parity
             (λ i. record {
@@ -228,13 +229,13 @@ module _ (script : Script) (actor : ℕ) (before after : Station) (clients news 
               from = (reflow_is i).from;
               to = (reflow_is i).to;
             })
-            for_call.0 refl (subst (Knows world.setting next []) disk stood.groups.knows) stood
+            for_call.0 refl (subst (Knows world.setting next []) disk stood.groups.knows) listed stood
 
     -- It is cut short.
     cut : (out : ℕ) → StepsCommit before.state run after.state (Done (answer.TooManyFailed out))
         → TurnGoesOn before.state after.state
         → LeavesGoing actor call before after under (Done (answer.TooManyFailed out))
-        → Comes script before after clients news
+        → Comes script actor before after clients news
     cut out steps goes leaves = comes_answered script actor before after clients news takes call before.client.begun
         under.at (answer.TooManyFailed out) its_number
         (ap (slice_get (calls_of script actor)) (answered_going before.client was_under) ∙ next_is) goes leaves.0
@@ -256,13 +257,13 @@ module _ (script : Script) (actor : ℕ) (before after : Station) (clients news 
             takes.schedule.going.are
 
         on : RunsOn script before after clients news (before.items ++ CallItem entry ∷ [])
-        on world origin handed within runs =
+        on world past handed within listed runs =
             let map : Map = map_of world.handed world.opening before.items in
-            commit_is_cut world script origin before.state after.state before.items clients news actor before.client
+            commit_is_cut world script past before.state after.state before.items clients news actor before.client
             after.client takes.changes takes.was runs entry refl ended
             (ap (λ (s : CoreState). s.core.pool.uber) steps.2) (ap (λ (s : CoreState). s.disk) steps.2)
             (groups_know world.setting runs.last runs.begun runs.calls runs.commit before.state runs.stands.groups)
-            (sync_cut_right world before.items entry for_call.0 tt) tt under run was_under does_is only
+            (sync_cut_right world before.items entry for_call.0 tt) tt listed under run was_under does_is only
             (subst (Stands world.setting runs.last runs.begun map runs.calls None) (sym steps.2)
             (cut_stands world.setting runs.last runs.begun map runs.calls before.state run steps.0 (its_stands runs)))
 
@@ -272,7 +273,7 @@ module _ (script : Script) (actor : ℕ) (before after : Station) (clients news 
       → slice_get (calls_of script actor) (before.client.begun - 1) ≡ Some call
       → StepsCommit before.state run after.state (More next) → TurnGoesOn before.state after.state
       → LeavesGoing actor call before after under (More (work.Sync next))
-      → Comes script before after clients news
+      → Comes script actor before after clients news
   sync_goes_on under run next does_is was_under next_is = goes_on under run does_is was_under next_is next
 
   -- or ends.
@@ -281,7 +282,7 @@ module _ (script : Script) (actor : ℕ) (before after : Station) (clients news 
       → slice_get (calls_of script actor) (before.client.begun - 1) ≡ Some call
       → StepsCommit before.state run after.state (Done given) → TurnGoesOn before.state after.state
       → LeavesGoing actor call before after under (Done given)
-      → Comes script before after clients news
+      → Comes script actor before after clients news
   sync_ends under run (answer.Synced number) does_is was_under next_is =
       synced under run does_is was_under next_is number
   sync_ends under run (answer.TooManyFailed out) does_is was_under next_is =

@@ -23,7 +23,8 @@ use Rattle.core_turns.proofs.Commits.{turn_bank}
 use Rattle.schedule.specs.declared.client.Client.{Client}
 use Rattle.schedule.specs.declared.client.UnderWay.{UnderWay}
 use Rattle.schedule.specs.Clients.{AreAnswered}
-use Rattle.schedule.specs.Coming.{turns_of, Turns, HasCome}
+use Rattle.schedule.specs.Coming.{HasCome}
+use Rattle.schedule.specs.Turns.{turns_of, Turns, taken_by, IsListedWith}
 use Rattle.schedule.specs.Running.{AreGoing, Runs}
 use Rattle.schedule.specs.Recorded.{IsRightNext}
 use Rattle.schedule.specs.Turned.{Station, LeavesBegun, entry_for}
@@ -37,14 +38,16 @@ use Rattle.schedule.proofs.Coming.{came_nowhere, came_turn, told_same, told_entr
 use Rattle.schedule.proofs.Lists.{same_list}
 use Rattle.schedule.proofs.Syncs.{groups_know}
 use Rattle.schedule.proofs.LeavesPool.{LeavesPool, leaves_commit, leaves_many, turn_still}
+use Rattle.schedule.specs.Moments.{Past}
 
 -- What stood between two turns stands after this one with these items.
 abbrev pub RunsOn : Script → Station → Station → List Client → List Client → List Item → Type 0
-RunsOn script before after clients news items = (world : World) (origin : Disk) → world.handed ≡ handed_by script
+RunsOn script before after clients news items = (world : World) (past : Past) → world.handed ≡ handed_by script
     → (count_of before.state.core.pool.out ≤ before.state.core.pool.uber.parity
     → IsWithin before.state.core.pool.out world.setting.failed)
-    → Runs world script origin before.state before.items clients
-    → Runs world script origin after.state items news
+    → IsListedWith past.banks before.items items after.state.disk
+    → Runs world script past before.state before.items clients
+    → Runs world script past after.state items news
 
 -- the entry of a call that is answered in its first turn
 abbrev pub first_entry : ScriptCall → ℕ → Station → Answer → Entry
@@ -59,10 +62,11 @@ module _ (script : Script) (actor : ℕ) (before after : Station) (clients news 
   now = turns_of after.state after.items news
 
   -- A turn that does nothing.
-  pub comes_nowhere : after ≡ before → Comes script before after clients news
-  comes_nowhere same = subst (λ (s : Station). Comes script before s clients news) (sym same)
-      (subst (Comes script before before clients) (same_list clients news at) (record {
-        come = came_nowhere script (turns_of before.state before.items clients);
+  pub comes_nowhere : after ≡ before → Comes script actor before after clients news
+  comes_nowhere same = subst (λ (s : Station). Comes script actor before s clients news) (sym same)
+      (subst (Comes script actor before before clients) (same_list clients news at) (record {
+        come = came_nowhere script (turns_of before.state before.items clients)
+            (taken_by actor (turns_of before.state before.items clients) ∷ []) refl;
         schedule = takes.schedule;
       }))
     where
@@ -79,11 +83,12 @@ module _ (script : Script) (actor : ℕ) (before after : Station) (clients news 
       → entry.answer ≡ answer.TooManyFailed listed → CallAt before.items index entry
       ⊎ ((before.state.core.pool.uber.parity < count_of listed) × IsWithin listed after.state.core.pool.out))
       → RunsOn script before after clients news (before.items ++ more) → FullStays script was now
-      → HasCome script was now
-  came_listed more goes items told runs full = came_turn script was now goes takes.space more items told
-      (λ world origin handed within stood.
-      subst (λ (l : List Item). Runs world script origin after.state l news) (sym items)
-      (runs world origin handed within stood))
+      → HasCome script was (taken_by actor now ∷ []) now
+  came_listed more goes items told runs full = came_turn script actor was now goes takes.space more items told
+      (λ world past handed within listed stood.
+      subst (λ (l : List Item). Runs world script past after.state l news) (sym items)
+      (runs world past handed within
+      (subst (λ (l : List Item). IsListedWith past.banks before.items l after.state.disk) items listed) stood))
       full
 
   -- A turn that lists nothing.
@@ -91,7 +96,7 @@ module _ (script : Script) (actor : ℕ) (before after : Station) (clients news 
       → answered after.client ≡ answered before.client → after.client.begun ≤ length (calls_of script actor)
       → ((under : UnderWay) → after.client.under_way ≡ Some under → 1 ≤ after.client.begun)
       → AreGoing script after.state.core news → RunsOn script before after clients news before.items
-      → Comes script before after clients news
+      → Comes script actor before after clients news
   comes_on goes items same few some going runs = record {
     come = came_listed [] goes (items ∙ sym (append-nil before.items)) (told_same was now items)
         (subst (RunsOn script before after clients news) (sym (append-nil before.items)) runs)
@@ -119,7 +124,7 @@ module _ (script : Script) (actor : ℕ) (before after : Station) (clients news 
         → (given ≡ answer.Full → HasManyAt script was)
         → AreGoing script after.state.core news
         → RunsOn script before after clients news (before.items ++ CallItem its_entry ∷ [])
-        → Comes script before after clients news
+        → Comes script actor before after clients news
     comes_answered goes items client_is tells full going runs = record {
       come = came_listed (CallItem its_entry ∷ []) goes items
           (told_entry was now its_entry items tells goes.out.still) runs
@@ -159,20 +164,20 @@ module _ (script : Script) (actor : ℕ) (before after : Station) (clients news 
         (λ its_under its. absurd (none_some (sym ended ∙ its))) idle ended are
 
     pub comes_at_once : AreCallsOf after.state.core takes.schedule.going.calls
-        → ((world : World) (origin : Disk) → (runs : Runs world script origin before.state before.items clients)
+        → ((world : World) (past : Past) → (runs : Runs world script past before.state before.items clients)
         → IsRightNext world before.items (first_entry call actor before given)
         × Stands world.setting runs.last runs.begun
         (map_after_answer world.handed (map_of world.handed world.opening before.items)
         (first_entry call actor before given) given) runs.calls runs.commit after.state)
-        → Comes script before after clients news
+        → Comes script actor before after clients news
     comes_at_once are stands = comes_answered call (before.client.begun + 1) (length before.items) given
         (ap (λ (n : ℕ). n + 1) (sym (answered_idle before.client idle)))
         (ap (slice_get (calls_of script actor)) (answered_idle before.client idle) ∙ next)
         (turn_still before.state after.state leaves.uber leaves.out disk) left.0 left.1 tells full
         (still_going are)
-        (λ world origin handed within runs.
-        let now = stands world origin runs in
-        answers_at_once world script origin before.state after.state before.items clients news actor before.client
+        (λ world past handed within listed runs.
+        let now = stands world past runs in
+        answers_at_once world script past before.state after.state before.items clients news actor before.client
         after.client takes.changes takes.was runs (first_entry call actor before given) refl ended leaves.uber disk
         (groups_know world.setting runs.last runs.begun runs.calls runs.commit before.state runs.stands.groups)
-        now.0 of idle now.1)
+        now.0 of listed idle now.1)

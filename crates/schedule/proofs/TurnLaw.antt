@@ -39,7 +39,7 @@ put_bytes id bytes may at = ⊎_elim (λ below. may.1.fit at 0 below)
 module _ (script : Script) (actor : ℕ) (before after : Station) (clients news : List Client)
     (takes : TakesTurn script actor before after clients news) where
   abbrev ItComes : Type 0
-  ItComes = Comes script before after clients news
+  ItComes = Comes script actor before after clients news
 
   -- A first turn:
   module _ (call : ScriptCall) (allowed : IsAllowed call) (idle : before.client.under_way ≡ None)
@@ -139,7 +139,7 @@ module _ (script : Script) (actor : ℕ) (before after : Station) (clients news 
   -- stands.**
   pub turned_comes : ((number : ℕ) (call : ScriptCall) → slice_get (calls_of script actor) number ≡ Some call → IsAllowed call)
       → Turned (calls_of script actor) actor before after
-      → Comes script before after clients news
+      → Comes script actor before after clients news
   turned_comes allowed (Nothing nothing) = comes_nowhere script actor before after clients news takes nothing.same
   turned_comes allowed (Began turn begins leaves) =
       began_by begins.call (allowed before.client.begun begins.call begins.next) begins.idle begins.next begins.disk turn

@@ -20,7 +20,8 @@ use Rattle.schedule.specs.declared.client.Work.{Work}
 use Rattle.schedule.specs.declared.client.Work.TheVariants as work
 use Rattle.schedule.specs.Clients.{Changes}
 use Rattle.schedule.specs.Comes.{Comes, TakesTurn}
-use Rattle.schedule.specs.Coming.{IsSchedule, Turns, turns_of}
+use Rattle.schedule.specs.Coming.{IsSchedule}
+use Rattle.schedule.specs.Turns.{Turns, turns_of, taken_by}
 use Rattle.schedule.specs.Playing.{HasRoom, IsReady}
 use Rattle.schedule.specs.Replaying.{AreIdle, HasTurn, OnlyShared, TakesOne}
 use Rattle.schedule.specs.Running.{AreGoing, IsGoing, IsSync, IsWorkFor, IsWorkOf}
@@ -156,7 +157,7 @@ module _ (script : Script) (actor : ℕ) (before after : Station) (clients news 
     (takes : TakesTurn script actor before after clients news)
     (allowed : All (λ placed. IsAllowed placed.call) script.calls) (shared : OnlyShared before.state.core.holds)
     (turned : Turned (calls_of script actor) actor before after) where
-  comes : Comes script before after clients news
+  comes : Comes script actor before after clients news
   comes = turned_comes script actor before after clients news takes (allowed_of script actor allowed) turned
 
   takes_one : TakesOne script actor (turns_of before.state before.items clients) news before.client after.client
@@ -210,7 +211,7 @@ module _ (script : Script) (actor : ℕ) (before after : Station) (clients news 
 pub turn_none : (script : Script) (actor : ℕ) (turns : Turns) → length turns.clients ≤ actor
     → HasTurn script actor turns turns
 turn_none script actor turns past = record {
-  come = came_nowhere script turns;
+  come = came_nowhere script turns (taken_by actor turns ∷ []) refl;
   is = record {
     none = λ after. refl;
     one = λ client is. absurd (let low = slice_get_within turns.clients actor client is in omega (arith, past, low));

@@ -1,5 +1,5 @@
 -- A run of turns from the opening of its pool to its end.
-use Rattle.std.proofs.Common.{◌≡◌, inl, inr, ⊎_elim, ℕ, ◌≤◌, List, [], ◌∷◌, ◌++◌, Bool, true, false, refl, sym, ◌∙◌, ap, arith}
+use Rattle.std.proofs.Common.{◌≡◌, inl, inr, ⊎_elim, ℕ, ◌≤◌, List, [], ◌∷◌, ◌++◌, Bool, true, false, refl, sym, ◌∙◌, ap, arith, length, subst, ◌+◌}
 use Rattle.std.specs.Prelude.{Contains}
 use Rattle.bank_trait.specs.Causes.{Rose}
 use Rattle.bank_trait.specs.Disk.{Image, Disk, Later, Lawful}
@@ -34,17 +34,22 @@ use Rattle.journal_law.proofs.Widths.{opened_width, widths_of_one}
 use Rattle.core_turns.specs.Core.{CoreState, at_disk}
 use Rattle.schedule.specs.declared.client.Client.{Client}
 use Rattle.schedule.specs.declared.whole_run.Ended.{Ended}
+use Rattle.schedule.specs.declared.whole_run.Ended.TheVariants.{Whole, NoMemory, Limit}
 use Rattle.schedule.specs.Caused.{FullIsCaused}
-use Rattle.schedule.specs.Coming.{HasCome, turns_of}
-use Rattle.schedule.specs.InTurn.{Cursor, InOrder, replay_at}
+use Rattle.schedule.specs.Coming.{HasCome}
+use Rattle.schedule.specs.Turns.{turns_of, TurnTaken, Turns, bank_when}
+use Rattle.schedule.specs.InTurn.{Cursor, InOrder, HaveTaken, Replay, replay_at}
+use Rattle.schedule.specs.Moments.{Past}
 use Rattle.schedule.specs.Playing.{EndsSo}
 use Rattle.schedule.specs.Replaying.{blank_clients}
 use Rattle.schedule.specs.Running.{Runs}
-use Rattle.schedule.specs.WholeRun.{HasRun, HasTakenTurns, RunKeeps}
+use Rattle.schedule.specs.WholeRun.{HasRun, HasRunInTurn, RunKeeps, first_turns}
+use Rattle.schedule.proofs.Banks.{are_listed, at_end as bank_at_end, at_start}
 use Rattle.schedule.proofs.Beginning.{no_call}
+use Rattle.schedule.proofs.InTurn.{gone_taken}
 use Rattle.schedule.proofs.Opened.{resting, opened_world, runs_first}
 use Rattle.schedule.proofs.OpenedBirths.{opened_births}
-use Rattle.schedule.proofs.Recording.{recorded_throughout, recorded_keeps}
+use Rattle.schedule.proofs.Recording.{recorded_throughout, recorded_keeps, recorded_no_older}
 use Rattle.schedule.proofs.UsingOpened.{uses_first}
 use Rattle.schedule.proofs.Syncs.{groups_know}
 
@@ -84,18 +89,31 @@ module _ (old mid new : Disk) (later : Later mid new) where
           inr (let rose = goes.failed device is has in let more = earlier.faults device in omega (arith, rose, more))
 
 module _ (script : Script) (old mid : Disk) (pool : Pool) (silent : ℕ) (items : List Item) (clients : List Client)
-    (final : CoreState) (opened_later : Later old mid)
+    (final : CoreState) (passed : List TurnTaken) (opened_later : Later old mid)
     (opened_only : TouchesOnly (IsOnBelow pool.uber.reflow.to) old mid)
     (failed : HaveFailed old mid silent) (few : count_of pool.out ≤ pool.uber.parity)
     (outs : AreOutOf old mid pool.uber pool.out) (begun : IsBegunWith pool silent old mid)
     (rest : AreUnderWay pool.blocks []) (bank : HasBank pool.uber pool.out mid) (lawful : Lawful old)
     (right : IsRightUber pool.uber) (loaded : AreLoaded pool.uber pool.blocks.table.entries pool.blocks)
-    (come : HasCome script
-    (turns_of (at_disk (resting pool) mid) (Group (first_item pool) ∷ []) (blank_clients script.clients))
+    (taken : HaveTaken script (first_turns script (at_disk (resting pool) mid) (first_item pool)) passed)
+    (come : HasCome script (first_turns script (at_disk (resting pool) mid) (first_item pool)) passed
     (turns_of final items clients))
     (calls : CallsAreRight (asked_by script) items) where
   abbrev item : GroupItem
   item = first_item pool
+
+  -- what the turns began with
+  abbrev first_state : Turns
+  first_state = first_turns script (at_disk (resting pool) mid) item
+
+  -- the bank before the opening, and those that the turns left
+  abbrev past : Past
+  past = record { origin = old; banks = bank_when first_state passed }
+
+  last_bank : past.banks (length items + 1) ≡ final.disk
+  last_bank = bank_at_end script first_state passed (length items + 1) taken
+      (let same = ap (λ (turns : Turns). length turns.items) come.ends in omega (arith, same))
+      ∙ ap (λ (turns : Turns). turns.state.disk) come.ends
 
   module _ (setting : Setting) (first : Kept) (later : List Kept) (may : MayBegin setting first later old)
       (silent_in : IsWithinBelow first.uber.reflow.to silent setting.failed)
@@ -107,15 +125,15 @@ module _ (script : Script) (old mid : Disk) (pool : Pool) (silent : ℕ) (items 
     abbrev world : World
     world = opened_world (handed_by script) may.may begins
 
-    first_runs : Runs world script old (at_disk (resting pool) mid) (Group item ∷ []) (blank_clients script.clients)
-    first_runs = runs_first (handed_by script) may.may begins opened_later bank rest script script.clients
+    first_runs : Runs world script past (at_disk (resting pool) mid) (Group item ∷ []) (blank_clients script.clients)
+    first_runs = runs_first (handed_by script) may.may begins past refl (at_start first_state passed 1 (omega arith)) opened_later bank rest script script.clients
 
-    runs : Runs world script old final items clients
-    runs = come.runs world old refl first_runs borne_in
+    runs : Runs world script past final items clients
+    runs = come.runs world past refl first_runs borne_in (are_listed script first_state passed taken)
 
     -- The journal that the opening left has no answers.
     full : FullIsCaused script begins.opened.chosen.map items
-    full = come.full world old refl first_runs borne_in
+    full = come.full world past refl first_runs borne_in (are_listed script first_state passed taken)
         (record { each = λ index entry there is. absurd (no_call item index entry there) })
 
     abbrev run_groups : List Kept
@@ -157,6 +175,7 @@ module _ (script : Script) (old mid : Disk) (pool : Pool) (silent : ℕ) (items 
 
     -- What the run keeps, where these devices may fail.
     pub run_keeps : RunKeeps script setting first later old final.disk items pool.uber.parity
+        (bank_when first_state passed)
     unfolding begins
     run_keeps = record {
       chosen = begins.opened.chosen;
@@ -170,7 +189,7 @@ module _ (script : Script) (old mid : Disk) (pool : Pool) (silent : ℕ) (items 
       full = full.each;
       no_space = no_space;
       any_moment = recorded_throughout runs.recorded;
-      no_older = runs.recorded.no_older;
+      no_older = recorded_no_older runs.recorded last_bank;
       kept = at_end.0;
       kept_among = at_end.1;
       widths = widths_of_one run_groups first (0, omega arith, refl) runs.recorded.widths;
@@ -182,6 +201,15 @@ module _ (script : Script) (old mid : Disk) (pool : Pool) (silent : ℕ) (items 
   has_run = record {
     opened = item;
     there = come.listed 0 (Group item) refl;
+    start = at_disk (resting pool) mid;
+    rest = record { holds = refl; committing = refl; blocks = rest };
+    opened_is = refl;
+    bank = bank;
+    later = opened_later;
+    passed = passed;
+    taken = taken;
+    items_are = ap (λ (turns : Turns). turns.items) come.ends;
+    disk_is = ap (λ (turns : Turns). turns.state.disk) come.ends;
     silent = silent;
     failed = failed_later old mid final.disk come.later silent failed;
     parity = pool.uber.parity;
@@ -196,26 +224,22 @@ module _ (script : Script) (old mid : Disk) (pool : Pool) (silent : ℕ) (items 
     keeps = run_keeps;
   }
 
--- and each turn was that of the client whose turn it was.
-pub has_taken_turns : (script : Script) (listed : List ℕ) (old mid : Disk) (pool : Pool) (items : List Item)
-    (clients : List Client) (final : CoreState) → Later old mid → AreUnderWay pool.blocks []
-    → HasBank pool.uber pool.out mid
-    → (ended : Ended) (turns : ℕ) (cursor : Cursor) → EndsSo script
-    (replay_at (turns_of (at_disk (resting pool) mid) (Group (first_item pool) ∷ []) (blank_clients script.clients))
-    0 (InOrder listed))
-    (replay_at (turns_of final items clients) turns cursor) ended
-    → HasTakenTurns script listed old final.disk items
-    (record { ended = ended; turns = turns; out = final.core.pool.out })
-has_taken_turns script listed old mid pool items clients final opened_later rest bank ended turns cursor ends = record {
-  opened = first_item pool;
-  start = at_disk (resting pool) mid;
-  rest = record { holds = refl; committing = refl; blocks = rest };
-  opened_is = refl;
-  bank = bank;
-  later = opened_later;
-  now = final;
-  disk = refl;
-  clients = clients;
-  cursor = cursor;
-  ends = ends;
-}
+  -- and the turns were those of the clients whose turn it was.
+  pub has_run_in_turn : (listed : List ℕ) (ended : Ended) (turns : ℕ) (cursor : Cursor)
+      → EndsSo script (replay_at first_state 0 (InOrder listed)) passed
+      (replay_at (turns_of final items clients) turns cursor) ended
+      → HasRunInTurn script listed old final.disk items
+      (record { ended = ended; turns = turns; out = final.core.pool.out })
+  unfolding has_run
+  has_run_in_turn listed ended turns cursor ends = record {
+    run = has_run;
+    turns = record { now = turns_of final items clients; cursor = cursor; ends = ends };
+  }
+
+-- However they ended, the turns were taken one after the other.
+pub ends_taken : (script : Script) (start now : Replay) (passed : List TurnTaken) (ended : Ended)
+    → EndsSo script start passed now ended → HaveTaken script start.turns passed
+ends_taken script start now passed Whole ends = (gone_taken script start now passed ends.0).0
+ends_taken script start now passed NoMemory ends =
+    subst (HaveTaken script start.turns) (sym ends.1) tt
+ends_taken script start now passed Limit ends = (gone_taken script start now passed ends.0).0

@@ -1,12 +1,13 @@
 -- What a turn of one client comes to, among the others.
-use Rattle.std.specs.Prelude.{◌≡◌, ℕ, List, Some, slice_get}
+use Rattle.std.specs.Prelude.{◌≡◌, ℕ, List, [], ◌∷◌, Some, slice_get}
 use Rattle.bank_trait.specs.Disk.{Lawful}
 use Rattle.client_script.specs.Script.{Script}
 use Rattle.core_turns.specs.Core.{IsCore}
 use Rattle.schedule.specs.declared.client.Client.{Client}
 use Rattle.schedule.specs.Clients.{Changes}
-use Rattle.schedule.specs.Coming.{HasCome, IsSchedule, KeepsUsing, turns_of}
+use Rattle.schedule.specs.Coming.{HasCome, IsSchedule, KeepsUsing}
 use Rattle.schedule.specs.Turned.{Station}
+use Rattle.schedule.specs.Turns.{taken_by, turns_of}
 
 -- A client takes a turn: the others stay as they are.
 pub record TakesTurn (script : Script) (actor : ℕ) (before after : Station) (clients news : List Client) : Type 0 where
@@ -20,6 +21,7 @@ pub record TakesTurn (script : Script) (actor : ℕ) (before after : Station) (c
       (turns_of after.state after.items news)
 
 -- It comes to a state in which the next turn may be taken.
-pub record Comes (script : Script) (before after : Station) (clients news : List Client) : Type 0 where
-  pub come : HasCome script (turns_of before.state before.items clients) (turns_of after.state after.items news)
+pub record Comes (script : Script) (actor : ℕ) (before after : Station) (clients news : List Client) : Type 0 where
+  pub come : HasCome script (turns_of before.state before.items clients)
+      (taken_by actor (turns_of after.state after.items news) ∷ []) (turns_of after.state after.items news)
   pub schedule : IsSchedule script (turns_of after.state after.items news)

@@ -18,17 +18,10 @@ use Rattle.core_turns.specs.Core.{CoreState}
 use Rattle.schedule.specs.declared.client.Client.{Client}
 use Rattle.schedule.specs.Caused.{FullIsCaused}
 use Rattle.schedule.specs.Clients.{AreAnswered}
+use Rattle.schedule.specs.Moments.{Past}
 use Rattle.schedule.specs.Running.{AreGoing, Runs}
+use Rattle.schedule.specs.Turns.{Turns, TurnTaken, AreListedWith, last_left}
 use Rattle.schedule.specs.Using.{HasUsedRuns}
-
--- the core with its disk, the journal's items, and what the clients have come to
-pub record Turns : Type 0 where
-  pub state : CoreState
-  pub items : List Item
-  pub clients : List Client
-
-abbrev pub turns_of : CoreState → List Item → List Client → Turns
-turns_of state items clients = record { state = state; items = items; clients = clients }
 
 -- What is needed of the calls under way, and which calls the journal answers.
 pub record IsSchedule (script : Script) (turns : Turns) : Type 0 where
@@ -42,12 +35,13 @@ KeepsUsing script start now = (uber : Uber) (entries : List IndexEntry)
     → HasUsedRuns script uber entries start.state.core start.items start.clients
     → HasUsedRuns script uber entries now.state.core now.items now.clients
 
--- Turns have come from one state to another. Devices went out where they failed, and none was touched but those
+-- These turns have come from one state to another. Devices went out where they failed, and none was touched but those
 -- of the pool that were in use. An answer that tells of too many devices lists devices that are out, more than
 -- there are parities. The devices whose failure has to be borne were out when it began, or have failed, and are no
 -- more than there are parities; none where too many were out then, since no device is called any more. Where these may
 -- fail, what stood stands, and answers that the table is full have their cause.
-pub record HasCome (script : Script) (start now : Turns) : Type 0 where
+pub record HasCome (script : Script) (start : Turns) (passed : List TurnTaken) (now : Turns) : Type 0 where
+  pub ends : last_left start passed ≡ now
   pub later : Later start.state.disk now.state.disk
   pub parity : now.state.core.pool.uber.parity ≡ start.state.core.pool.uber.parity
   pub widths : now.state.core.pool.uber.reflow ≡ start.state.core.pool.uber.reflow
@@ -67,12 +61,12 @@ pub record HasCome (script : Script) (start now : Turns) : Type 0 where
       → IsWithin start.state.core.pool.out borne
   pub stopped : start.state.core.pool.uber.parity < count_of start.state.core.pool.out → IsWithin borne 0
   pub within : IsWithin borne now.state.core.pool.out
-  pub runs : (world : World) (origin : Disk) → world.handed ≡ handed_by script
-      → Runs world script origin start.state start.items start.clients
-      → IsWithin borne world.setting.failed
-      → Runs world script origin now.state now.items now.clients
-  pub full : (world : World) (origin : Disk) → world.handed ≡ handed_by script
-      → Runs world script origin start.state start.items start.clients
-      → IsWithin borne world.setting.failed
+  pub runs : (world : World) (past : Past) → world.handed ≡ handed_by script
+      → Runs world script past start.state start.items start.clients
+      → IsWithin borne world.setting.failed → AreListedWith past.banks start passed
+      → Runs world script past now.state now.items now.clients
+  pub full : (world : World) (past : Past) → world.handed ≡ handed_by script
+      → Runs world script past start.state start.items start.clients
+      → IsWithin borne world.setting.failed → AreListedWith past.banks start passed
       → FullIsCaused script world.opening start.items → FullIsCaused script world.opening now.items
   pub space : KeepsUsing script start now

@@ -1,5 +1,5 @@
 -- Whose turn is next, as a script's order and its lines say, and runs of such turns.
-use Rattle.std.specs.Prelude.{◌≡◌, ℕ, zero, suc, ◌+◌, ◌≤◌, List, [], ◌∷◌, length, Bool, false, ◌||◌, if◌then◌else◌, Option, Some, None, is_some, nat_lt, slice_get}
+use Rattle.std.specs.Prelude.{◌≡◌, ℕ, zero, suc, ◌+◌, ◌≤◌, List, [], ◌∷◌, ◌++◌, length, Bool, false, ◌||◌, if◌then◌else◌, Option, Some, None, is_some, nat_lt, slice_get, ⊤}
 use Rattle.std.specs.List.{list_any}
 use Rattle.bank_trait.specs.Disk.{Disk}
 use Rattle.core_state.specs.JournalRoom.{Journal}
@@ -9,7 +9,7 @@ use Rattle.core_turns.specs.Core.{Core, at_disk}
 use Rattle.schedule.specs.declared.client.Client.{Client}
 use Rattle.schedule.specs.declared.progress.Progress.{Progress}
 use Rattle.schedule.specs.Clients.{Changes}
-use Rattle.schedule.specs.Coming.{Turns, turns_of}
+use Rattle.schedule.specs.Turns.{Turns, TurnTaken, taken_by, turns_of}
 use Rattle.schedule.specs.Turned.{Turned}
 
 -- ---- whose turn it is
@@ -110,23 +110,34 @@ turns_by core disk journal progress = turns_of (at_disk core disk) journal.items
 abbrev pub replay_by : Core → Disk → Journal → Progress → Cursor → Replay
 replay_by core disk journal progress cursor = replay_at (turns_by core disk journal progress) progress.turns cursor
 
+-- ---- turn after turn
+
+-- These turns were taken one after the other, whoever's they were.
+abbrev pub HaveTaken : Script → Turns → List TurnTaken → Type 0
+HaveTaken script start [] = ⊤
+HaveTaken script start (turn ∷ later) = IsTurnOf script turn.actor start turn.left × HaveTaken script turn.left later
+
+-- ---- the turns whose turn it is
+
 -- The turn is counted; where it is nobody's, nothing is done.
-abbrev pub IsStepOf : Script → Replay → Replay → Option ℕ → Type 0
-IsStepOf script before after None = (after.turns ≡ before.turns) × (after.taken ≡ before.taken)
-IsStepOf script before after (Some actor) = IsTurnOf script actor before.turns after.turns
-    × (after.taken ≡ before.taken + 1)
+abbrev pub IsStepOf : Script → Replay → List TurnTaken → List TurnTaken → Replay → Option ℕ → Type 0
+IsStepOf script before passed more after None = (after.turns ≡ before.turns) × (after.taken ≡ before.taken)
+    × (more ≡ passed)
+IsStepOf script before passed more after (Some actor) = IsTurnOf script actor before.turns after.turns
+    × (after.taken ≡ before.taken + 1) × (more ≡ passed ++ taken_by actor after.turns ∷ [])
 
 -- One step of a replay: the turn of the client whose it is there.
-pub record Steps (script : Script) (before after : Replay) : Type 0 where
-  pub turn : IsStepOf script before after (turn_at script before.turns.clients before.cursor)
+pub record Steps (script : Script) (before : Replay) (passed more : List TurnTaken) (after : Replay) : Type 0 where
+  pub turn : IsStepOf script before passed more after (turn_at script before.turns.clients before.cursor)
   pub cursor : after.cursor ≡ cursor_after script before.turns.clients before.cursor
 
--- So many steps, one after the other.
-abbrev pub Goes : Script → ℕ → Replay → Replay → Type 0
-Goes script zero start now = now ≡ start
-Goes script (suc steps) start now = (middle : Replay) × Goes script steps start middle × Steps script middle now
+-- So many steps, one after the other, with these turns.
+abbrev pub Goes : Script → ℕ → Replay → List TurnTaken → Replay → Type 0
+Goes script zero start passed now = (now ≡ start) × (passed ≡ [])
+Goes script (suc steps) start passed now = (middle : Replay) × (before : List TurnTaken)
+    × Goes script steps start before middle × Steps script middle before passed now
 
 -- A replay has gone on by some steps.
-pub record HasGone (script : Script) (start now : Replay) : Type 0 where
+pub record HasGone (script : Script) (start : Replay) (passed : List TurnTaken) (now : Replay) : Type 0 where
   pub steps : ℕ
-  pub goes : Goes script steps start now
+  pub goes : Goes script steps start passed now

@@ -1,12 +1,15 @@
 -- What stands while a script is carried out, and how that ends.
 use Rattle.std.specs.Prelude.{◌≡◌, ℕ, suc, ◌+◌, ◌-◌, ◌*◌, ◌≤◌, ◌^◌, List, [], ◌∷◌, length}
+use Rattle.core_state.specs.declared.item.Item.{Item}
 use Rattle.client_script.specs.Script.{Script, calls_of}
+use Rattle.core_turns.specs.Core.{CoreState}
 use Rattle.schedule.specs.declared.client.Client.{Client}
 use Rattle.schedule.specs.declared.whole_run.Ended.{Ended}
 use Rattle.schedule.specs.declared.whole_run.Ended.TheVariants.{Whole, NoMemory, Limit}
 use Rattle.schedule.specs.Clients.{answered_of}
-use Rattle.schedule.specs.Coming.{HasCome, IsSchedule, Turns}
-use Rattle.schedule.specs.InTurn.{Cursor, InRest, HasGone, Replay, replay_at}
+use Rattle.schedule.specs.Coming.{HasCome, IsSchedule}
+use Rattle.schedule.specs.InTurn.{Cursor, InOrder, InRest, HasGone, Replay, replay_at}
+use Rattle.schedule.specs.Turns.{Turns, TurnTaken, turns_of}
 use Rattle.schedule.specs.Replaying.{AreIdle, OnlyShared}
 
 -- ---- room for answers
@@ -45,8 +48,9 @@ pub record IsReady (script : Script) (turns : Turns) (room : ℕ) : Type 0 where
 
 -- Turns have come to a state in which the next turn may be taken, and they are those of the script.
 pub record HasPlayed (script : Script) (start now : Replay) (room : ℕ) : Type 0 where
-  pub come : HasCome script start.turns now.turns
-  pub gone : HasGone script start now
+  pub passed : List TurnTaken
+  pub come : HasCome script start.turns passed now.turns
+  pub gone : HasGone script start passed now
   pub ready : IsReady script now.turns room
 
 -- most turns of a replay
@@ -63,8 +67,19 @@ pub record HasStopped (script : Script) (start : Replay) (turns : Turns) (taken 
 
 -- How a replay ends: each call is answered; or memory was wanting before the first turn, and nothing was done; or no
 -- more turns can be counted.
-abbrev pub EndsSo : Script → Replay → Replay → Ended → Type 0
-EndsSo script start now Whole = HasGone script start now × (now.cursor ≡ InRest (length script.calls))
+abbrev pub EndsSo : Script → Replay → List TurnTaken → Replay → Ended → Type 0
+EndsSo script start passed now Whole = HasGone script start passed now × (now.cursor ≡ InRest (length script.calls))
     × AreIdle now.turns.clients
-EndsSo script start now NoMemory = now ≡ start
-EndsSo script start now Limit = HasGone script start now × (most_turns ≤ now.taken)
+EndsSo script start passed now NoMemory = (now ≡ start) × (passed ≡ [])
+EndsSo script start passed now Limit = HasGone script start passed now × (most_turns ≤ now.taken)
+
+-- From this start the calls of a script were carried out, with these turns, first those that were listed, so many in
+-- all; and they ended so, with this core, its disk and this journal.
+pub record CarriesOut (script : Script) (listed : List ℕ) (start : Turns) (ended : Ended) (taken : ℕ) (state : CoreState)
+    (items : List Item) : Type 0 where
+  pub passed : List TurnTaken
+  pub clients : List Client
+  pub cursor : Cursor
+  pub come : HasCome script start passed (turns_of state items clients)
+  pub ends : EndsSo script (replay_at start 0 (InOrder listed)) passed
+      (replay_at (turns_of state items clients) taken cursor) ended

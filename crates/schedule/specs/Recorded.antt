@@ -15,7 +15,7 @@ use Rattle.core_state.specs.Moment.{IsGroupOf, Groups, KeepsSince}
 use Rattle.core_state.specs.CoreState.{World}
 use Rattle.journal_law.specs.Caused.{IsAtLastGroup}
 use Rattle.journal_law.specs.Widths.{HaveWidthOf}
-use Rattle.schedule.specs.Moments.{KeepsTurnByTurn, KeepsOn}
+use Rattle.schedule.specs.Moments.{KeptSoFar, KeepsOn, Past}
 
 -- Each answer that tells of a limit has its cause in the items before it.
 pub record GroupsAreCounted (items : List Item) : Type 0 where
@@ -26,7 +26,7 @@ pub record GroupsAreCounted (items : List Item) : Type 0 where
 -- older than the last one listed by then. The last group listed is this one, and these were begun after it; each
 -- image since the last item was listed keeps some of them. All groups of the run have the width and the parity of
 -- the uberblock.
-pub record Recorded (world : World) (origin : Disk) (items : List Item) (last : Kept) (begun : List Kept)
+pub record Recorded (world : World) (past : Past) (items : List Item) (last : Kept) (begun : List Kept)
     (uber : Uber) (now : Disk) : Type 0 where
   pub groups : Groups world.handed world.opening world.known items
   pub earlier : List Kept
@@ -39,11 +39,11 @@ pub record Recorded (world : World) (origin : Disk) (items : List Item) (last : 
   pub right : AnswersAreRight world.handed world.opening items
   pub sound : (index : ℕ) (entry : Entry) → CallAt items index entry → entry.answer ≢ answer.Damaged
   pub counted : GroupsAreCounted items
-  pub since : KeepsSince world.setting (world.known ++ groups.answered ++ groups.begun) origin.clock now
+  pub since : KeepsSince world.setting (world.known ++ groups.answered ++ groups.begun) past.origin.clock now
   pub widths : HaveWidthOf uber (world.known ++ groups.answered ++ groups.begun)
-  pub no_older : KeepsTurnByTurn world.setting world.handed world.opening world.known items origin now
+  pub no_older : KeptSoFar world.setting world.handed world.opening world.known items past
   pub kept_on : KeepsOn world.setting world.handed world.opening items item last begun
-      (no_older.bank (length items)) now
+      (past.banks (length items)) now
 
 -- The next entry is right where it is listed.
 pub record IsRightNext (world : World) (items : List Item) (entry : Entry) : Type 0 where

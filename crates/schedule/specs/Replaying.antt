@@ -1,5 +1,5 @@
 -- A script that is carried out turn by turn.
-use Rattle.std.specs.Prelude.{◌≡◌, ◌≢◌, ℕ, ◌+◌, ◌-◌, ◌<◌, ◌≤◌, List, [], length, replicate, Option, Some, None, Contains, slice_get}
+use Rattle.std.specs.Prelude.{◌≡◌, ◌≢◌, ℕ, ◌+◌, ◌-◌, ◌<◌, ◌≤◌, List, [], ◌∷◌, length, replicate, Option, Some, None, Contains, slice_get}
 use Rattle.range_locks.specs.declared.hold.Hold.{Hold}
 use Rattle.range_locks.specs.declared.hold.HoldKind.TheVariants.{Shared}
 use Rattle.core_blocks.specs.Blocks.{AreUnderWay}
@@ -8,8 +8,9 @@ use Rattle.client_script.specs.Script.{Script, calls_of}
 use Rattle.core_turns.specs.Core.{Core}
 use Rattle.schedule.specs.declared.client.Client.{Client}
 use Rattle.schedule.specs.declared.client.UnderWay.{UnderWay}
-use Rattle.schedule.specs.Coming.{HasCome, Turns}
+use Rattle.schedule.specs.Coming.{HasCome}
 use Rattle.schedule.specs.InTurn.{IsTurnOf}
+use Rattle.schedule.specs.Turns.{Turns, taken_by}
 use Rattle.schedule.specs.Left.{turns_left}
 
 -- No call is under way.
@@ -47,7 +48,7 @@ pub record TakesOne (script : Script) (actor : ℕ) (before : Turns) (clients : 
 
 -- A client had a turn, and the others stay as they were.
 pub record HasTurn (script : Script) (actor : ℕ) (before after : Turns) : Type 0 where
-  pub come : HasCome script before after
+  pub come : HasCome script before (taken_by actor after ∷ []) after
   pub is : IsTurnOf script actor before after
   pub others : (other : ℕ) → other ≢ actor → slice_get after.clients other ≡ slice_get before.clients other
   pub takes : (client : Client) → slice_get before.clients actor ≡ Some client

@@ -21,6 +21,7 @@ use Rattle.schedule.specs.declared.client.Client.{Client}
 use Rattle.schedule.specs.declared.client.UnderWay.{UnderWay}
 use Rattle.schedule.specs.declared.client.Work.{Work}
 use Rattle.schedule.specs.declared.client.Work.TheVariants as work
+use Rattle.schedule.specs.Moments.{Past}
 use Rattle.schedule.specs.Recorded.{Recorded, IsBegunAt}
 
 -- ---- without a world
@@ -107,7 +108,7 @@ pub record IsClient (world : World) (script : Script) (items : List Item) (item 
 -- After these items the journal is right, the core stands with the clients' calls under way and holds the
 -- journal's map, and each image since the bank was the first one keeps groups of the run in a row, none older than
 -- the last one listed by then.
-pub record Runs (world : World) (script : Script) (origin : Disk) (state : CoreState) (items : List Item)
+pub record Runs (world : World) (script : Script) (past : Past) (state : CoreState) (items : List Item)
     (clients : List Client) : Type 0 where
   pub last : Kept
   pub begun : List Kept
@@ -115,7 +116,7 @@ pub record Runs (world : World) (script : Script) (origin : Disk) (state : CoreS
   pub commit : Option CommitRun
   pub item : GroupItem
   pub latest : IsGroupBefore items (length items) item
-  pub recorded : Recorded world origin items last begun state.core.pool.uber state.disk
+  pub recorded : Recorded world past items last begun state.core.pool.uber state.disk
   pub stands : Stands world.setting last begun (map_of world.handed world.opening items) calls commit state
   pub theirs : AreTheirs clients calls
   pub sync : IsTheirs clients commit

@@ -27,14 +27,13 @@ use Rattle.journal_law.specs.NoSpace.{NoSpaceIsCaused}
 use Rattle.journal_law.specs.Widths.{HaveWidthOf}
 use Rattle.journal_law.specs.FirstGroup.{BeginsAfter}
 use Rattle.open_pool.specs.Pool.{first_item}
-use Rattle.schedule.specs.declared.client.Client.{Client}
 use Rattle.schedule.specs.declared.whole_run.Ran.{Ran}
-use Rattle.schedule.specs.Coming.{turns_of}
-use Rattle.schedule.specs.InTurn.{Cursor, InOrder, replay_at}
+use Rattle.schedule.specs.InTurn.{Cursor, HaveTaken, InOrder, replay_at}
 use Rattle.schedule.specs.Moments.{KeepsTurnByTurn}
 use Rattle.schedule.specs.Playing.{EndsSo}
 use Rattle.schedule.specs.Recorded.{GroupsAreCounted}
 use Rattle.schedule.specs.Replaying.{IsAtRest, blank_clients}
+use Rattle.schedule.specs.Turns.{Turns, TurnTaken, bank_when, last_left, turns_of}
 
 -- A run began with one of the groups that the bank kept, and its journal is legal from that group's map on.
 -- Whatever a stop leaves, at any moment of the run, keeps some of the groups in a row: those kept before, the
@@ -44,7 +43,7 @@ use Rattle.schedule.specs.Replaying.{IsAtRest, blank_clients}
 -- that tells of a limit has its cause: the last group, or more ids than a table has room for. Where one says `NoSpace`,
 -- the chosen group's index and the script have too many blocks.
 pub record RunKeeps (script : Script) (setting : Setting) (first : Kept) (later : List Kept) (old new : Disk)
-    (items : List Item) (parity : ℕ) : Type 0 where
+    (items : List Item) (parity : ℕ) (banks : ℕ → Disk) : Type 0 where
   pub chosen : Kept
   pub known : Contains (first ∷ later) chosen
   pub choice : (image : Image) → HoldsImage old image
@@ -57,13 +56,18 @@ pub record RunKeeps (script : Script) (setting : Setting) (first : Kept) (later 
       → HasTooManyIds script chosen.map
   pub no_space : NoSpaceIsCaused script chosen.uber chosen.entries items
   pub any_moment : KeepsThroughout setting (handed_by script) chosen.map (first ∷ later) items old new
-  pub no_older : KeepsTurnByTurn setting (handed_by script) chosen.map (first ∷ later) items old new
+  pub no_older : KeepsTurnByTurn setting (handed_by script) chosen.map (first ∷ later) items
+      (record { origin = old; banks = banks }) new
   pub kept : KeepsLast setting (handed_by script) chosen.map items new
   pub kept_among : (group : Kept) → Contains (kept.last ∷ kept.begun) group
       → Contains ((first ∷ later) ++ any_moment.groups.answered ++ any_moment.groups.begun) group
   pub widths : HaveWidthOf first.uber
       ((first ∷ later) ++ any_moment.groups.answered ++ any_moment.groups.begun)
   pub parity_is : first.uber.parity ≡ parity
+
+-- what the turns of a run begin with: a core, the journal of the opening's group, and clients that have begun no call
+abbrev pub first_turns : Script → CoreState → GroupItem → Turns
+first_turns script start opened = turns_of start (Group opened ∷ []) (blank_clients script.clients)
 
 -- A script's calls were carried out on the pool that the devices showed, whoever's turns they were; the journal begins
 -- with a group. Each device that is out at the end was out at the opening, or failed in the run. A call that tells of too
@@ -73,6 +77,17 @@ pub record RunKeeps (script : Script) (setting : Setting) (first : Kept) (later 
 pub record HasRun (script : Script) (old new : Disk) (items : List Item) (out : ℕ) : Type 0 where
   pub opened : GroupItem
   pub there : GroupAt items 0 opened
+  -- The opening left a core at rest, of the pool that it opened,
+  pub start : CoreState
+  pub rest : IsAtRest start.core
+  pub opened_is : opened ≡ first_item start.core.pool
+  pub bank : HasBank start.core.pool.uber start.core.pool.out start.disk
+  pub later : Later old start.disk
+  -- and from there these turns were taken.
+  pub passed : List TurnTaken
+  pub taken : HaveTaken script (first_turns script start opened) passed
+  pub items_are : (last_left (first_turns script start opened) passed).items ≡ items
+  pub disk_is : (last_left (first_turns script start opened) passed).state.disk ≡ new
   pub silent : ℕ
   pub failed : HaveFailed old new silent
   pub parity : ℕ
@@ -85,26 +100,25 @@ pub record HasRun (script : Script) (old new : Disk) (items : List Item) (out : 
   pub borne : ℕ
   pub within : IsWithin borne out
   pub few : count_of borne ≤ parity
+  -- An item was listed with the bank as its turn left it.
   pub keeps : (setting : Setting) (first : Kept) (later : List Kept)
       → MayBegin setting first later old
       → IsWithinBelow first.uber.reflow.to silent setting.failed
       → IsWithin borne setting.failed
-      → RunKeeps script setting first later old new items parity
+      → RunKeeps script setting first later old new items parity (bank_when (first_turns script start opened) passed)
 
--- From a core at rest whose pool is of the opening's group, a journal of that group and clients that had begun no call,
--- the turns were taken whose turn it was, first those that were listed, as many as are told, and they ended as is told.
-pub record HasTakenTurns (script : Script) (listed : List ℕ) (old new : Disk) (items : List Item) (ran : Ran) : Type 0
+-- The turns of a run were those of the clients whose turn it was, first those that were listed, as many as are told, and
+-- they ended as is told.
+pub record HasTakenTurns (script : Script) (listed : List ℕ) {old new : Disk} {items : List Item} {out : ℕ}
+    (run : HasRun script old new items out) (ran : Ran) : Type 0 where
+  pub now : Turns
+  pub cursor : Cursor
+  pub ends : EndsSo script (replay_at (first_turns script run.start run.opened) 0 (InOrder listed)) run.passed
+      (replay_at now ran.turns cursor) ran.ended
+
+-- A script was carried out on the pool that the devices showed, and the turns were those of the list and then the
+-- script's.
+pub record HasRunInTurn (script : Script) (listed : List ℕ) (old new : Disk) (items : List Item) (ran : Ran) : Type 0
   where
-    pub opened : GroupItem
-    pub start : CoreState
-    pub rest : IsAtRest start.core
-    pub opened_is : opened ≡ first_item start.core.pool
-    pub bank : HasBank start.core.pool.uber start.core.pool.out start.disk
-    pub later : Later old start.disk
-    pub now : CoreState
-    pub disk : now.disk ≡ new
-    pub clients : List Client
-    pub cursor : Cursor
-    pub ends : EndsSo script
-        (replay_at (turns_of start (Group opened ∷ []) (blank_clients script.clients)) 0 (InOrder listed))
-        (replay_at (turns_of now items clients) ran.turns cursor) ran.ended
+    pub run : HasRun script old new items ran.out
+    pub turns : HasTakenTurns script listed run ran

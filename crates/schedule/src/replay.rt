@@ -8,9 +8,9 @@ ghost use Rattle.open_pool.specs.Pool.{HasBank};
 ghost use Rattle.core_turns.specs.Core.{at_disk};
 ghost use Rattle.schedule.specs.declared.client.Client.{Client as ClientOf};
 ghost use Rattle.schedule.specs.declared.whole_run.Ended.TheVariants.{Whole};
-ghost use Rattle.schedule.specs.Coming.{HasCome, turns_of};
-ghost use Rattle.schedule.specs.InTurn.{Cursor, InOrder, InRest, InRound, IsCallOf, has_left_at, replay_at, replay_by, turns_by};
-ghost use Rattle.schedule.specs.Playing.{EndsSo, HasPlayed, HasStopped, IsReady};
+ghost use Rattle.schedule.specs.Turns.{turns_of};
+ghost use Rattle.schedule.specs.InTurn.{Cursor, InOrder, InRest, InRound, IsCallOf, has_left_at, replay_by, turns_by};
+ghost use Rattle.schedule.specs.Playing.{CarriesOut, HasPlayed, HasStopped, IsReady};
 ghost use Rattle.schedule.specs.Replaying.{AreIdle, BeginsOne, HasTurn, HaveBegun, HaveFewer, IsAtRest, blank_clients};
 
 use crate::progress::{Progress, UsedUp};
@@ -336,14 +336,9 @@ pub fn carry_out<B: Bank>(
     requires allowed { All (λ placed. IsAllowed placed.call) script.now.calls }
     requires actors { All (λ placed. placed.actor < script.now.clients) script.now.calls }
     requires none { (index : ℕ) (entry : EntryOf) → CallAt journal.old.items index entry → ⊥ }
-    ensures taken { (clients : List ClientOf) × (cursor : Cursor) × HasCome script.now
-        (turns_of (at_disk core.old (B.disk bank.old)) journal.old.items (blank_clients script.now.clients))
-        (turns_of (at_disk core.new (B.disk bank.new)) journal.new.items clients)
-        × EndsSo script.now
-        (replay_at (turns_of (at_disk core.old (B.disk bank.old)) journal.old.items
-        (blank_clients script.now.clients)) 0 (InOrder listed.now))
-        (replay_at (turns_of (at_disk core.new (B.disk bank.new)) journal.new.items clients) result.turns cursor)
-        result.ended }
+    ensures taken { CarriesOut script.now listed.now (turns_of (at_disk core.old (B.disk bank.old)) journal.old.items
+        (blank_clients script.now.clients)) result.ended result.turns (at_disk core.new (B.disk bank.new))
+        journal.new.items }
     ensures calls { CallsAreRight (asked_by script.now) journal.new.items }
     ensures complete { result.ended ≡ Whole → IsComplete (asked_by script.now) journal.new.items }
 {

@@ -7,7 +7,7 @@ ghost use Rattle.client_script.specs.Script.{IsAllowed, asked_by};
 ghost use Rattle.open_pool.specs.Opening.{CutsOpening, LeavesUnopened};
 ghost use Rattle.schedule.specs.declared.whole_run.Ended.TheVariants.{Whole, Limit};
 ghost use Rattle.schedule.specs.Playing.{most_turns};
-ghost use Rattle.schedule.specs.WholeRun.{HasRun, HasTakenTurns};
+ghost use Rattle.schedule.specs.WholeRun.{HasRunInTurn};
 
 use crate::replay::carry_out;
 use bank_trait::Bank;
@@ -52,9 +52,7 @@ pub fn run_pool<B: Bank>(
     requires room { 1 ≤ journal.old.room }
     requires allowed { All (λ placed. IsAllowed placed.call) script.now.calls }
     requires actors { All (λ placed. placed.actor < script.now.clients) script.now.calls }
-    ensures run { IfOk result (λ ran. HasRun script.now (B.disk bank.old) (B.disk bank.new)
-        journal.new.items ran.out) }
-    ensures turns { IfOk result (HasTakenTurns script.now listed.now (B.disk bank.old) (B.disk bank.new)
+    ensures run { IfOk result (HasRunInTurn script.now listed.now (B.disk bank.old) (B.disk bank.new)
         journal.new.items) }
     ensures complete { IfOk result (λ ran. ran.ended ≡ Whole
         → IsComplete (asked_by script.now) journal.new.items) }

@@ -1,29 +1,30 @@
-use Rattle.std.proofs.Common.{List, length, refl, sym, ap, subst}
+use Rattle.std.proofs.Common.{List, [], length, refl, sym, ap, subst}
 use Rattle.core_state.specs.declared.item.Item.{Item}
 use Rattle.core_state.specs.Journal.{CallsAreRight}
 use Rattle.client_script.specs.Script.{asked_by}
 use Rattle.core_turns.specs.Core.{at_disk}
-use Rattle.schedule.specs.Coming.{HasCome, turns_of}
+use Rattle.schedule.specs.Turns.{turns_of}
 use Rattle.schedule.specs.InTurn.{InOrder, InRest, Replay, replay_at, turns_by}
-use Rattle.schedule.specs.Playing.{HasPlayed, HasStopped}
+use Rattle.schedule.specs.Playing.{CarriesOut, HasPlayed, HasStopped}
+use Rattle.schedule.specs.declared.whole_run.Ended.TheVariants.{NoMemory}
 use Rattle.schedule.specs.Replaying.{blank_clients}
 use Rattle.schedule.proofs.AtRest.{complete_at_rest, first_is, ready_at_rest, schedule_at_rest}
 use Rattle.schedule.proofs.Coming.{came_nowhere}
 use Rattle.schedule.proofs.replay.carry_out.Goals as goal
 
 pub returns-in_default-clause-taken : goal.returns-in_default-clause-taken
-returns-in_default-clause-taken g c = (
-  blank_clients c.args.script.now.clients,
-  InOrder c.args.listed.now,
-  subst (λ (items : List Item). HasCome c.args.script.now (turns_of (at_disk c.args.core.now (g.B.Bank.disk c.args.bank.now)) c.args.journal.now.items
-      (blank_clients c.args.script.now.clients))
-      (turns_of (at_disk c.args.core.now (g.B.Bank.disk c.args.bank.now)) items
-      (blank_clients c.args.script.now.clients))) (sym c.begin.ensures.same)
-      (came_nowhere c.args.script.now (turns_of (at_disk c.args.core.now (g.B.Bank.disk c.args.bank.now)) c.args.journal.now.items
-      (blank_clients c.args.script.now.clients))),
-  ap (λ (items : List Item). replay_at (turns_of (at_disk c.args.core.now (g.B.Bank.disk c.args.bank.now)) items
-      (blank_clients c.args.script.now.clients)) 0 (InOrder c.args.listed.now)) c.begin.ensures.same,
-)
+returns-in_default-clause-taken g c =
+    let script = c.args.script.now in
+    let state = at_disk c.args.core.now (g.B.Bank.disk c.args.bank.now) in
+    let start = turns_of state c.args.journal.now.items (blank_clients script.clients) in
+    subst (λ (items : List Item). CarriesOut script c.args.listed.now start NoMemory 0 state items)
+    (sym c.begin.ensures.same) (record {
+      passed = [];
+      clients = blank_clients script.clients;
+      cursor = InOrder c.args.listed.now;
+      come = came_nowhere script start [] refl;
+      ends = (refl, refl);
+    })
 
 pub returns-in_default-clause-calls : goal.returns-in_default-clause-calls
 returns-in_default-clause-calls g c =
@@ -43,12 +44,13 @@ returns-in-Ok-take_turns-clause-taken g c =
     c.take_turns.new.journal.room)
     (first_is c.args.script.now c.args.core.now (g.B.Bank.disk c.args.bank.now) c.args.journal.now.items
     c.begin.new.journal c.in-Ok.progress (InOrder c.args.listed.now) c.begin.ensures.same c.in-Ok.ensures.clients
-    c.in-Ok.ensures.turns) c.in-Ok-take_turns.ensures.played in (
-      c.take_turns.new.progress.clients.items,
-      InRest (length c.args.script.now.calls),
-      played.come,
-      (played.gone, refl, c.in-Ok-take_turns.ensures.idle),
-    )
+    c.in-Ok.ensures.turns) c.in-Ok-take_turns.ensures.played in record {
+      passed = played.passed;
+      clients = c.take_turns.new.progress.clients.items;
+      cursor = InRest (length c.args.script.now.calls);
+      come = played.come;
+      ends = (played.gone, refl, c.in-Ok-take_turns.ensures.idle);
+    }
 
 pub returns-in-Ok-take_turns-clause-calls : goal.returns-in-Ok-take_turns-clause-calls
 returns-in-Ok-take_turns-clause-calls g c = c.in-Ok-take_turns.ensures.played.ready.schedule.answered.right
@@ -65,12 +67,13 @@ returns-clause-taken g c =
     c.take_turns.new.progress.turns c.take_turns.new.journal.room)
     (first_is c.args.script.now c.args.core.now (g.B.Bank.disk c.args.bank.now) c.args.journal.now.items
     c.begin.new.journal c.in-Ok.progress (InOrder c.args.listed.now) c.begin.ensures.same c.in-Ok.ensures.clients
-    c.in-Ok.ensures.turns) c.in-Err.ensures.stopped in (
-      c.take_turns.new.progress.clients.items,
-      stopped.cursor,
-      stopped.played.come,
-      (stopped.played.gone, stopped.most),
-    )
+    c.in-Ok.ensures.turns) c.in-Err.ensures.stopped in record {
+      passed = stopped.played.passed;
+      clients = c.take_turns.new.progress.clients.items;
+      cursor = stopped.cursor;
+      come = stopped.played.come;
+      ends = (stopped.played.gone, stopped.most);
+    }
 
 pub returns-clause-calls : goal.returns-clause-calls
 returns-clause-calls g c = c.in-Err.ensures.stopped.played.ready.schedule.answered.right

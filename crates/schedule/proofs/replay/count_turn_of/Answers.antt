@@ -1,7 +1,7 @@
 use Rattle.std.proofs.Common.{List, sym, subst}
 use Rattle.core_turns.specs.Core.{at_disk}
 use Rattle.schedule.specs.declared.client.Client.{Client as ClientOf}
-use Rattle.schedule.specs.Coming.{turns_of}
+use Rattle.schedule.specs.Turns.{turns_of}
 use Rattle.schedule.specs.InTurn.{turns_by}
 use Rattle.schedule.specs.Playing.{IsReady}
 use Rattle.schedule.specs.Replaying.{HasTurn}
