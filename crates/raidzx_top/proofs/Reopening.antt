@@ -24,7 +24,7 @@ use Rattle.client_script.specs.Script.{Script, IsAllowed, handed_by}
 use Rattle.journal_law.specs.Widths.{HaveWidthOf}
 use Rattle.journal_law.proofs.Rows.{row_among}
 use Rattle.journal_law.proofs.RunBytes.{HoldsBytes, HandsBytes, after_bytes, script_hands}
-use Rattle.schedule.specs.WholeRun.{HasRun, RunKeeps}
+use Rattle.schedule.specs.WholeRun.{HasRun, RunKeeps, banks_of}
 use Rattle.raidzx_top.specs.Reopened.{BearsCut, MayFail, IsLeft, IsLeftOn, ReadsBack, IsReadBack, SurvivesOpening, SurvivesStops, last_groups}
 
 -- The groups have maps of bytes.
@@ -88,7 +88,7 @@ read_back setting groups opened first later image odd only keeps among width byt
       sound = kept.sound;
     }
       where
-        kept : RunKeeps script setting first later old new items run.parity
+        kept : RunKeeps script setting first later old new items run.parity (banks_of run)
         kept = run.keeps setting first later (may old left)
             (subst (λ (wide : ℕ). IsWithinBelow wide run.silent setting.failed) (sym (width.each first here).0)
             bears.silent_in) bears.borne_in
@@ -97,7 +97,7 @@ module _ (script : Script) (old new : Disk) (items : List Item) (out : ℕ) (run
     (allowed : All (λ placed. IsAllowed placed.call) script.calls)
     (setting : Setting) (first : Kept) (later : List Kept) (may : MayBegin setting first later old)
     (bears : MayFail setting first.uber.reflow.to run.silent run.borne) where
-  keeps : RunKeeps script setting first later old new items run.parity
+  keeps : RunKeeps script setting first later old new items run.parity (banks_of run)
   keeps = run.keeps setting first later may bears.silent_in bears.borne_in
 
   -- the groups of the run
@@ -155,8 +155,8 @@ module _ (script : Script) (old new : Disk) (items : List Item) (out : ℕ) (run
       (row_among (record { before = some.before; after = some.after; row = some.row })) keeps.widths all_bytes
 
   by_then : (count : ℕ) (some : 1 ≤ count) (all : count ≤ length items) (moment : ℕ) (image : Image)
-      → (keeps.no_older.bank count).clock ≤ moment → moment ≤ (keeps.no_older.bank (count + 1)).clock
-      → IsLeft setting (keeps.no_older.bank (count + 1)) moment image
+      → (banks_of run count).clock ≤ moment → moment ≤ (banks_of run (count + 1)).clock
+      → IsLeft setting (banks_of run (count + 1)) moment image
       → IsReadBack setting first.uber.reflow.to (last_groups (keeps.no_older.each count some all)) image
   by_then count some all moment image since until_then left =
       let until = keeps.no_older.each count some all in
@@ -179,7 +179,7 @@ module _ (script : Script) (old new : Disk) (items : List Item) (out : ℕ) (run
       keeps.kept.begun_is)
 
   -- A run or a replay survives a stop at any moment of it.
-  pub survives_stops : SurvivesStops setting first later script old new items
+  pub survives_stops : SurvivesStops setting first later script old new items (banks_of run)
   survives_stops = record {
     opening = keeps.chosen.map;
     legal = keeps.legal;

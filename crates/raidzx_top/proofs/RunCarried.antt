@@ -25,7 +25,7 @@ use Rattle.client_script.specs.Texts.{journal_text}
 use Rattle.raidzx_top.specs.declared.running.Trouble.TheVariants as trouble
 use Rattle.raidzx_top.specs.declared.status.Status.{Status}
 use Rattle.raidzx_top.specs.declared.status.Status.TheVariants as status
-use Rattle.schedule.specs.WholeRun.{HasRun, RunKeeps}
+use Rattle.schedule.specs.WholeRun.{HasRun, RunKeeps, banks_of}
 use Rattle.schedule.specs.declared.whole_run.Ran.{Ran}
 use Rattle.raidzx_top.specs.declared.order.Order.{Order}
 use Rattle.raidzx_top.specs.Call.{Call}
@@ -70,7 +70,7 @@ module _ (order : Order) (call : Call) (lawful : Lawful call.old)
   out = was.ran.out
 
   run : HasRun was.script call.old call.new call.journal out
-  run = was.done.run
+  run = was.done.run.run
 
   -- What holds of the line's status and of the one after a fault holds of the status.
   by_line : (P : Status → Type 0) → P was.line
@@ -182,10 +182,10 @@ module _ (order : Order) (call : Call) (lawful : Lawful call.old)
     script = was.script;
     script_is = was.read.is;
     ran = was.ran;
-    run = was.done.run;
-    taken = was.done.turns;
+    run = was.done.run.run;
+    taken = was.done.run.turns;
     turns = was.turns_are;
-    survives = survives_stops was.script call.old call.new call.journal was.ran.out was.done.run was.read.allowed;
+    survives = survives_stops was.script call.old call.new call.journal was.ran.out was.done.run.run was.read.allowed;
     complete = λ other counted. was.done.complete (λ stopped. had_memory other (inl stopped)) counted;
     memory = λ other index entry there is. had_memory other (inr (index, entry, there, is));
     used_up = used_up;
@@ -233,7 +233,7 @@ module _ (order : Order) (call : Call) (lawful : Lawful call.old)
         (subst (λ (n : ℕ). IsOutAtOpening (shape_of call.old) n (present call.old) each.0.uber device) silent missed))
         (λ rose. none_rose device rose) (each.2 device has)
 
-    keeps : RunKeeps was.script smooth.setting smooth.first smooth.later call.old call.new call.journal run.parity
+    keeps : RunKeeps was.script smooth.setting smooth.first smooth.later call.old call.new call.journal run.parity (banks_of run)
     keeps = run.keeps smooth.setting smooth.first smooth.later smooth.may
         (λ device below has. absurd (none_rose device (run.failed device has).1))
         (λ device has. absurd (none_out device (run.within device has)))

@@ -21,7 +21,7 @@ use Rattle.core_open.specs.Opens.{IsUnhindered, LeavesOthers}
 use Rattle.open_pool.specs.Opening.{CutsOpening, MayBegin}
 use Rattle.client_script.specs.Script.{Script, IsScript, asked_by}
 use Rattle.client_script.specs.Texts.{journal_text}
-use Rattle.schedule.specs.WholeRun.{HasRun, HasTakenTurns}
+use Rattle.schedule.specs.WholeRun.{HasRun, HasTakenTurns, banks_of}
 use Rattle.schedule.specs.declared.whole_run.Ran.{Ran}
 use Rattle.raidzx_top.specs.declared.order.Order.{Order}
 use Rattle.raidzx_top.specs.declared.order.Order.TheVariants.{OfLines, AsListed}
@@ -107,12 +107,12 @@ pub record RunPromises (order : Order) (call : Call) : Type 0 where
   pub run : HasRun script call.old call.new call.journal ran.out
   -- Each turn was that of the client whose turn it was: of a run in the order of the lines, of a replay in that which
   -- the script lists.
-  pub taken : HasTakenTurns script (listed_by order script) call.old call.new call.journal ran
+  pub taken : HasTakenTurns script (listed_by order script) run ran
   pub turns : call.turns ≡ ran.turns
   -- What a stop leaves of it, at any moment, the next run or replay reads back.
   pub survives : (setting : Setting) (first : Kept) (later : List Kept) → MayBegin setting first later call.old
       → MayFail setting first.uber.reflow.to run.silent run.borne
-      → SurvivesStops setting first later script call.old call.new call.journal
+      → SurvivesStops setting first later script call.old call.new call.journal (banks_of run)
   -- Each call is answered, unless memory was wanting, and then the status tells so, or the turns were used up.
   pub complete : call.status ≢ status.NoMemory → (StoppedFor ran trouble.Limit → ⊥)
       → IsComplete (asked_by script) call.journal

@@ -69,19 +69,21 @@ last_groups until = until.kept.last ∷ until.onward
 
 -- A stop of a script that was carried out loses no group that was answered. What it leaves at any moment is read
 -- back as one of the run's groups: those kept before, the journal's, and at most one that was begun and not answered.
--- Once an item was listed, that is the last group listed by then, or one begun after it; and so it is at the end.
+-- Once an item was listed, by the turn that left its bank, that is the last group listed by then, or one begun after it;
+-- and so it is at the end.
 pub record SurvivesStops (setting : Setting) (first : Kept) (later : List Kept) (script : Script) (old new : Disk)
-    (items : List Item) : Type 0 where
+    (items : List Item) (banks : ℕ → Disk) : Type 0 where
   pub opening : Map
   pub legal : IsLegalJournal (asked_by script) (handed_by script) opening items
   pub groups : Groups (handed_by script) opening (first ∷ later) items
   pub any_moment : (moment : ℕ) (image : Image) → old.clock ≤ moment → moment ≤ new.clock
       → IsLeft setting new moment image
       → IsReadBack setting first.uber.reflow.to ((first ∷ later) ++ groups.answered ++ groups.begun) image
-  pub no_older : KeepsTurnByTurn setting (handed_by script) opening (first ∷ later) items old new
+  pub no_older : KeepsTurnByTurn setting (handed_by script) opening (first ∷ later) items
+      (record { origin = old; banks = banks }) new
   pub by_then : (count : ℕ) (some : 1 ≤ count) (all : count ≤ length items) (moment : ℕ) (image : Image)
-      → (no_older.bank count).clock ≤ moment → moment ≤ (no_older.bank (count + 1)).clock
-      → IsLeft setting (no_older.bank (count + 1)) moment image
+      → (banks count).clock ≤ moment → moment ≤ (banks (count + 1)).clock
+      → IsLeft setting (banks (count + 1)) moment image
       → IsReadBack setting first.uber.reflow.to (last_groups (no_older.each count some all)) image
   pub kept : KeepsLast setting (handed_by script) opening items new
   pub at_end : (image : Image) → IsLeft setting new new.clock image

@@ -20,7 +20,7 @@ use Rattle.client_script.specs.Written.{IsAdded, IsPartAdded}
 use Rattle.client_script.specs.declared.refused.ReadRefused.{ReadRefused}
 use Rattle.client_script.specs.declared.refused.ReadRefused.TheVariants as read
 use Rattle.schedule.specs.Playing.{most_turns}
-use Rattle.schedule.specs.WholeRun.{HasRun, HasTakenTurns}
+use Rattle.schedule.specs.WholeRun.{HasRunInTurn}
 use Rattle.schedule.specs.declared.whole_run.Ended.TheVariants as ended
 use Rattle.schedule.specs.declared.whole_run.Ran.{Ran}
 use Rattle.raidzx_top.specs.declared.order.Order.{Order}
@@ -91,8 +91,7 @@ StoppedFor ran trouble.TooManyFailed = ⊥
 -- turns could be counted.
 pub record HasCarried (order : Order) (script : Script) (old new : Disk) (items : List Item) (ran : Ran) : Type 0
   where
-    pub run : HasRun script old new items ran.out
-    pub turns : HasTakenTurns script (listed_by order script) old new items ran
+    pub run : HasRunInTurn script (listed_by order script) old new items ran
     pub complete : (StoppedFor ran trouble.NoMemory → ⊥) → (StoppedFor ran trouble.Limit → ⊥)
         → IsComplete (asked_by script) items
     pub used_up : StoppedFor ran trouble.Limit → most_turns ≤ ran.turns

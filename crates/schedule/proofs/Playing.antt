@@ -1,7 +1,7 @@
 -- Turns of a script, one after the other.
 use Rattle.std.proofs.Common.{◌≡◌, ℕ, ◌+◌, ◌<◌, ◌≤◌, List, [], ◌∷◌, length, drop, get_or, Some, None, refl, sym, ◌∙◌, ap, subst, arith, ◌++◌}
-use Rattle.std.specs.Prelude.{true, false, slice_get, Result, Ok, Err, OnErr}
-use Rattle.std.proofs.lemmas.List.{drop_more}
+use Rattle.std.specs.Prelude.{true, false, map, take, slice_get, Result, Ok, Err, OnErr}
+use Rattle.std.proofs.lemmas.List.{drop_more, map-append, take_more}
 use Rattle.bank_trait.specs.Disk.{Disk}
 use Rattle.client_script.specs.InOrder.{given_of}
 use Rattle.client_script.specs.Script.{Script}
@@ -9,12 +9,12 @@ use Rattle.core_state.specs.JournalRoom.{Journal}
 use Rattle.core_turns.specs.Core.{Core, at_disk}
 use Rattle.schedule.specs.declared.client.Client.{Client}
 use Rattle.schedule.specs.declared.progress.Progress.{Progress}
-use Rattle.schedule.specs.Turns.{Turns, turns_of, taken_by}
+use Rattle.schedule.specs.Turns.{Turns, TurnTaken, turns_of, taken_by}
 use Rattle.schedule.specs.InTurn.{Cursor, InOrder, InRest, InRound, IsCallOf, IsStepOf, Replay, after_round, cursor_after, has_left_at, is_any_busy, is_busy_at, replay_at, replay_by, rest_after, turn_at, turns_by}
-use Rattle.schedule.specs.Playing.{HasPlayed, HasStopped, IsReady, most_turns}
+use Rattle.schedule.specs.Playing.{HaveHadTurns, HasPlayed, HasStopped, IsReady, most_turns}
 use Rattle.schedule.specs.Replaying.{AreIdle, HasTurn, HaveBegun}
 use Rattle.schedule.proofs.Coming.{came_nowhere, came_on}
-use Rattle.schedule.proofs.InTurn.{begun_none_left, busy_in_rest, gone_more, gone_none, gone_then, idle_not_busy, left_in_rest, none_in_rest, none_in_round, past_not_busy, round_ends, round_goes, round_next, turn_in_round}
+use Rattle.schedule.proofs.InTurn.{gone_taken, begun_none_left, busy_in_rest, gone_more, gone_none, gone_then, idle_not_busy, left_in_rest, none_in_rest, none_in_round, past_not_busy, round_ends, round_goes, round_next, turn_in_round}
 use Rattle.schedule.proofs.CallTaken.{given_own}
 
 -- What holds follows where an answer is `Err`.
@@ -121,6 +121,42 @@ played_letter script start before after letters taken counted room left actor in
     next : drop index letters ≡ actor ∷ drop (index + 1) letters
     next = drop_more letters index other low
         ∙ ap (λ (letter : ℕ). letter ∷ drop (index + 1) letters) (sym is)
+
+-- The first clients of a list had their turns: those are all that were taken.
+pub record TakesListed (script : Script) (listed : List ℕ) (index : ℕ) (start now : Replay) (room : ℕ) : Type 0 where
+  pub played : HasPlayed script start now room
+  pub actors : map (λ turn. turn.actor) played.passed ≡ take index listed
+
+pub listed_none : (script : Script) (listed : List ℕ) (now : Replay) (room : ℕ) → IsReady script now.turns room
+    → TakesListed script listed 0 now now room
+unfolding played_none
+listed_none script listed now room ready = record { played = played_none script now room ready; actors = refl }
+
+pub listed_more : (script : Script) (listed : List ℕ) (index : ℕ) → index < length listed → (start : Replay)
+    (before after : Turns) (taken counted room left other : ℕ)
+    → TakesListed script listed index start (replay_at before taken (InOrder (drop index listed))) room
+    → HasTurn script (get_or listed index other) before after → counted ≡ taken + 1 → IsReady script after left
+    → TakesListed script listed (index + 1) start (replay_at after counted (InOrder (drop (index + 1) listed))) left
+unfolding played_letter played_turn
+listed_more script listed index low start before after taken counted room left other so_far turn one ready = record {
+  played = played_letter script start before after listed taken counted room left (get_or listed index other) index
+      other low refl so_far.played turn one ready;
+  actors = map-append (λ (turn : TurnTaken). turn.actor) so_far.played.passed
+      (taken_by (get_or listed index other) after ∷ [])
+      ∙ ap (λ (l : List ℕ). l ++ get_or listed index other ∷ []) so_far.actors
+      ∙ sym (take_more listed index other low);
+}
+
+pub have_had_turns : (script : Script) (listed : List ℕ) {index room : ℕ} {start now : Replay}
+    → take index listed ≡ listed → TakesListed script listed index start now room
+    → HaveHadTurns script start.turns listed now.turns room
+have_had_turns script listed {start = start} {now = now} all takes = record {
+  passed = takes.played.passed;
+  actors_are = takes.actors ∙ all;
+  taken = (gone_taken script start now takes.played.passed takes.played.gone).0;
+  come = takes.played.come;
+  ready = takes.played.ready;
+}
 
 -- A client had its turn in a round,
 pub played_in_round : (script : Script) (before after : Turns) (taken counted room left actor : ℕ)

@@ -1,5 +1,5 @@
 -- What stands while a script is carried out, and how that ends.
-use Rattle.std.specs.Prelude.{◌≡◌, ℕ, suc, ◌+◌, ◌-◌, ◌*◌, ◌≤◌, ◌^◌, List, [], ◌∷◌, length}
+use Rattle.std.specs.Prelude.{◌≡◌, ℕ, suc, ◌+◌, ◌-◌, ◌*◌, ◌≤◌, ◌^◌, List, [], ◌∷◌, length, map}
 use Rattle.core_state.specs.declared.item.Item.{Item}
 use Rattle.client_script.specs.Script.{Script, calls_of}
 use Rattle.core_turns.specs.Core.{CoreState}
@@ -8,7 +8,7 @@ use Rattle.schedule.specs.declared.whole_run.Ended.{Ended}
 use Rattle.schedule.specs.declared.whole_run.Ended.TheVariants.{Whole, NoMemory, Limit}
 use Rattle.schedule.specs.Clients.{answered_of}
 use Rattle.schedule.specs.Coming.{HasCome, IsSchedule}
-use Rattle.schedule.specs.InTurn.{Cursor, InOrder, InRest, HasGone, Replay, replay_at}
+use Rattle.schedule.specs.InTurn.{Cursor, InOrder, InRest, HasGone, HaveTaken, Replay, replay_at}
 use Rattle.schedule.specs.Turns.{Turns, TurnTaken, turns_of}
 use Rattle.schedule.specs.Replaying.{AreIdle, OnlyShared}
 
@@ -52,6 +52,16 @@ pub record HasPlayed (script : Script) (start now : Replay) (room : ℕ) : Type 
   pub come : HasCome script start.turns passed now.turns
   pub gone : HasGone script start passed now
   pub ready : IsReady script now.turns room
+
+-- Each of these clients has had a turn, in this order, whoever's turn it would have been by a script's order: a turn of
+-- a client that there is not does nothing. What has to stand before a turn stands after them, and what stood stands, with
+-- the journal grown by what the turns answered.
+pub record HaveHadTurns (script : Script) (start : Turns) (actors : List ℕ) (now : Turns) (room : ℕ) : Type 0 where
+  pub passed : List TurnTaken
+  pub actors_are : map (λ turn. turn.actor) passed ≡ actors
+  pub taken : HaveTaken script start passed
+  pub come : HasCome script start passed now
+  pub ready : IsReady script now room
 
 -- most turns of a replay
 abbrev pub most_turns : ℕ

@@ -107,6 +107,11 @@ pub record HasRun (script : Script) (old new : Disk) (items : List Item) (out : 
       → IsWithin borne setting.failed
       → RunKeeps script setting first later old new items parity (bank_when (first_turns script start opened) passed)
 
+-- the banks with which the items of a run were listed, by how many there were then
+abbrev pub banks_of : {script : Script} → {old new : Disk} → {items : List Item} → {out : ℕ}
+    → HasRun script old new items out → ℕ → Disk
+banks_of {script = script} run = bank_when (first_turns script run.start run.opened) run.passed
+
 -- The turns of a run were those of the clients whose turn it was, first those that were listed, as many as are told, and
 -- they ended as is told.
 pub record HasTakenTurns (script : Script) (listed : List ℕ) {old new : Disk} {items : List Item} {out : ℕ}

@@ -14,6 +14,7 @@ mod turning;
 mod whole_run;
 
 pub use client::{Client, UnderWay, Work};
-pub use replay::{CarriedOut, carry_out};
+pub use progress::{Progress, UsedUp};
+pub use replay::{CarriedOut, carry_out, take_listed};
 pub use station::take_turn;
 pub use whole_run::{Ended, Ran, run_pool};

@@ -10,7 +10,7 @@ ghost use Rattle.schedule.specs.declared.client.Client.{Client as ClientOf};
 ghost use Rattle.schedule.specs.declared.whole_run.Ended.TheVariants.{Whole};
 ghost use Rattle.schedule.specs.Turns.{turns_of};
 ghost use Rattle.schedule.specs.InTurn.{Cursor, InOrder, InRest, InRound, IsCallOf, has_left_at, replay_by, turns_by};
-ghost use Rattle.schedule.specs.Playing.{CarriesOut, HasPlayed, HasStopped, IsReady};
+ghost use Rattle.schedule.specs.Playing.{CarriesOut, HasPlayed, HaveHadTurns, HasStopped, IsReady};
 ghost use Rattle.schedule.specs.Replaying.{AreIdle, BeginsOne, HasTurn, HaveBegun, HaveFewer, IsAtRest, blank_clients};
 
 use crate::progress::{Progress, UsedUp};
@@ -92,8 +92,8 @@ fn count_turn_of<B: Bank>(
     Ok(())
 }
 
-/// One turn for each letter of the order.
-fn take_order<B: Bank>(
+/// A turn for each client of a list, in its order, whoever they are: a number that no client has is passed over.
+pub fn take_listed<B: Bank>(
     alloc: Global,
     bank: &mut B,
     core: &mut Core,
@@ -105,6 +105,9 @@ fn take_order<B: Bank>(
     requires allowed { All (λ placed. IsAllowed placed.call) script.now.calls }
     requires ready { IsReady script.now
         (turns_by core.old (B.disk bank.old) journal.old progress.old) journal.old.room }
+    ensures turns { OnOk result (HaveHadTurns script.now
+        (turns_by core.old (B.disk bank.old) journal.old progress.old) listed.now
+        (turns_by core.new (B.disk bank.new) journal.new progress.new) journal.new.room) }
     ensures played { OnOk result (HasPlayed script.now
         (replay_by core.old (B.disk bank.old) journal.old progress.old (InOrder listed.now))
         (replay_by core.new (B.disk bank.new) journal.new progress.new (InOrder [])) journal.new.room) }
@@ -298,7 +301,7 @@ fn take_turns<B: Bank>(
     ensures begun { OnOk result (HaveBegun script.now (length script.now.calls) progress.new.clients.items) }
     ensures idle { OnOk result (AreIdle progress.new.clients.items) }
 {
-    take_order(alloc, bank, core, script, listed, journal, progress)?;
+    take_listed(alloc, bank, core, script, listed, journal, progress)?;
     take_rounds(alloc, bank, core, script, journal, progress)?;
     take_rest(alloc, bank, core, script, journal, progress)
 }

@@ -1,6 +1,6 @@
 use Rattle.std.proofs.Common.{List, ℕ, refl, ◌∙◌, subst}
 use Rattle.std.proofs.lemmas.Result.{err_from_is_err_and}
-use Rattle.schedule.specs.WholeRun.{HasTakenTurns}
+use Rattle.schedule.specs.WholeRun.{HasRunInTurn}
 use Rattle.raidzx_top.specs.Call.{Stream, stream_of}
 use Rattle.raidzx_top.specs.Running.{Unread, Roomless, Unopened}
 use Rattle.raidzx_top.proofs.Reading.{was_read, was_unread}
@@ -62,8 +62,10 @@ returns g c =
     let ran = c.in_ok-ran.ensures in (
       script,
       was_read source after script told.ok told.allowed told.actors told.every_script told.every_fault told.every_limit,
-      record { run = ran.run; turns = subst (λ (letters : List ℕ). HasTakenTurns script letters (g.B.Bank.disk c.args.bank.now)
-          (g.B.Bank.disk c.run_pool.new.bank) c.run_pool.new.journal.items c.in_ok-ran.ran) c.listed.ensures ran.turns;
+      record {
+        run = subst (λ (letters : List ℕ). HasRunInTurn script letters (g.B.Bank.disk c.args.bank.now)
+            (g.B.Bank.disk c.run_pool.new.bank) c.run_pool.new.journal.items c.in_ok-ran.ran) c.listed.ensures ran.run;
         complete = λ memory limit. ran.complete (ended_whole c.in_ok-ran.ran memory limit);
-        used_up = ran.limit; },
+        used_up = ran.limit;
+      },
     )
