@@ -124,3 +124,10 @@ parity_column-at which at content low =
 pub length-parity_column : (which : ℕ) (content : List (List ℕ)) → length (parity_column which content) ≡ 512
 unfolding parity_column
 length-parity_column which content = parity_from-length which 0 512 content
+
+-- The same, of all columns.
+pub is_parity_column_whole : (which : ℕ) (out : List ℕ) (content : List (List ℕ)) → length out ≡ 512
+    → ((at : ℕ) → at < 512 → get_or out at 0 ≡ parity_byte which (bytes_at at content)) → out ≡ parity_column which content
+is_parity_column_whole which out content long bytes =
+    is_parity_column which (length content) out content long (omega arith)
+    (λ at low. bytes at low ∙ ap (λ (k : List (List ℕ)). parity_byte which (bytes_at at k)) (sym (take_all (length content) content (omega arith))))

@@ -4,3 +4,4 @@ pub mod Basis
 pub mod Laws
 pub mod Horner
 pub mod Bits
+pub mod Lanewise

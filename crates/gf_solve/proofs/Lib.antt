@@ -10,3 +10,4 @@ pub mod Serving
 pub mod Solved
 pub mod Returned
 pub mod Fitting
+pub mod Halves

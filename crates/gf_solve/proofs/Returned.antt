@@ -1,13 +1,12 @@
 -- The bytes that were told from sums give these sums, whatever the sums are.
-use Rattle.std.proofs.Common.{◌≡◌, ◌≢◌, ℕ, ◌<◌, sym, ◌∙◌, ap, refl, arith}
+use Rattle.std.proofs.Common.{◌≡◌, ◌≢◌, ℕ, ◌<◌, sym, ◌∙◌, ap, refl}
 use Rattle.std.specs.Prelude.{bit_xor}
 use Rattle.std.specs.Int.Bits.{xor_assoc}
-use Rattle.std.proofs.lemmas.Nat.{xor_comm, xor_of_8}
+use Rattle.std.proofs.lemmas.Nat.{xor_comm}
 use Rattle.gf_parity.specs.Field.{product}
-use Rattle.gf_parity.proofs.Laws.{product_assoc, product_comm, product_below, one_product}
+use Rattle.gf_parity.proofs.Laws.{product_assoc, product_comm, one_product}
 use Rattle.gf_parity.proofs.Linear.{product-xor_left, product-xor_right}
 use Rattle.gf_solve.specs.Inverse.{inverse_of}
-use Rattle.gf_solve.specs.Weight.{three_shares}
 use Rattle.gf_solve.proofs.Units.{inverse_is}
 use Rattle.gf_solve.proofs.Singled.{two_of_three, two_of_three_later}
 use Rattle.gf_solve.proofs.Sums.{twice_is_none, last_twice, shared_last}

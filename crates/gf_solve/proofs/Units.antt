@@ -7,7 +7,7 @@ use Rattle.std.proofs.lemmas.Nat.{xor_of_8}
 use Rattle.std.specs.Int.Bits.{xor_self, xor_zero_l, xor_zero_r, xor_assoc}
 use Rattle.gf_parity.specs.Field.{product, double, power_of}
 use Rattle.gf_parity.proofs.Basis.{all_below, all_below_at}
-use Rattle.gf_parity.proofs.Laws.{double_is_product, product_assoc, product_comm, one_product, product_zero}
+use Rattle.gf_parity.proofs.Laws.{double_is_product, product_assoc, product_comm, product_below, one_product, product_zero}
 use Rattle.gf_parity.proofs.Linear.{product-xor_left, product-xor_right}
 use Rattle.gf_parity.proofs.Horner.{power_below}
 use Rattle.gf_solve.specs.Inverse.{inverse_of, squares_times}
@@ -50,16 +50,52 @@ inverse_is byte low some =
     less : (a b : ℕ) → nat_lt a b ≡ true → a < b
     less a b is = grind (arith, nat_tests, is)
 
+-- A factor of 1 leaves a byte as it is.
+pub times_one : (factor byte : ℕ) → factor ≡ 1 → byte < 256 → product factor byte ≡ byte
+times_one factor byte is low = ap (λ (k : ℕ). product k byte) is ∙ one_product byte low
+
 -- A factor that isn't 0 is taken off by its inverse; the other factor is any byte.
 pub taken_off : (a b : ℕ) → a < 256 → b < 256 → a ≢ 0 → product (inverse_of a) (product a b) ≡ b
 taken_off a b low_a low_b some =
     let is = inverse_is a low_a some in
     sym (product_assoc (inverse_of a) a b is.1 low_a) ∙ ap (λ (k : ℕ). product k b) is.0 ∙ one_product b low_b
 
+-- What gives 1 with a byte is its inverse.
+pub only_inverse : (a b : ℕ) → a < 256 → b < 256 → a ≢ 0 → product b a ≡ 1 → b ≡ inverse_of a
+only_inverse a b low_a low_b some is =
+    sym (taken_off a b low_a low_b some) ∙ ap (product (inverse_of a)) (product_comm a b low_a low_b ∙ is)
+    ∙ product_comm (inverse_of a) 1 (inverse_is a low_a some).1 (omega arith) ∙ one_product (inverse_of a) (inverse_is a low_a some).1
+
+pub inverse_one : inverse_of 1 ≡ 1
+unfolding inverse_of squares_times product
+inverse_one = refl
+
 -- Products of what isn't 0 aren't 0.
 pub product_some : (a b : ℕ) → a < 256 → b < 256 → a ≢ 0 → b ≢ 0 → product a b ≢ 0
 product_some a b low_a low_b some_a some_b none =
     some_b (sym (taken_off a b low_a low_b some_a) ∙ ap (product (inverse_of a)) none ∙ product_zero (inverse_of a))
+
+-- The inverses of three bytes, from that of their product.
+module _ (x y z all : ℕ) (low_x : x < 256) (low_y : y < 256) (low_z : z < 256) (some_x : x ≢ 0) (some_y : y ≢ 0) (some_z : z ≢ 0)
+    (low : all < 256) (over : product all (product (product x y) z) ≡ 1) where
+  two : product (product all z) (product x y) ≡ 1
+  two =
+      product_assoc all z (product x y) low low_z ∙ ap (product all) (product_comm z (product x y) low_z (product_below x y low_x)) ∙ over
+
+  pub first_inverse : product (product all z) y ≡ inverse_of x
+  first_inverse =
+      only_inverse x (product (product all z) y) low_x (product_below (product all z) y (product_below all z low)) some_x
+      (product_assoc (product all z) y x (product_below all z low) low_y ∙ ap (product (product all z)) (product_comm y x low_y low_x) ∙ two)
+
+  pub second_inverse : product (product all z) x ≡ inverse_of y
+  second_inverse =
+      only_inverse y (product (product all z) x) low_y (product_below (product all z) x (product_below all z low)) some_y
+      (product_assoc (product all z) x y (product_below all z low) low_x ∙ two)
+
+  pub third_inverse : product all (product x y) ≡ inverse_of z
+  third_inverse =
+      only_inverse z (product all (product x y)) low_z (product_below all (product x y) low) some_z
+      (product_assoc all (product x y) z low (product_below x y low_x) ∙ over)
 
 pub power_some : (power : ℕ) → power_of 2 power ≢ 0
 power_some zero none = absurd cc

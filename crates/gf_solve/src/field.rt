@@ -22,6 +22,22 @@ pub fn inverse(byte: u8) -> u8
     inverse
 }
 
+/// The inverses of three bytes, by that of their product, since an inverse costs more than ten
+/// products.
+pub fn inverses(x: u8, y: u8, z: u8) -> (u8, u8, u8)
+    requires x { x ≢ 0 }
+    requires y { y ≢ 0 }
+    requires z { z ≢ 0 }
+    ensures x { result.0 ≡ inverse_of x }
+    ensures y { result.1 ≡ inverse_of y }
+    ensures z { result.2 ≡ inverse_of z }
+{
+    let x_y = mul(x, y);
+    let over_all = inverse(mul(x_y, z));
+    let over_x_y = mul(over_all, z);
+    (mul(over_x_y, y), mul(over_x_y, x), mul(over_all, x_y))
+}
+
 /// The point of a content column with so many columns behind it.
 fn point(behind: usize) -> u8
     ensures { result ≡ power_of 2 behind }

@@ -1,10 +1,11 @@
 // Single columns out of what parities lack of them.
 
 ghost use Rattle.std.specs.Prelude.{◌≡◌, ◌≢◌, ℕ, ◌<◌, slice_index};
+ghost use Rattle.gf_solve.specs.Inverse.{inverse_of};
 ghost use Rattle.gf_solve.specs.Weight.{weight, share, two_shares, three_shares};
 
 use crate::columns::{add_times, scale, split};
-use crate::field::inverse;
+use crate::field::{inverse, inverses};
 use gf_parity::{add, mul};
 
 /// The one column that a parity lacks, from its share.
@@ -19,7 +20,10 @@ pub fn single_out_one(which: u32, x: u8, lack: &mut [u8; 512])
     ensures gives { (at : ℕ) → at < 512
         → share which x (slice_index lack.new at) ≡ slice_index lack.old at }
 {
-    scale(lack, inverse(weight(which, x)));
+    let weight = weight(which, x);
+    if weight != 1 {
+        scale(lack, inverse(weight));
+    }
 }
 
 /// The two columns that two parities lack: `later` becomes the first, `sooner` the second.
@@ -52,20 +56,12 @@ pub fn single_out_two(
         ≡ slice_index later.old at }
 {
     let between = later_which - sooner_which;
-    split(sooner, later, weight(between, x), weight(between, y));
-    single_out_one(sooner_which, x, later);
-    single_out_one(sooner_which, y, sooner);
-}
-
-fn weight(which: u32, point: u8) -> u8
-    requires { which < 3 }
-    ensures { result ≡ weight which point }
-{
-    match which {
-        0 => 1,
-        1 => point,
-        _ => mul(point, point),
-    }
+    let first = weight(between, x);
+    let second = weight(between, y);
+    let (apart, over_x, over_y) = divisors(sooner_which, x, y, first ^ second);
+    split(sooner, later, second, apart);
+    scale(later, over_x);
+    scale(sooner, over_y);
 }
 
 /// The three columns that the three parities lack: `r` becomes the first, `q` the second, `p` the
@@ -101,11 +97,40 @@ pub fn single_out_three(
         → three_shares 2 x y z (slice_index r.new at) (slice_index q.new at) (slice_index p.new at)
         ≡ slice_index r.old at }
 {
+    let (x_y, x_z, y_z) = inverses(x ^ y, x ^ z, y ^ z);
     add_times(r, q, z);
     add_times(q, p, z);
-    split(q, r, x, y);
-    scale(r, inverse(x ^ z));
-    scale(q, inverse(y ^ z));
+    split(q, r, y, x_y);
+    scale(r, x_z);
+    scale(q, y_z);
     add(p, r);
     add(p, q);
+}
+
+/// The inverses of a byte, and of the weights of two points in one of the first two parities.
+fn divisors(which: u32, x: u8, y: u8, apart: u8) -> (u8, u8, u8)
+    requires which { which < 2 }
+    requires x { x ≢ 0 }
+    requires y { y ≢ 0 }
+    requires apart { apart ≢ 0 }
+    ensures apart { result.0 ≡ inverse_of apart }
+    ensures x { result.1 ≡ inverse_of (weight which x) }
+    ensures y { result.2 ≡ inverse_of (weight which y) }
+{
+    match which {
+        0 => (inverse(apart), 1, 1),
+        _ => inverses(apart, x, y),
+    }
+}
+
+/// How much the column of a point counts in a parity.
+pub(crate) fn weight(which: u32, point: u8) -> u8
+    requires { which < 3 }
+    ensures { result ≡ weight which point }
+{
+    match which {
+        0 => 1,
+        1 => point,
+        _ => mul(point, point),
+    }
 }

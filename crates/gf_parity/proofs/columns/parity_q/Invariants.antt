@@ -1,10 +1,10 @@
-use Rattle.std.proofs.Common.{◌≡◌, ℕ, ◌<◌, get_or, length, take}
-use Rattle.gf_parity.specs.Parity.{q_of, bytes_at}
+use Rattle.std.proofs.Common.{◌≡◌, ℕ, ◌*◌, ◌<◌, get_or, length}
+use Rattle.gf_parity.specs.Parity.{parity_byte, bytes_at}
 use Rattle.gf_parity.proofs.columns.parity_q.Given as goal
 
--- the parity of the columns so far
-abbrev pub invariant-loop-column : goal.invariant-loop-column
-invariant-loop-column l = record {
+-- the parity of the bytes so far
+abbrev pub invariant-loop-part : goal.invariant-loop-part
+invariant-loop-part l = record {
   long : length l.out ≡ 512;
-  bytes : (at : ℕ) → at < 512 → get_or l.out at 0 ≡ q_of (bytes_at at (take l.column-index l.content));
+  bytes : (place : ℕ) → place < l.part * 64 → get_or l.out place 0 ≡ parity_byte 1 (bytes_at place l.content);
 }

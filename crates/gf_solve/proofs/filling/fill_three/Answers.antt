@@ -1,4 +1,4 @@
-use Rattle.std.proofs.Common.{◌≡◌, ℕ, [], arith, refl, get_or}
+use Rattle.std.proofs.Common.{arith}
 use Rattle.gf_solve.proofs.Units.{columns_differ}
 use Rattle.gf_solve.proofs.Filled.{filled_three}
 use Rattle.gf_solve.proofs.Fitting.{fits_three, below_three}

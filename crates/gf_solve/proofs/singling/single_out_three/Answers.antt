@@ -25,12 +25,12 @@ returns-clause-found c = λ at first second third low byte other last p q r.
     let weighted : slice_index c.add_times.new.out at ≡ bit_xor (product x (product (bit_xor x z) first)) (product y (product (bit_xor y z) second)) =
     c.add_times.ensures.value at low
     ∙ two_of_three_later x y z first second third (slice_index c.args.q.now at) (slice_index c.args.r.now at) (omega arith) (omega arith) (omega arith) q r in
-    let apart = c.split.ensures.found at (product (bit_xor x z) first) (product (bit_xor y z) second) low (product_below (bit_xor x z) first x_z) sum weighted in
+    let apart = c.split.ensures.found x at (product (bit_xor x z) first) (product (bit_xor y z) second) (omega arith) c.requires.x_y c.inverses-x_y.ensures.x low (product_below (bit_xor x z) first x_z) sum weighted in
     let first_is : slice_index c.scale.new.out at ≡ first =
-    c.scale.ensures.value at low ∙ ap (λ (k : ℕ). product k (slice_index c.split.new.weighted at)) c.inverse.ensures.value ∙ ap (product _) apart.0
+    c.scale.ensures.value at low ∙ ap (λ (k : ℕ). product k (slice_index c.split.new.weighted at)) c.inverses-x_y.ensures.y ∙ ap (product _) apart.0
     ∙ taken_off (bit_xor x z) first x_z byte (sum_some x z c.requires.x_z) in
     let second_is : slice_index c.scale-2.new.out at ≡ second =
-    c.scale-2.ensures.value at low ∙ ap (λ (k : ℕ). product k (slice_index c.split.new.sum at)) c.inverse-2.ensures.value ∙ ap (product _) apart.1
+    c.scale-2.ensures.value at low ∙ ap (λ (k : ℕ). product k (slice_index c.split.new.sum at)) c.inverses-x_y.ensures.z ∙ ap (product _) apart.1
     ∙ taken_off (bit_xor y z) second (xor_of_8 y z (omega arith) (omega arith)) other (sum_some y z c.requires.y_z) in
     let third_is : slice_index c.add-2.new.out at ≡ third =
     c.add-2.ensures at low
@@ -41,8 +41,8 @@ returns-clause-found c = λ at first second third low byte other last p q r.
 
 pub returns-clause-bytes : goal.returns-clause-bytes
 returns-clause-bytes c = λ at low.
-    let first : slice_index c.scale.new.out at < 256 = rw (c.scale.ensures.value at low) (product_below c.inverse.result (slice_index c.split.new.weighted at) (omega arith)) in
-    let second : slice_index c.scale-2.new.out at < 256 = rw (c.scale-2.ensures.value at low) (product_below c.inverse-2.result (slice_index c.split.new.sum at) (omega arith)) in
+    let first : slice_index c.scale.new.out at < 256 = rw (c.scale.ensures.value at low) (product_below c.inverses-x_y.result.1 (slice_index c.split.new.weighted at) (omega arith)) in
+    let second : slice_index c.scale-2.new.out at < 256 = rw (c.scale-2.ensures.value at low) (product_below c.inverses-x_y.result.2 (slice_index c.split.new.sum at) (omega arith)) in
     let sum : slice_index c.add.new.out at < 256 =
     rw (c.add.ensures at low) (xor_of_8 (slice_index c.args.p.now at) (slice_index c.scale.new.out at) (c.add_times-2.ensures.bytes at low) first) in
     (first, second, rw (c.add-2.ensures at low) (xor_of_8 (slice_index c.add.new.out at) (slice_index c.scale-2.new.out at) sum second))
@@ -65,12 +65,12 @@ returns-clause-gives_q c = λ at low.
     (slice_index c.scale.new.out at) (slice_index c.scale-2.new.out at) (slice_index c.add-2.new.out at) (omega arith) (omega arith) (omega arith)
     (three_sum (slice_index c.scale.new.out at) (slice_index c.scale-2.new.out at) (slice_index c.add-2.new.out at) (slice_index c.args.p.now at)
     (c.add-2.ensures at low ∙ ap (λ (k : ℕ). bit_xor k (slice_index c.scale-2.new.out at)) (c.add.ensures at low)))
-    (scaled_again (bit_xor c.args.x c.args.z) c.inverse.result _ _ (xor_of_8 c.args.x c.args.z (omega arith) (omega arith)) (c.scale.ensures.bytes at low)
-    (sum_some c.args.x c.args.z c.requires.x_z) c.inverse.ensures.value (c.scale.ensures.value at low))
-    (scaled_again (bit_xor c.args.y c.args.z) c.inverse-2.result _ _ (xor_of_8 c.args.y c.args.z (omega arith) (omega arith)) (c.scale-2.ensures.bytes at low)
-    (sum_some c.args.y c.args.z c.requires.y_z) c.inverse-2.ensures.value (c.scale-2.ensures.value at low))
-    ((c.split.ensures.gives at low).0 ∙ c.add_times-2.ensures.value at low)
-    ((c.split.ensures.gives at low).1 ∙ c.add_times.ensures.value at low)
+    (scaled_again (bit_xor c.args.x c.args.z) c.inverses-x_y.result.1 _ _ (xor_of_8 c.args.x c.args.z (omega arith) (omega arith)) (c.scale.ensures.bytes at low)
+    (sum_some c.args.x c.args.z c.requires.x_z) c.inverses-x_y.ensures.y (c.scale.ensures.value at low))
+    (scaled_again (bit_xor c.args.y c.args.z) c.inverses-x_y.result.2 _ _ (xor_of_8 c.args.y c.args.z (omega arith) (omega arith)) (c.scale-2.ensures.bytes at low)
+    (sum_some c.args.y c.args.z c.requires.y_z) c.inverses-x_y.ensures.z (c.scale-2.ensures.value at low))
+    ((c.split.ensures.gives c.args.x at (omega arith) c.requires.x_y c.inverses-x_y.ensures.x low).0 ∙ c.add_times-2.ensures.value at low)
+    ((c.split.ensures.gives c.args.x at (omega arith) c.requires.x_y c.inverses-x_y.ensures.x low).1 ∙ c.add_times.ensures.value at low)
 
 pub returns-clause-gives_r : goal.returns-clause-gives_r
 returns-clause-gives_r c = λ at low.
@@ -79,9 +79,9 @@ returns-clause-gives_r c = λ at low.
     (slice_index c.scale.new.out at) (slice_index c.scale-2.new.out at) (slice_index c.add-2.new.out at) (omega arith) (omega arith) (omega arith)
     (three_sum (slice_index c.scale.new.out at) (slice_index c.scale-2.new.out at) (slice_index c.add-2.new.out at) (slice_index c.args.p.now at)
     (c.add-2.ensures at low ∙ ap (λ (k : ℕ). bit_xor k (slice_index c.scale-2.new.out at)) (c.add.ensures at low)))
-    (scaled_again (bit_xor c.args.x c.args.z) c.inverse.result _ _ (xor_of_8 c.args.x c.args.z (omega arith) (omega arith)) (c.scale.ensures.bytes at low)
-    (sum_some c.args.x c.args.z c.requires.x_z) c.inverse.ensures.value (c.scale.ensures.value at low))
-    (scaled_again (bit_xor c.args.y c.args.z) c.inverse-2.result _ _ (xor_of_8 c.args.y c.args.z (omega arith) (omega arith)) (c.scale-2.ensures.bytes at low)
-    (sum_some c.args.y c.args.z c.requires.y_z) c.inverse-2.ensures.value (c.scale-2.ensures.value at low))
-    ((c.split.ensures.gives at low).0 ∙ c.add_times-2.ensures.value at low)
-    ((c.split.ensures.gives at low).1 ∙ c.add_times.ensures.value at low)
+    (scaled_again (bit_xor c.args.x c.args.z) c.inverses-x_y.result.1 _ _ (xor_of_8 c.args.x c.args.z (omega arith) (omega arith)) (c.scale.ensures.bytes at low)
+    (sum_some c.args.x c.args.z c.requires.x_z) c.inverses-x_y.ensures.y (c.scale.ensures.value at low))
+    (scaled_again (bit_xor c.args.y c.args.z) c.inverses-x_y.result.2 _ _ (xor_of_8 c.args.y c.args.z (omega arith) (omega arith)) (c.scale-2.ensures.bytes at low)
+    (sum_some c.args.y c.args.z c.requires.y_z) c.inverses-x_y.ensures.z (c.scale-2.ensures.value at low))
+    ((c.split.ensures.gives c.args.x at (omega arith) c.requires.x_y c.inverses-x_y.ensures.x low).0 ∙ c.add_times-2.ensures.value at low)
+    ((c.split.ensures.gives c.args.x at (omega arith) c.requires.x_y c.inverses-x_y.ensures.x low).1 ∙ c.add_times.ensures.value at low)

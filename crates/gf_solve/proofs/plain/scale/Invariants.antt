@@ -1,6 +1,6 @@
 use Rattle.std.proofs.Common.{◌≡◌, ℕ, ◌<◌, ◌≤◌, get_or}
 use Rattle.gf_parity.specs.Field.{product}
-use Rattle.gf_solve.proofs.columns.scale.Given as goal
+use Rattle.gf_solve.proofs.plain.scale.Given as goal
 
 -- the bytes so far are multiplied, the others are as they were
 abbrev pub invariant-loop-byte : goal.invariant-loop-byte

@@ -1,5 +1,5 @@
 use Rattle.std.proofs.Common.{◌≡◌, ℕ, ◌<◌, get_or}
-use Rattle.gf_parity.proofs.columns.clear.Given as goal
+use Rattle.gf_parity.proofs.plain.clear.Given as goal
 
 -- the bytes so far are cleared
 abbrev pub invariant-loop-sum : goal.invariant-loop-sum
