@@ -3,7 +3,7 @@ use Rattle.std.proofs.Common.{◌≡◌, ◌≢◌, ◌⊎◌, inl, inr, ℕ, ze
 use Rattle.std.specs.Prelude.{◌&&◌, ◌==◌, if◌then◌else◌, IsSome, Contains, option_to_list}
 use Rattle.std.proofs.lemmas.List.{take_all, take-append-le}
 use Rattle.std.proofs.lemmas.Bool.Decides.{nat_tests}
-use Rattle.bank_trait.specs.Causes.{Rose}
+use Rattle.bank_trait.specs.Causes.{Rose, FailedOnce, NoneFailed}
 use Rattle.bank_trait.specs.declared.Failed.{Failed}
 use Rattle.bank_trait.specs.Disk.{Disk, Known, Continues, Other, Wrote, Synced}
 use Rattle.bank_mem.specs.declared.record.Call.{Call}
@@ -124,10 +124,11 @@ pub wrote : (sectors : ℕ) (first now new : Shelf) (calls later : List Call) (f
     (number d x : ℕ) (bytes : List ℕ)
     → later ≡ calls ++ Write number d x bytes ∷ [] → length new ≡ length now
     → ((e : ℕ) → slice_index faults e ≤ slice_index counts e)
+    → NoneFailed (slice_index faults) (slice_index counts)
     → ((e y : ℕ) → content new e y ≡ put (content now) d x (Some bytes) e y)
     → Wrote (view sectors first now calls faults) (view sectors first new later counts) d x bytes
     (Ok tt)
-wrote sectors first now new calls later faults counts number d x bytes one_more as_many more held =
+wrote sectors first now new calls later faults counts number d x bytes one_more as_many more none held =
     let before = replay (at_rest (content first)) calls in
     let on = goes_on sectors first now new calls later faults counts (Write number d x bytes)
     one_more as_many more
@@ -135,6 +136,8 @@ wrote sectors first now new calls later faults counts number d x bytes one_more 
     record {
       goes_on = on.continues;
       failed = tt;
+      once = tt;
+      well = none;
       told = λ is. held d x ∙ put-same (content now) d x (Some bytes);
       torn = on.leaves_now d x ∙ put-same before.stays d x None;
       others_read = λ e y other. held e y ∙ put-other (content now) d x (Some bytes) e y other;
@@ -156,15 +159,18 @@ pub write_torn : (sectors : ℕ) (first now : Shelf) (calls later : List Call)
     → later ≡ calls ++ FailedWrite number d x bytes ∷ []
     → ((e : ℕ) → slice_index faults e ≤ slice_index counts e)
     → Rose (slice_index faults d) (slice_index counts d)
+    → FailedOnce (slice_index faults) (slice_index counts) d
     → Wrote (view sectors first now calls faults) (view sectors first now later counts) d x bytes
     (Err e)
-write_torn sectors first now calls later faults counts number d x bytes e one_more more rose =
+write_torn sectors first now calls later faults counts number d x bytes e one_more more rose once =
     let before = replay (at_rest (content first)) calls in
     let on = goes_on sectors first now now calls later faults counts
     (FailedWrite number d x bytes) one_more refl more (λ f y is. is) in
     record {
       goes_on = on.continues;
       failed = rose;
+      once = once;
+      well = tt;
       told = tt;
       torn = tt;
       others_read = λ f y other. refl;
@@ -182,9 +188,10 @@ write_torn sectors first now calls later faults counts number d x bytes e one_mo
 
 pub synced : (sectors : ℕ) (first now : Shelf) (calls later : List Call) (faults counts : List ℕ)
     (number d : ℕ) → later ≡ calls ++ Sync number d ∷ []
-    → ((e : ℕ) → slice_index faults e ≤ slice_index counts e) → LeadsTo first calls now
+    → ((e : ℕ) → slice_index faults e ≤ slice_index counts e)
+    → NoneFailed (slice_index faults) (slice_index counts) → LeadsTo first calls now
     → Synced (view sectors first now calls faults) (view sectors first now later counts) d (Ok tt)
-synced sectors first now calls later faults counts number d one_more more leads =
+synced sectors first now calls later faults counts number d one_more more none leads =
     let before = replay (at_rest (content first)) calls in
     let call : Call = Sync number d in
     let on = goes_on sectors first now now calls later faults counts (Sync number d) one_more refl
@@ -200,6 +207,8 @@ synced sectors first now calls later faults counts number d one_more more leads 
     record {
       goes_on = on.continues;
       failed = tt;
+      once = tt;
+      well = none;
       durable = λ x. on.leaves_now d x ∙ stays_here x ∙ leads d x;
       not_durable = tt;
       reads = λ x. refl;
@@ -293,6 +302,20 @@ spoiled_leads first now new calls later number d x bytes one_more held leads =
     ap (λ (o : Option (List ℕ)). if (e == d) && (y == x) then Some bytes else o) (leads e y)
     ∙ sym (held e y))
 
+-- A call that was not counted as a failure, and is not on record, changes nothing.
+pub same_view : (sectors : ℕ) (first now : Shelf) (calls : List Call) (faults counts : List ℕ)
+    → NoneFailed (slice_index faults) (slice_index counts)
+    → view sectors first now calls counts ≡ view sectors first now calls faults
+same_view sectors first now calls faults counts none i = record {
+  devices = length now;
+  sectors = sectors;
+  reads = content now;
+  faults = λ e. none e i;
+  clock = length calls;
+  leaves = λ t. (replay (at_rest (content first)) (take t calls)).stays;
+  could = λ t. (replay (at_rest (content first)) (take t calls)).could;
+}
+
 -- Counts of faults alone go up.
 unmoved : (sectors : ℕ) (first now : Shelf) (calls : List Call) (faults counts : List ℕ)
     → ((e : ℕ) → slice_index faults e ≤ slice_index counts e)
@@ -314,11 +337,14 @@ pub write_failed : (sectors : ℕ) (first now : Shelf) (calls : List Call) (faul
     (d x : ℕ) (bytes : List ℕ) (e : Failed)
     → ((e : ℕ) → slice_index faults e ≤ slice_index counts e)
     → Rose (slice_index faults d) (slice_index counts d)
+    → FailedOnce (slice_index faults) (slice_index counts) d
     → Wrote (view sectors first now calls faults) (view sectors first now calls counts) d x bytes
     (Err e)
-write_failed sectors first now calls faults counts d x bytes e more rose = record {
+write_failed sectors first now calls faults counts d x bytes e more rose once = record {
   goes_on = unmoved sectors first now calls faults counts more;
   failed = rose;
+  once = once;
+  well = tt;
   told = tt;
   torn = tt;
   others_read = λ f y other. refl;
@@ -327,38 +353,21 @@ write_failed sectors first now calls faults counts d x bytes e more rose = recor
   others_could = λ f y other. refl;
 }
 
-pub sync_failed : (sectors : ℕ) (first now : Shelf) (calls : List Call) (faults counts : List ℕ)
-    (d : ℕ) (e : Failed) → ((e : ℕ) → slice_index faults e ≤ slice_index counts e)
-    → Rose (slice_index faults d) (slice_index counts d)
-    → Synced (view sectors first now calls faults) (view sectors first now calls counts) d (Err e)
-sync_failed sectors first now calls faults counts d e more rose = record {
-  goes_on = unmoved sectors first now calls faults counts more;
-  failed = rose;
-  durable = tt;
-  not_durable = λ x. refl;
-  reads = tt;
-  reads_certain = λ x bytes certain. refl;
-  others_read = λ f x other. refl;
-  others_leave = λ f x other. refl;
-  could = tt;
-  still_could = λ x. refl;
-  others_could = λ f x other. refl;
-}
-
 -- A write that fails and may be on record.
 pub write_noted : (sectors : ℕ) (first now : Shelf) (calls later : List Call)
     (faults counts : List ℕ) (number d x : ℕ) (bytes : List ℕ) (e : Failed)
     → (later ≡ calls ++ FailedWrite number d x bytes ∷ []) ⊎ (later ≡ calls)
     → ((e : ℕ) → slice_index faults e ≤ slice_index counts e)
     → Rose (slice_index faults d) (slice_index counts d)
+    → FailedOnce (slice_index faults) (slice_index counts) d
     → Wrote (view sectors first now calls faults) (view sectors first now later counts) d x bytes
     (Err e)
-write_noted sectors first now calls later faults counts number d x bytes e (inl noted) more rose =
-    write_torn sectors first now calls later faults counts number d x bytes e noted more rose
-write_noted sectors first now calls later faults counts number d x bytes e (inr same) more rose =
+write_noted sectors first now calls later faults counts number d x bytes e (inl noted) more rose once =
+    write_torn sectors first now calls later faults counts number d x bytes e noted more rose once
+write_noted sectors first now calls later faults counts number d x bytes e (inr same) more rose once =
     subst (λ (l : List Call). Wrote (view sectors first now calls faults)
     (view sectors first now l counts) d x bytes (Err e)) (sym same)
-    (write_failed sectors first now calls faults counts d x bytes e more rose)
+    (write_failed sectors first now calls faults counts d x bytes e more rose once)
 
 pub noted_leads : (first now : Shelf) (calls later : List Call) (number d x : ℕ) (bytes : List ℕ)
     → (later ≡ calls ++ FailedWrite number d x bytes ∷ []) ⊎ (later ≡ calls)

@@ -1,5 +1,5 @@
 // A bank of devices in memory.
-ghost use Rattle.std.specs.Prelude.{◌≡◌, ◌≢◌, ◌<◌, ◌≤◌, ◌^◌, ◌++◌, [], ◌∷◌, ℕ, List, IfOk, Err, OnOk, OnErr, IsTrue, length, slice_index, Some, None, Contains, replicate};
+ghost use Rattle.std.specs.Prelude.{◌≡◌, ◌≢◌, ◌<◌, ◌≤◌, ◌^◌, ◌++◌, [], ◌∷◌, ℕ, List, IfOk, Err, OnOk, OnErr, length, Some, None, Contains};
 ghost use Rattle.bank_mem.specs.Sound.{LeadsTo, AllWide, AllPlaced};
 
 use crate::crash::{self, Torn};
@@ -226,9 +226,8 @@ impl MemBank {
 }
 
 impl Bank for MemBank {
-    ghost use Rattle.bank_trait.specs.Causes.{Rose};
+    ghost use Rattle.bank_trait.specs.Causes.{Rose, FailedOnce, counted_on};
     ghost use Rattle.bank_trait.specs.Disk.{Unchanged, Wrote, Synced};
-    ghost use Rattle.bank_mem.specs.Listed.{counted_on};
     ghost use Rattle.bank_mem.specs.MemBank.{disk_of, made_on, SamePlan, FailsNext};
     ghost use Rattle.bank_mem.specs.Laws.{lawful};
 
@@ -255,10 +254,9 @@ impl Bank for MemBank {
         ensures unchanged { Unchanged (disk_of self.old) (disk_of self.new) }
         ensures listed { OnOk result (FailsNext self.old device → ⊥) }
         ensures only_listed { OnErr result (FailsNext self.old device) }
-        ensures one_more { OnErr result ((d : ℕ)
-            → (disk_of self.new).faults d ≡ counted_on (disk_of self.old).faults device d) }
-        ensures none_more { OnOk result ((d : ℕ)
-            → (disk_of self.new).faults d ≡ (disk_of self.old).faults d) }
+        ensures once { OnErr result
+            (FailedOnce (disk_of self.old).faults (disk_of self.new).faults device) }
+        ensures well { OnOk result (disk_of self.new ≡ disk_of self.old) }
         ensures made { (d : ℕ) → made_on self.new d ≡ counted_on (made_on self.old) device d }
         ensures plan { SamePlan self.old self.new }
     {
@@ -276,10 +274,6 @@ impl Bank for MemBank {
         requires sector { sector < (disk_of self.old).sectors }
         ensures wrote { Wrote (disk_of self.old) (disk_of self.new) device sector from.now result }
         ensures listed { OnOk result (FailsNext self.old device → ⊥) }
-        ensures one_more { OnErr result ((d : ℕ)
-            → (disk_of self.new).faults d ≡ counted_on (disk_of self.old).faults device d) }
-        ensures none_more { OnOk result ((d : ℕ)
-            → (disk_of self.new).faults d ≡ (disk_of self.old).faults d) }
         ensures made { (d : ℕ) → made_on self.new d ≡ counted_on (made_on self.old) device d }
         ensures plan { SamePlan self.old self.new }
     {
@@ -313,10 +307,6 @@ impl Bank for MemBank {
         requires { device < (disk_of self.old).devices }
         ensures synced { Synced (disk_of self.old) (disk_of self.new) device result }
         ensures listed { OnOk result (FailsNext self.old device → ⊥) }
-        ensures one_more { OnErr result ((d : ℕ)
-            → (disk_of self.new).faults d ≡ counted_on (disk_of self.old).faults device d) }
-        ensures none_more { OnOk result ((d : ℕ)
-            → (disk_of self.new).faults d ≡ (disk_of self.old).faults d) }
         ensures made { (d : ℕ) → made_on self.new d ≡ counted_on (made_on self.old) device d }
         ensures plan { SamePlan self.old self.new }
     {

@@ -1,7 +1,7 @@
 // Which calls fail, how many were made, and how often each device has failed.
 ghost use Rattle.std.specs.Prelude.{◌≡◌, ◌<◌, ◌≤◌, ◌↔◌, ℕ, false, IsTrue, Contains, Any, length, slice_index};
-ghost use Rattle.bank_trait.specs.Causes.{Rose};
-ghost use Rattle.bank_mem.specs.Listed.{IsListed, counted, counted_on};
+ghost use Rattle.bank_trait.specs.Causes.{Rose, FailedOnce, NoneFailed, counted, counted_on};
+ghost use Rattle.bank_mem.specs.Listed.{IsListed};
 
 #[derive(Drop)]
 pub struct Plan {
@@ -47,10 +47,10 @@ impl Plan {
             ≤ slice_index self.new.faults.items d }
         ensures counted { IsTrue result → Rose (slice_index self.old.faults.items device)
             (slice_index self.new.faults.items device) }
-        ensures one_more { IsTrue result → (d : ℕ) → slice_index self.new.faults.items d
-            ≡ counted_on (slice_index self.old.faults.items) device d }
-        ensures none_more { result ≡ false → (d : ℕ) → slice_index self.new.faults.items d
-            ≡ slice_index self.old.faults.items d }
+        ensures once { IsTrue result → FailedOnce (slice_index self.old.faults.items)
+            (slice_index self.new.faults.items) device }
+        ensures well { result ≡ false → NoneFailed (slice_index self.old.faults.items)
+            (slice_index self.new.faults.items) }
         ensures fails { IsTrue result ↔ IsListed self.old.fails.items self.old.starts.items device
             (slice_index self.old.made.items device) }
         ensures made { (d : ℕ) → slice_index self.new.made.items d
@@ -78,8 +78,8 @@ impl Plan {
             ≤ slice_index self.new.faults.items d }
         ensures counted { Rose (slice_index self.old.faults.items device)
             (slice_index self.new.faults.items device) }
-        ensures one_more { (d : ℕ) → slice_index self.new.faults.items d
-            ≡ counted_on (slice_index self.old.faults.items) device d }
+        ensures once { FailedOnce (slice_index self.old.faults.items)
+            (slice_index self.new.faults.items) device }
         ensures made { self.new.made.items ≡ self.old.made.items }
         ensures total { self.new.total ≡ self.old.total }
         ensures listed { self.new.fails.items ≡ self.old.fails.items }

@@ -1,5 +1,5 @@
 // A sink for bytes in memory.
-ghost use Rattle.std.specs.Prelude.{◌≡◌, ℕ, ◌-◌, ◌<◌, ◌≤◌, [], length, Some, IfOk, OnOk, OnErr, min};
+ghost use Rattle.std.specs.Prelude.{◌≡◌, ◌-◌, ◌<◌, ◌≤◌, [], length, Some, IfOk, OnOk, OnErr, min};
 
 use bank_trait::{Failed, Sink};
 use std::alloc::{AllocError, Global};
@@ -47,9 +47,8 @@ impl MemSink {
 }
 
 impl Sink for MemSink {
-    ghost use Rattle.bank_trait.specs.Causes.{HasCause};
+    ghost use Rattle.bank_trait.specs.Causes.{HasCause, counted};
     ghost use Rattle.bank_trait.specs.Stream.{Takes};
-    ghost use Rattle.bank_mem.specs.Listed.{counted};
     ghost use Rattle.bank_mem.specs.MemStreams.{held_of, room_of, write_faults, writes_made, listed_writes, WriteFailsNext};
 
     ghost held = { λ s. Some (held_of s) };

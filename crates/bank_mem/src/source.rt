@@ -1,5 +1,5 @@
 // A source of bytes in memory.
-ghost use Rattle.std.specs.Prelude.{◌≡◌, ℕ, ◌≤◌, length, Some, IfOk, OnOk, OnErr, min};
+ghost use Rattle.std.specs.Prelude.{◌≡◌, ◌≤◌, length, Some, IfOk, OnOk, OnErr, min};
 
 use bank_trait::{Failed, Source};
 use std::alloc::{AllocError, Global};
@@ -38,9 +38,8 @@ impl MemSource {
 }
 
 impl Source for MemSource {
-    ghost use Rattle.bank_trait.specs.Causes.{HasCause};
+    ghost use Rattle.bank_trait.specs.Causes.{HasCause, counted};
     ghost use Rattle.bank_trait.specs.Stream.{Hands};
-    ghost use Rattle.bank_mem.specs.Listed.{counted};
     ghost use Rattle.bank_mem.specs.MemStreams.{left_of, read_faults, reads_made, listed_reads, ReadFailsNext};
 
     ghost left = { λ s. Some (left_of s) };

@@ -1,5 +1,5 @@
 -- The cells of a block and their required places, for those who place many blocks side by side.
-use Rattle.std.proofs.Common.{◌≡◌, ◌⊎◌, inl, inr, ⊎_elim, ℕ, ◌+◌, ◌/◌, ◌<◌, ◌≤◌, List, false, refl, sym, subst, arith}
+use Rattle.std.proofs.Common.{◌⊎◌, inl, inr, ⊎_elim, ℕ, ◌+◌, ◌/◌, ◌<◌, ◌≤◌, List, refl, subst, arith}
 use Rattle.std.specs.Prelude.{Contains}
 use Rattle.std.proofs.Math.Nat.{div-lt_iff_lt-mul}
 use Rattle.width_map.specs.Place.{first_data_sector}
@@ -12,11 +12,9 @@ use Rattle.shadow_write.specs.Required.{IsAt, NeedsScratch, NeedsNew, IsRequired
 use Rattle.shadow_write.specs.Writes.{writes_of}
 use Rattle.shadow_write.proofs.Whole.{are_required}
 use Rattle.reconstruct.specs.Columns.{column_bytes}
-use Rattle.uberblock_ring.specs.Devices.{has_device}
 use Rattle.core_state.specs.Whole.{Cell, IsCell}
-use Rattle.core_client.specs.Pool.{IsInPool, IsFrontOf}
-use Rattle.core_client.specs.Writing.{IsPlaceOf}
-use Rattle.core_client.proofs.Places.{widths_of, close_to_end, in_pool, one_sector, scratch_below}
+use Rattle.core_client.specs.Pool.{IsInPool}
+use Rattle.core_client.proofs.Places.{widths_of, in_pool, scratch_below}
 use Rattle.core_client.proofs.Stored.{place_on_pool}
 use Rattle.core_client.proofs.Spots.{IsOnPool, on_pool}
 
@@ -80,7 +78,7 @@ pub record IsRequiredOf (layout : Layout) (reflow : Reflow) (done : ℕ) (bytes 
   pub is : IsCell layout bytes cell
   pub required : IsRequiredPlace reflow done cell.row_end cell.sector device device_sector
 
--- Each write goes to such a place, whatever the bytes are,
+-- Each write goes to such a place, whatever the bytes are.
 pub writes_required : (layout : Layout) (reflow : Reflow) (done : ℕ) (bytes : List ℕ) (write : Write)
     → Contains (writes_of layout reflow done) write → IsRequiredOf layout reflow done bytes write.device write.device_sector
 writes_required layout reflow done bytes write listed =
@@ -94,52 +92,3 @@ writes_required layout reflow done bytes write listed =
       is = record { row = write.row; column = write.column; there = at.0; sector = refl; row_end = refl; bytes = refl };
       required = at.1;
     }
-
--- and to each of these places goes a write.
-pub required_written : (layout : Layout) (reflow : Reflow) (done : ℕ) (bytes : List ℕ) (cell : Cell) (device device_sector : ℕ)
-    → IsCell layout bytes cell → IsRequiredPlace reflow done cell.row_end cell.sector device device_sector
-    → (write : Write) × Contains (writes_of layout reflow done) write × (device ≡ write.device) × (device_sector ≡ write.device_sector)
-required_written layout reflow done bytes cell device device_sector is required = (
-  record { device = device; device_sector = device_sector; row = is.row; column = is.column },
-  (are_required layout reflow done).all is.row is.column device device_sector is.there
-      (by_column layout reflow done bytes cell device device_sector is required),
-  refl,
-  refl,
-)
-
--- So the places that the writes of a block may touch are those required places whose device isn't out.
-pub touched_required : (layout : Layout) (reflow : Reflow) (done : ℕ) (bytes : List ℕ) (out device device_sector : ℕ)
-    → IsPlaceOf (writes_of layout reflow done) out device device_sector → IsRequiredOf layout reflow done bytes device device_sector
-touched_required layout reflow done bytes out device device_sector place =
-    let of : IsRequiredOf layout reflow done bytes place.0.device place.0.device_sector = writes_required layout reflow done bytes place.0 place.1 in
-    subst (λ (d : ℕ). IsRequiredOf layout reflow done bytes d device_sector) (sym place.3)
-    (subst (λ (x : ℕ). IsRequiredOf layout reflow done bytes place.0.device x) (sym place.4) of)
-
-pub required_touched : (layout : Layout) (reflow : Reflow) (done : ℕ) (bytes : List ℕ) (cell : Cell) (out device device_sector : ℕ)
-    → IsCell layout bytes cell → IsRequiredPlace reflow done cell.row_end cell.sector device device_sector → has_device out device ≡ false
-    → IsPlaceOf (writes_of layout reflow done) out device device_sector
-required_touched layout reflow done bytes cell out device device_sector is required used =
-    let written = required_written layout reflow done bytes cell device device_sector is required in (
-      written.0,
-      written.1,
-      subst (λ (d : ℕ). has_device out d ≡ false) written.2 used,
-      written.2,
-      written.3,
-    )
-
--- ---- whose a place is
-
--- Cells of blocks of one pool that need one place, be they of one block or of two, are of one sector.
-pub one_cell : (layout other_layout : Layout) (reflow : Reflow) (done : ℕ) (bytes other_bytes : List ℕ) (cell other : Cell)
-    (device device_sector : ℕ)
-    → IsInPool layout reflow → IsInPool other_layout reflow → IsFrontOf reflow done
-    → IsCell layout bytes cell → IsCell other_layout other_bytes other
-    → IsRequiredPlace reflow done cell.row_end cell.sector device device_sector
-    → IsRequiredPlace reflow done other.row_end other.sector device device_sector → cell.sector ≡ other.sector
-one_cell layout other_layout reflow done bytes other_bytes cell other device device_sector pool other_pool front is other_is required also =
-    let widths = widths_of layout reflow pool in
-    let near = close_to_end layout reflow is.row is.column pool is.there in
-    let other_near = close_to_end other_layout reflow other_is.row other_is.column other_pool other_is.there in
-    one_sector reflow done cell.sector other.sector cell.row_end other.row_end device device_sector widths.from_some widths.to_some
-    widths.from_few pool.right front (omega (arith, near, is.row_end, is.sector))
-    (omega (arith, other_near, other_is.row_end, other_is.sector)) required also

@@ -1,10 +1,9 @@
 -- Where few devices are out, no row has lost too much.
-use Rattle.std.proofs.Common.{◌≡◌, ◌≢◌, ⊎_elim, ℕ, zero, suc, ◌+◌, ◌-◌, ◌%◌, ◌^◌, ◌<◌, ◌≤◌, List, Bool, true, false, None, Some, refl, sym, ◌∙◌, ap, subst, arith}
+use Rattle.std.proofs.Common.{◌≡◌, ◌≢◌, ⊎_elim, ℕ, zero, suc, ◌+◌, ◌-◌, ◌%◌, ◌^◌, ◌<◌, ◌≤◌, List, Bool, true, false, refl, sym, ◌∙◌, ap, arith}
 use Rattle.std.specs.Prelude.{◌&&◌, ◌==◌, not, slice_index, EachIndex, length, if◌then◌else◌}
 use Rattle.std.proofs.lemmas.Bool.{cases_lt, true≢false}
 use Rattle.std.proofs.lemmas.Bool.Decides.{nat_tests}
 use Rattle.std.proofs.Math.Nat.{mod-lt}
-use Rattle.bank_trait.specs.Disk.{Known}
 use Rattle.reflow_mark.specs.declared.reflow.Reflow.{Reflow}
 use Rattle.reflow_mark.specs.declared.stand.Stand.{Stand}
 use Rattle.reflow_mark.specs.declared.stand.Stand.TheVariants.{Old, Scratch, New}
@@ -15,14 +14,13 @@ use Rattle.row_layout.proofs.Laws.{columns_apart}
 use Rattle.gf_solve.specs.Row.{is_masked, count_lost}
 use Rattle.gf_solve.proofs.Counting.{count_split}
 use Rattle.reconstruct.specs.Lost.{HasTooFew, IsFirstTooFew}
-use Rattle.reconstruct.specs.Rows.{column_at}
 use Rattle.uberblock_ring.specs.Devices.{has_device, count_below, count_of}
 use Rattle.uberblock_ring.proofs.DeviceSets.{none_above}
 use Rattle.core_client.specs.declared.columns_read.ColumnsRead.{ColumnsRead}
 use Rattle.core_client.specs.Pool.{IsInPool}
-use Rattle.core_client.specs.Reading.{spot_in, spot_of, IsGot}
-use Rattle.core_client.specs.Got.{got_of, is_lost, HasContentAlone, HasLostFew, IsReadOf}
-use Rattle.core_client.proofs.Counts.{below_all}
+use Rattle.core_client.specs.Reading.{spot_in, spot_of}
+use Rattle.core_client.specs.Got.{is_lost}
+use Rattle.core_state.proofs.Fresh.{count_grows}
 use Rattle.core_client.proofs.Gotten.{parity_in_row}
 use Rattle.core_client.proofs.Places.{HasWidths, widths_of}
 
@@ -67,38 +65,15 @@ pub record HasEnough (layout : Layout) (reflow : Reflow) (out : ℕ) : Type 0 wh
       → count_lost (λ column. has_device out (spot_of layout reflow row column).device) 0
       (columns_in layout row) ≤ layout.parity
 
--- What is lost of a row stands on devices that are out, or is parity that wasn't needed.
-never_too_few : (layout : Layout) (reflow : Reflow) (known : Known) (before after : ℕ) (read : ColumnsRead)
-    → ((row : ℕ) → layout.parity ≤ columns_in layout row) → IsReadOf layout reflow known before after read → HasEnough layout reflow after
-    → (row : ℕ) → row < rows_of layout → HasTooFew layout read.lost.items row → ⊥
-never_too_few layout reflow known before after read parity_in is enough row row_in too_few = ⊎_elim
-    (λ (whole : (column : ℕ) → column < columns_in layout row
-    → IsGot known before after (spot_of layout reflow row column) (got_of read row column)).
-    let few = count_mono (is_lost read row) on_out 0 (columns_in layout row)
-    (λ column from below lost. lost_out column lost (whole column (omega (arith, below)))) in
-    omega (arith, few, enough.each row row_in, too_few))
-    (λ (content : HasContentAlone layout reflow known before after row read).
-    let none = count_nothing (is_lost read row) (0 + layout.parity) (columns_in layout row - layout.parity)
-    (λ column from below. (content.content column (omega (arith, from)) (omega (arith, below, parity_in row))).0) in
-    let parts : columns_in layout row ≡ layout.parity + (columns_in layout row - layout.parity) = omega (arith, parity_in row) in
-    let split : count_lost (is_lost read row) 0 (columns_in layout row)
-    ≡ count_lost (is_lost read row) 0 layout.parity + count_lost (is_lost read row) (0 + layout.parity) (columns_in layout row - layout.parity) =
-    ap (count_lost (is_lost read row) 0) parts
-    ∙ count_split (is_lost read row) 0 layout.parity (columns_in layout row - layout.parity) in
-    omega (arith, split, none, count_most (is_lost read row) 0 layout.parity, too_few))
-    (is.has row row_in)
-  where
-    on_out : ℕ → Bool
-    on_out = λ column. has_device after (spot_of layout reflow row column).device
-
-    lost_out : (column : ℕ) → is_lost read row column ≡ true
-        → IsGot known before after (spot_of layout reflow row column) (got_of read row column)
-        → has_device after (spot_of layout reflow row column).device ≡ true
-    lost_out column lost got =
-        let none : got_of read row column ≡ None = ap (λ (b : Bool). if b then None else Some (column_at read.rows row column)) lost in
-        subst (IsGot known before after (spot_of layout reflow row column)) none got
-
 -- ---- devices
+
+-- Of the devices below a width no more are out than of all.
+pub below_all : (out width : ℕ) → width ≤ 64 → count_below out width ≤ count_of out
+unfolding count_of
+below_all out width narrow =
+    let rest : width + (64 - width) ≡ 64 = omega (arith, narrow) in
+    let all : count_below out (width + (64 - width)) ≡ count_below out 64 = ap (count_below out) rest in
+    omega (arith, all, count_grows out width (64 - width))
 
 -- how many numbers below one pass a test
 tally : (ℕ → Bool) → ℕ → ℕ
@@ -245,15 +220,6 @@ lost_few_out layout reflow out read pool few row row_in lost_out too_few =
     let counted = count_mono (is_lost read row) (λ column. has_device out (spot_of layout reflow row column).device) 0
     (columns_in layout row) (λ column from below lost. lost_out column (omega (arith, below)) lost) in
     omega (arith, counted, enough.each row row_in, too_few)
-
--- So no row has lost too much.
-pub few_lost : (layout : Layout) (reflow : Reflow) (known : Known) (before after : ℕ) (read : ColumnsRead) → IsInPool layout reflow
-    → IsReadOf layout reflow known before after read → count_of after ≤ layout.parity → HasLostFew layout read
-few_lost layout reflow known before after read pool is few = record {
-  each = λ row row_in too_few.
-      never_too_few layout reflow known before after read (λ row. parity_in_row layout row pool.within.is) is
-      (few_enough layout reflow after pool few) row row_in too_few;
-}
 
 -- Where the masks have parity columns alone, no row has lost too much.
 pub parity_alone : (layout : Layout) (parity : ℕ) (masks : List ℕ) → parity ≡ layout.parity → IsLayout layout

@@ -1,5 +1,4 @@
 pub mod Outs
-pub mod Counts
 pub mod Below
 pub mod Places
 pub mod Written

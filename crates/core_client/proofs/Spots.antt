@@ -1,7 +1,7 @@
 -- Where a column is read is one of its required places, and on the bank.
-use Rattle.std.proofs.Common.{◌≡◌, ◌⊎◌, inl, inr, ⊎_elim, ℕ, ◌+◌, ◌*◌, ◌/◌, ◌^◌, ◌<◌, ◌≤◌, Bool, true, false, refl, sym, ◌∙◌, subst, arith}
+use Rattle.std.proofs.Common.{◌≡◌, ◌⊎◌, inl, inr, ⊎_elim, ℕ, ◌+◌, ◌/◌, ◌<◌, ◌≤◌, Bool, true, false, refl, sym, ◌∙◌, subst, arith}
 use Rattle.std.specs.Prelude.{nat_le, if◌then◌else◌}
-use Rattle.std.proofs.Math.Nat.{div-lt_iff_lt-mul, mul-le-mul, mul-le-mul_left, mod-lt}
+use Rattle.std.proofs.Math.Nat.{div-lt_iff_lt-mul, mul-le-mul_left, mod-lt}
 use Rattle.std.proofs.lemmas.Bool.{cases_lt}
 use Rattle.std.proofs.lemmas.Bool.Decides.{nat_tests}
 use Rattle.width_map.specs.Place.{first_data_sector}
@@ -101,11 +101,3 @@ pub spot_on_pool : (layout : Layout) (reflow : Reflow) (row column : ℕ) → Is
 spot_on_pool layout reflow row column pool there =
     let widths = widths_of layout reflow pool in
     on_pool _ reflow (sector_of layout row column) widths.from_some widths.grows (in_pool layout reflow row column pool there)
-
--- The sectors of a pool are few.
-pub sector_few : (layout : Layout) (reflow : Reflow) (row column : ℕ) → IsInPool layout reflow → IsColumn layout row column
-    → sector_of layout row column < 2 ^ 54
-sector_few layout reflow row column pool there =
-    let widths = widths_of layout reflow pool in
-    let few : reflow.rows * reflow.from ≤ 65536 * 16 = mul-le-mul pool.rows widths.from_few in
-    omega (arith, few, in_pool layout reflow row column pool there)

@@ -3,5 +3,4 @@ pub mod Pool
 pub mod Writing
 pub mod Reading
 pub mod Got
-pub mod Fetching
 pub mod BlockTurns

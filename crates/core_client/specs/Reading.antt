@@ -1,7 +1,7 @@
 -- Where a column is read, and what a reading has of it.
-use Rattle.std.specs.Prelude.{◌≡◌, ◌⊎◌, ℕ, ◌+◌, List, Option, Some, None, true, false, Result, Ok, Err, OnErr}
+use Rattle.std.specs.Prelude.{◌≡◌, ◌⊎◌, ℕ, ◌+◌, List, Option, Some, None, true, false, Result, Ok, Err, OnOk, OnErr}
 use Rattle.bank_trait.specs.declared.Failed.{Failed}
-use Rattle.bank_trait.specs.Causes.{Rose}
+use Rattle.bank_trait.specs.Causes.{Rose, FailedOnce}
 use Rattle.bank_trait.specs.Disk.{Known, Unchanged}
 use Rattle.width_map.specs.declared.position.Place.{Place}
 use Rattle.width_map.specs.Place.{first_data_sector}
@@ -47,11 +47,14 @@ HasGiven known spot (Ok done) None = ⊥
 HasGiven known spot (Err why) (Some bytes) = ⊥
 HasGiven known spot (Err why) None = Unit {0}
 
--- The read was made, and its device is out from then on where it failed.
+-- The read was made, and its device is out from then on where it failed. One that gave bytes left the
+-- disk as it was, and one that failed was counted once, on its device alone: none is tried again.
 pub record IsRead (spot : Spot) (given : Option (List ℕ)) (before after : Point) : Type 0 where
   pub result : Result (Unit {0}) Failed
   pub gave : HasGiven before.disk.reads spot result given
+  pub well : OnOk result (after.disk ≡ before.disk)
   pub failed : OnErr result (Rose (before.disk.faults spot.device) (after.disk.faults spot.device))
+  pub once : OnErr result (FailedOnce before.disk.faults after.disk.faults spot.device)
   pub unchanged : Unchanged before.disk after.disk
   pub called : Called spot.device result before after
 

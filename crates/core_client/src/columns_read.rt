@@ -1,10 +1,9 @@
 // A block's columns as they were read.
 ghost use Rattle.std.specs.Prelude.{◌≡◌, ◌≢◌, ◌⊎◌, ℕ, ◌<◌, ◌≤◌, Option, IfOk, Some, IsTrue, length, false, true, ◌^◌, ◌↔◌, EachIndex, slice_index};
-ghost use Rattle.gf_solve.specs.Row.{is_masked};
 ghost use Rattle.reconstruct.specs.Columns.{zero_sector};
-ghost use Rattle.row_layout.specs.Layout.{Layout as LayoutOf, columns_of, rows_of};
+ghost use Rattle.row_layout.specs.Layout.{columns_of, rows_of};
 ghost use Rattle.uberblock_ring.specs.Devices.{with_device};
-ghost use Rattle.core_client.specs.Got.{got_of, is_lost, HasPut, IsParityLeftOut, IsShapedAs};
+ghost use Rattle.core_client.specs.Got.{got_of, is_lost, HasPut, IsShapedAs};
 
 use reconstruct::Rows;
 use row_layout::Layout;
@@ -45,19 +44,6 @@ impl ColumnsRead {
         }
     }
 
-    /// Leaves out the parity of a row: all its columns count as lost from then on.
-    pub fn skip_parity(&mut self, layout: &Layout, row: u32)
-        requires row { row < rows_of layout.now }
-        requires shape { IsShapedAs layout.now self.old }
-        requires unread { (column : ℕ) → column < layout.now.parity
-            → is_lost self.old row column ≡ false }
-        ensures { IsParityLeftOut layout.now row self.old self.new }
-    {
-        for column in 0..layout.parity() {
-            self.put(row, column, None);
-        }
-    }
-
     fn lose(&mut self, row: u32, column: u32)
         requires row { row < length self.old.lost.items }
         requires column { column < 64 }
@@ -69,15 +55,6 @@ impl ColumnsRead {
     {
         let row = row as usize;
         self.lost[row] = with_column(self.lost[row], column);
-    }
-
-    /// Whether a column of the row is lost.
-    pub fn has_lost(&self, row: u32) -> bool
-        requires { row < length self.now.lost.items }
-        ensures some { result ≡ true → (column : ℕ) × (is_lost self.now row column ≡ true) }
-        ensures none { result ≡ false → (column : ℕ) → is_lost self.now row column ≡ false }
-    {
-        has_columns(self.lost[row as usize])
     }
 
     /// Whether no column behind the parity columns is lost.
@@ -96,12 +73,4 @@ fn with_column(mask: u64, column: u32) -> u64
     ensures { result ≡ with_device mask column }
 {
     mask | 1 << column
-}
-
-/// Whether the mask has any column.
-fn has_columns(mask: u64) -> bool
-    ensures some { result ≡ true → (column : ℕ) × (is_masked mask column ≡ true) }
-    ensures none { result ≡ false → (column : ℕ) → is_masked mask column ≡ false }
-{
-    mask != 0
 }

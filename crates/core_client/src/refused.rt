@@ -2,15 +2,12 @@
 ghost use Rattle.std.specs.Prelude.{◌≡◌};
 ghost use Rattle.core_client.specs.declared.refused.FetchRefused.TheVariants.{NoMemory};
 
-use reconstruct::DecodeRefused;
 use std::alloc::AllocError;
 
 #[derive(Clone, Copy, Debug, PartialEq, Eq)]
 pub enum FetchRefused {
     /// Too few columns of a row are there, or the bytes have another digest.
     Damaged,
-    /// More devices are out than there are parities.
-    TooManyOut,
     NoMemory,
 }
 

@@ -1,7 +1,7 @@
 -- What is known of a commit between two of its steps, and that calls beside it keep that.
 use Rattle.std.proofs.Common.{◌≡◌, ◌≢◌, ◌⊎◌, inl, inr, ⊎_elim, ℕ, ◌+◌, ◌<◌, List, [], ◌∷◌, Bool, true, false, refl, sym, ◌∙◌, ap, subst, arith}
 use Rattle.std.specs.Prelude.{Contains}
-use Rattle.bank_trait.specs.Disk.{Disk, Lawful, Unchanged}
+use Rattle.bank_trait.specs.Disk.{Lawful, Unchanged}
 use Rattle.bank_trait.specs.Regions.{TouchesOnly}
 use Rattle.block_record.specs.Page.{page_sectors}
 use Rattle.uberblock_ring.specs.Devices.{has_device, IsWithin}
@@ -35,20 +35,10 @@ module _ (setting : Setting) (first next : Kept) where
   come_knows Lays uber calls point come = come.unsigned.knows
   come_knows Signs uber calls point come = come.signed.knows
 
-  come_lawful : (stage : Stage) (uber : Uber) (calls : List CommitCall) (point : Point)
-      → HasCome setting first next stage uber calls point
-      → Lawful point.disk
-  come_lawful Lays uber calls point come = come.unsigned.lawful
-  come_lawful Signs uber calls point come = come.signed.lawful
-
   -- What is known between two steps.
   pub committing_knows : (run : CommitRun) (point : Point) → IsCommitting setting first next run point
       → Knows setting first (shown_by next run) point.disk
   committing_knows run point is = come_knows run.stage run.uber run.calls point is.so_far
-
-  pub committing_lawful : (run : CommitRun) (point : Point) → IsCommitting setting first next run point
-      → Lawful point.disk
-  committing_lawful run point is = come_lawful run.stage run.uber run.calls point is.so_far
 
   -- A commit that is given up in either half: images show the first group, and maybe its own.
   pub committing_cut : (run : CommitRun) (point : Point) → IsCommitting setting first next run point
@@ -211,21 +201,3 @@ module _ (setting : Setting) (first next : Kept) where
         told = λ d x told. same.goes_on.later.told d x told;
         lawful = lawful;
       }) is
-
-  -- A device that goes out between two steps.
-  pub committing_gone : (run : CommitRun) (before after : Point) → after.disk ≡ before.disk
-      → IsWithin before.out after.out → IsCommitting setting first next run before
-      → IsCommitting setting first next run after
-  committing_gone run before after same grows is =
-      subst (λ (disk : Disk). IsCommitting setting first next run (record { out = after.out; disk = disk })) (sym same)
-      (committing_frame Nowhere run before (record { out = after.out; disk = before.disk }) nowhere_beside (record {
-        lost = none_lost;
-        frames = record {
-          stays = λ d x bytes away stays. stays;
-          could = λ d x bytes away has. has;
-          reads = λ d x bytes away kept read. read;
-        };
-        used = used_before before (record { out = after.out; disk = before.disk }) grows;
-        told = λ d x told. told;
-        lawful = committing_lawful run before is;
-      }) is)

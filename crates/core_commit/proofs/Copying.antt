@@ -4,30 +4,52 @@ use Rattle.std.specs.Prelude.{All, slice_get}
 use Rattle.std.proofs.lemmas.List.{append-nil}
 use Rattle.bank_trait.specs.Disk.{Lawful}
 use Rattle.block_record.specs.declared.entry.IndexEntry.{IndexEntry}
-use Rattle.block_record.specs.Page.{page_sectors, IsIndex}
+use Rattle.block_record.specs.Page.{page_sectors, IsIndex, index_page}
 use Rattle.block_record.proofs.Sectors.{length-index_page}
 use Rattle.uberblock_ring.specs.Devices.{has_device, IsWithin}
-use Rattle.uberblock_ring.specs.Uberblock.{Uber, area_sector}
+use Rattle.uberblock_ring.specs.Uberblock.{Uber, area_sector, slot_of}
 use Rattle.uberblock_ring.specs.Valid.{IsRightUber}
 use Rattle.commit_job.specs.declared.call.CommitCall.{CommitCall}
 use Rattle.commit_job.specs.declared.call.CommitCall.TheVariants.{IndexWrite, BaseSync, UberWrite, UberSync}
 use Rattle.commit_job.specs.Stages.{device_of, copies_of, calls_left, after_next}
-use Rattle.core_state.specs.Keeps.{Kept, Setting}
+use Rattle.core_state.specs.Keeps.{Kept, Setting, SameGroup}
 use Rattle.core_state.specs.Certain.{SlotOn, certain}
-use Rattle.core_state.specs.Committing.{Among, Point, Signed, page_part}
+use Rattle.core_state.specs.Committing.{Among, Point, Signed, page_part, IsSealed}
 use Rattle.core_state.specs.Moment.{IsRowOf, KeepsSince}
 use Rattle.core_state.proofs.Laying.{IsPaged}
 use Rattle.core_state.proofs.Signing.{IsSigner, signed_passed, signed_laid, signed_signed, signed_sealed}
 use Rattle.core_state.proofs.Since.{since_more, since_now}
 use Rattle.core_commit.specs.declared.committing.TooManyOut.{TooManyOut}
-use Rattle.core_commit.specs.Ran.{MadeOne, Step, Ran, RanBy, IsAny, IsInside}
+use Rattle.core_commit.specs.Ran.{MadeOne, Step, Ran, RanBy, IsInside}
 use Rattle.core_commit.specs.Copies.{Copied, group_copied, IsInUse, HasCopy, StaysKnown, MayCopy, CopyKeeps}
 use Rattle.core_commit.specs.Spared.{Spares, HaveGoneOut}
 use Rattle.core_commit.proofs.Plans.{by_next, by_none}
 use Rattle.core_commit.proofs.Halves.{goes_on, stays_out, sound_paged}
 use Rattle.core_commit.proofs.Going.{Went, AreInside, went_all, all_inside, in_use_before}
-use Rattle.core_commit.proofs.Whole.{sealed_same}
 use Rattle.core_commit.proofs.Spreading.{CopyDue, CopiesOrdered, copies_ordered, copies_lay, copies_sign, copies_seal}
+
+-- Page and uberblock of a group are those of the same group.
+sealed_same : (one other : Kept) (known : ℕ → ℕ → _) (device : ℕ) → SameGroup one other
+    → IsSealed known other device
+    → IsSealed known one device
+sealed_same one other known device same sealed =
+    let count : one.uber.count ≡ other.uber.count = ap (λ (u : Uber). u.count) same.alike in
+    let area : one.uber.area ≡ other.uber.area = ap (λ (u : Uber). u.area) same.alike in
+    let group : one.uber.group ≡ other.uber.group = ap (λ (u : Uber). u.group) same.alike in (
+      record {
+        parts = sealed.0.parts;
+        counted = sealed.0.counted ∙ sym (ap page_sectors count);
+        each = λ part bytes is. ap (λ (a : ℕ). known device (64 + 64 * a + part)) area
+            ∙ sealed.0.each part bytes is;
+        page = sealed.0.page ∙ sym (ap index_page same.entries);
+      },
+      record {
+        uber = sealed.1.uber;
+        right = sealed.1.right;
+        alike = sealed.1.alike ∙ sym same.alike;
+        shown = ap (λ (g : ℕ). known device (slot_of g)) group ∙ sealed.1.shown;
+      },
+    )
 
 module _ (devices parts lack_page lack_uber : ℕ) where
   copies_next : (out : ℕ) (plan : List CommitCall) (call : CommitCall)
@@ -181,19 +203,19 @@ module _ (uber : Uber) (entries : List IndexEntry) (lack_page lack_uber : ℕ) (
         stays device out = stays_out (device_of call) made_one.result now after made_one.called device out
 
     copies_run : (steps : List Step) (left : List CommitCall) (now : Point)
-        → RanBy IsAny uber entries steps plan before left now → KeepsSince setting groups time before.disk
+        → RanBy uber entries steps plan before left now → KeepsSince setting groups time before.disk
         → HasCopied left now
     copies_run [] left now ran since =
         subst (λ (l : List CommitCall). HasCopied l now) (sym ran.0)
         (subst (λ (n : Point). HasCopied plan n) (sym ran.1) (begins since))
     copies_run (step ∷ steps) left now ran since =
-        subst (λ (l : List CommitCall). HasCopied l now) (sym ran.5)
-        (subst (λ (n : Point). HasCopied (after_next step.before.out ran.0) n) (sym ran.6)
-        (copies_step ran.0 step.call step.before step.after ran.3 ran.4
+        subst (λ (l : List CommitCall). HasCopied l now) (sym ran.4)
+        (subst (λ (n : Point). HasCopied (after_next step.before.out ran.0) n) (sym ran.5)
+        (copies_step ran.0 step.call step.before step.after ran.2 ran.3
         (copies_run steps ran.0 step.before ran.1 since)))
 
     has_copy : (steps : List Step) (left : List CommitCall) (now : Point)
-        → RanBy IsAny uber entries steps plan before left now → KeepsSince setting groups time before.disk
+        → RanBy uber entries steps plan before left now → KeepsSince setting groups time before.disk
         → calls_left now.out left ≡ [] → (device : ℕ) → IsInUse uber now device
         → HasCopy copied uber entries now device
     has_copy steps left now ran since none device in_use =
@@ -209,12 +231,12 @@ module _ (uber : Uber) (entries : List IndexEntry) (lack_page lack_uber : ℕ) (
         }
 
   module _ (calls left : List CommitCall) (after : Point) (calls_are : calls ≡ plan)
-      (ran : Ran IsAny uber entries calls before left after) where
-    ran_plan : Ran IsAny uber entries plan before left after
-    ran_plan = subst (λ (p : List CommitCall). Ran IsAny uber entries p before left after) calls_are ran
+      (ran : Ran uber entries calls before left after) where
+    ran_plan : Ran uber entries plan before left after
+    ran_plan = subst (λ (p : List CommitCall). Ran uber entries p before left after) calls_are ran
 
     went : Went before after
-    went = (went_all uber entries right.area right.count IsAny ran_plan.0 plan left before after ran_plan.1
+    went = (went_all uber entries right.area right.count ran_plan.0 plan left before after ran_plan.1
         (copies_inside uber lack_page lack_uber plan (copies_ordered devices uber.count lack_page lack_uber))).0
 
     pub copy_gone : HaveGoneOut before before.out after

@@ -176,21 +176,21 @@ module _ (uber : Uber) (entries : List IndexEntry) (area : uber.area ≤ 1) (cou
         went_sync device made.result before after made.called made.made
 
     -- Any calls of a plan.
-    pub went_all : (Kind : CommitCall → Type 0) (steps : List Step) (plan left : List CommitCall)
-        (point now : Point) → RanBy Kind uber entries steps plan point left now → AreInside uber plan
+    pub went_all : (steps : List Step) (plan left : List CommitCall)
+        (point now : Point) → RanBy uber entries steps plan point left now → AreInside uber plan
         → Went point now × AreInside uber left
-    went_all Kind [] plan left point now ran inside = (
+    went_all [] plan left point now ran inside = (
       subst (Went point) (sym ran.1) (went_none point),
       subst (AreInside uber) (sym ran.0) inside,
     )
-    went_all Kind (step ∷ steps) plan left point now ran inside =
-        let before = went_all Kind steps plan ran.0 point step.before ran.1 inside in (
+    went_all (step ∷ steps) plan left point now ran inside =
+        let before = went_all steps plan ran.0 point step.before ran.1 inside in (
           went_on point step.before now before.0
-              (subst (Went step.before) (sym ran.6)
+              (subst (Went step.before) (sym ran.5)
               (went_one step.call step.before step.after
-              (before.1 step.call (next_among step.before.out ran.0 step.call ran.3)) ran.4)),
-          subst (AreInside uber) (sym ran.5) (λ other among. before.1 other
-              (rest_among step.before.out ran.0 step.call other ran.3 among)),
+              (before.1 step.call (next_among step.before.out ran.0 step.call ran.2)) ran.3)),
+          subst (AreInside uber) (sym ran.4) (λ other among. before.1 other
+              (rest_among step.before.out ran.0 step.call other ran.2 among)),
         )
 
 -- The calls of an ordered plan are.
@@ -210,7 +210,7 @@ ordered_inside uber (call ∷ plan) ordered other among = ⊎_elim
     due_inside uber (UberWrite device) rest due = due.0
     due_inside uber (UberSync device) rest due = due.0
 
--- as `sign` and `lay` ask for it
+-- as the functions ask for it
 pub all_inside : (uber : Uber) (plan : List CommitCall) → AreInside uber plan → All (IsInside uber) plan
 all_inside uber [] inside k default low = absurd (omega (arith, low))
 all_inside uber (call ∷ plan) inside zero default low = inside call (inl refl)

@@ -19,7 +19,7 @@ use Rattle.core_state.proofs.Calls.{true_false}
 use Rattle.core_state.proofs.Laying.{IsPaged, unsigned_passed, unsigned_laid, unsigned_settled}
 use Rattle.core_state.proofs.Signing.{IsSigner, signed_passed, signed_signed, signed_sealed}
 use Rattle.core_state.proofs.Since.{since_more}
-use Rattle.core_commit.specs.Ran.{MadeOne, Step, RanBy, IsLaying, IsAny}
+use Rattle.core_commit.specs.Ran.{MadeOne, IsLaying}
 use Rattle.core_commit.specs.Ordered.{Due, Ordered}
 use Rattle.core_commit.proofs.Running.{next_is}
 use Rattle.core_commit.proofs.Plans.{by_next, by_none, next_among, rest_among, next_due, signing_stays}
@@ -116,19 +116,6 @@ module _ (setting : Setting) (groups : List Kept) (time : ℕ) (first : Kept) (l
             (goes_on next.uber next.entries call before after made) unsigned.knows so_far.since;
       }
 
-  -- All calls of the first half.
-  pub lays_all : (steps : List Step) (plan left : List CommitCall) (point now : Point)
-      → RanBy IsLaying next.uber next.entries steps plan point left now → HasLaid plan point
-      → HasLaid left now
-  lays_all [] plan left point now ran so_far =
-      subst (λ (l : List CommitCall). HasLaid l now) (sym ran.0)
-      (subst (λ (n : Point). HasLaid plan n) (sym ran.1) so_far)
-  lays_all (step ∷ steps) plan left point now ran so_far =
-      subst (λ (l : List CommitCall). HasLaid l now) (sym ran.5)
-      (subst (λ (n : Point). HasLaid (after_next step.before.out ran.0) n) (sym ran.6)
-      (lays_next ran.0 step.call step.before step.after ran.2 ran.3 ran.4
-      (lays_all steps plan ran.0 point step.before ran.1 so_far)))
-
 module _ (setting : Setting) (groups : List Kept) (time : ℕ) (first : Kept) (later : List Kept)
     (next : Kept) (uber : Uber) (paged_first : IsPaged first) (paged : IsPaged next)
     (signer : IsSigner setting first next uber)
@@ -187,19 +174,6 @@ module _ (setting : Setting) (groups : List Kept) (time : ℕ) (first : Kept) (l
         since = since_more setting groups time first later before.disk after.disk row
             (goes_on uber next.entries call before after made) signed.knows so_far.since;
       }
-
-  -- All calls of the second half.
-  pub signs_all : (steps : List Step) (plan left : List CommitCall) (point now : Point)
-      → RanBy IsAny uber next.entries steps plan point left now → HasSigned plan point
-      → HasSigned left now
-  signs_all [] plan left point now ran so_far =
-      subst (λ (l : List CommitCall). HasSigned l now) (sym ran.0)
-      (subst (λ (n : Point). HasSigned plan n) (sym ran.1) so_far)
-  signs_all (step ∷ steps) plan left point now ran so_far =
-      subst (λ (l : List CommitCall). HasSigned l now) (sym ran.5)
-      (subst (λ (n : Point). HasSigned (after_next step.before.out ran.0) n) (sym ran.6)
-      (signs_next ran.0 step.call step.before step.after ran.3 ran.4
-      (signs_all steps plan ran.0 point step.before ran.1 so_far)))
 
   -- Where none is left but on devices that are out, none is left.
   pub signs_end : (plan : List CommitCall) (point : Point) → calls_left point.out plan ≡ []

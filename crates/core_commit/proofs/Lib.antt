@@ -6,8 +6,7 @@ pub mod Halves
 pub mod Going
 pub mod Touching
 pub mod Stopping
-pub mod Whole
-pub mod Ending
+pub mod Planned
 pub mod Spreading
 pub mod Copying
 pub mod Stepping

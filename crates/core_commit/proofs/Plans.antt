@@ -1,5 +1,5 @@
 -- How a plan goes on: what its next call tells of the calls behind it.
-use Rattle.std.proofs.Common.{◌≡◌, ◌⊎◌, inl, inr, ⊎_elim, ℕ, List, [], ◌∷◌, Bool, true, false, Some, refl, sym, ap, subst}
+use Rattle.std.proofs.Common.{◌≡◌, inl, inr, ⊎_elim, ℕ, List, [], ◌∷◌, Bool, true, false, Some, refl, sym, ap, subst}
 use Rattle.std.specs.Prelude.{not, slice_get, if◌then◌else◌}
 use Rattle.uberblock_ring.specs.Devices.{has_device}
 use Rattle.commit_job.specs.declared.call.CommitCall.{CommitCall}
@@ -80,12 +80,6 @@ pub next_due : (devices parts out : ℕ) (plan : List CommitCall) (call : Commit
 next_due devices parts out plan call is =
     by_next (λ plan rest. Ordered devices parts plan → Due devices parts call rest × Ordered devices parts rest)
     out call (λ rest ordered. ordered) (λ first plan rest gone is later ordered. later ordered.1) plan is
-
-laying_or : (call : CommitCall) → IsSigning call ⊎ IsLaying call
-laying_or (IndexWrite device part) = inr (λ signing. signing)
-laying_or (BaseSync device) = inr (λ signing. signing)
-laying_or (UberWrite device) = inl tt
-laying_or (UberSync device) = inl tt
 
 -- Behind a call that signs nothing lays.
 no_laying : (devices parts : ℕ) (call : CommitCall) (rest : List CommitCall) (other : CommitCall)

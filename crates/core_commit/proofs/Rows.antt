@@ -1,11 +1,8 @@
 -- Rows of groups: which parts of the list of groups they are, and their last one.
-use Rattle.std.proofs.Common.{◌≡◌, ⊎_elim, suc, ◌<◌, ◌≤◌, List, [], ◌∷◌, ◌++◌, sym, ◌∙◌, ap, subst, arith, append_assoc}
+use Rattle.std.proofs.Common.{◌≡◌, ⊎_elim, suc, ◌<◌, ◌≤◌, List, [], ◌∷◌, ◌++◌, sym, ap, subst, arith}
 use Rattle.std.specs.Prelude.{Contains, AllPairs}
-use Rattle.std.proofs.lemmas.List.{append-nil}
 use Rattle.core_state.specs.Keeps.{Kept}
-use Rattle.core_state.specs.Moment.{IsRowOf}
 use Rattle.core_state.proofs.Listed.{contains_head, contains_tail, contains_cases, contains_none}
-use Rattle.core_commit.specs.Commits.{Begun, row_of, groups_of}
 
 -- One group has a lower number than the other.
 abbrev pub IsBefore : Kept → Kept → Type 0
@@ -46,48 +43,3 @@ last_alone (first ∷ front) last other ascending has high = ⊎_elim
         let less = after_first (contains_back front (last ∷ []) last (contains_head last [])) in
         let number : other.uber.group ≡ first.uber.group = ap (λ (kept : Kept). kept.uber.group) same in
         omega (arith, less, number, high)
-
-module _ (begun : Begun) where
-  -- what images keep before the uberblock may be shown
-  pub row_before : IsRowOf (groups_of begun) begun.first begun.later
-  row_before = record {
-    before = begun.earlier;
-    after = begun.joined;
-    row = sym (append_assoc begun.earlier (begun.first ∷ begun.later) begun.joined);
-  }
-
-  -- and after that
-  pub row_after : IsRowOf (groups_of begun) begun.first (row_of begun)
-  row_after = record {
-    before = begun.earlier;
-    after = [];
-    row = sym (append-nil (begun.earlier ++ (begun.first ∷ row_of begun)));
-  }
-
-  module _ (front : List Kept) (last : begun.first ∷ row_of begun ≡ front ++ begun.kept ∷ []) where
-    -- and at the end
-    pub row_at_end : IsRowOf (groups_of begun) begun.kept []
-    row_at_end = record {
-      before = begun.earlier ++ front;
-      after = [];
-      row = ap (λ (groups : List Kept). begun.earlier ++ groups) last
-          ∙ sym (append_assoc begun.earlier front (begun.kept ∷ []))
-          ∙ sym (append-nil (begun.earlier ++ front ++ begun.kept ∷ []));
-    }
-
-    pub kept_listed : Contains (begun.first ∷ row_of begun) begun.kept
-    kept_listed = subst (λ (groups : List Kept). Contains groups begun.kept) (sym last)
-        (contains_back front (begun.kept ∷ []) begun.kept (contains_head begun.kept []))
-
-    pub alone_at_end : AllPairs IsBefore (begun.first ∷ row_of begun) → (other : Kept)
-        → Contains (begun.first ∷ row_of begun) other → begun.kept.uber.group ≤ other.uber.group
-        → Contains (begun.kept ∷ []) other
-    alone_at_end ascending other has high = subst (λ (kept : Kept). Contains (begun.kept ∷ []) kept)
-        (sym (last_alone front begun.kept other
-        (subst (AllPairs IsBefore) last ascending)
-        (subst (λ (groups : List Kept). Contains groups other) last has) high))
-        (contains_head begun.kept [])
-
-  pub joins : (kept : Kept) → Contains (begun.first ∷ begun.later) kept
-      → Contains (begun.first ∷ row_of begun) kept
-  joins kept has = contains_front (begun.first ∷ begun.later) begun.joined kept has

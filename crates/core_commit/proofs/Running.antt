@@ -113,16 +113,10 @@ none_left out plan none = empty (calls_left out plan) none
     empty [] is = refl
     empty (call ∷ calls) is = absurd (cc)
 
--- Nothing was called yet.
-pub ran_none : (Kind : CommitCall → Type 0) (uber : Uber) (entries : List IndexEntry) (plan : List CommitCall)
-    (point : Point)
-    → Ran Kind uber entries plan point plan point
-ran_none Kind uber entries plan point = ([], (refl, refl))
-
 -- One call more.
-pub ran_more : (Kind : CommitCall → Type 0) (uber : Uber) (entries : List IndexEntry) (plan rest : List CommitCall)
-    (point before after : Point) (call : CommitCall) → Ran Kind uber entries plan point rest before → Kind call
+pub ran_more : (uber : Uber) (entries : List IndexEntry) (plan rest : List CommitCall)
+    (point before after : Point) (call : CommitCall) → Ran uber entries plan point rest before
     → slice_get (calls_left before.out rest) 0 ≡ Some call → MadeOne uber entries call before after
-    → Ran Kind uber entries plan point (after_next before.out rest) after
-ran_more Kind uber entries plan rest point before after call ran kind is made =
-    (record { call = call; before = before; after = after } ∷ ran.0, (rest, ran.1, kind, is, made, refl, refl))
+    → Ran uber entries plan point (after_next before.out rest) after
+ran_more uber entries plan rest point before after call ran is made =
+    (record { call = call; before = before; after = after } ∷ ran.0, (rest, ran.1, is, made, refl, refl))

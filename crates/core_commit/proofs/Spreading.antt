@@ -44,12 +44,6 @@ module _ (devices parts lack_page lack_uber : ℕ) where
   each_sync : Every IsSync syncs
   each_sync = every_each (λ device. UberSync device) IsSync devices (λ device below. below)
 
-  no_copy : (calls : List CommitCall) (call : CommitCall) → Every IsSync calls → Among calls call → IsCopy call → ⊥
-  no_copy calls (IndexWrite device part) every among copy = every_among IsSync calls (IndexWrite device part) every among
-  no_copy calls (BaseSync device) every among copy = copy
-  no_copy calls (UberWrite device) every among copy = every_among IsSync calls (UberWrite device) every among
-  no_copy calls (UberSync device) every among copy = copy
-
   syncs_ordered : (calls : List CommitCall) → Every IsSync calls → CopiesOrdered calls
   syncs_ordered [] every = tt
   syncs_ordered (IndexWrite device part ∷ calls) every = absurd every.0

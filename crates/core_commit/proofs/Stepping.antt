@@ -1,16 +1,13 @@
 -- A step of a commit: that the run stays right, and what a step leaves alone.
-use Rattle.std.proofs.Common.{◌≡◌, ◌≢◌, inl, inr, ⊎_elim, ℕ, zero, suc, ◌+◌, ◌-◌, ◌^◌, ◌<◌, ◌≤◌, List, Bool, true, false, Some, Result, refl, sym, ◌∙◌, ap, subst, arith}
-use Rattle.std.specs.Prelude.{All, slice_get, slice_index_or, ◌||◌, if◌then◌else◌}
-use Rattle.std.proofs.lemmas.Bool.{cases_eq}
-use Rattle.std.proofs.lemmas.Bool.Decides.{nat_tests}
-use Rattle.bank_trait.specs.declared.Failed.{Failed}
+use Rattle.std.proofs.Common.{◌≡◌, inl, inr, ℕ, ◌+◌, ◌-◌, ◌^◌, ◌<◌, ◌≤◌, List, false, Some, refl, sym, ◌∙◌, ap, subst, arith}
+use Rattle.std.specs.Prelude.{All, slice_get, slice_index_or}
 use Rattle.uberblock_ring.specs.Devices.{has_device, count_below, count_of}
 use Rattle.uberblock_ring.specs.Uberblock.{Uber}
-use Rattle.uberblock_ring.proofs.DeviceSets.{count_above, count_same}
+use Rattle.uberblock_ring.proofs.DeviceSets.{count_above}
 use Rattle.commit_job.specs.declared.call.CommitCall.{CommitCall}
 use Rattle.commit_job.specs.declared.call.CommitCall.TheVariants.{IndexWrite, BaseSync, UberWrite, UberSync}
 use Rattle.commit_job.specs.Stages.{device_of, calls_left, after_next}
-use Rattle.core_state.specs.Committing.{Point, lost_by}
+use Rattle.core_state.specs.Committing.{Point}
 use Rattle.core_commit.specs.declared.commit_run.Stage.TheVariants.{Signs}
 use Rattle.core_commit.specs.declared.commit_run.CommitStep.{CommitStep}
 use Rattle.core_commit.specs.declared.commit_run.CommitStep.TheVariants.{Called, Ended}
@@ -19,7 +16,7 @@ use Rattle.core_commit.specs.Spared.{HaveGoneOut}
 use Rattle.core_commit.specs.CommitTurns.{CommitRun, IsCommitRun, IsReady, HasCalled, Steps}
 use Rattle.core_commit.proofs.Running.{next_is}
 use Rattle.core_commit.proofs.Going.{Went, went_none, went_one}
-use Rattle.core_commit.proofs.Ending.{right_listing}
+use Rattle.core_commit.proofs.Planned.{right_listing}
 
 -- A call of a group is one of the same group that lists other devices as out.
 pub inside_listing : (uber : Uber) (out : ℕ) (call : CommitCall) → IsInside uber call
@@ -116,31 +113,6 @@ module _ (run ready : CommitRun) (out : ℕ) (is_ready : IsReady out run ready) 
       }) (left_is ∙ ap (after_next out) calls_same ∙ ap (λ (o : ℕ). after_next o run.calls) (sym out_is));
     }
 
-abbrev bit : Bool → ℕ
-bit b = if b then 1 else 0
-
--- A device more is out at most, where no other device went out or came back.
-count_more : (one other device : ℕ)
-    → ((d : ℕ) → d ≢ device → has_device other d ≡ has_device one d)
-    → (width : ℕ)
-    → count_below other width ≤ count_below one width + 1
-count_more one other device same zero = omega arith
-count_more one other device same (suc width) = ⊎_elim
-    (λ here. let equal = count_same other one width (λ d below. same d (λ is. omega (arith, below, is, here))) in
-    omega (arith, equal, most (has_device other width)))
-    (λ apart. let bits = ap bit (same width apart) in
-    let fewer = count_more one other device same width in
-    omega (arith, bits, fewer))
-    (cases_eq width device)
-  where
-    most : (b : Bool) → bit b ≤ 1
-    most true = omega arith
-    most false = omega arith
-
-not_lost : (device : ℕ) (result : Result (Unit {0}) Failed) (other : ℕ) → other ≢ device → (b : Bool)
-    → (b || lost_by device result other) ≡ b
-not_lost device result other apart b = grind (arith, nat_tests, apart)
-
 -- What a step leaves alone, and which devices go out in it.
 pub steps_went : (result : CommitStep) (run stepped : CommitRun) (before after : Point)
     → Steps run before stepped after result
@@ -167,16 +139,3 @@ steps_same Called run stepped before after did =
     )
 steps_same Ended run stepped before after did =
     let keeps = ready_keeps before.out run stepped did.is_ready in (keeps.uber, keeps.entries)
-
--- At most one device goes out.
-pub steps_count : (result : CommitStep) (run stepped : CommitRun) (before after : Point)
-    → Steps run before stepped after result
-    → count_of after.out ≤ count_of before.out + 1
-unfolding count_of
-steps_count Called run stepped before after did = count_more before.out after.out (device_of did.call)
-    (λ d apart. did.made.called.out d
-    ∙ not_lost (device_of did.call) did.made.result d apart (has_device before.out d)) 64
-steps_count Ended run stepped before after did =
-    let same : count_below after.out 64 ≡ count_below before.out 64 =
-    ap (λ (p : Point). count_below p.out 64) did.same in
-    omega (arith, same)

@@ -1,5 +1,5 @@
 -- Which sectors the calls of a commit touch.
-use Rattle.std.proofs.Common.{◌≡◌, ◌≢◌, inr, ℕ, ◌+◌, ◌<◌, List, Result, refl, ◌∙◌, subst}
+use Rattle.std.proofs.Common.{◌≢◌, inr, ℕ, ◌+◌, ◌<◌, List, Result, refl, ◌∙◌}
 use Rattle.bank_trait.specs.declared.Failed.{Failed}
 use Rattle.bank_trait.specs.Disk.{Lawful, Wrote, Synced}
 use Rattle.bank_trait.proofs.Touches.{touches_none, touches_then, wrote_touches, synced_touches}
@@ -77,16 +77,3 @@ pub touched_more : (uber : Uber) (entries : List IndexEntry) (call : CommitCall)
     → TouchesGroup uber before after
 touched_more uber entries call before now after lawful inside so_far made =
     touched_on uber before now after so_far (touched_one uber entries call now after lawful inside made)
-
--- The two halves of a commit, the second of which lists the devices that are out by then.
-pub touched_both : (uber signing : Uber) (before mid after : Point) (out : ℕ)
-    → signing ≡ record uber { out = out } → TouchesGroup uber before mid
-    → TouchesGroup signing mid after
-    → TouchesGroup uber before after
-touched_both uber signing before mid after out is one two =
-    let same = subst (λ (u : Uber). TouchesGroup u mid after) is two in
-    touched_on uber before mid after one (record {
-      only = same.only;
-      stay = same.stay;
-      reads = same.reads;
-    })

@@ -41,32 +41,24 @@ IsSigning (UberWrite device) = Unit {0}
 IsSigning (UberSync device) = Unit {0}
 IsSigning other = ⊥
 
--- the calls that each half of a commit makes
+-- An index or a base is written or synced.
 abbrev pub IsLaying : CommitCall → Type 0
 IsLaying call = IsSigning call → ⊥
 
-abbrev pub IsAny : CommitCall → Type 0
-IsAny call = Unit {0}
-
--- These calls were made, the last one first: each is of this kind, and was the next one that was left.
-abbrev pub RanBy : (CommitCall → Type 0) → Uber → List IndexEntry → List Step → List CommitCall → Point
-    → List CommitCall
-    → Point
+-- These calls were made, the last one first: each was the next one that was left.
+abbrev pub RanBy : Uber → List IndexEntry → List Step → List CommitCall → Point → List CommitCall → Point
     → Type 0
-RanBy Kind uber entries [] plan point left now = (left ≡ plan) × (now ≡ point)
-RanBy Kind uber entries (step ∷ steps) plan point left now =
-    (rest : List CommitCall) × RanBy Kind uber entries steps plan point rest step.before
-    × Kind step.call × (slice_get (calls_left step.before.out rest) 0 ≡ Some step.call)
+RanBy uber entries [] plan point left now = (left ≡ plan) × (now ≡ point)
+RanBy uber entries (step ∷ steps) plan point left now =
+    (rest : List CommitCall) × RanBy uber entries steps plan point rest step.before
+    × (slice_get (calls_left step.before.out rest) 0 ≡ Some step.call)
     × MadeOne uber entries step.call step.before step.after
     × (left ≡ after_next step.before.out rest) × (now ≡ step.after)
 
--- From a plan some calls of a kind were made.
-abbrev pub Ran : (CommitCall → Type 0) → Uber → List IndexEntry → List CommitCall → Point
-    → List CommitCall
-    → Point
-    → Type 0
-Ran Kind uber entries plan point left now =
-    (steps : List Step) × RanBy Kind uber entries steps plan point left now
+-- From a plan some calls were made.
+abbrev pub Ran : Uber → List IndexEntry → List CommitCall → Point → List CommitCall → Point → Type 0
+Ran uber entries plan point left now =
+    (steps : List Step) × RanBy uber entries steps plan point left now
 
 -- the devices out, and the disk
 abbrev pub point_of : ℕ → Disk → Point

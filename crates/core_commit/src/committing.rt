@@ -1,13 +1,12 @@
-// A commit and its two halves.
+// The device calls of a commit, and copies of a group.
 ghost use Rattle.std.specs.Prelude.{◌≡◌, ◌↔◌, ◌+◌, ◌^◌, ◌<◌, ◌≤◌, [], All, Some, None, false, length, slice_get, IsTrue, OnOk, OnErr};
 ghost use Rattle.block_record.specs.Page.{IsIndex};
 ghost use Rattle.uberblock_ring.specs.Devices.{has_device, count_of};
 ghost use Rattle.uberblock_ring.specs.Valid.{IsRightUber};
 ghost use Rattle.commit_job.specs.declared.call.CommitCall.{CommitCall as CallOf};
 ghost use Rattle.commit_job.specs.Stages.{device_of, calls_left};
-ghost use Rattle.core_commit.specs.Commits.{CommitKeeps};
 ghost use Rattle.core_commit.specs.Copies.{CopyKeeps};
-ghost use Rattle.core_commit.specs.Ran.{HasMade, MadeOne, Ran, IsInside, FitsBank, IsSigning, IsLaying, IsAny, point_of};
+ghost use Rattle.core_commit.specs.Ran.{HasMade, MadeOne, Ran, IsInside, FitsBank, IsSigning, point_of};
 ghost use Rattle.core_commit.specs.Spared.{Spares, HaveGoneOut, TouchesGroup, StopsInTime};
 
 use bank_trait::{Bank, Failed};
@@ -94,9 +93,8 @@ fn next_call(calls: &Commit, out: DeviceSet, parity: u32) -> Option<CommitCall>
     calls.next(out)
 }
 
-/// The first half: the index page on each device, and a sync of each. Makes the calls that are left
-/// up to the first that concerns an uberblock.
-fn lay<B: Bank>(
+/// Makes all calls that are left, unless more devices go out than there are parities.
+fn make_all<B: Bank>(
     bank: &mut B,
     uber: &Uber,
     entries: &[IndexEntry],
@@ -108,43 +106,7 @@ fn lay<B: Bank>(
     requires fits { FitsBank uber.now entries.now out.old (B.disk bank.old) }
     requires inside { All (IsInside uber.now) calls.old }
     requires below { out.old < 2 ^ uber.now.reflow.to }
-    ensures ran { Ran IsLaying uber.now entries.now calls.old (point_of out.old (B.disk bank.old))
-        calls.new (point_of out.new (B.disk bank.new)) }
-    ensures touches { TouchesGroup uber.now (point_of out.old (B.disk bank.old))
-        (point_of out.new (B.disk bank.new)) }
-    ensures stops { StopsInTime uber.now.parity (point_of out.old (B.disk bank.old))
-        (point_of out.new (B.disk bank.new)) }
-    ensures ends { count_of out.new ≤ uber.now.parity → (call : CallOf)
-        → slice_get (calls_left out.new calls.new) 0 ≡ Some call
-        → IsSigning call }
-    ensures fits { FitsBank uber.now entries.now out.new (B.disk bank.new) }
-    ensures inside { All (IsInside uber.now) calls.new }
-    ensures below { out.new < 2 ^ uber.now.reflow.to }
-{
-    while let Some(call) = next_call(calls, *out, uber.parity()) {
-        if is_signing(call) {
-            return;
-        }
-        let _ = calls.advance(*out);
-        make(bank, uber, entries, call, out);
-    }
-}
-
-/// The second half: the uberblock on each device, and a sync of each; or copies. Makes all calls that
-/// are left.
-fn sign<B: Bank>(
-    bank: &mut B,
-    uber: &Uber,
-    entries: &[IndexEntry],
-    calls: &mut Commit,
-    out: &mut DeviceSet,
-)
-    requires right { IsRightUber uber.now }
-    requires index { IsIndex entries.now }
-    requires fits { FitsBank uber.now entries.now out.old (B.disk bank.old) }
-    requires inside { All (IsInside uber.now) calls.old }
-    requires below { out.old < 2 ^ uber.now.reflow.to }
-    ensures ran { Ran IsAny uber.now entries.now calls.old (point_of out.old (B.disk bank.old))
+    ensures ran { Ran uber.now entries.now calls.old (point_of out.old (B.disk bank.old))
         calls.new (point_of out.new (B.disk bank.new)) }
     ensures touches { TouchesGroup uber.now (point_of out.old (B.disk bank.old))
         (point_of out.new (B.disk bank.new)) }
@@ -162,49 +124,6 @@ fn sign<B: Bank>(
 /// More devices are out than there are parities.
 #[derive(Clone, Copy, Debug, PartialEq, Eq)]
 pub struct TooManyOut;
-
-/// Makes a group the last one: the index page goes to each device in use and is synced there, then the
-/// uberblock, which lists the devices that are out by then. A device whose call fails goes out; once
-/// more are out than there are parities, none is called.
-pub fn commit<B: Bank>(
-    bank: &mut B,
-    uber: &mut Uber,
-    entries: &[IndexEntry],
-    out: &mut DeviceSet,
-) -> Result<(), TooManyOut>
-    requires right { IsRightUber uber.old }
-    requires lists { uber.old.out ≡ out.old }
-    requires index { IsIndex entries.now }
-    requires fits { FitsBank uber.old entries.now out.old (B.disk bank.old) }
-    ensures same { uber.new ≡ record uber.old { out = uber.new.out } }
-    ensures right { IsRightUber uber.new }
-    ensures below { out.new < 2 ^ uber.old.reflow.to }
-    ensures ok { OnOk result (count_of out.new ≤ uber.old.parity) }
-    ensures err { OnErr result (uber.old.parity < count_of out.new) }
-    ensures gone { HaveGoneOut (point_of out.old (B.disk bank.old)) uber.new.out
-        (point_of out.new (B.disk bank.new)) }
-    ensures spares { Spares (point_of out.old (B.disk bank.old))
-        (point_of out.new (B.disk bank.new)) }
-    ensures touches { TouchesGroup uber.old (point_of out.old (B.disk bank.old))
-        (point_of out.new (B.disk bank.new)) }
-    ensures stops { StopsInTime uber.old.parity (point_of out.old (B.disk bank.old))
-        (point_of out.new (B.disk bank.new)) }
-    ensures keeps { CommitKeeps uber.old entries.now (point_of out.old (B.disk bank.old))
-        (point_of out.new (B.disk bank.new)) uber.new.out result }
-{
-    let parity = uber.parity();
-    let mut calls = Commit::new(uber.reflow().to, uber.count());
-    lay(bank, uber, entries, &mut calls, out);
-    if out.len() > parity {
-        return Err(TooManyOut);
-    }
-    uber.set_out(*out);
-    sign(bank, uber, entries, &mut calls, out);
-    if out.len() > parity {
-        return Err(TooManyOut);
-    }
-    Ok(())
-}
 
 /// Brings a group that some devices have to those that lack its index page or its uberblock, and syncs
 /// each device. A device whose call fails goes out; once more are out than there are parities, none is
@@ -236,7 +155,7 @@ pub fn copy<B: Bank>(
         (point_of out.old (B.disk bank.old)) (point_of out.new (B.disk bank.new)) result }
 {
     let mut calls = Commit::copies(uber.reflow().to, uber.count(), lack_page, lack_uber);
-    sign(bank, uber, entries, &mut calls, out);
+    make_all(bank, uber, entries, &mut calls, out);
     if out.len() > uber.parity() {
         return Err(TooManyOut);
     }

@@ -11,4 +11,4 @@ mod commit_run;
 mod committing;
 
 pub use commit_run::{CommitRun, CommitStep};
-pub use committing::{TooManyOut, commit, copy};
+pub use committing::{TooManyOut, copy};

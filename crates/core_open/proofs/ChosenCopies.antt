@@ -52,7 +52,7 @@ module _ (setting : Setting) (first : Kept) (later : List Kept) (disk : Disk)
     (knows : Knows setting first later disk) (lawful : Lawful disk) (silent : ℕ)
     (within : (device : ℕ) → device < first.uber.reflow.to → has_device silent device ≡ true
     → has_device setting.failed device ≡ true)
-    (no_other : HasNoOtherPage setting.shape (first ∷ later) (present disk)) (device : ℕ) (uber : Uber)
+    (no_other : HasNoOtherPage setting (first ∷ later) (present disk)) (device : ℕ) (uber : Uber)
     (entries : List IndexEntry)
     (chosen : IsChosen setting.shape silent (present disk) device uber entries)
     (tells : Tells disk) (point : Point) (same : Unchanged disk point.disk)

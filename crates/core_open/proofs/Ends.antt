@@ -17,17 +17,16 @@ use Rattle.core_state.specs.Committing.{Point}
 use Rattle.core_state.specs.Moment.{IsRowOf, KeepsSince}
 use Rattle.core_state.proofs.Calls.{true_false}
 use Rattle.core_state.proofs.Finding.{keeps_know}
-use Rattle.core_state.proofs.Frames.{Nowhere, none_lost, unchanged_frames}
-use Rattle.core_state.proofs.Knowing.{present, knows_frame}
+use Rattle.core_state.proofs.Knowing.{present}
 use Rattle.core_state.proofs.Listed.{contains_cases, contains_none}
-use Rattle.core_state.proofs.Since.{since_now, since_more}
 use Rattle.core_state.proofs.Chosen.{chosen_held, chosen_group, chosen_same, chosen_sound, chosen_next}
 use Rattle.core_commit.specs.declared.committing.TooManyOut.{TooManyOut}
 use Rattle.core_commit.specs.Copies.{Copied, MayCopy}
-use Rattle.core_open.specs.Causes.{IsShownChoice}
+use Rattle.core_open.specs.Causes.{IsChoiceWithout}
 use Rattle.core_open.specs.Holds.{HoldsImage, shape_of}
 use Rattle.core_open.specs.Opens.{MayOpen, IsWithinBelow, AddsOne, HasOpened, HasSpread, renewed_by, every_device}
 use Rattle.core_open.proofs.ChosenCopies.{AreRead, told_bytes, may_copy}
+use Rattle.core_open.proofs.Unchanged.{unchanged_keeps}
 use Rattle.core_open.proofs.Joining.{since_longer, certain_alone}
 use Rattle.core_open.proofs.Renewing.{IsCopied, Joins, find_number, joins_fresh, joins_listed, fresh, fresh_renews, may_renew, knows_next, next_same, next_listed, row_of_rest, parts}
 
@@ -71,7 +70,7 @@ module _ (setting : Setting) (first : Kept) (later : List Kept) (old : Disk)
   knows : Knows setting first later old
   knows = keeps_know setting first later old lawful may.keeps
 
-  no_other : HasNoOtherPage setting.shape (first ∷ later) (present old)
+  no_other : HasNoOtherPage setting (first ∷ later) (present old)
   no_other = may.pages (present old) (present_held old may.tells)
 
   chosen : IsChosen setting.shape silent (present old) device uber entries
@@ -89,9 +88,12 @@ module _ (setting : Setting) (first : Kept) (later : List Kept) (old : Disk)
   abbrev kept : Kept
   kept = held.0.kept
 
-  -- It is of one width with the first.
-  pub parity_is : uber.parity ≡ first.uber.parity
-  parity_is = ap (λ (u : Uber). u.parity) held.0.alike ∙ (may.width kept held.0.listed).1
+  -- It is of one width with the first, and of one parity.
+  pub width_is : (uber.reflow.to ≡ first.uber.reflow.to) × (uber.parity ≡ first.uber.parity)
+  width_is = (
+    ap (λ (u : Uber). u.reflow.to) held.0.alike ∙ to_is kept held.0.listed,
+    ap (λ (u : Uber). u.parity) held.0.alike ∙ (may.width kept held.0.listed).1,
+  )
 
   abbrev group_copied_first : Copied
   group_copied_first = record { setting = setting; first = first; later = later; kept = kept; map = kept.map }
@@ -104,19 +106,10 @@ module _ (setting : Setting) (first : Kept) (later : List Kept) (old : Disk)
   row_first joined = record { before = []; after = joined; row = refl }
 
   begun : (joined : List Kept) → KeepsSince setting ((first ∷ later) ++ joined) old.clock before.disk
-  begun joined = since_more setting ((first ∷ later) ++ joined) old.clock first later old before.disk
-      (row_first joined) same.goes_on
-      (knows_frame Nowhere none_lost setting first later old before.disk lawful (unchanged_frames same)
-      (λ d x nowhere. absurd nowhere) knows)
-      (since_now setting ((first ∷ later) ++ joined) first later old (row_first joined) knows)
+  begun joined = unchanged_keeps setting first later joined same may.keeps
 
   adds_none : AddsOne (first ∷ later) []
   adds_none = record { one = omega arith; renews = λ next has. absurd (contains_none next has) }
-
-  -- Reads alone.
-  pub since_read : (joined : List Kept) × AddsOne (first ∷ later) joined
-      × KeepsSince setting ((first ∷ later) ++ joined) old.clock before.disk
-  since_read = ([], adds_none, begun [])
 
   module _ (mid : Point) (result : Result (Unit {0}) TooManyOut)
       (spread : HasSpread uber entries lack_page lack_uber before mid result) where
@@ -224,8 +217,8 @@ module _ (setting : Setting) (first : Kept) (later : List Kept) (old : Disk)
         → HasSpread (renewed_by uber mid.out) entries 0 every_device mid after (Ok value_after)
         → IsWithin after.out setting.failed
         → ((image : Image) → HoldsImage old image
-        → (shown : IsShownChoice old after.disk image) × (shown.uber.group ≡ uber.group))
-        → HasOpened setting first later (renewed_by uber mid.out) entries old after.disk
+        → (shown : IsChoiceWithout (shape_of old) silent image) × (shown.uber.group ≡ uber.group))
+        → HasOpened setting first later (renewed_by uber mid.out) entries silent old after.disk
     opened_next after value_after renews within_after shown =
         let same_next = next_same setting first later kept uber entries mid is_copied next_is.next next_is.joined
         next_is.front next_is.joins in

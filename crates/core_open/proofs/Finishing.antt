@@ -1,6 +1,7 @@
 -- What an opening promises, from what was found and what was done with it.
-use Rattle.std.proofs.Common.{◌≡◌, ◌⊎◌, inl, inr, ℕ, ◌+◌, ◌^◌, ◌<◌, ◌≤◌, List, Bool, true, false, Result, Ok, Err, refl, sym, ◌∙◌, ap, subst, arith}
+use Rattle.std.proofs.Common.{◌≡◌, ◌⊎◌, inl, inr, ⊎_elim, ℕ, ◌+◌, ◌^◌, ◌<◌, ◌≤◌, List, Bool, true, false, Result, Ok, Err, refl, sym, ◌∙◌, ap, subst, arith}
 use Rattle.std.specs.Prelude.{IfOk, IfErr}
+use Rattle.std.proofs.lemmas.Bool.{cases_lt}
 use Rattle.bank_trait.specs.Disk.{Image, Disk, Lawful, Later, Unchanged}
 use Rattle.bank_trait.specs.Regions.{TouchesOnly}
 use Rattle.bank_trait.proofs.Moments.{later_trans}
@@ -9,7 +10,7 @@ use Rattle.uberblock_ring.specs.Devices.{has_device, count_of, IsWithin}
 use Rattle.uberblock_ring.specs.Uberblock.{Uber}
 use Rattle.uberblock_ring.specs.Valid.{IsRightUber}
 use Rattle.core_state.proofs.Calls.{true_false}
-use Rattle.core_state.proofs.Fresh.{none_in}
+use Rattle.core_state.specs.Committing.{Point}
 use Rattle.core_commit.specs.Ran.{point_of}
 use Rattle.core_commit.specs.Spared.{Spares}
 use Rattle.core_commit.proofs.Going.{in_use_before}
@@ -22,13 +23,13 @@ use Rattle.core_open.specs.Causes.{AreTooMany, AreOutOf, IsOpenCause}
 use Rattle.core_open.specs.Failing.{HaveFailed}
 use Rattle.core_open.specs.Finding.{IsFoundIn, FitsOpening}
 use Rattle.core_open.specs.Holds.{HoldsImage, shape_of}
-use Rattle.core_open.specs.Opens.{OpeningKeeps, CutKeeps, LeavesBank, LeavesOthers, HasBank, IsOpenedWith, StopsCopying, StopsRenewing, renewed_by}
+use Rattle.core_open.specs.Opens.{OpeningKeeps, IsWithinBelow, LeavesBank, LeavesOthers, HasBank, IsOpenedWith, RenewsChoice, StopsCopying, StopsRenewing, renewed_by}
 use Rattle.core_open.specs.Regions.{IsOnBelow}
 use Rattle.core_open.specs.OpensFound.{WritesFound, OpensFound}
 use Rattle.core_open.proofs.Renewal.{right_with}
-use Rattle.core_open.proofs.Unchanged.{unchanged_then}
+use Rattle.core_open.proofs.Unchanged.{unchanged_none, unchanged_then}
 use Rattle.core_open.proofs.Others.{found_touches}
-use Rattle.core_open.proofs.Written.{unchanged_cut, none_listed, silent_now, choice, limit_caused, many_caused, went_spread, went_renewed, out_caused, many_gone, keeps_copied, keeps_renewed, kept_renewed, few_renewed}
+use Rattle.core_open.proofs.Written.{silent_now, choice, shown_by, limit_caused, many_caused, went_spread, went_renewed, out_caused, many_gone, missed, keeps_renewed, kept_renewed, cut_copied, cut_renewed}
 
 within_trans : (one two three : ℕ) → IsWithin one two → IsWithin two three → IsWithin one three
 within_trans one two three first next device has = next device (first device has)
@@ -42,6 +43,11 @@ still before after device within used = by (has_device before device) refl
     by false none = none
     by true gone = absurd (true_false (sym (within device gone) ∙ used))
 
+-- Where no call was made nothing is changed.
+nothing_called : (before after : Point) → after ≡ before → Unchanged before.disk after.disk
+nothing_called before after none =
+    subst (λ (p : Point). Unchanged before.disk p.disk) (sym none) (unchanged_none before.disk)
+
 -- What is known of a pool that was opened.
 pub record IsOpen (old new : Disk) (opened : Opened) : Type 0 where
   pub right : IsRightUber opened.uber
@@ -51,17 +57,19 @@ pub record IsOpen (old new : Disk) (opened : Opened) : Type 0 where
   pub bank : HasBank opened.uber opened.out new
   pub group : 3 ≤ opened.uber.group
   pub silent : HaveFailed old new opened.silent
-  pub out : AreOutOf old new opened.uber opened.out
+  pub out : AreOutOf old new opened.silent opened.uber opened.out
+  pub missed : IsWithinBelow opened.uber.reflow.to opened.silent opened.uber.out
+  pub renews : (image : Image) → HoldsImage old image
+      → RenewsChoice (shape_of old) opened.silent image opened.uber opened.entries.items
   pub spares : Spares (point_of opened.out old) (point_of opened.out new)
   pub kept : IsOpenedWith opened.uber opened.entries.items opened.silent opened.out old new
-  pub since : OpeningKeeps opened.silent opened.uber.out old new
+  pub since : OpeningKeeps opened.uber.reflow.to opened.uber.out old new
   pub only : TouchesOnly (IsOnBelow opened.uber.reflow.to) old new
   pub others : LeavesOthers old new
 
 -- What is known of a pool that wasn't.
 pub record IsRefused (old new : Disk) (why : OpenWhy) : Type 0 where
   pub cause : IsOpenCause old new why
-  pub cut : CutKeeps why old new
   pub untouched : LeavesBank why old new
   pub others : LeavesOthers old new
 
@@ -127,16 +135,30 @@ module _ (found : Found) (old mid new : Disk) (lawful : Lawful old) (same_found 
             let least = right.group.0 in omega (arith, number, least));
         silent = subst (λ (n : ℕ). HaveFailed old new n) (sym silent_is)
             (silent_now found old mid new lawful same_found found_in right silent_failed fits later);
-        out = record {
+        out = subst (λ (n : ℕ). AreOutOf old new n opened.uber opened.out) (sym silent_is) (record {
           lists = λ device listed. ran.spread.gone.stay device
               (subst (λ (n : ℕ). has_device n device ≡ true) out_is listed);
-          each = λ image holds. (
-            choice found old mid new lawful same_found found_in right silent_failed fits later image holds,
-            sym parity,
-            (λ device has. out_caused found old mid new lawful same_found found_in right silent_failed fits later
-                opened.out (Ok opened.uber) writes went image holds device has),
-          );
-        };
+          each = λ image holds. record {
+            choice = choice found old mid new lawful same_found found_in right silent_failed fits later image holds;
+            width_is = sym wide;
+            parity_is = sym parity;
+            each = λ device has. out_caused found old mid new lawful same_found found_in right silent_failed fits later
+                opened.out (Ok opened.uber) writes went image holds device has;
+          };
+        });
+        missed = λ device below gone. subst (λ (n : ℕ). has_device n device ≡ true) (sym out_is)
+            (missed found old mid new lawful same_found found_in right silent_failed fits later opened.out
+            (Ok opened.uber) writes ran.mid.out ran.copied.gone.stay device (omega (arith, below, wide))
+            (subst (λ (n : ℕ). has_device n device ≡ true) silent_is gone));
+        renews = λ image holds. subst (λ (n : ℕ). RenewsChoice (shape_of old) n image opened.uber opened.entries.items)
+            (sym silent_is)
+            (subst (λ (es : List IndexEntry). RenewsChoice (shape_of old) found.silent image opened.uber es) (sym items)
+            (record {
+              device = found.device;
+              chosen = found.uber;
+              choice = (found_in image holds).chosen;
+              renewed = ran.renewed_is ∙ ap (λ (n : ℕ). renewed_by found.uber n) (sym out_is);
+            }));
         spares = record {
           later = later_trans same_found.goes_on.later later;
           reads = λ device x used region.
@@ -148,12 +170,12 @@ module _ (found : Found) (old mid new : Disk) (lawful : Lawful old) (same_found 
         kept = subst (λ (n : ℕ). IsOpenedWith opened.uber opened.entries.items n opened.out old new) (sym silent_is)
             (subst (λ (es : List IndexEntry). IsOpenedWith opened.uber es found.silent opened.out old new)
             (sym items) kept);
-        since = subst (λ (n : ℕ). OpeningKeeps n opened.uber.out old new) (sym silent_is)
-            (subst (λ (n : ℕ). OpeningKeeps found.silent n old new) (sym out_is) keeps);
+        since = subst (λ (n : ℕ). OpeningKeeps n opened.uber.out old new) (sym wide)
+            (subst (λ (n : ℕ). OpeningKeeps found.uber.reflow.to n old new) (sym out_is) keeps);
         only = subst (λ (n : ℕ). TouchesOnly (IsOnBelow n) old new) (sym wide)
             (found_touches found opened.out (Ok opened.uber) same_found writes);
         others = inr (λ image holds. (
-          choice found old mid new lawful same_found found_in right silent_failed fits later image holds,
+          shown_by found old mid new lawful same_found found_in right silent_failed fits later image holds,
           found_touches found opened.out (Ok opened.uber) same_found writes,
         ));
       }
@@ -175,19 +197,15 @@ module _ (found : Found) (old mid new : Disk) (lawful : Lawful old) (same_found 
           record {
             cause = inr (many_gone found old mid new lawful same_found found_in right silent_failed fits later out
                 (Err (reason.TooManyFailed out)) writes went writes.ends.1);
-            cut = record {
-              silent = found.silent;
-              failed = silent_now found old mid new lawful same_found found_in right silent_failed fits later;
-              earlier = 0;
-              told = λ device has. absurd (true_false (sym has ∙ none_in device));
-              few = λ setting first all may within. none_listed first.uber.parity;
-              each = λ image holds device has. absurd (true_false (sym has ∙ none_in device));
-              keeps = keeps_copied found old mid new lawful same_found found_in right silent_failed fits later out
-                  (Err (reason.TooManyFailed out)) writes (Err stops.why) stops.copied;
-            };
-            untouched = tt;
+            untouched = ⊎_elim
+                (λ many. inl (unchanged_then same_found (unchanged_then writes.same
+                (nothing_called (point_of writes.asked_out writes.asked) (point_of out new)
+                (stops.copied.stops.none many)))))
+                (λ few. inr (cut_copied found old mid new lawful same_found found_in right silent_failed fits later out
+                (Err (reason.TooManyFailed out)) writes (Err stops.why) stops.copied))
+                (cases_lt found.uber.parity (count_of writes.asked_out));
             others = inr (λ image holds. (
-              choice found old mid new lawful same_found found_in right silent_failed fits later image holds,
+              shown_by found old mid new lawful same_found found_in right silent_failed fits later image holds,
               found_touches found out (Err (reason.TooManyFailed out)) same_found writes,
             ));
           }
@@ -199,25 +217,10 @@ module _ (found : Found) (old mid new : Disk) (lawful : Lawful old) (same_found 
           record {
             cause = inr (many_gone found old mid new lawful same_found found_in right silent_failed fits later out
                 (Err (reason.TooManyFailed out)) writes went writes.ends.1);
-            cut = record {
-              silent = found.silent;
-              failed = silent_now found old mid new lawful same_found found_in right silent_failed fits later;
-              earlier = stops.ran.mid.out;
-              told = λ device has. (out, refl, stops.ran.spread.gone.stay device has);
-              few = few_renewed found old mid new lawful same_found found_in right silent_failed fits later out
-                  (Err (reason.TooManyFailed out)) writes stops.renewed (Err stops.why) stops.ran;
-              each = λ image holds device has. (
-                choice found old mid new lawful same_found found_in right silent_failed fits later image holds,
-                out_caused found old mid new lawful same_found found_in right silent_failed fits later out
-                    (Err (reason.TooManyFailed out)) writes went image holds device
-                    (stops.ran.spread.gone.stay device has),
-              );
-              keeps = keeps_renewed found old mid new lawful same_found found_in right silent_failed fits later out
-                  (Err (reason.TooManyFailed out)) writes stops.renewed (Err stops.why) stops.ran;
-            };
-            untouched = tt;
+            untouched = inr (cut_renewed found old mid new lawful same_found found_in right silent_failed fits later out
+                (Err (reason.TooManyFailed out)) writes stops.renewed (Err stops.why) stops.ran);
             others = inr (λ image holds. (
-              choice found old mid new lawful same_found found_in right silent_failed fits later image holds,
+              shown_by found old mid new lawful same_found found_in right silent_failed fits later image holds,
               found_touches found out (Err (reason.TooManyFailed out)) same_found writes,
             ));
           }
@@ -231,19 +234,17 @@ module _ (found : Found) (old mid new : Disk) (lawful : Lawful old) (same_found 
       record {
         cause = limit_caused found old mid new lawful same_found found_in right silent_failed fits
             refuses.0.goes_on.later refuses.1;
-        cut = unchanged_cut (reason.Limit group) old new lawful same;
         untouched = same;
         others = inl same;
       }
   refused_promises reason.NoMemory refuses =
       let same = unchanged_then same_found refuses in
-      record { cause = tt; cut = unchanged_cut reason.NoMemory old new lawful same; untouched = same; others = inl same }
+      record { cause = tt; untouched = same; others = inl same }
   refused_promises (reason.TooManyFailed out) (inl read) = record {
     cause = inr (subst (λ (n : ℕ). (image : Image) → HoldsImage old image → AreTooMany old new image n) (sym read.1)
         (many_caused found old mid new lawful same_found found_in right silent_failed fits read.0.goes_on.later
         (subst (λ (n : ℕ). found.uber.parity < count_of n) read.1 read.2)));
-    cut = unchanged_cut (reason.TooManyFailed out) old new lawful (unchanged_then same_found read.0);
-    untouched = tt;
+    untouched = inl (unchanged_then same_found read.0);
     others = inl (unchanged_then same_found read.0);
   }
   refused_promises (reason.TooManyFailed out) (inr writes) = refused_writes out writes
@@ -295,17 +296,12 @@ opens_promises {found} {old} {mid} new result lawful same found_in right silent 
     promises found old mid new lawful same found_in right silent (fits_then found old mid same fits) result index
     opens
 
--- However it was refused, an opening that only read keeps what was kept, and leaves the bank.
-pub cut_all : (result : Result Opened OpenWhy) (old new : Disk) → Lawful old → Unchanged old new
-    → IfErr result (λ why. CutKeeps why old new)
-cut_all (Ok opened) old new lawful same = tt
-cut_all (Err why) old new lawful same = unchanged_cut why old new lawful same
-
+-- However it was refused, an opening that only read leaves the bank.
 pub untouched_all : (result : Result Opened OpenWhy) (old new : Disk) → Unchanged old new
     → IfErr result (λ why. LeavesBank why old new)
 untouched_all (Ok opened) old new same = tt
 untouched_all (Err reason.NotPool) old new same = same
-untouched_all (Err (reason.TooManyFailed out)) old new same = tt
+untouched_all (Err (reason.TooManyFailed out)) old new same = inl same
 untouched_all (Err (reason.Limit group)) old new same = same
 untouched_all (Err reason.NoMemory) old new same = same
 

@@ -9,7 +9,7 @@ use Rattle.uberblock_ring.proofs.DeviceSets.{count_above}
 use Rattle.core_state.specs.Committing.{Point}
 use Rattle.core_commit.specs.declared.committing.TooManyOut.{TooManyOut}
 use Rattle.core_commit.specs.Copies.{CopyKeeps}
-use Rattle.core_commit.specs.Spared.{HaveGoneOut, Spares, TouchesGroup}
+use Rattle.core_commit.specs.Spared.{HaveGoneOut, Spares, StopsInTime, TouchesGroup}
 use Rattle.core_open.specs.declared.why.OpenWhy.TheVariants as reason
 use Rattle.core_open.specs.Opens.{HasSpread, HasRenewed, EndsRenewal, renewed_by, every_device}
 use Rattle.core_open.proofs.Renewing.{none_above_more}
@@ -74,13 +74,15 @@ few_of result out most few went = subst (λ (r : Copying). OnOk r (count_of out 
 pub spread_of : (uber : Uber) (entries : List IndexEntry) (none all : ℕ) (before after : Point) (result : Copying)
     → none ≡ 0 → all ≡ every_device → CopyKeeps uber entries none all before after result
     → HaveGoneOut before before.out after → Spares before after → TouchesGroup uber before after
+    → StopsInTime uber.parity before after
     → HasSpread uber entries 0 every_device before after result
-spread_of uber entries none all before after result none_is all_is keeps gone spares touches = record {
+spread_of uber entries none all before after result none_is all_is keeps gone spares touches stops = record {
   keeps = subst (λ (n : ℕ). CopyKeeps uber entries n every_device before after result) none_is
       (subst (λ (n : ℕ). CopyKeeps uber entries none n before after result) all_is keeps);
   gone = gone;
   spares = spares;
   touches = touches;
+  stops = stops;
 }
 
 module _ (uber : Uber) (entries : List IndexEntry) (lack_page lack_uber : ℕ) (before mid : Point)

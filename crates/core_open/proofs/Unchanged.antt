@@ -1,8 +1,12 @@
 -- Runs of reads, which change nothing but counts of faults.
-use Rattle.std.proofs.Common.{◌≡◌, ℕ, List, refl, ◌∙◌, subst, arith}
+use Rattle.std.proofs.Common.{◌≡◌, ℕ, ◌≤◌, List, [], ◌∷◌, ◌++◌, refl, ◌∙◌, ap, subst, arith}
 use Rattle.bank_trait.specs.Causes.{Rose}
 use Rattle.bank_trait.specs.Disk.{Image, Disk, Unchanged}
 use Rattle.bank_trait.proofs.Moments.{later_refl, later_trans}
+use Rattle.core_state.specs.Keeps.{Kept, Setting}
+use Rattle.core_state.specs.Collision.{BankKeeps}
+use Rattle.core_state.specs.Moment.{KeepsSince}
+use Rattle.core_state.proofs.Since.{might_at}
 use Rattle.core_open.specs.declared.uber_copy.UberCopy.{UberCopy}
 use Rattle.core_open.specs.Candidates.{FirstHasRoom}
 use Rattle.core_open.specs.Holds.{HoldsImage, shape_of}
@@ -61,3 +65,27 @@ pub room_then : {old mid : Disk} (copies : List UberCopy) → Unchanged old mid
     → FirstHasRoom mid.sectors copies → FirstHasRoom old.sectors copies
 room_then copies same room =
     subst (λ sectors. FirstHasRoom sectors copies) same.goes_on.later.sectors room
+
+-- Reads alone keep what was kept.
+pub unchanged_keeps : (setting : Setting) (first : Kept) (later joined : List Kept) {old new : Disk}
+    → Unchanged old new → BankKeeps setting first later old
+    → KeepsSince setting ((first ∷ later) ++ joined) old.clock new
+unchanged_keeps setting first later joined {old = old} {new = new} same keeps = record {
+  each = λ moment image since until might. record {
+    before = [];
+    first = first;
+    later = later;
+    after = joined;
+    row = refl;
+    keeps = keeps image (might_at setting.shape new old moment old.clock image
+        (at moment (omega (arith, since, until, same.clock)) (omega (arith, since, until, same.clock))) might);
+  };
+}
+  where
+    at : (moment : ℕ) → moment ≤ old.clock → moment ≡ old.clock → (d x : ℕ)
+        → (new.leaves moment d x ≡ old.leaves old.clock d x)
+        × (new.could moment d x ≡ old.could old.clock d x)
+    at moment early now d x = let past = same.goes_on.later.past moment early d x in (
+      past.0 ∙ ap (λ t. old.leaves t d x) now,
+      past.1 ∙ ap (λ t. old.could t d x) now,
+    )

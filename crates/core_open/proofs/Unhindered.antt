@@ -74,18 +74,19 @@ module _ (setting : Setting) (first : Kept) (later : List Kept) (old new : Disk)
 
   -- A group can be numbered two more than the chosen one.
   is_within : ((kept : Kept) → Contains (first ∷ later) kept → kept.uber.group + 2 ≤ 2 ^ 62)
-      → (shown : IsShownChoice old new image) → 2 ^ 62 < shown.uber.group + 2 → ⊥
+      → (shown : IsShownChoice old new image) → 2 ^ 62 < shown.choice.uber.group + 2 → ⊥
   is_within limits shown high =
-      let chosen = subst (λ (s : Shape). IsChosen s shown.silent image shown.device shown.uber shown.entries)
-      (sym free.may.shape) shown.chosen in
+      let choice = shown.choice in
+      let chosen = subst (λ (s : Shape). IsChosen s shown.silent image choice.device choice.uber choice.entries)
+      (sym free.may.shape) choice.chosen in
       let within : (device : ℕ) → device < first.uber.reflow.to → has_device shown.silent device ≡ true
       → has_device setting.failed device ≡ true =
       λ device below gone. absurd (none_failed shown.silent shown.failed device gone) in
       let held = (chosen_held setting first later old knows lawful shown.silent within (free.may.pages image holds)
-      shown.device shown.uber shown.entries chosen).0 in
-      let group : shown.uber.group ≡ held.kept.uber.group =
+      choice.device choice.uber choice.entries chosen).0 in
+      let group : choice.uber.group ≡ held.kept.uber.group =
       chosen_group setting first later old knows lawful shown.silent within (free.may.pages image holds)
-      shown.device shown.uber shown.entries chosen in
+      choice.device choice.uber choice.entries chosen in
       let limit = limits held.kept held.listed in
       omega (arith, high, group, limit)
 
@@ -94,14 +95,14 @@ module _ (setting : Setting) (first : Kept) (later : List Kept) (old new : Disk)
 
   -- No device is out.
   none_out : (listed : ℕ) → AreTooMany old new image listed → (device : ℕ) → has_device listed device ≡ true → ⊥
-  none_out listed many device has = by many.choice many.each
+  none_out listed many device has = by many.shown many.each
     where
-      by : (shown : IsShownChoice old new image) → AreOutFor shown listed → ⊥
+      by : (shown : IsShownChoice old new image) → AreOutFor old new shown.choice listed → ⊥
       by shown each = ⊎_elim
-          (λ out. free.in_use image shown.device shown.uber shown.entries device holds
-          (subst (λ (n : ℕ). IsChosen (shape_of old) n image shown.device shown.uber shown.entries) (silent_none shown)
-          shown.chosen)
-          (subst (λ (n : ℕ). IsOutAtOpening (shape_of old) n image shown.uber device) (silent_none shown) out))
+          (λ out. free.in_use image shown.choice.device shown.choice.uber shown.choice.entries device holds
+          (subst (λ (n : ℕ). IsChosen (shape_of old) n image shown.choice.device shown.choice.uber
+          shown.choice.entries) (silent_none shown) shown.choice.chosen)
+          (subst (λ (n : ℕ). IsOutAtOpening (shape_of old) n image shown.choice.uber device) (silent_none shown) out))
           (λ rose. free.works device rose)
           (each device has)
 

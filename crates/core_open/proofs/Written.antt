@@ -1,5 +1,5 @@
 -- What the writes of an opening keep, and who is out after them.
-use Rattle.std.proofs.Common.{◌≡◌, ◌⊎◌, inl, inr, ⊎_elim, ℕ, ◌+◌, ◌^◌, ◌<◌, ◌≤◌, List, [], ◌∷◌, ◌++◌, Bool, true, false, Result, Ok, refl, sym, ◌∙◌, ap, subst, arith}
+use Rattle.std.proofs.Common.{◌≡◌, ◌⊎◌, inl, inr, ⊎_elim, ℕ, ◌+◌, ◌^◌, ◌<◌, ◌≤◌, List, Bool, true, false, Result, Ok, refl, sym, ◌∙◌, ap, subst, arith}
 use Rattle.std.proofs.lemmas.Bool.{cases_lt}
 use Rattle.bank_trait.specs.Causes.{Rose}
 use Rattle.bank_trait.specs.Disk.{Image, Disk, Lawful, Later, Unchanged}
@@ -13,64 +13,30 @@ use Rattle.core_state.specs.Map.{no_blocks}
 use Rattle.core_state.specs.Shown.{Shape, Gives}
 use Rattle.core_state.specs.Choosing.{IsOutAtOpening}
 use Rattle.core_state.specs.Keeps.{Kept, Setting}
-use Rattle.core_state.specs.Certain.{Knows}
 use Rattle.core_state.specs.Committing.{Point}
-use Rattle.core_state.specs.Moment.{IsRowOf}
 use Rattle.core_state.proofs.Calls.{true_false}
-use Rattle.core_state.proofs.Fresh.{none_in}
-use Rattle.core_state.proofs.Finding.{keeps_know}
-use Rattle.core_state.proofs.Frames.{Nowhere, none_lost, unchanged_frames}
-use Rattle.core_state.proofs.Knowing.{present, knows_frame}
-use Rattle.core_state.proofs.Listed.{contains_none}
-use Rattle.core_state.proofs.Since.{since_now, since_more}
+use Rattle.core_state.proofs.Knowing.{present}
 use Rattle.core_commit.specs.declared.committing.TooManyOut.{TooManyOut}
 use Rattle.core_commit.specs.Ran.{point_of}
 use Rattle.core_commit.proofs.Going.{rose_wider}
 use Rattle.core_open.specs.declared.finding.Found.{Found}
 use Rattle.core_open.specs.declared.why.OpenWhy.{OpenWhy}
-use Rattle.core_open.specs.Causes.{IsShownChoice, AreTooMany}
+use Rattle.core_open.specs.Causes.{IsChoiceWithout, IsShownChoice, AreTooMany}
 use Rattle.core_open.specs.Failing.{HaveFailed}
 use Rattle.core_open.specs.Finding.{IsFoundIn, FitsOpening}
 use Rattle.core_open.specs.Holds.{HoldsImage, shape_of}
-use Rattle.core_open.specs.Opens.{MayOpen, IsWithinBelow, HasOpened, OpeningKeeps, CutKeeps, IsOpenedWith, HasRenewed, HasSpread, every_device}
+use Rattle.core_open.specs.Opens.{MayOpen, IsWithinBelow, HasOpened, OpeningKeeps, CutsOpening, IsOpenedWith, HasRenewed, HasSpread, every_device}
 use Rattle.core_open.specs.OpensFound.{WritesFound}
 use Rattle.core_open.proofs.ChosenCopies.{AreRead}
-use Rattle.core_open.proofs.Ends.{present_held, parity_is, since_copied, since_renewed, opened_next}
+use Rattle.core_open.proofs.Others.{found_touches}
+use Rattle.core_open.proofs.Ends.{present_held, width_is, since_copied, since_renewed, opened_next}
 use Rattle.core_open.proofs.Renewal.{count_within}
 use Rattle.core_open.proofs.Unchanged.{unchanged_then, holds_then}
-
--- Reads alone keep what was kept.
-pub unchanged_keeps : (silent earlier : ℕ) (old new : Disk) → Lawful old → Unchanged old new
-    → OpeningKeeps silent earlier old new
-unchanged_keeps silent earlier old new lawful same = record {
-  since = λ setting first later may within all.
-      let knows : Knows setting first later old = keeps_know setting first later old lawful may.keeps in
-      let row : IsRowOf ((first ∷ later) ++ []) first later = record { before = []; after = []; row = refl } in (
-        [],
-        record { one = omega arith; renews = λ next has. absurd (contains_none next has) },
-        since_more setting ((first ∷ later) ++ []) old.clock first later old new row same.goes_on
-            (knows_frame Nowhere none_lost setting first later old new lawful (unchanged_frames same)
-            (λ d x nowhere. absurd nowhere) knows)
-            (since_now setting ((first ∷ later) ++ []) first later old row knows),
-      );
-}
 
 -- It lists no device.
 pub none_listed : (most : ℕ) → count_of 0 ≤ most
 unfolding count_of
 none_listed most = let none = count_none 64 in omega (arith, none)
-
--- An opening that only read was cut short.
-pub unchanged_cut : (why : OpenWhy) (old new : Disk) → Lawful old → Unchanged old new → CutKeeps why old new
-unchanged_cut why old new lawful same = record {
-  silent = 0;
-  failed = λ device has. absurd (true_false (sym has ∙ none_in device));
-  earlier = 0;
-  told = λ device has. absurd (true_false (sym has ∙ none_in device));
-  few = λ setting first later may within. none_listed first.uber.parity;
-  each = λ image holds device has. absurd (true_false (sym has ∙ none_in device));
-  keeps = unchanged_keeps 0 0 old new lawful same;
-}
 
 module _ (found : Found) (old mid new : Disk) (lawful : Lawful old) (same_found : Unchanged old mid)
     (found_in : (image : Image) → HoldsImage old image → IsFoundIn (shape_of old) image found)
@@ -84,14 +50,19 @@ module _ (found : Found) (old mid new : Disk) (lawful : Lawful old) (same_found 
   pub silent_now : HaveFailed old new found.silent
   silent_now device has = ((silent_failed device has).0, rose_on device (silent_failed device has).1)
 
-  abbrev pub choice : (image : Image) → HoldsImage old image → IsShownChoice old new image
+  abbrev pub choice : (image : Image) → HoldsImage old image → IsChoiceWithout (shape_of old) found.silent image
   choice image holds = record {
-    silent = found.silent;
-    failed = silent_now;
     device = found.device;
     uber = found.uber;
     entries = found.entries.items;
     chosen = (found_in image holds).chosen;
+  }
+
+  abbrev pub shown_by : (image : Image) → HoldsImage old image → IsShownChoice old new image
+  shown_by image holds = record {
+    silent = found.silent;
+    failed = silent_now;
+    choice = choice image holds;
   }
 
   -- A device that was out when the writes began was found so, or failed.
@@ -101,14 +72,14 @@ module _ (found : Found) (old mid new : Disk) (lawful : Lawful old) (same_found 
 
   -- No group can be numbered two more.
   pub limit_caused : 2 ^ 62 < found.uber.group + 2 → (image : Image) → HoldsImage old image
-      → (shown : IsShownChoice old new image) × (2 ^ 62 < shown.uber.group + 2)
-  limit_caused high image holds = (choice image holds, high)
+      → (shown : IsShownChoice old new image) × (2 ^ 62 < shown.choice.uber.group + 2)
+  limit_caused high image holds = (shown_by image holds, high)
 
   -- Too many were found to be out.
   pub many_caused : found.uber.parity < count_of found.out → (image : Image) → HoldsImage old image
       → AreTooMany old new image found.out
   many_caused many image holds = record {
-    choice = choice image holds;
+    shown = shown_by image holds;
     many = many;
     each = λ device has. inl (out_found image holds device has);
   }
@@ -218,42 +189,65 @@ module _ (found : Found) (old mid new : Disk) (lawful : Lawful old) (same_found 
     pub many_gone : Went new out → found.uber.parity < count_of out → (image : Image) → HoldsImage old image
         → AreTooMany old new image out
     many_gone went many image holds = record {
-      choice = choice image holds;
+      shown = shown_by image holds;
       many = many;
       each = λ device has. out_caused went image holds device has;
     }
 
+    -- The devices that were silent are out from the beginning.
+    found_missed : IsWithinBelow found.uber.reflow.to found.silent found.out
+    found_missed device below gone = fits.silent device below gone
+
+    gone_listed : (listed : ℕ) → IsWithin writes.asked_out listed → IsWithin found.out listed
+    gone_listed listed stay device was = stay device (writes.stay device was)
+
+    pub missed : (listed : ℕ) → IsWithin writes.asked_out listed
+        → IsWithinBelow found.uber.reflow.to found.silent listed
+    missed listed stay device below gone = gone_listed listed stay device (found_missed device below gone)
+
+    -- Where those that are listed may fail, they may.
+    may_fail : (width listed failed : ℕ) → width ≡ found.uber.reflow.to
+        → IsWithinBelow found.uber.reflow.to found.silent listed → IsWithin listed failed
+        → IsWithinBelow width found.silent failed
+    may_fail width listed failed wide among all device below gone =
+        all device (among device (omega (arith, below, wide)) gone)
+
     -- An opening that stopped among its copies,
     pub keeps_copied : (ended : Result (Unit {0}) TooManyOut)
         → HasSpread found.uber found.entries.items writes.lack_page found.lacks_uber before (point_of out new) ended
-        → OpeningKeeps found.silent 0 old new
+        → OpeningKeeps found.uber.reflow.to found.out old new
     keeps_copied ended spread = record {
-      since = λ setting first later may within all. since_copied setting first later old may lawful before same_asked
+      since = λ setting first later may wide all. since_copied setting first later old may lawful before same_asked
           found.silent found.device found.uber found.entries.items
           (found_in (present old) (present_held old may.tells)).chosen writes.lack_page found.lacks_uber
-          (are_read may.tells) right within (point_of out new) ended spread;
+          (are_read may.tells) right
+          (may_fail first.uber.reflow.to found.out setting.failed wide found_missed all)
+          (point_of out new) ended spread;
     }
 
     -- or after them,
     pub keeps_renewed : (renewed : Uber) (ended : Result (Unit {0}) TooManyOut)
         → (ran : HasRenewed found.uber found.entries.items writes.lack_page found.lacks_uber before renewed
         (point_of out new) ended)
-        → OpeningKeeps found.silent ran.mid.out old new
+        → OpeningKeeps found.uber.reflow.to ran.mid.out old new
     keeps_renewed renewed ended ran = record {
-      since = λ setting first later may within all. since_renewed setting first later old may lawful before same_asked
+      since = λ setting first later may wide all. since_renewed setting first later old may lawful before same_asked
           found.silent found.device found.uber found.entries.items
           (found_in (present old) (present_held old may.tells)).chosen writes.lack_page found.lacks_uber
-          (are_read may.tells) right within ran.mid ran.value ran.copied all (lists may.tells) ran.few writes.limit
+          (are_read may.tells) right
+          (may_fail first.uber.reflow.to ran.mid.out setting.failed wide
+          (missed ran.mid.out ran.copied.gone.stay) all)
+          ran.mid ran.value ran.copied all (lists may.tells) ran.few writes.limit
           (point_of out new) ended
           (subst (λ (u : Uber). HasSpread u found.entries.items 0 every_device ran.mid (point_of out new) ended)
           ran.renewed_is ran.spread);
     }
 
-    -- The chosen group has the parity of the groups that were kept.
-    parity_kept : (setting : Setting) (first : Kept) (later : List Kept) → MayOpen setting first later old
+    -- The chosen group has the width and the parity of the groups that were kept.
+    width_kept : (setting : Setting) (first : Kept) (later : List Kept) → MayOpen setting first later old
         → IsWithinBelow first.uber.reflow.to found.silent setting.failed
-        → found.uber.parity ≡ first.uber.parity
-    parity_kept setting first later may within = parity_is setting first later old may lawful before same_asked
+        → (found.uber.reflow.to ≡ first.uber.reflow.to) × (found.uber.parity ≡ first.uber.parity)
+    width_kept setting first later may within = width_is setting first later old may lawful before same_asked
         found.silent found.device found.uber found.entries.items
         (found_in (present old) (present_held old may.tells)).chosen writes.lack_page found.lacks_uber
         (are_read may.tells) right within
@@ -263,31 +257,91 @@ module _ (found : Found) (old mid new : Disk) (lawful : Lawful old) (same_found 
         → HasRenewed found.uber found.entries.items writes.lack_page found.lacks_uber before renewed
         (point_of out new) (Ok value)
         → IsOpenedWith renewed found.entries.items found.silent out old new
-    kept_renewed renewed value ran = record {
-      parity = λ setting first later may within.
-          ap (λ (u : Uber). u.parity) ran.renewed_is ∙ parity_kept setting first later may within;
-      kept = λ setting first later may within all.
-          subst (λ (u : Uber). HasOpened setting first later u found.entries.items old new) (sym ran.renewed_is)
-          (opened_next setting first later old may lawful before same_asked
-          found.silent found.device found.uber found.entries.items
-          (found_in (present old) (present_held old may.tells)).chosen writes.lack_page found.lacks_uber
-          (are_read may.tells) right within ran.mid ran.value ran.copied
-          (λ device has. all device (ran.spread.gone.stay device has)) (lists may.tells) ran.few writes.limit
-          (point_of out new) value
-          (subst (λ (u : Uber). HasSpread u found.entries.items 0 every_device ran.mid (point_of out new) (Ok value))
-          ran.renewed_is ran.spread) all
-          (λ image holds. (choice image holds, refl)));
-    }
+    kept_renewed renewed value ran =
+        let to : renewed.reflow.to ≡ found.uber.reflow.to = ap (λ (u : Uber). u.reflow.to) ran.renewed_is in
+        record {
+          width = λ setting first later may within.
+              let same = width_kept setting first later may within in (
+                to ∙ same.0,
+                ap (λ (u : Uber). u.parity) ran.renewed_is ∙ same.1,
+              );
+          kept = λ setting first later may wide all.
+              let listed : IsWithin ran.mid.out setting.failed =
+              λ device has. all device (ran.spread.gone.stay device has) in
+              subst (λ (u : Uber). HasOpened setting first later u found.entries.items found.silent old new)
+              (sym ran.renewed_is)
+              (opened_next setting first later old may lawful before same_asked
+              found.silent found.device found.uber found.entries.items
+              (found_in (present old) (present_held old may.tells)).chosen writes.lack_page found.lacks_uber
+              (are_read may.tells) right
+              (may_fail first.uber.reflow.to ran.mid.out setting.failed (wide ∙ to)
+              (missed ran.mid.out ran.copied.gone.stay) listed)
+              ran.mid ran.value ran.copied listed (lists may.tells) ran.few writes.limit
+              (point_of out new) value
+              (subst (λ (u : Uber). HasSpread u found.entries.items 0 every_device ran.mid (point_of out new) (Ok value))
+              ran.renewed_is ran.spread) all
+              (λ image holds. (choice image holds, refl)));
+        }
 
     -- The group that is written lists no more devices than there are parities.
     pub few_renewed : (renewed : Uber) (ended : Result (Unit {0}) TooManyOut)
         → (ran : HasRenewed found.uber found.entries.items writes.lack_page found.lacks_uber before renewed
-        (point_of out new) ended) (setting : Setting) (first : Kept) (later : List Kept)
-        → MayOpen setting first later old → IsWithinBelow first.uber.reflow.to found.silent setting.failed
-        → count_of ran.mid.out ≤ first.uber.parity
-    few_renewed renewed ended ran setting first later may within =
+        (point_of out new) ended)
+        → count_of ran.mid.out ≤ found.uber.parity
+    few_renewed renewed ended ran =
         let wide = right.widths.1 in
         let all = count_within ran.mid.out found.uber.reflow.to ran.few.0 (omega (arith, wide)) in
         let few = ran.few.1 in
-        let parity = parity_kept setting first later may within in
-        omega (arith, few, all, parity)
+        omega (arith, few, all)
+
+    -- It was cut short among the copies,
+    pub cut_copied : (ended : Result (Unit {0}) TooManyOut)
+        → HasSpread found.uber found.entries.items writes.lack_page found.lacks_uber before (point_of out new) ended
+        → (cut : CutsOpening old new) × IsWithin cut.borne out
+    cut_copied ended spread = (
+      record {
+        silent = found.silent;
+        failed = silent_now;
+        width = found.uber.reflow.to;
+        parity = found.uber.parity;
+        borne = found.out;
+        few = writes.few;
+        missed = found_missed;
+        each = λ image holds. record {
+          choice = choice image holds;
+          width_is = refl;
+          parity_is = refl;
+          each = λ device has. inl (out_found image holds device has);
+        };
+        keeps = keeps_copied ended spread;
+        only = found_touches found out result same_found writes;
+      },
+      gone_listed out spread.gone.stay,
+    )
+
+    -- or after them.
+    pub cut_renewed : (renewed : Uber) (ended : Result (Unit {0}) TooManyOut)
+        → HasRenewed found.uber found.entries.items writes.lack_page found.lacks_uber before renewed
+        (point_of out new) ended
+        → (cut : CutsOpening old new) × IsWithin cut.borne out
+    cut_renewed renewed ended ran = (
+      record {
+        silent = found.silent;
+        failed = silent_now;
+        width = found.uber.reflow.to;
+        parity = found.uber.parity;
+        borne = ran.mid.out;
+        few = few_renewed renewed ended ran;
+        missed = missed ran.mid.out ran.copied.gone.stay;
+        each = λ image holds. record {
+          choice = choice image holds;
+          width_is = refl;
+          parity_is = refl;
+          each = λ device has. out_caused (went_renewed renewed (point_of out new) ended ran) image holds device
+              (ran.spread.gone.stay device has);
+        };
+        keeps = keeps_renewed renewed ended ran;
+        only = found_touches found out result same_found writes;
+      },
+      ran.spread.gone.stay,
+    )

@@ -1,5 +1,5 @@
 -- What an opening keeps of what images kept when it began, and the group with which it ends.
-use Rattle.std.specs.Prelude.{◌≡◌, ◌⊎◌, ℕ, ◌-◌, ◌^◌, ◌+◌, ◌<◌, ◌≤◌, true, ⊤, List, [], ◌∷◌, ◌++◌, length, Contains, Result, Ok, Err}
+use Rattle.std.specs.Prelude.{◌≡◌, ◌⊎◌, ℕ, ◌-◌, ◌^◌, ◌+◌, ◌<◌, ◌≤◌, true, List, [], ◌∷◌, ◌++◌, length, Contains, Result, Ok, Err}
 use Rattle.bank_trait.specs.Causes.{Rose}
 use Rattle.bank_trait.specs.Disk.{Image, Disk, Unchanged}
 use Rattle.bank_trait.specs.Regions.{Tells, TouchesOnly}
@@ -7,6 +7,7 @@ use Rattle.block_record.specs.declared.entry.IndexEntry.{IndexEntry}
 use Rattle.uberblock_ring.specs.Devices.{has_device, count_below, count_of, IsWithin}
 use Rattle.uberblock_ring.specs.Uberblock.{Uber, max_group}
 use Rattle.uberblock_ring.specs.Valid.{AreAlike}
+use Rattle.core_state.specs.Shown.{Shape}
 use Rattle.core_state.specs.Choosing.{IsChosen, IsOutAtOpening}
 use Rattle.core_state.specs.Keeps.{Kept, Setting, Renews}
 use Rattle.core_state.specs.Collision.{BankKeeps, HasNoOtherPage}
@@ -15,10 +16,10 @@ use Rattle.core_state.specs.Committing.{Point}
 use Rattle.core_state.specs.Moment.{KeepsSince}
 use Rattle.core_commit.specs.declared.committing.TooManyOut.{TooManyOut}
 use Rattle.core_commit.specs.Copies.{CopyKeeps}
-use Rattle.core_commit.specs.Spared.{HaveGoneOut, Spares, TouchesGroup}
+use Rattle.core_commit.specs.Spared.{HaveGoneOut, Spares, StopsInTime, TouchesGroup}
 use Rattle.core_open.specs.declared.why.OpenWhy.{OpenWhy}
 use Rattle.core_open.specs.declared.why.OpenWhy.TheVariants as reason
-use Rattle.core_open.specs.Causes.{IsOutFor, IsShownChoice}
+use Rattle.core_open.specs.Causes.{AreOutIn, IsChoiceWithout, IsShownChoice}
 use Rattle.core_open.specs.Failing.{HaveFailed}
 use Rattle.core_open.specs.Holds.{HoldsImage, shape_of}
 use Rattle.core_open.specs.Lacking.{HasAllBut}
@@ -31,7 +32,7 @@ pub record MayOpen (setting : Setting) (first : Kept) (later : List Kept) (disk 
   pub shape : setting.shape ≡ shape_of disk
   pub tells : Tells disk
   pub pages : (image : Image) → HoldsImage disk image
-      → HasNoOtherPage setting.shape (first ∷ later) image
+      → HasNoOtherPage setting (first ∷ later) image
   pub width : (kept : Kept) → Contains (first ∷ later) kept
       → (kept.uber.reflow.to ≡ first.uber.reflow.to) × (kept.uber.parity ≡ first.uber.parity)
 
@@ -47,37 +48,40 @@ IsWithinBelow width devices others = (device : ℕ) → device < width
     → has_device devices device ≡ true
     → has_device others device ≡ true
 
--- Where the devices that were silent and these others may fail, each image since the opening began keeps
--- some of the groups that were kept then and the one that it adds.
-pub record OpeningKeeps (silent earlier : ℕ) (old new : Disk) : Type 0 where
+-- Where these devices may fail, each image since the opening of a pool of this width began keeps some of the
+-- groups that were kept then and the one that it adds.
+pub record OpeningKeeps (width borne : ℕ) (old new : Disk) : Type 0 where
   pub since : (setting : Setting) (first : Kept) (later : List Kept)
       → MayOpen setting first later old
-      → IsWithinBelow first.uber.reflow.to silent setting.failed
-      → IsWithin earlier setting.failed
+      → first.uber.reflow.to ≡ width → IsWithin borne setting.failed
       → (joined : List Kept) × AddsOne (first ∷ later) joined
       × KeepsSince setting ((first ∷ later) ++ joined) old.clock new
 
--- An opening that was cut short: the devices that were silent failed in it, and those that the new group
--- lists as out are among the ones that are told, no more than there are parities; where none are told it
--- lists none. Each was out at opening, or failed in it.
-pub record CutKeeps (why : OpenWhy) (old new : Disk) : Type 0 where
+-- An opening was cut short when it had begun to write: too many devices failed, or memory was wanting for
+-- what it had read.
+pub record CutsOpening (old new : Disk) : Type 0 where
+  -- Devices were silent: each failed in it. But for them the devices choose a group of this width and parity.
   pub silent : ℕ
   pub failed : HaveFailed old new silent
-  pub earlier : ℕ
-  pub told : (device : ℕ) → has_device earlier device ≡ true
-      → (out : ℕ) × (why ≡ reason.TooManyFailed out) × (has_device out device ≡ true)
-  pub few : (setting : Setting) (first : Kept) (later : List Kept) → MayOpen setting first later old
-      → IsWithinBelow first.uber.reflow.to silent setting.failed
-      → count_of earlier ≤ first.uber.parity
-  pub each : (image : Image) → HoldsImage old image → (device : ℕ)
-      → has_device earlier device ≡ true
-      → (shown : IsShownChoice old new image) × IsOutFor shown device
-  pub keeps : OpeningKeeps silent earlier old new
+  pub width : ℕ
+  pub parity : ℕ
+  -- Some devices have to be borne: no more than there are parities, each of which was out at opening or failed,
+  -- with the silent ones of the pool, and those that the group which was begun lists as out.
+  pub borne : ℕ
+  pub few : count_of borne ≤ parity
+  pub missed : IsWithinBelow width silent borne
+  pub each : (image : Image) → HoldsImage old image
+      → AreOutIn old new silent width parity borne image
+  -- Where these may fail, what was kept is kept; and no device is touched but those of the pool.
+  pub keeps : OpeningKeeps width borne old new
+  pub only : TouchesOnly (IsOnBelow width) old new
 
--- A refusal changes nothing but counts of faults, unless too many devices are out.
+-- A refusal changes nothing but counts of faults. Where too many devices are out it may have been cut short:
+-- those that have to be borne are then among the ones that are told.
 abbrev pub LeavesBank : OpenWhy → Disk → Disk → Type 0
 LeavesBank reason.NotPool old new = Unchanged old new
-LeavesBank (reason.TooManyFailed out) old new = ⊤
+LeavesBank (reason.TooManyFailed out) old new =
+    Unchanged old new ⊎ ((cut : CutsOpening old new) × IsWithin cut.borne out)
 LeavesBank (reason.Limit group) old new = Unchanged old new
 LeavesBank reason.NoMemory old new = Unchanged old new
 
@@ -86,7 +90,7 @@ LeavesBank reason.NoMemory old new = Unchanged old new
 abbrev pub LeavesOthers : Disk → Disk → Type 0
 LeavesOthers old new = Unchanged old new
     ⊎ ((image : Image) → HoldsImage old image → (shown : IsShownChoice old new image)
-    × TouchesOnly (IsOnBelow shown.uber.reflow.to) old new)
+    × TouchesOnly (IsOnBelow shown.choice.uber.reflow.to) old new)
 
 -- The bank has the pool's data rows, and each device of the pool that isn't out.
 pub record HasBank (uber : Uber) (out : ℕ) (disk : Disk) : Type 0 where
@@ -94,10 +98,10 @@ pub record HasBank (uber : Uber) (out : ℕ) (disk : Disk) : Type 0 where
   pub devices : HasAllBut disk uber.reflow.to out
 
 -- A pool was opened with this uberblock and index: they are those of a group that renews one of the groups
--- kept before, which the devices that answered choose. It is the one kept now, what it asks for is certain,
--- and each image since the opening began keeps some of the groups in a row, it being the last.
+-- kept before, which the devices choose but for the silent ones. It is the one kept now, what it asks for is
+-- certain, and each image since the opening began keeps some of the groups in a row, it being the last.
 pub record HasOpened (setting : Setting) (first : Kept) (later : List Kept) (uber : Uber)
-    (entries : List IndexEntry) (old new : Disk) : Type 0 where
+    (entries : List IndexEntry) (silent : ℕ) (old new : Disk) : Type 0 where
   pub chosen : Kept
   pub listed : Contains (first ∷ later) chosen
   pub next : Kept
@@ -108,20 +112,34 @@ pub record HasOpened (setting : Setting) (first : Kept) (later : List Kept) (ube
   pub known : IsCertain setting new (next ∷ []) uber
   pub since : KeepsSince setting ((first ∷ later) ++ next ∷ []) old.clock new
   pub choice : (image : Image) → HoldsImage old image
-      → (shown : IsShownChoice old new image) × (shown.uber.group ≡ chosen.uber.group)
+      → (shown : IsChoiceWithout (shape_of old) silent image)
+      × (shown.uber.group ≡ chosen.uber.group)
 
--- A pool is opened with this uberblock and index, wherever all devices that were silent or are out may
--- fail. Where the silent ones may, it has the parity of the groups that were kept.
+-- A pool is opened with this uberblock and index, wherever the groups that were kept have its width and all
+-- devices that are out may fail. It has their width and parity where the silent ones may.
 pub record IsOpenedWith (uber : Uber) (entries : List IndexEntry) (silent out : ℕ) (old new : Disk) : Type 0
   where
-    pub parity : (setting : Setting) (first : Kept) (later : List Kept)
+    pub width : (setting : Setting) (first : Kept) (later : List Kept)
         → MayOpen setting first later old
         → IsWithinBelow first.uber.reflow.to silent setting.failed
-        → uber.parity ≡ first.uber.parity
+        → (uber.reflow.to ≡ first.uber.reflow.to) × (uber.parity ≡ first.uber.parity)
     pub kept : (setting : Setting) (first : Kept) (later : List Kept)
         → MayOpen setting first later old
-        → IsWithinBelow first.uber.reflow.to silent setting.failed → IsWithin out setting.failed
-        → HasOpened setting first later uber entries old new
+        → first.uber.reflow.to ≡ uber.reflow.to → IsWithin out setting.failed
+        → HasOpened setting first later uber entries silent old new
+
+-- the uberblock of an opening's group
+abbrev pub renewed_by : Uber → ℕ → Uber
+renewed_by uber out = record uber { group = uber.group + 2; out = out }
+
+-- The uberblock is the one that the devices choose but for the silent ones, with this index: only its number
+-- is two more, and it lists other devices as out.
+pub record RenewsChoice (shape : Shape) (silent : ℕ) (image : Image) (uber : Uber)
+    (entries : List IndexEntry) : Type 0 where
+  pub device : ℕ
+  pub chosen : Uber
+  pub choice : IsChosen shape silent image device chosen entries
+  pub renewed : uber ≡ renewed_by chosen uber.out
 
 -- No device fails in a call.
 abbrev pub NoneFails : Disk → Disk → Type 0
@@ -164,10 +182,7 @@ pub record HasSpread (uber : Uber) (entries : List IndexEntry) (lack_page lack_u
   pub gone : HaveGoneOut before before.out after
   pub spares : Spares before after
   pub touches : TouchesGroup uber before after
-
--- the uberblock of an opening's group
-abbrev pub renewed_by : Uber → ℕ → Uber
-renewed_by uber out = record uber { group = uber.group + 2; out = out }
+  pub stops : StopsInTime uber.parity before after
 
 -- The chosen group was copied to the devices that lack it, and then the next one's uberblock to each.
 pub record HasRenewed (uber : Uber) (entries : List IndexEntry) (lack_page lack_uber : ℕ)

@@ -1,5 +1,6 @@
 // Opening a pool.
 ghost use Rattle.std.specs.Prelude.{◌≡◌, ◌+◌, ◌^◌, ◌<◌, ◌≤◌, IfErr, IfOk};
+ghost use Rattle.bank_trait.specs.Disk.{Image};
 ghost use Rattle.bank_trait.specs.Regions.{TouchesOnly};
 ghost use Rattle.block_record.specs.Page.{IsIndex};
 ghost use Rattle.uberblock_ring.specs.Devices.{count_of};
@@ -11,7 +12,8 @@ ghost use Rattle.core_open.specs.Candidates.{IsIndexFor};
 ghost use Rattle.core_open.specs.Causes.{AreOutOf, IsOpenCause};
 ghost use Rattle.core_open.specs.Failing.{HaveFailed};
 ghost use Rattle.core_open.specs.Finding.{FitsOpening};
-ghost use Rattle.core_open.specs.Opens.{CutKeeps, EndsRenewal, HasBank, IsForMemory, IsOpenedWith, LeavesBank, LeavesOthers, OpeningKeeps};
+ghost use Rattle.core_open.specs.Holds.{HoldsImage, shape_of};
+ghost use Rattle.core_open.specs.Opens.{EndsRenewal, HasBank, IsForMemory, IsOpenedWith, IsWithinBelow, LeavesBank, LeavesOthers, OpeningKeeps, RenewsChoice};
 ghost use Rattle.core_open.specs.OpensFound.{OpensFound};
 ghost use Rattle.core_open.specs.Regions.{IsOnBelow};
 
@@ -106,8 +108,13 @@ pub fn open<B: Bank>(alloc: Global, bank: &mut B) -> Result<Opened, OpenWhy>
     ensures index { IfOk result (λ opened. IsIndexFor opened.uber opened.entries.items) }
     ensures silent { IfOk result (λ opened.
         HaveFailed (B.disk bank.old) (B.disk bank.new) opened.silent) }
+    ensures missed { IfOk result (λ opened.
+        IsWithinBelow opened.uber.reflow.to opened.silent opened.uber.out) }
+    ensures renews { IfOk result (λ opened. (image : Image) → HoldsImage (B.disk bank.old) image
+        → RenewsChoice (shape_of (B.disk bank.old)) opened.silent image
+        opened.uber opened.entries.items) }
     ensures out { IfOk result (λ opened. AreOutOf (B.disk bank.old) (B.disk bank.new)
-        opened.uber opened.out) }
+        opened.silent opened.uber opened.out) }
     ensures spares { IfOk result (λ opened. Spares (point_of opened.out (B.disk bank.old))
         (point_of opened.out (B.disk bank.new))) }
     ensures few { IfOk result (λ opened. count_of opened.out ≤ opened.uber.parity) }
@@ -117,10 +124,9 @@ pub fn open<B: Bank>(alloc: Global, bank: &mut B) -> Result<Opened, OpenWhy>
     ensures group { IfOk result (λ opened. 3 ≤ opened.uber.group) }
     ensures kept { IfOk result (λ opened. IsOpenedWith opened.uber opened.entries.items
         opened.silent opened.out (B.disk bank.old) (B.disk bank.new)) }
-    ensures since { IfOk result (λ opened. OpeningKeeps opened.silent opened.uber.out
-        (B.disk bank.old) (B.disk bank.new)) }
+    ensures since { IfOk result (λ opened. OpeningKeeps opened.uber.reflow.to
+        opened.uber.out (B.disk bank.old) (B.disk bank.new)) }
     ensures cause { IfErr result (IsOpenCause (B.disk bank.old) (B.disk bank.new)) }
-    ensures cut { IfErr result (λ why. CutKeeps why (B.disk bank.old) (B.disk bank.new)) }
     ensures untouched { IfErr result (λ why.
         LeavesBank why (B.disk bank.old) (B.disk bank.new)) }
     ensures opens { IfErr result (IsForMemory (B.disk bank.old) (B.disk bank.new)) }

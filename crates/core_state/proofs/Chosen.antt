@@ -1,19 +1,18 @@
 -- What an opening chooses from what is read, where devices that may fail may be silent and no page in it
 -- is another's by chance.
-use Rattle.std.proofs.Common.{◌≡◌, ◌≢◌, ◌⊎◌, inl, inr, ⊎_elim, ℕ, ◌+◌, ◌<◌, ◌≤◌, List, [], ◌∷◌, length, true, false, refl, sym, ◌∙◌, ap, subst, arith}
-use Rattle.std.specs.Prelude.{Contains, All, slice_index_or}
+use Rattle.std.proofs.Common.{◌≡◌, ◌⊎◌, inl, inr, ⊎_elim, ℕ, ◌<◌, ◌≤◌, List, ◌∷◌, true, false, refl, sym, ◌∙◌, ap, subst, arith}
 use Rattle.sha2.specs.Sha256.{sha256}
 use Rattle.bank_trait.specs.Disk.{Image, Disk, Lawful}
 use Rattle.block_record.specs.declared.entry.IndexEntry.{IndexEntry}
-use Rattle.block_record.specs.Page.{index_page, IsPageOf}
+use Rattle.block_record.specs.Page.{index_page}
 use Rattle.block_record.proofs.Pages.{page_same}
 use Rattle.uberblock_ring.specs.Devices.{has_device}
 use Rattle.uberblock_ring.specs.Uberblock.{Uber}
 use Rattle.uberblock_ring.specs.Valid.{AreAlike}
 use Rattle.core_state.specs.Index.{IsFitting}
-use Rattle.core_state.specs.Shown.{Shape, Shows, Gives, IsCandidate, page_on}
+use Rattle.core_state.specs.Shown.{Shape, Gives, IsCandidate, page_on}
 use Rattle.core_state.specs.Choosing.{IsChosen}
-use Rattle.core_state.specs.Keeps.{Kept, Setting, Keeps, IsKept, IsNextOf, Renews, SameGroup}
+use Rattle.core_state.specs.Keeps.{Kept, Setting, Keeps, IsKept, IsNextOf, SameGroup}
 use Rattle.core_state.specs.Collision.{HasNoOtherPage}
 use Rattle.core_state.specs.Certain.{IsSound, IsAble, IsCertain, Knows}
 use Rattle.core_state.proofs.Fresh.{none_in}
@@ -47,7 +46,7 @@ module _ (setting : Setting) (first : Kept) (later : List Kept) (disk : Disk)
     (knows : Knows setting first later disk) (lawful : Lawful disk) (silent : ℕ)
     (within : (device : ℕ) → device < first.uber.reflow.to → has_device silent device ≡ true
     → has_device setting.failed device ≡ true)
-    (pages : HasNoOtherPage setting.shape (first ∷ later) (present disk)) (device : ℕ) (uber : Uber)
+    (pages : HasNoOtherPage setting (first ∷ later) (present disk)) (device : ℕ) (uber : Uber)
     (entries : List IndexEntry)
     (chosen : IsChosen setting.shape silent (present disk) device uber entries) where
   abbrev image : Image

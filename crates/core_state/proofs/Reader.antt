@@ -14,14 +14,14 @@ use Rattle.core_state.specs.Collision.{HasNoOtherPage}
 
 -- A candidate from the first group on is one of the groups kept, whole, and its index page is that group's.
 pub candidate_kept : (setting : Setting) (first : Kept) (later : List Kept) (image : Image) (device : ℕ) (uber : Uber) (entries : List IndexEntry)
-    → Keeps setting first later image → HasNoOtherPage setting.shape (first ∷ later) image → first.uber.group ≤ uber.group
+    → Keeps setting first later image → HasNoOtherPage setting (first ∷ later) image → first.uber.group ≤ uber.group
     → ShowsCandidate setting image device uber entries
     → (held : IsKept setting image (first ∷ later) uber) × (index_page entries ≡ index_page held.kept.entries)
 candidate_kept setting first later image device uber entries keeps none above candidate =
     let held : IsKept setting image (first ∷ later) uber = keeps.only device uber above candidate.shows candidate.pool_is in (
       held,
       sym candidate.gives.page.page ∙ none.page held.kept device candidate.giver uber held.listed candidate.shows
-          candidate.gives.device_in
+          candidate.gives.device_in candidate.pool_is
           (ap (λ (u : Uber). u.group) held.alike) candidate.gives.digest,
     )
 

@@ -1,8 +1,9 @@
 -- A pool that was opened begins with the group that the opening wrote, and holds its map.
-use Rattle.std.proofs.Common.{◌≡◌, ℕ, ◌^◌, ◌<◌, ◌≤◌, List, false, Some, Result, Ok, Err, inl, ⊎_elim, sym, ◌∙◌, ap, subst, arith, []}
+use Rattle.std.proofs.Common.{◌≡◌, ◌⊎◌, ℕ, ◌^◌, ◌<◌, ◌≤◌, List, false, Some, Result, Ok, Err, inl, inr, ⊎_elim, sym, ◌∙◌, ap, subst, arith, []}
 use Rattle.std.specs.Prelude.{Contains, IfErr}
 use Rattle.std.proofs.lemmas.List.Elements.{All-contains}
-use Rattle.bank_trait.specs.Disk.{Disk, Lawful, Later}
+use Rattle.bank_trait.specs.Disk.{Image, Disk, Lawful, Later, Unchanged}
+use Rattle.bank_trait.specs.Regions.{TouchesOnly}
 use Rattle.bank_trait.proofs.Touches.{tells_later}
 use Rattle.width_map.specs.declared.birth.Birth.{Birth}
 use Rattle.block_record.specs.declared.entry.IndexEntry.{IndexEntry}
@@ -28,8 +29,10 @@ use Rattle.core_client.proofs.Outs.{was_used}
 use Rattle.core_open.specs.Candidates.{IsIndexFor}
 use Rattle.core_open.specs.Causes.{AreOutOf}
 use Rattle.core_open.specs.declared.why.OpenWhy.{OpenWhy}
+use Rattle.core_open.specs.declared.why.OpenWhy.TheVariants as reason
 use Rattle.core_open.specs.Failing.{HaveFailed}
-use Rattle.core_open.specs.Opens.{HasOpened, IsOpenedWith, OpeningKeeps}
+use Rattle.core_open.specs.Opens.{HasOpened, IsWithinBelow, LeavesBank, OpeningKeeps, RenewsChoice}
+use Rattle.core_open.specs.Regions.{IsOnBelow}
 use Rattle.core_open.proofs.BlockSpans.{block_width}
 use Rattle.open_pool.specs.Pool.{IsPool, HasBank, IsTableOf, HoldsMap, State, pool_of, state_of}
 use Rattle.open_pool.specs.HoldsGroup.{HoldsGroup}
@@ -62,6 +65,13 @@ pub loaded_of : {uber : Uber} {entries others : List IndexEntry} {blocks : Block
     → AreLoaded uber others blocks → AreLoaded uber entries blocks
 loaded_of {uber = uber} {blocks = blocks} same loaded = subst (λ (l : List IndexEntry). AreLoaded uber l blocks) same loaded
 
+-- What renews a choice does so with the blocks that were loaded.
+pub renews_loaded : {shape : Shape} {silent : ℕ} {image : Image} {uber : Uber} {entries : List IndexEntry}
+    {blocks : Blocks} → AreLoaded uber entries blocks → RenewsChoice shape silent image uber entries
+    → RenewsChoice shape silent image uber blocks.table.entries
+renews_loaded {shape} {silent} {image} {uber} loaded renews =
+    subst (λ (l : List IndexEntry). RenewsChoice shape silent image uber l) (sym loaded.entries_are) renews
+
 -- With its index loaded, an uberblock makes a pool.
 pub begun_is_pool : (uber : Uber) (entries : List IndexEntry) (blocks : Blocks) (out : ℕ) → IsRightUber uber
     → IsIndexFor uber entries → AreLoaded uber entries blocks → out < 2 ^ uber.reflow.to → IsWithin uber.out out
@@ -93,7 +103,8 @@ index_table entries map index of = record {
 -- A pool that was opened, with its index loaded.
 module _ (setting : Setting) (first : Kept) (later : List Kept) (uber : Uber) (entries : List IndexEntry) (blocks : Blocks) (out : ℕ)
     (old new : Disk) (may : MayBegin setting first later old) (right : IsRightUber uber) (is : IsIndexFor uber entries)
-    (loaded : AreLoaded uber entries blocks) (opened : HasOpened setting first later uber entries old new) (lawful : Lawful new)
+    (loaded : AreLoaded uber entries blocks) (silent : ℕ)
+    (opened : HasOpened setting first later uber entries silent old new) (lawful : Lawful new)
     (after : Later old new) (bank : HasBank uber out new) (lists : IsWithin uber.out out) where
   abbrev next : Kept
   next = opened.next
@@ -172,7 +183,7 @@ module _ (setting : Setting) (first : Kept) (later : List Kept) (uber : Uber) (e
     };
   }
 
-  pub begins : Begins setting first later (pool_of uber blocks out) old new
+  pub begins : Begins setting first later (pool_of uber blocks out) silent old new
   begins = record {
     opened = record {
       chosen = opened.chosen;
@@ -190,21 +201,41 @@ module _ (setting : Setting) (first : Kept) (later : List Kept) (uber : Uber) (e
     holds = holds;
   }
 
+-- What is left by a refusal before anything of the index is loaded.
+pub refusal_cuts : (why : OpenWhy) (old new : Disk) → LeavesBank why old new → Unchanged old new ⊎ CutsOpening old new
+refusal_cuts reason.NotPool old new leaves = inl leaves
+refusal_cuts (reason.TooManyFailed out) old new leaves = ⊎_elim (λ same. inl same)
+    (λ (cut : (cut : CutsOpening old new) × IsWithin cut.borne out). inr cut.0) leaves
+refusal_cuts (reason.Limit number) old new leaves = inl leaves
+refusal_cuts reason.NoMemory old new leaves = inl leaves
+
+pub refused_cuts : (result : Result OpenedPool OpenWhy) (old new : Disk)
+    → IfErr result (λ why. LeavesBank why old new)
+    → IfErr result (λ why. Unchanged old new ⊎ CutsOpening old new)
+refused_cuts (Ok opened) old new leaves = tt
+refused_cuts (Err why) old new leaves = refusal_cuts why old new leaves
+
 -- Where memory was wanting for the index alone, all is kept as the opening left it.
-pub memory_cuts : (result : Result OpenedPool OpenWhy) (uber : Uber) (entries : List IndexEntry) (silent out : ℕ)
-    (old new : Disk) → HaveFailed old new silent → AreOutOf old new uber out → count_of out ≤ uber.parity
-    → IsOpenedWith uber entries silent out old new → OpeningKeeps silent uber.out old new
-    → IfErr result (λ why. CutsOpening old new)
-memory_cuts (Ok opened) uber entries silent out old new failed outs few kept keeps = tt
-memory_cuts (Err why) uber entries silent out old new failed outs few kept keeps = record {
+pub memory_cuts : (result : Result OpenedPool OpenWhy) (uber : Uber) (silent out : ℕ)
+    (old new : Disk) → HaveFailed old new silent → AreOutOf old new silent uber out → count_of out ≤ uber.parity
+    → IsWithinBelow uber.reflow.to silent uber.out → OpeningKeeps uber.reflow.to uber.out old new
+    → TouchesOnly (IsOnBelow uber.reflow.to) old new
+    → IfErr result (λ why. Unchanged old new ⊎ CutsOpening old new)
+memory_cuts (Ok opened) uber silent out old new failed outs few missed keeps only = tt
+memory_cuts (Err why) uber silent out old new failed outs few missed keeps only = inr (record {
   silent = silent;
   failed = failed;
-  earlier = uber.out;
-  few = λ setting first later may within.
-      let more = count_grows uber.out out outs.lists in
-      let parity = kept.parity setting first later may within in
-      omega (arith, few, more, parity);
-  each = λ image holds device has. let shown = outs.each image holds in
-      (shown.0, shown.2 device (outs.lists device has));
+  width = uber.reflow.to;
+  parity = uber.parity;
+  borne = uber.out;
+  few = (let more = count_grows uber.out out outs.lists in omega (arith, few, more));
+  missed = missed;
+  each = λ image holds. let outs_in = outs.each image holds in record {
+    choice = outs_in.choice;
+    width_is = outs_in.width_is;
+    parity_is = outs_in.parity_is;
+    each = λ device has. outs_in.each device (outs.lists device has);
+  };
   keeps = keeps;
-}
+  only = only;
+})

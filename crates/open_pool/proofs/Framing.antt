@@ -178,15 +178,15 @@ module _ (setting : Setting) (first : Kept) (later : List Kept) (one other : Ima
       (let low = right.area in omega (arith, low, area)) (let low = right.count in omega (arith, low, count)) gives
 
   -- The pages that are read are the same, and so none is another's by chance.
-  pub pages_same : (groups : List Kept) → HasNoOtherPage setting.shape groups one
-      → HasNoOtherPage setting.shape groups other
+  pub pages_same : (groups : List Kept) → HasNoOtherPage setting groups one
+      → HasNoOtherPage setting groups other
   pages_same groups pages = record {
-    page = λ kept shower giver uber listed shows inside group digest.
+    page = λ kept shower giver uber listed shows inside pool_is group digest.
         let right = shows.valid.right in
         let page : page_on one uber giver ≡ page_on other uber giver =
         page_on_same setting.shape one other giver uber same (omega (arith, inside)) areas_in right.area right.count in
         sym page ∙ pages.page kept shower giver uber listed
-        (shows_on setting.shape other one shower uber (same_back same) shows) inside group (ap sha256 page ∙ digest);
+        (shows_on setting.shape other one shower uber (same_back same) shows) inside pool_is group (ap sha256 page ∙ digest);
   }
 
   names_other : (pool device : ℕ) → NamesOther setting first other pool device

@@ -41,7 +41,7 @@ alone_keeps setting first later disk image shape alone only keeps left might =
 pub stopped_begins : (setting : Setting) (first : Kept) (later : List Kept) (disk : Disk) (image : Image)
     → setting.shape ≡ shape_of disk → setting.odd ≡ [] → HoldsAlone disk image → IsImageOf setting.shape image
     → Keeps setting first later image
-    → HasNoOtherPage setting.shape (first ∷ later) image
+    → HasNoOtherPage setting (first ∷ later) image
     → ((kept : Kept) → Contains (first ∷ later) kept
     → (kept.uber.reflow.to ≡ first.uber.reflow.to) × (kept.uber.parity ≡ first.uber.parity))
     → ((kept : Kept) (id : ℕ) (content : List ℕ) → Contains (first ∷ later) kept → kept.map id ≡ Some content

@@ -1,20 +1,18 @@
 -- What a pool begins with, and what an opening keeps that was cut short.
-use Rattle.std.specs.Prelude.{◌≡◌, ℕ, ◌≤◌, List, ◌∷◌, true, Contains, Some, ⊤, []}
-use Rattle.bank_trait.specs.Disk.{Image, Disk, Unchanged}
+use Rattle.std.specs.Prelude.{◌≡◌, ℕ, List, ◌∷◌, Contains, Some, ⊤, []}
+use Rattle.bank_trait.specs.Disk.{Disk, Unchanged}
 use Rattle.reflow_mark.specs.Reflow.{sectors_of}
 use Rattle.block_record.specs.declared.entry.IndexEntry.{IndexEntry}
 use Rattle.reconstruct.specs.Lost.{AreBytes}
-use Rattle.uberblock_ring.specs.Devices.{has_device, count_of, IsWithin}
+use Rattle.uberblock_ring.specs.Devices.{IsWithin}
 use Rattle.uberblock_ring.specs.Uberblock.{Uber}
 use Rattle.core_state.specs.Keeps.{Kept, Setting}
 use Rattle.core_blocks.specs.Blocks.{Blocks}
 use Rattle.core_blocks.specs.Loading.{IsTakenBy}
 use Rattle.core_open.specs.declared.why.OpenWhy.{OpenWhy}
 use Rattle.core_open.specs.declared.why.OpenWhy.TheVariants as reason
-use Rattle.core_open.specs.Causes.{IsOutFor, IsShownChoice}
-use Rattle.core_open.specs.Failing.{HaveFailed}
-use Rattle.core_open.specs.Holds.{HoldsImage}
-use Rattle.core_open.specs.Opens.{MayOpen, HasOpened, OpeningKeeps, IsWithinBelow}
+pub use Rattle.core_open.specs.Opens.{CutsOpening}
+use Rattle.core_open.specs.Opens.{MayOpen, HasOpened}
 use Rattle.open_pool.specs.Pool.{Pool, HoldsMap, state_of}
 use Rattle.open_pool.specs.HoldsGroup.{HoldsGroup}
 
@@ -34,33 +32,18 @@ pub record MayBegin (setting : Setting) (first : Kept) (later : List Kept) (disk
       → kept.map id ≡ Some content → AreBytes content
 
 -- The pool was opened with a group that renews one of these, and holds its map.
-pub record Begins (setting : Setting) (first : Kept) (later : List Kept) (pool : Pool)
+pub record Begins (setting : Setting) (first : Kept) (later : List Kept) (pool : Pool) (silent : ℕ)
     (old new : Disk) : Type 0 where
-  pub opened : HasOpened setting first later pool.uber pool.blocks.table.entries old new
+  pub opened : HasOpened setting first later pool.uber pool.blocks.table.entries silent old new
   pub group : HoldsGroup setting opened.next (state_of pool new)
   pub holds : HoldsMap opened.next.map (state_of pool new)
 
--- So it is where all devices that were silent or are out may fail.
+-- So it is where these have the width of the pool, and all devices that are out may fail.
 pub record IsBegunWith (pool : Pool) (silent : ℕ) (old new : Disk) : Type 0 where
   pub each : (setting : Setting) (first : Kept) (later : List Kept)
       → MayBegin setting first later old
-      → IsWithinBelow first.uber.reflow.to silent setting.failed
-      → IsWithin pool.out setting.failed → Begins setting first later pool old new
-
--- An opening that was cut short: devices that were silent failed in it, and where they and those that its
--- group lists as out may fail, each image keeps what was kept and maybe its group. The listed ones are no
--- more than there are parities. Each was out at opening, or failed.
-pub record CutsOpening (old new : Disk) : Type 0 where
-  pub silent : ℕ
-  pub failed : HaveFailed old new silent
-  pub earlier : ℕ
-  pub few : (setting : Setting) (first : Kept) (later : List Kept) → MayOpen setting first later old
-      → IsWithinBelow first.uber.reflow.to silent setting.failed
-      → count_of earlier ≤ first.uber.parity
-  pub each : (image : Image) → HoldsImage old image → (device : ℕ)
-      → has_device earlier device ≡ true
-      → (shown : IsShownChoice old new image) × IsOutFor shown device
-  pub keeps : OpeningKeeps silent earlier old new
+      → first.uber.reflow.to ≡ pool.uber.reflow.to
+      → IsWithin pool.out setting.failed → Begins setting first later pool silent old new
 
 -- What is no pool, or has no more groups, is left as it was but for counts of faults.
 abbrev pub LeavesUnopened : OpenWhy → Disk → Disk → Type 0

@@ -1,6 +1,6 @@
 // Opening a pool.
-ghost use Rattle.std.specs.Prelude.{◌≡◌, ◌≤◌, [], IfErr, IfOk};
-ghost use Rattle.bank_trait.specs.Disk.{Later};
+ghost use Rattle.std.specs.Prelude.{◌≡◌, ◌⊎◌, ◌≤◌, [], IfErr, IfOk};
+ghost use Rattle.bank_trait.specs.Disk.{Image, Later, Unchanged};
 ghost use Rattle.bank_trait.specs.Regions.{TouchesOnly};
 ghost use Rattle.uberblock_ring.specs.Devices.{count_of};
 ghost use Rattle.uberblock_ring.specs.Valid.{IsRightUber};
@@ -8,7 +8,8 @@ ghost use Rattle.core_blocks.specs.Blocks.{AreUnderWay};
 ghost use Rattle.core_open.specs.Candidates.{IsIndexFor};
 ghost use Rattle.core_open.specs.Causes.{AreOutOf, IsOpenCause};
 ghost use Rattle.core_open.specs.Failing.{HaveFailed};
-ghost use Rattle.core_open.specs.Opens.{IsForMemory, LeavesOthers};
+ghost use Rattle.core_open.specs.Holds.{HoldsImage, shape_of};
+ghost use Rattle.core_open.specs.Opens.{IsForMemory, IsWithinBelow, LeavesOthers, RenewsChoice};
 ghost use Rattle.core_open.specs.Regions.{IsOnBelow};
 ghost use Rattle.open_pool.specs.Opening.{AreLoaded, CutsOpening, IsBegunWith, LeavesUnopened};
 ghost use Rattle.open_pool.specs.Pool.{HasBank};
@@ -58,12 +59,18 @@ pub fn open_pool<B: Bank>(alloc: Global, bank: &mut B) -> Result<OpenedPool, Ope
     ensures few { IfOk result (λ opened. count_of opened.pool.out ≤ opened.pool.uber.parity) }
     ensures silent { IfOk result (λ opened.
         HaveFailed (B.disk bank.old) (B.disk bank.new) opened.silent) }
+    ensures missed { IfOk result (λ opened.
+        IsWithinBelow opened.pool.uber.reflow.to opened.silent opened.pool.uber.out) }
+    ensures renews { IfOk result (λ opened. (image : Image) → HoldsImage (B.disk bank.old) image
+        → RenewsChoice (shape_of (B.disk bank.old)) opened.silent image
+        opened.pool.uber opened.pool.blocks.table.entries) }
     ensures out { IfOk result (λ opened. AreOutOf (B.disk bank.old) (B.disk bank.new)
-        opened.pool.uber opened.pool.out) }
+        opened.silent opened.pool.uber opened.pool.out) }
     ensures begins { IfOk result (λ opened. IsBegunWith opened.pool opened.silent
         (B.disk bank.old) (B.disk bank.new)) }
     ensures cause { IfErr result (IsOpenCause (B.disk bank.old) (B.disk bank.new)) }
-    ensures cut { IfErr result (λ why. CutsOpening (B.disk bank.old) (B.disk bank.new)) }
+    ensures cut { IfErr result (λ why. Unchanged (B.disk bank.old) (B.disk bank.new)
+        ⊎ CutsOpening (B.disk bank.old) (B.disk bank.new)) }
     ensures untouched { IfErr result (λ why.
         LeavesUnopened why (B.disk bank.old) (B.disk bank.new)) }
     ensures opens { IfErr result (IsForMemory (B.disk bank.old) (B.disk bank.new)) }

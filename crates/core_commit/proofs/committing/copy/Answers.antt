@@ -5,8 +5,8 @@ use Rattle.core_commit.specs.Ran.{point_of}
 use Rattle.core_commit.proofs.Copying.{copies_all_inside, copy_gone, copy_spares, copy_short, copy_whole}
 use Rattle.core_commit.proofs.committing.copy.Goals as goal
 
-pub sign-requires-clause-inside : goal.sign-requires-clause-inside
-sign-requires-clause-inside g c = copies_all_inside c.args.uber.now c.args.lack_page c.args.lack_uber
+pub make_all-requires-clause-inside : goal.make_all-requires-clause-inside
+make_all-requires-clause-inside g c = copies_all_inside c.args.uber.now c.args.lack_page c.args.lack_uber
     c.copies-calls.result (c.copies-calls.ensures.value
     ∙ ap (λ (r : Reflow). copies_of r.to c.count.result c.args.lack_page c.args.lack_uber) c.reflow.ensures.value
     ∙ ap (λ (n : ℕ). copies_of c.args.uber.now.reflow.to n c.args.lack_page c.args.lack_uber) c.count.ensures.value)
@@ -14,50 +14,50 @@ sign-requires-clause-inside g c = copies_all_inside c.args.uber.now c.args.lack_
 pub returns-then-len-parity-clause-gone : goal.returns-then-len-parity-clause-gone
 returns-then-len-parity-clause-gone g c = copy_gone c.args.uber.now c.args.entries.now c.args.lack_page c.args.lack_uber
     (point_of c.args.out.now (g.B.Bank.disk c.args.bank.now)) c.requires.right c.requires.index
-    c.requires.fits.counted c.copies-calls.result c.sign.new.calls
-    (point_of c.sign.new.out (g.B.Bank.disk c.sign.new.bank)) (c.copies-calls.ensures.value
+    c.requires.fits.counted c.copies-calls.result c.make_all.new.calls
+    (point_of c.make_all.new.out (g.B.Bank.disk c.make_all.new.bank)) (c.copies-calls.ensures.value
     ∙ ap (λ (r : Reflow). copies_of r.to c.count.result c.args.lack_page c.args.lack_uber) c.reflow.ensures.value
-    ∙ ap (λ (n : ℕ). copies_of c.args.uber.now.reflow.to n c.args.lack_page c.args.lack_uber) c.count.ensures.value) c.sign.ensures.ran
+    ∙ ap (λ (n : ℕ). copies_of c.args.uber.now.reflow.to n c.args.lack_page c.args.lack_uber) c.count.ensures.value) c.make_all.ensures.ran
 
 pub returns-then-len-parity-clause-spares : goal.returns-then-len-parity-clause-spares
 returns-then-len-parity-clause-spares g c = copy_spares c.args.uber.now c.args.entries.now c.args.lack_page c.args.lack_uber
     (point_of c.args.out.now (g.B.Bank.disk c.args.bank.now)) c.requires.right c.requires.index
-    c.requires.fits.counted c.copies-calls.result c.sign.new.calls
-    (point_of c.sign.new.out (g.B.Bank.disk c.sign.new.bank)) (c.copies-calls.ensures.value
+    c.requires.fits.counted c.copies-calls.result c.make_all.new.calls
+    (point_of c.make_all.new.out (g.B.Bank.disk c.make_all.new.bank)) (c.copies-calls.ensures.value
     ∙ ap (λ (r : Reflow). copies_of r.to c.count.result c.args.lack_page c.args.lack_uber) c.reflow.ensures.value
-    ∙ ap (λ (n : ℕ). copies_of c.args.uber.now.reflow.to n c.args.lack_page c.args.lack_uber) c.count.ensures.value) c.sign.ensures.ran
+    ∙ ap (λ (n : ℕ). copies_of c.args.uber.now.reflow.to n c.args.lack_page c.args.lack_uber) c.count.ensures.value) c.make_all.ensures.ran
 
 pub returns-then-len-parity-clause-keeps : goal.returns-then-len-parity-clause-keeps
 returns-then-len-parity-clause-keeps g c = copy_short c.args.uber.now c.args.entries.now c.args.lack_page c.args.lack_uber
     (point_of c.args.out.now (g.B.Bank.disk c.args.bank.now)) c.requires.right c.requires.index
-    c.requires.fits.counted c.copies-calls.result c.sign.new.calls
-    (point_of c.sign.new.out (g.B.Bank.disk c.sign.new.bank)) (c.copies-calls.ensures.value
+    c.requires.fits.counted c.copies-calls.result c.make_all.new.calls
+    (point_of c.make_all.new.out (g.B.Bank.disk c.make_all.new.bank)) (c.copies-calls.ensures.value
     ∙ ap (λ (r : Reflow). copies_of r.to c.count.result c.args.lack_page c.args.lack_uber) c.reflow.ensures.value
-    ∙ ap (λ (n : ℕ). copies_of c.args.uber.now.reflow.to n c.args.lack_page c.args.lack_uber) c.count.ensures.value) c.sign.ensures.ran
+    ∙ ap (λ (n : ℕ). copies_of c.args.uber.now.reflow.to n c.args.lack_page c.args.lack_uber) c.count.ensures.value) c.make_all.ensures.ran
     (g.met.B.Bank.lawful c.args.bank.now) _
 
 pub returns-clause-gone : goal.returns-clause-gone
 returns-clause-gone g c = copy_gone c.args.uber.now c.args.entries.now c.args.lack_page c.args.lack_uber
     (point_of c.args.out.now (g.B.Bank.disk c.args.bank.now)) c.requires.right c.requires.index
-    c.requires.fits.counted c.copies-calls.result c.sign.new.calls
-    (point_of c.sign.new.out (g.B.Bank.disk c.sign.new.bank)) (c.copies-calls.ensures.value
+    c.requires.fits.counted c.copies-calls.result c.make_all.new.calls
+    (point_of c.make_all.new.out (g.B.Bank.disk c.make_all.new.bank)) (c.copies-calls.ensures.value
     ∙ ap (λ (r : Reflow). copies_of r.to c.count.result c.args.lack_page c.args.lack_uber) c.reflow.ensures.value
-    ∙ ap (λ (n : ℕ). copies_of c.args.uber.now.reflow.to n c.args.lack_page c.args.lack_uber) c.count.ensures.value) c.sign.ensures.ran
+    ∙ ap (λ (n : ℕ). copies_of c.args.uber.now.reflow.to n c.args.lack_page c.args.lack_uber) c.count.ensures.value) c.make_all.ensures.ran
 
 pub returns-clause-spares : goal.returns-clause-spares
 returns-clause-spares g c = copy_spares c.args.uber.now c.args.entries.now c.args.lack_page c.args.lack_uber
     (point_of c.args.out.now (g.B.Bank.disk c.args.bank.now)) c.requires.right c.requires.index
-    c.requires.fits.counted c.copies-calls.result c.sign.new.calls
-    (point_of c.sign.new.out (g.B.Bank.disk c.sign.new.bank)) (c.copies-calls.ensures.value
+    c.requires.fits.counted c.copies-calls.result c.make_all.new.calls
+    (point_of c.make_all.new.out (g.B.Bank.disk c.make_all.new.bank)) (c.copies-calls.ensures.value
     ∙ ap (λ (r : Reflow). copies_of r.to c.count.result c.args.lack_page c.args.lack_uber) c.reflow.ensures.value
-    ∙ ap (λ (n : ℕ). copies_of c.args.uber.now.reflow.to n c.args.lack_page c.args.lack_uber) c.count.ensures.value) c.sign.ensures.ran
+    ∙ ap (λ (n : ℕ). copies_of c.args.uber.now.reflow.to n c.args.lack_page c.args.lack_uber) c.count.ensures.value) c.make_all.ensures.ran
 
 pub returns-clause-keeps : goal.returns-clause-keeps
 returns-clause-keeps g c = copy_whole c.args.uber.now c.args.entries.now c.args.lack_page c.args.lack_uber
     (point_of c.args.out.now (g.B.Bank.disk c.args.bank.now)) c.requires.right c.requires.index
-    c.requires.fits.counted c.copies-calls.result c.sign.new.calls
-    (point_of c.sign.new.out (g.B.Bank.disk c.sign.new.bank)) (c.copies-calls.ensures.value
+    c.requires.fits.counted c.copies-calls.result c.make_all.new.calls
+    (point_of c.make_all.new.out (g.B.Bank.disk c.make_all.new.bank)) (c.copies-calls.ensures.value
     ∙ ap (λ (r : Reflow). copies_of r.to c.count.result c.args.lack_page c.args.lack_uber) c.reflow.ensures.value
-    ∙ ap (λ (n : ℕ). copies_of c.args.uber.now.reflow.to n c.args.lack_page c.args.lack_uber) c.count.ensures.value) c.sign.ensures.ran
+    ∙ ap (λ (n : ℕ). copies_of c.args.uber.now.reflow.to n c.args.lack_page c.args.lack_uber) c.count.ensures.value) c.make_all.ensures.ran
     (g.met.B.Bank.lawful c.args.bank.now) _
-    (c.sign.ensures.ends (omega (arith, c.if-len-parity.false, c.len.ensures.value, c.parity.ensures.value)))
+    (c.make_all.ensures.ends (omega (arith, c.if-len-parity.false, c.len.ensures.value, c.parity.ensures.value)))

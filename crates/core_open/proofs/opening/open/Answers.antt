@@ -1,17 +1,13 @@
 use Rattle.std.proofs.Common.{inl, rules}
 use Rattle.std.specs.Prelude.{IfErr}
 use Rattle.core_open.specs.Finding.{IsFindCause}
-use Rattle.core_open.proofs.Finishing.{opens_promises, known, refused, fits_then, cut_all, untouched_all, others_of}
+use Rattle.core_open.proofs.Finishing.{opens_promises, known, refused, fits_then, untouched_all, others_of}
 use Rattle.core_open.proofs.Unhindered.{caused, find_memory}
 use Rattle.core_open.proofs.opening.open.Goals as goal
 
 pub open_found-requires-clause-fits : goal.open_found-requires-clause-fits
 open_found-requires-clause-fits g c = fits_then c.in_ok-found.found (g.B.Bank.disk c.args.bank.now)
     (g.B.Bank.disk c.find.new.bank) c.find.ensures.unchanged c.in_ok-found.ensures.fits
-
-pub returns-in_err-found-clause-cut : goal.returns-in_err-found-clause-cut
-returns-in_err-found-clause-cut g c = cut_all c.from_residual.result (g.B.Bank.disk c.args.bank.now)
-    (g.B.Bank.disk c.find.new.bank) (g.met.B.Bank.lawful c.args.bank.now) c.find.ensures.unchanged
 
 pub returns-in_err-found-clause-untouched : goal.returns-in_err-found-clause-untouched
 returns-in_err-found-clause-untouched g c = untouched_all c.from_residual.result (g.B.Bank.disk c.args.bank.now)
@@ -29,6 +25,16 @@ returns-clause-index g c = known c.open_found.result (λ opened told. told.index
 
 pub returns-clause-silent : goal.returns-clause-silent
 returns-clause-silent g c = known c.open_found.result (λ opened told. told.silent) (opens_promises _ c.open_found.result (g.met.B.Bank.lawful c.args.bank.now)
+    c.find.ensures.unchanged c.in_ok-found.ensures.found c.in_ok-found.ensures.right c.in_ok-found.ensures.silent
+    c.in_ok-found.ensures.fits c.in_ok-found.ensures.index c.open_found.ensures.opens).0
+
+pub returns-clause-missed : goal.returns-clause-missed
+returns-clause-missed g c = known c.open_found.result (λ opened told. told.missed) (opens_promises _ c.open_found.result (g.met.B.Bank.lawful c.args.bank.now)
+    c.find.ensures.unchanged c.in_ok-found.ensures.found c.in_ok-found.ensures.right c.in_ok-found.ensures.silent
+    c.in_ok-found.ensures.fits c.in_ok-found.ensures.index c.open_found.ensures.opens).0
+
+pub returns-clause-renews : goal.returns-clause-renews
+returns-clause-renews g c = known c.open_found.result (λ opened told. told.renews) (opens_promises _ c.open_found.result (g.met.B.Bank.lawful c.args.bank.now)
     c.find.ensures.unchanged c.in_ok-found.ensures.found c.in_ok-found.ensures.right c.in_ok-found.ensures.silent
     c.in_ok-found.ensures.fits c.in_ok-found.ensures.index c.open_found.ensures.opens).0
 
@@ -74,11 +80,6 @@ returns-clause-since g c = known c.open_found.result (λ opened told. told.since
 
 pub returns-clause-cause : goal.returns-clause-cause
 returns-clause-cause g c = refused c.open_found.result (λ why told. told.cause) (opens_promises _ c.open_found.result (g.met.B.Bank.lawful c.args.bank.now)
-    c.find.ensures.unchanged c.in_ok-found.ensures.found c.in_ok-found.ensures.right c.in_ok-found.ensures.silent
-    c.in_ok-found.ensures.fits c.in_ok-found.ensures.index c.open_found.ensures.opens).1
-
-pub returns-clause-cut : goal.returns-clause-cut
-returns-clause-cut g c = refused c.open_found.result (λ why told. told.cut) (opens_promises _ c.open_found.result (g.met.B.Bank.lawful c.args.bank.now)
     c.find.ensures.unchanged c.in_ok-found.ensures.found c.in_ok-found.ensures.right c.in_ok-found.ensures.silent
     c.in_ok-found.ensures.fits c.in_ok-found.ensures.index c.open_found.ensures.opens).1
 

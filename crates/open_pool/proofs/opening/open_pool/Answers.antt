@@ -1,11 +1,22 @@
-use Rattle.open_pool.proofs.Begins.{loaded_of, begun_is_pool, begins, memory_cuts}
+use Rattle.std.proofs.Common.{rules}
+use Rattle.std.specs.Prelude.{IfErr}
+use Rattle.core_open.specs.Opens.{LeavesBank}
+use Rattle.open_pool.proofs.Begins.{loaded_of, renews_loaded, begun_is_pool, begins, refused_cuts, memory_cuts}
 use Rattle.open_pool.proofs.opening.open_pool.Goals as goal
+
+pub returns-in_err-opened-clause-cut : goal.returns-in_err-opened-clause-cut
+returns-in_err-opened-clause-cut g c =
+    let leaves : IfErr c.from_residual.result
+    (λ why. LeavesBank why (g.B.Bank.disk c.args.bank.now) (g.B.Bank.disk c.open.new.bank)) = search rules in
+    refused_cuts c.from_residual.result (g.B.Bank.disk c.args.bank.now) (g.B.Bank.disk c.open.new.bank)
+    leaves
 
 pub returns-in_err-blocks-clause-cut : goal.returns-in_err-blocks-clause-cut
 returns-in_err-blocks-clause-cut g c = memory_cuts c.from_residual-in_err-blocks.result c.in_ok-opened.opened.uber
-    c.in_ok-opened.opened.entries.items c.in_ok-opened.opened.silent c.in_ok-opened.opened.out
+    c.in_ok-opened.opened.silent c.in_ok-opened.opened.out
     (g.B.Bank.disk c.args.bank.now) (g.B.Bank.disk c.open.new.bank) c.in_ok-opened.ensures.silent
-    c.in_ok-opened.ensures.out c.in_ok-opened.ensures.few c.in_ok-opened.ensures.kept c.in_ok-opened.ensures.since
+    c.in_ok-opened.ensures.out c.in_ok-opened.ensures.few c.in_ok-opened.ensures.missed c.in_ok-opened.ensures.since
+    c.in_ok-opened.ensures.only
 
 pub invariant_of-result : goal.invariant_of-result
 invariant_of-result g c = begun_is_pool c.in_ok-opened.opened.uber c.in_ok-opened.opened.entries.items _
@@ -14,11 +25,15 @@ invariant_of-result g c = begun_is_pool c.in_ok-opened.opened.uber c.in_ok-opene
 
 pub returns-clause-begins : goal.returns-clause-begins
 returns-clause-begins g c = record {
-  each = λ setting first later may silent within. begins setting first later c.in_ok-opened.opened.uber
+  each = λ setting first later may wide within. begins setting first later c.in_ok-opened.opened.uber
       c.in_ok-opened.opened.entries.items _ c.in_ok-opened.opened.out
       (g.B.Bank.disk c.args.bank.now) (g.B.Bank.disk c.open.new.bank) may c.in_ok-opened.ensures.right
       c.in_ok-opened.ensures.index (loaded_of c.deref.ensures.value c.in_ok-blocks.ensures.loaded)
-      (c.in_ok-opened.ensures.kept.kept setting first later may.may silent within)
+      c.in_ok-opened.opened.silent (c.in_ok-opened.ensures.kept.kept setting first later may.may wide within)
       (g.met.B.Bank.lawful c.open.new.bank) c.in_ok-opened.ensures.spares.later c.in_ok-opened.ensures.bank
       c.in_ok-opened.ensures.out.lists;
 }
+
+pub returns-clause-renews : goal.returns-clause-renews
+returns-clause-renews g c image holds = renews_loaded (loaded_of c.deref.ensures.value c.in_ok-blocks.ensures.loaded)
+    (c.in_ok-opened.ensures.renews image holds)

@@ -12,7 +12,7 @@ invariant_of-self-else-is_err-clause-same c =
 pub returns-clause-synced : goal.returns-clause-synced
 returns-clause-synced c =
     let one_more : c.push.new.self.items ≡ c.args.self.now.calls.items ++ Sync c.args.self.now.plan.total c.args.device ∷ [] = search rules in
-    synced _ _ _ _ _ _ _ _ _ one_more c.fails_now.ensures.faults c.args.self.now.same
+    synced _ _ _ _ _ _ _ _ _ one_more c.fails_now.ensures.faults (c.fails_now.ensures.well c.if-fails_now.false) c.args.self.now.same
 
 pub invariant_of-self-else-is_err-clause-placed : goal.invariant_of-self-else-is_err-clause-placed
 invariant_of-self-else-is_err-clause-placed c =

@@ -1,7 +1,7 @@
 use Rattle.std.proofs.Common.{◌∙◌, ap}
 use Rattle.reflow_mark.specs.declared.reflow.Reflow.{Reflow}
 use Rattle.commit_job.specs.Stages.{plan_of}
-use Rattle.core_commit.proofs.Ending.{plan_inside}
+use Rattle.core_commit.proofs.Planned.{plan_inside}
 use Rattle.core_commit.proofs.commit_run.CommitRun.new.Goals as goal
 
 pub invariant_of-result : goal.invariant_of-result

@@ -1,12 +1,12 @@
 use Rattle.std.proofs.Common.{length}
 use Rattle.std.specs.Prelude.{◌<◌, ◌^◌, All}
-use Rattle.core_commit.specs.Ran.{Ran, IsLaying, IsInside, FitsBank, point_of}
+use Rattle.core_commit.specs.Ran.{Ran, IsInside, FitsBank, point_of}
 use Rattle.core_commit.specs.Spared.{TouchesGroup, StopsInTime}
-use Rattle.core_commit.proofs.committing.lay.Given as goal
+use Rattle.core_commit.proofs.committing.make_all.Given as goal
 
 abbrev pub invariant-loop-call : goal.invariant-loop-call
 invariant-loop-call g l = record {
-  ran : Ran IsLaying l.uber l.entries l.initial.calls (point_of l.initial.out (g.B.Bank.disk l.initial.bank)) l.calls
+  ran : Ran l.uber l.entries l.initial.calls (point_of l.initial.out (g.B.Bank.disk l.initial.bank)) l.calls
       (point_of l.out (g.B.Bank.disk l.bank));
   touches : TouchesGroup l.uber (point_of l.initial.out (g.B.Bank.disk l.initial.bank))
       (point_of l.out (g.B.Bank.disk l.bank));

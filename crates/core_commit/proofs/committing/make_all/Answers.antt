@@ -1,12 +1,11 @@
-use Rattle.std.proofs.Common.{◌∙◌, [], refl, sym, ap, arith, length, subst}
+use Rattle.std.proofs.Common.{[], refl, sym, ap, arith, length, subst}
 use Rattle.std.specs.Prelude.{All, List}
 use Rattle.commit_job.specs.declared.call.CommitCall.{CommitCall}
-use Rattle.core_state.proofs.Calls.{true_false}
-use Rattle.core_commit.specs.Ran.{IsInside, Ran, IsLaying, point_of}
+use Rattle.core_commit.specs.Ran.{IsInside, Ran, point_of}
 use Rattle.core_commit.proofs.Running.{next_is, ran_more}
 use Rattle.core_commit.proofs.Touching.{touched_none, touched_more}
 use Rattle.core_commit.proofs.Stopping.{stops_none, stops_then}
-use Rattle.core_commit.proofs.committing.lay.Goals as goal
+use Rattle.core_commit.proofs.committing.make_all.Goals as goal
 
 pub make-requires-clause-inside : goal.make-requires-clause-inside
 make-requires-clause-inside g c =
@@ -39,16 +38,15 @@ loop-call-preserved g c =
     let next = next_is (IsInside c.args.uber.now) c.loop-call.out c.loop-call.calls c.in-Some.call
     c.loop-call.invariant.inside (c.next_call.ensures.some c.in-Some.call c.in-Some.is) in
     record {
-      ran = subst (λ (l : List CommitCall). Ran IsLaying c.args.uber.now c.args.entries.now c.args.calls.now
+      ran = subst (λ (l : List CommitCall). Ran c.args.uber.now c.args.entries.now c.args.calls.now
           (point_of c.args.out.now (g.B.Bank.disk c.args.bank.now)) l
           (point_of c.make.new.out (g.B.Bank.disk c.make.new.bank)))
           (sym c.advance.ensures.left)
-          (ran_more IsLaying c.args.uber.now c.args.entries.now c.args.calls.now c.loop-call.calls
+          (ran_more c.args.uber.now c.args.entries.now c.args.calls.now c.loop-call.calls
           (point_of c.args.out.now (g.B.Bank.disk c.args.bank.now))
           (point_of c.loop-call.out (g.B.Bank.disk c.loop-call.bank))
           (point_of c.make.new.out (g.B.Bank.disk c.make.new.bank))
-          c.in-Some.call c.loop-call.invariant.ran
-          (λ signing. true_false (sym (c.is_signing.ensures.1 signing) ∙ c.if-is_signing.false)) (c.next_call.ensures.some c.in-Some.call c.in-Some.is) c.make.ensures.made);
+          c.in-Some.call c.loop-call.invariant.ran (c.next_call.ensures.some c.in-Some.call c.in-Some.is) c.make.ensures.made);
       touches = touched_more c.args.uber.now c.args.entries.now c.in-Some.call
           (point_of c.args.out.now (g.B.Bank.disk c.args.bank.now))
           (point_of c.loop-call.out (g.B.Bank.disk c.loop-call.bank))
@@ -66,3 +64,6 @@ loop-call-preserved g c =
       inside = subst (All (IsInside c.args.uber.now)) (sym c.advance.ensures.left) next.rest;
       below = c.make.ensures.below;
     }
+
+pub returns-clause-ends : goal.returns-clause-ends
+returns-clause-ends g c few = c.next_call.ensures.none c.in_default.is (omega (arith, few, c.parity.ensures.value))
