@@ -2,8 +2,9 @@
 //! right, and read where their rows stand.
 //!
 //! A device whose call fails is out from then on, and one that is out is passed over. Read
-//! `specs/Outs.antt`, then `specs/Writing.antt`, `specs/Reading.antt` and `specs/Got.antt`. Stands
-//! on `core_state`, `shadow_write` and `reconstruct`.
+//! `specs/Outs.antt`, then `specs/Writing.antt`, `specs/Reading.antt` and `specs/Got.antt`, and for a
+//! block that is written or read one call at a time `specs/BlockTurns.antt`. Stands on `core_state`,
+//! `shadow_write` and `reconstruct`.
 #![tactic(auto)]
 
 mod block_read;

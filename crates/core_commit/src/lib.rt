@@ -1,10 +1,10 @@
 //! A commit: the device calls that make a group the last one.
 //!
 //! The index page goes to each device and is synced there; then an uberblock that names it goes to
-//! each device, and is synced. A device whose call fails is out from then on, and is passed over. Read
-//! `specs/Ran.antt` for what was called, and `core_state`'s `specs/Committing.antt` for what that
-//! keeps; and `specs/CommitTurns.antt` for a commit that makes one call a step. Stands on `commit_job`
-//! and `core_state`.
+//! each device, and is synced. A commit makes one call a step. A device whose call fails is out from
+//! then on, and is passed over. Read `specs/Ran.antt` for what was called, `specs/CommitTurns.antt` for
+//! the steps, and `core_state`'s `specs/Committing.antt` for what they keep; and `specs/Copies.antt` for
+//! a group that is brought to the devices that lack it. Stands on `commit_job` and `core_state`.
 #![tactic(auto)]
 
 mod commit_run;

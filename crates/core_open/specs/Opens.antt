@@ -42,7 +42,7 @@ pub record AddsOne (groups joined : List Kept) : Type 0 where
   pub renews : (next : Kept) → Contains joined next
       → (chosen : Kept) × Contains groups chosen × Renews chosen next
 
--- Those of these devices that are below a number may fail.
+-- Those of these devices that are below a number are among the others.
 abbrev pub IsWithinBelow : ℕ → ℕ → ℕ → Type 0
 IsWithinBelow width devices others = (device : ℕ) → device < width
     → has_device devices device ≡ true
@@ -65,8 +65,8 @@ pub record CutsOpening (old new : Disk) : Type 0 where
   pub failed : HaveFailed old new silent
   pub width : ℕ
   pub parity : ℕ
-  -- Some devices have to be borne: no more than there are parities, each of which was out at opening or failed,
-  -- with the silent ones of the pool, and those that the group which was begun lists as out.
+  -- Some devices have to be borne, with the silent ones of the pool and those that the group which was begun
+  -- lists as out. They are no more than there are parities, and each was out at opening or failed.
   pub borne : ℕ
   pub few : count_of borne ≤ parity
   pub missed : IsWithinBelow width silent borne

@@ -1,5 +1,5 @@
 -- All groups of a run have one width and parity.
-use Rattle.std.proofs.Common.{[], ◌≡◌, ⊎_elim, List, ◌∷◌, ◌++◌, sym, ◌∙◌, ap}
+use Rattle.std.proofs.Common.{[], ◌≡◌, ⊎_elim, List, ◌∷◌, ◌++◌, sym, ◌∙◌, ap, ℕ}
 use Rattle.std.proofs.lemmas.List.Elements.{Contains-append_cases}
 use Rattle.std.specs.Prelude.{Contains}
 use Rattle.bank_trait.specs.Disk.{Disk}
@@ -29,8 +29,8 @@ widths_joined one uber groups joined to_is parity_is wide more = record {
 }
 
 module _ {setting : Setting} {first : Kept} {later : List Kept} {uber : Uber} {entries : List IndexEntry}
-    {old new : Disk} (may : MayOpen setting first later old)
-    (opened : HasOpened setting first later uber entries old new) where
+    {silent : ℕ} {old new : Disk} (may : MayOpen setting first later old)
+    (opened : HasOpened setting first later uber entries silent old new) where
   -- An opening's uberblock has the width and the parity of the groups kept before,
   pub opened_width : (uber.reflow.to ≡ first.uber.reflow.to) × (uber.parity ≡ first.uber.parity)
   opened_width = let was = may.width opened.chosen opened.listed in (

@@ -4,8 +4,8 @@ use Rattle.std.specs.Prelude.{take, true, false}
 use Rattle.std.proofs.lemmas.Bool.{cases_lt, cases_eq}
 use Rattle.std.proofs.lemmas.List.{append-nil}
 use Rattle.bank_trait.specs.Causes.{Rose}
-use Rattle.bank_trait.specs.Disk.{Image, Disk}
-use Rattle.bank_trait.specs.Regions.{TouchesOnly}
+use Rattle.bank_trait.specs.Disk.{Image, Disk, Later}
+use Rattle.bank_trait.specs.Regions.{Tells, TouchesOnly}
 use Rattle.bank_trait.proofs.Touches.{touches_none}
 use Rattle.core_open.specs.Regions.{IsOnBelow}
 use Rattle.uberblock_ring.specs.Devices.{has_device, with_device}
@@ -31,8 +31,9 @@ use Rattle.raidzx_top.specs.Call.{ReadsScript, Call}
 use Rattle.raidzx_top.specs.Order.{served_by}
 use Rattle.raidzx_top.specs.Causes.{NoneRose, IsCaused, IsCause, HaveRisen, IsTooSmall, IsFoundImage, ComesWhere, IsOrNoMemory}
 use Rattle.raidzx_top.specs.RunText.{IsLineFor, TextIsRight, create_text, status_line}
-use Rattle.raidzx_top.specs.Promises.{CreatePromises, IsNewSetting, IsQuiet, RunIsKept, RunCompletes, CallPromises, IsCarriedOut}
+use Rattle.raidzx_top.specs.Promises.{CreatePromises, IsNewSetting, NoneShowsFrom, IsQuiet, RunIsKept, RunCompletes, CallPromises, IsCarriedOut}
 use Rattle.raidzx_top.specs.Making.{IsSmallFor, HasFailedOn, Makes, IsSaid, EndsCreate}
+use Rattle.raidzx_top.proofs.NewPools.{new_begins}
 use Rattle.raidzx_top.proofs.Spelling.{one_create, create_no_script, create_spells}
 use Rattle.raidzx_top.proofs.Refusing.{said_right}
 
@@ -187,13 +188,12 @@ module _ (call : Call) (made : NewPool) (served_as : IsServedAs call.words (serv
           (subst (λ (n : NewPool). IsTooSmall call (Create n.parity n.width n.id))
           (sym (same m is)) less))
 
-  -- A pool that fits and was made is kept.
-  kept : (IsSmallFor made call.old → ⊥)
+  -- A pool that fits and was made is kept,
+  bank_keeps : (IsSmallFor made call.old → ⊥)
       → IsCreated (first_uber made.id made.parity made.width (rows_for call.old.sectors)) call.new
-      → CreatePromises call made.parity made.width made.id
-  kept fits created = record {
-    made = created;
-    keeps = λ setting new others.
+      → (setting : Setting) → IsNewSetting call made.parity made.id setting → NoneShowsFrom call made.width
+      → BankKeeps setting (first_kept made.id made.parity made.width call.old.sectors) [] call.new
+  bank_keeps fits created setting new others =
         subst (λ (n : ℕ). BankKeeps setting (first_kept n made.parity made.width call.old.sectors) [] call.new)
         new.pool
         (subst (λ (s : Shape). BankKeeps setting (first_kept setting.pool made.parity made.width s.sectors) [] call.new)
@@ -204,8 +204,7 @@ module _ (call : Call) (made : NewPool) (served_as : IsServedAs call.words (serv
         created))
         (λ image device uber above might shows. others image device uber above
         (subst (λ (s : Shape). MightStand s call.new call.new.clock image) new.shape might)
-        (subst (λ (s : Shape). Shows s image device uber) new.shape shows))));
-  }
+        (subst (λ (s : Shape). Shows s image device uber) new.shape shows))))
     where
       spelled : SpellsCreate call.words made
       spelled = create_spells call.words made served_as
@@ -228,6 +227,18 @@ module _ (call : Call) (made : NewPool) (served_as : IsServedAs call.words (serv
         sectors = subst (λ (s : Shape). 256 ≤ s.sectors) (sym new.shape) sectors;
       }
 
+  -- and a run may begin with it.
+  kept : (IsSmallFor made call.old → ⊥)
+      → IsCreated (first_uber made.id made.parity made.width (rows_for call.old.sectors)) call.new
+      → Later call.old call.new → Tells call.old
+      → CreatePromises call made.parity made.width made.id
+  kept fits created later tells = record {
+    made = created;
+    keeps = bank_keeps fits created;
+    begins = λ setting new odd others. new_begins call made.parity made.width made.id later tells setting new odd
+        (bank_keeps fits created setting new others);
+  }
+
   -- A pool that was made: its line was written, or a front of it.
   carried_out : (given : Status) → call.status ≡ given
       → (given ≡ status.Done) ⊎ ((given ≡ status.SinkFault) × Rose call.sink.faults call.sink_after.faults)
@@ -247,7 +258,7 @@ module _ (call : Call) (made : NewPool) (served_as : IsServedAs call.words (serv
       quiet = λ m served_m. quiet_call;
       keeps = λ m served_m carried tells.
           subst (λ (n : NewPool). CreatePromises call n.parity n.width n.id) (same m served_m)
-          (kept makes.0 (makes.2 tells));
+          (kept makes.0 (makes.2 tells) makes.1.later tells);
       text = λ m served_m carried.
           subst (λ (n : NewPool). TextIsRight call (create_text n.parity n.width n.id (rows_for call.old.sectors)))
           (same m served_m) text;

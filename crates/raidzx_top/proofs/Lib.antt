@@ -13,3 +13,5 @@ pub mod RunCarried
 pub mod RunEnding
 pub mod Ending
 pub mod NewPools
+pub mod Choices
+pub mod Bearing

@@ -4,7 +4,7 @@ use Rattle.std.specs.Prelude.{All, Contains, take}
 use Rattle.std.specs.List.{AllZip}
 use Rattle.std.proofs.lemmas.List.Elements.{Contains-append_cases}
 use Rattle.std.proofs.lemmas.Option.{slice_get_within}
-use Rattle.bank_trait.specs.Disk.{Image, Disk}
+use Rattle.bank_trait.specs.Disk.{Image, Disk, Unchanged}
 use Rattle.uberblock_ring.specs.Uberblock.{Uber}
 use Rattle.core_state.specs.declared.item.Entry.{Entry}
 use Rattle.core_state.specs.declared.item.Group.{Group as GroupItem}
@@ -16,7 +16,9 @@ use Rattle.core_state.specs.Keeps.{Kept, Setting, Keeps}
 use Rattle.core_state.specs.Collision.{MightStand}
 use Rattle.core_state.specs.Moment.{IsGroupOf, IsBegunAfter, IsUnanswered, KeepsSince, groups_in}
 use Rattle.core_state.proofs.Listed.{contains_none, contains_cases}
-use Rattle.core_open.specs.Opens.{AddsOne, IsWithinBelow}
+use Rattle.core_open.specs.Opens.{AddsOne}
+use Rattle.uberblock_ring.specs.Devices.{IsWithin}
+use Rattle.core_open.proofs.Unchanged.{unchanged_keeps}
 use Rattle.open_pool.specs.Opening.{CutsOpening, MayBegin}
 use Rattle.open_pool.specs.Stopped.{IsImageOf}
 use Rattle.open_pool.proofs.Reopened.{stopped_begins}
@@ -25,7 +27,7 @@ use Rattle.journal_law.specs.Widths.{HaveWidthOf}
 use Rattle.journal_law.proofs.Rows.{row_among}
 use Rattle.journal_law.proofs.RunBytes.{HoldsBytes, HandsBytes, after_bytes, script_hands}
 use Rattle.schedule.specs.WholeRun.{HasRun, RunKeeps, banks_of}
-use Rattle.raidzx_top.specs.Reopened.{BearsCut, MayFail, IsLeft, IsLeftOn, ReadsBack, IsReadBack, SurvivesOpening, SurvivesStops, last_groups}
+use Rattle.raidzx_top.specs.Reopened.{BearsCut, IsLeft, IsLeftOn, ReadsBack, IsReadBack, SurvivesOpening, SurvivesStops, last_groups}
 
 -- The groups have maps of bytes.
 abbrev HaveBytes : List Kept → Type 0
@@ -79,26 +81,25 @@ read_back setting groups opened first later image odd only keeps among width byt
         (λ one id content listed. bytes one (among one listed) id content)
 
     reads : (script : Script) (old new : Disk) (items : List Item) (out : ℕ) → (run : HasRun script old new items out)
-        → IsLeftOn setting groups image old → MayFail setting opened.uber.reflow.to run.silent run.borne
+        → IsLeftOn setting groups image old → run.opened.to ≡ opened.uber.reflow.to
+        → IsWithin run.borne setting.failed
         → ReadsBack groups script items
-    reads script old new items out run left bears = record {
+    reads script old new items out run left width_is bears = record {
       chosen = kept.chosen;
       known = among kept.chosen kept.known;
       legal = kept.legal;
       sound = kept.sound;
     }
       where
-        kept : RunKeeps script setting first later old new items run.parity (banks_of run)
-        kept = run.keeps setting first later (may old left)
-            (subst (λ (wide : ℕ). IsWithinBelow wide run.silent setting.failed) (sym (width.each first here).0)
-            bears.silent_in) bears.borne_in
+        kept : RunKeeps script setting first later old new items run.parity run.silent (banks_of run)
+        kept = run.keeps setting first later (may old left) ((width.each first here).0 ∙ sym width_is) bears
 
 module _ (script : Script) (old new : Disk) (items : List Item) (out : ℕ) (run : HasRun script old new items out)
     (allowed : All (λ placed. IsAllowed placed.call) script.calls)
     (setting : Setting) (first : Kept) (later : List Kept) (may : MayBegin setting first later old)
-    (bears : MayFail setting first.uber.reflow.to run.silent run.borne) where
-  keeps : RunKeeps script setting first later old new items run.parity (banks_of run)
-  keeps = run.keeps setting first later may bears.silent_in bears.borne_in
+    (width_is : first.uber.reflow.to ≡ run.opened.to) (bears : IsWithin run.borne setting.failed) where
+  keeps : RunKeeps script setting first later old new items run.parity run.silent (banks_of run)
+  keeps = run.keeps setting first later may width_is bears
 
   -- the groups of the run
   abbrev run_groups : List Kept
@@ -227,27 +228,12 @@ module _ (setting : Setting) (first : Kept) (later : List Kept) (old : Disk) (ma
     none_joins : AddsOne (first ∷ later) []
     none_joins = record { one = omega arith; renews = λ next here. absurd (contains_none next here) }
 
-    -- Where nothing was done, each image keeps what was kept.
-    since_none : KeepsSince setting ((first ∷ later) ++ []) old.clock old
-    since_none = record {
-      each = λ moment image from until might. record {
-        before = [];
-        first = first;
-        later = later;
-        after = [];
-        row = refl;
-        keeps = may.may.keeps image (subst (λ (n : ℕ). MightStand setting.shape old n image)
-            (omega (arith, from, until)) might);
-      };
-    }
-
     -- So does a call that opened no pool.
-    pub survives_opening : (new : Disk) (cut : (new ≡ old) ⊎ CutsOpening old new)
+    pub survives_opening : (new : Disk) (cut : Unchanged old new ⊎ CutsOpening old new)
         → BearsCut setting first.uber.reflow.to cut
         → SurvivesOpening setting first later old new
     survives_opening new (inl same) bears =
-        subst (λ (disk : Disk). SurvivesOpening setting first later old disk) (sym same)
-        (some_back [] none_joins since_none)
+        some_back [] none_joins (unchanged_keeps setting first later [] same may.may.keeps)
     survives_opening new (inr cuts) bears =
-        let keeps = cuts.keeps.since setting first later may.may bears.silent_in bears.borne_in in
+        let keeps = cuts.keeps.since setting first later may.may bears.0 bears.1 in
         some_back keeps.0 keeps.1 keeps.2

@@ -14,7 +14,8 @@ use Rattle.core_state.specs.declared.answer.Kind.{Kind}
 use Rattle.core_state.specs.declared.answer.Kind.TheVariants as kind
 use Rattle.core_state.specs.Legal.{CallAt, IsAnswerOf}
 use Rattle.core_state.proofs.Knowing.{present}
-use Rattle.core_open.specs.Causes.{IsShownChoice, AreTooMany}
+use Rattle.core_open.specs.Causes.{IsShownChoice, AreOutIn, AreTooMany}
+use Rattle.core_open.specs.Failing.{HaveFailed}
 use Rattle.core_open.specs.Holds.{HoldsImage, shape_of}
 use Rattle.core_open.specs.declared.why.OpenWhy.TheVariants as reason
 use Rattle.core_open.proofs.Ends.{present_held}
@@ -28,11 +29,14 @@ use Rattle.raidzx_top.specs.declared.status.Status.TheVariants as status
 use Rattle.schedule.specs.WholeRun.{HasRun, RunKeeps, banks_of}
 use Rattle.schedule.specs.declared.whole_run.Ran.{Ran}
 use Rattle.raidzx_top.specs.declared.order.Order.{Order}
+use Rattle.raidzx_top.specs.Bearing.{setting_with}
 use Rattle.raidzx_top.specs.Call.{Call}
 use Rattle.raidzx_top.specs.Causes.{IsCause, FindsNoPool, MeetsLimit, most_turns}
 use Rattle.raidzx_top.specs.Promises.{RunPromises, IsSmooth, IsSmoothAnswer, CompletesAll}
 use Rattle.raidzx_top.specs.Running.{IsStatusOf, HasMet, StoppedFor, after_fault, EndsTelling, WasCarriedOut}
 use Rattle.raidzx_top.specs.RunText.{IsLineFor, TextIsRight}
+use Rattle.raidzx_top.proofs.Bearing.{may_bear}
+use Rattle.raidzx_top.proofs.Choices.{choice_width}
 use Rattle.raidzx_top.proofs.Reopening.{survives_stops}
 use Rattle.raidzx_top.proofs.RunParts.{IsRunEnd, command_in, opens, held_at_entry, none_silent}
 use Rattle.raidzx_top.proofs.RunAnswers.{IsClients, answers_client}
@@ -72,6 +76,14 @@ module _ (order : Order) (call : Call) (lawful : Lawful call.old)
   run : HasRun was.script call.old call.new call.journal out
   run = was.done.run.run
 
+  -- The silent devices have failed.
+  failed : HaveFailed call.old call.new run.silent
+  failed device has =
+      let early = run.failed device has in
+      let rose = early.1 in
+      let more = run.onward.faults device in
+      (early.0, omega (arith, rose, more))
+
   -- What holds of the line's status and of the one after a fault holds of the status.
   by_line : (P : Status → Type 0) → P was.line
       → (Rose call.sink.faults call.sink_after.faults → P (after_fault was.line))
@@ -80,6 +92,10 @@ module _ (order : Order) (call : Call) (lawful : Lawful call.old)
       (λ told. subst P (sym told.0) whole)
       (λ told. subst P (sym told.0) (part told.1)) was.told
 
+  -- what the devices chose but for the silent ones, each of which failed
+  abbrev shown_by : (image : Image) → HoldsImage call.old image → IsShownChoice call.old call.new image
+  shown_by image holds = record { silent = run.silent; failed = failed; choice = (run.each image holds).choice }
+
   -- the devices that a call lists which tells of too many
   many_listed : (index listed : ℕ) (entry : Entry) → CallAt call.journal index entry
       → entry.answer ≡ answer.TooManyFailed listed
@@ -87,11 +103,11 @@ module _ (order : Order) (call : Call) (lawful : Lawful call.old)
   many_listed index listed entry there is image holds =
       let each = run.each image holds in
       let told = run.too_many index listed entry there is in
-      let same = each.1 in
+      let same = each.parity_is in
       record {
-        choice = each.0;
+        shown = shown_by image holds;
         many = (let many = told.0 in omega (arith, many, same));
-        each = λ device has. each.2 device (told.1 device has);
+        each = λ device has. each.each device (told.1 device has);
       }
 
   -- and those that are out in the end, where some call tells so
@@ -101,9 +117,13 @@ module _ (order : Order) (call : Call) (lawful : Lawful call.old)
   many_out (inr tells) image holds =
       let each = run.each image holds in
       let told = run.too_many tells.0 tells.3.0 tells.1 tells.2 tells.3.1 in
-      let same = each.1 in
+      let same = each.parity_is in
       let more = count_grows tells.3.0 out told.1 in
-      record { choice = each.0; many = (let many = told.0 in omega (arith, many, more, same)); each = each.2 }
+      record {
+        shown = shown_by image holds;
+        many = (let many = told.0 in omega (arith, many, more, same));
+        each = each.each;
+      }
 
   -- no more turns could be counted
   used_up : StoppedFor was.ran trouble.Limit → most_turns ≤ call.turns
@@ -137,12 +157,12 @@ module _ (order : Order) (call : Call) (lawful : Lawful call.old)
   no_pool : FindsNoPool call (command_in order) → ⊥
   no_pool finds =
       let holds : HoldsImage call.old finds.image = held_at_entry call order finds.image finds.found in
-      let shown : IsShownChoice call.old call.new finds.image = (run.each finds.image holds).0 in
-      let none : IsNotPool (shape_of call.old) shown.silent finds.image =
+      let choice = (run.each finds.image holds).choice in
+      let none : IsNotPool (shape_of call.old) run.silent finds.image =
       subst (λ (n : ℕ). IsNotPool (shape_of call.old) n finds.image)
-      (sym (none_silent call.old call.new shown.silent shown.failed finds.quiet)) finds.none in
-      none.none shown.uber.pool shown.device shown.uber shown.entries shown.chosen.pool shown.chosen.reads
-      shown.chosen.candidate
+      (sym (none_silent call.old call.new run.silent failed finds.quiet)) finds.none in
+      none.none choice.uber.pool choice.device choice.uber choice.entries choice.chosen.pool choice.chosen.reads
+      choice.chosen.candidate
 
   -- Where the status isn't want of memory, no call met it.
   had_memory : call.status ≢ status.NoMemory → HasMet was.ran call.journal trouble.NoMemory → ⊥
@@ -185,6 +205,9 @@ module _ (order : Order) (call : Call) (lawful : Lawful call.old)
     run = was.done.run.run;
     taken = was.done.run.turns;
     turns = was.turns_are;
+    binds = λ setting first later failed may width bears.
+        was.done.run.run.keeps (setting_with setting failed) first later
+        (may_bear setting first later call.old was.done.run.run.borne failed may bears) width bears.now;
     survives = survives_stops was.script call.old call.new call.journal was.ran.out was.done.run.run was.read.allowed;
     complete = λ other counted. was.done.complete (λ stopped. had_memory other (inl stopped)) counted;
     memory = λ other index entry there is. had_memory other (inr (index, entry, there, is));
@@ -225,17 +248,22 @@ module _ (order : Order) (call : Call) (lawful : Lawful call.old)
     none_out device has =
         let holds : HoldsImage call.old (present call.old) = present_held call.old smooth.may.may.tells in
         let each = run.each (present call.old) holds in
-        let silent = none_silent call.old call.new each.0.silent each.0.failed none_rose in
+        let choice = each.choice in
+        let silent = none_silent call.old call.new run.silent failed none_rose in
         ⊎_elim
-        (λ missed. smooth.unhindered.in_use (present call.old) each.0.device each.0.uber each.0.entries device holds
-        (subst (λ (n : ℕ). IsChosen (shape_of call.old) n (present call.old) each.0.device each.0.uber each.0.entries)
-        silent each.0.chosen)
-        (subst (λ (n : ℕ). IsOutAtOpening (shape_of call.old) n (present call.old) each.0.uber device) silent missed))
-        (λ rose. none_rose device rose) (each.2 device has)
+        (λ missed. smooth.unhindered.in_use (present call.old) choice.device choice.uber choice.entries device holds
+        (subst (λ (n : ℕ). IsChosen (shape_of call.old) n (present call.old) choice.device choice.uber choice.entries)
+        silent choice.chosen)
+        (subst (λ (n : ℕ). IsOutAtOpening (shape_of call.old) n (present call.old) choice.uber device) silent missed))
+        (λ rose. none_rose device rose) (each.each device has)
 
-    keeps : RunKeeps was.script smooth.setting smooth.first smooth.later call.old call.new call.journal run.parity (banks_of run)
+    opened : AreOutIn call.old call.new run.silent run.opened.to run.parity out (present call.old)
+    opened = run.each (present call.old) (present_held call.old smooth.may.may.tells)
+
+    keeps : RunKeeps was.script smooth.setting smooth.first smooth.later call.old call.new call.journal run.parity run.silent (banks_of run)
     keeps = run.keeps smooth.setting smooth.first smooth.later smooth.may
-        (λ device below has. absurd (none_rose device (run.failed device has).1))
+        (sym (choice_width smooth.setting smooth.first smooth.later call.old run.silent smooth.may.may lawful
+        (λ device below has. absurd (none_rose device (failed device has).1)) opened.choice) ∙ opened.width_is)
         (λ device has. absurd (none_out device (run.within device has)))
 
     -- Each answer is one for a client's call.

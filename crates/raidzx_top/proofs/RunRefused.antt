@@ -73,6 +73,9 @@ smooth_well : (order : Order) (call : Call) (smooth : IsSmooth order call)
     → IsWell call.source call.source_after smooth.bytes
 smooth_well order call smooth = record { told = smooth.told; well = smooth.source }
 
+left_alone : (old new : Disk) → new ≡ old → Unchanged old new
+left_alone old new same = subst (λ (disk : Disk). Unchanged old disk) (sym same) (unchanged_none old)
+
 -- There was no script.
 unread : (order : Order) (call : Call) → call.turns ≡ 0 → (why : ReadRefused)
     → IsUnread call.source call.source_after why → call.new ≡ call.old
@@ -88,10 +91,10 @@ unread order call no_turns why is same status_is = record {
       (λ memory. inr (status_is ∙ ap read_status memory)) (is.fault bytes line well at);
   no_pool = λ finds. inr (status_is ∙ ap read_status (for_memory why is finds));
   leaves = record {
-    untouched = λ memory many. subst (λ (disk : Disk). Unchanged call.old disk) (sym same) (unchanged_none call.old);
-    cut = inl same;
+    untouched = λ memory many. left_alone call.old call.new same;
+    cut = inl (left_alone call.old call.new same);
     survives = λ setting first later may bears.
-        survives_opening setting first later call.old may call.new (inl same) bears;
+        survives_opening setting first later call.old may call.new (inl (left_alone call.old call.new same)) bears;
     others = inl same;
     turns = no_turns;
   };
@@ -129,9 +132,9 @@ roomless order call no_turns script was_read same status_is = record {
   no_pool = λ finds. inr status_is;
   leaves = record {
     untouched = λ memory many. absurd (memory status_is);
-    cut = inl same;
+    cut = inl (left_alone call.old call.new same);
     survives = λ setting first later may bears.
-        survives_opening setting first later call.old may call.new (inl same) bears;
+        survives_opening setting first later call.old may call.new (inl (left_alone call.old call.new same)) bears;
     others = inl same;
     turns = no_turns;
   };
@@ -153,9 +156,9 @@ unopened order call none_yet no_turns script was_read why is status_is = record 
     untouched = λ memory many. left why is
         (λ no_memory. memory (status_is ∙ ap why_status no_memory))
         (λ out too_many. many out (status_is ∙ ap why_status too_many));
-    cut = inr is.cut;
+    cut = is.cut;
     survives = λ setting first later may bears.
-        survives_opening setting first later call.old may call.new (inr is.cut) bears;
+        survives_opening setting first later call.old may call.new is.cut bears;
     others = inr is.others;
     turns = no_turns;
   };
@@ -182,15 +185,16 @@ unopened order call none_yet no_turns script was_read why is status_is = record 
         let none : IsNotPool (shape_of call.old) shown.silent finds.image =
         subst (λ (n : ℕ). IsNotPool (shape_of call.old) n finds.image)
         (sym (none_silent call.old call.new shown.silent shown.failed finds.quiet)) finds.none in
-        none.none shown.uber.pool shown.device shown.uber shown.entries shown.chosen.pool shown.chosen.reads
-        shown.chosen.candidate
+        let choice = shown.choice in
+        none.none choice.uber.pool choice.device choice.uber choice.entries choice.chosen.pool choice.chosen.reads
+        choice.chosen.candidate
 
     says : (why : OpenWhy) → IsUnopened call.old call.new why → FindsNoPool call (command_in order)
         → (why ≡ reason.NotPool) ⊎ (why ≡ reason.NoMemory)
     says reason.NotPool is finds = inl refl
     says (reason.TooManyFailed out) is finds = absurd (⊎_elim
         (λ failed. failed.0 (none_silent call.old call.new out failed.1 finds.quiet))
-        (λ many. no_choice finds (many finds.image (held_at_entry call order finds.image finds.found)).choice) is.cause)
+        (λ many. no_choice finds (many finds.image (held_at_entry call order finds.image finds.found)).shown) is.cause)
     says (reason.Limit group) is finds =
         absurd (no_choice finds (is.cause finds.image (held_at_entry call order finds.image finds.found)).0)
     says reason.NoMemory is finds = inr refl

@@ -3,7 +3,7 @@ use Rattle.std.specs.Prelude.{◌≡◌, ◌≢◌, ◌⊎◌, ℕ, ◌+◌, ◌
 use Rattle.bank_trait.specs.Causes.{Rose}
 use Rattle.bank_trait.specs.Disk.{Image, Disk, Later}
 use Rattle.uberblock_ring.specs.Devices.{has_device}
-use Rattle.uberblock_ring.specs.Uberblock.{first_uber}
+use Rattle.uberblock_ring.specs.Uberblock.{first_uber, max_group}
 use Rattle.core_state.specs.declared.answer.Answer.TheVariants as answer
 use Rattle.core_state.specs.declared.item.Entry.{Entry}
 use Rattle.core_state.specs.Legal.{CallAt}
@@ -63,13 +63,12 @@ HaveFailed call command listed =
     × ((image : Image) → IsFoundImage call command image
     → IsNotPool (shape_of call.old) listed image)))
 
--- An opening finds a group too near the greatest, which is as great as the most turns; a call was refused for
--- that; or the turns were used up.
+-- An opening finds a group too near the greatest; a call was refused for that; or the turns were used up.
 abbrev pub MeetsLimit : Call → Command → Type 0
 MeetsLimit call command =
     (Opens command × (call.journal ≡ [])
     × ((image : Image) → IsFoundImage call command image
-    → (shown : IsShownChoice call.old call.new image) × (most_turns < shown.uber.group + 2)))
+    → (shown : IsShownChoice call.old call.new image) × (max_group < shown.choice.uber.group + 2)))
     ⊎ (((index : ℕ) × (entry : Entry) × (reached : ℕ) × CallAt call.journal index entry
     × (entry.answer ≡ answer.Limit reached))
     ⊎ (most_turns ≤ call.turns))

@@ -7,6 +7,7 @@ pub mod Causes
 pub mod Answers
 pub mod RunJournal
 pub mod RunText
+pub mod Bearing
 pub mod Order
 pub mod Reopened
 pub mod Promises

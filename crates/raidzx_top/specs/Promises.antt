@@ -1,11 +1,11 @@
 -- What a call promises: what a new pool is, what a run or a replay answers and keeps at each moment and in the
 -- end, and what is written.
-use Rattle.std.specs.Prelude.{◌≡◌, ◌≢◌, ◌⊎◌, ℕ, ◌≤◌, List, [], ◌++◌, Some, ⊤}
+use Rattle.std.specs.Prelude.{◌≡◌, ◌≢◌, ◌⊎◌, ℕ, ◌≤◌, List, [], ◌∷◌, ◌++◌, Some, ⊤}
 use Rattle.bank_trait.specs.Causes.{Rose}
 use Rattle.bank_trait.specs.Disk.{Image, Unchanged}
 use Rattle.bank_trait.specs.Regions.{Tells, TouchesOnly}
 use Rattle.core_open.specs.Regions.{IsOnBelow}
-use Rattle.uberblock_ring.specs.Devices.{count_below}
+use Rattle.uberblock_ring.specs.Devices.{count_below, IsWithin}
 use Rattle.uberblock_ring.specs.Uberblock.{Uber, first_uber}
 use Rattle.core_state.specs.declared.answer.Answer.{Answer}
 use Rattle.core_state.specs.declared.answer.Answer.TheVariants as answer
@@ -14,20 +14,21 @@ use Rattle.core_state.specs.Legal.{CallAt}
 use Rattle.core_state.specs.Journal.{IsComplete}
 use Rattle.core_state.specs.Keeps.{Kept, Setting}
 use Rattle.core_state.specs.Shown.{Shows}
-use Rattle.core_state.specs.Collision.{BankKeeps, MightStand}
+use Rattle.core_state.specs.Collision.{BankKeeps, HasNoOtherPage, MightStand}
 use Rattle.core_state.specs.Create.{IsCreated, first_kept, rows_for}
 use Rattle.core_open.specs.Causes.{AreTooMany}
 use Rattle.core_open.specs.Opens.{IsUnhindered, LeavesOthers}
 use Rattle.open_pool.specs.Opening.{CutsOpening, MayBegin}
 use Rattle.client_script.specs.Script.{Script, IsScript, asked_by}
 use Rattle.client_script.specs.Texts.{journal_text}
-use Rattle.schedule.specs.WholeRun.{HasRun, HasTakenTurns, banks_of}
+use Rattle.schedule.specs.WholeRun.{HasRun, HasTakenTurns, RunKeeps, banks_of}
 use Rattle.schedule.specs.declared.whole_run.Ran.{Ran}
 use Rattle.raidzx_top.specs.declared.order.Order.{Order}
 use Rattle.raidzx_top.specs.declared.order.Order.TheVariants.{OfLines, AsListed}
 use Rattle.raidzx_top.specs.declared.running.Trouble.TheVariants as trouble
 use Rattle.raidzx_top.specs.declared.status.Status.{Status}
 use Rattle.raidzx_top.specs.declared.status.Status.TheVariants as status
+use Rattle.raidzx_top.specs.Bearing.{CanBear, setting_with}
 use Rattle.raidzx_top.specs.Words.{Create}
 use Rattle.raidzx_top.specs.declared.words.NewPool.{NewPool}
 use Rattle.raidzx_top.specs.declared.words.ServedCommand.TheVariants as served
@@ -35,7 +36,7 @@ use Rattle.raidzx_top.specs.Spelled.{IsServedAs, command_of}
 use Rattle.raidzx_top.specs.Call.{Call, HoldsImage, shape_of}
 use Rattle.raidzx_top.specs.Order.{listed_by, served_by}
 use Rattle.raidzx_top.specs.Causes.{NoneRose, IsTooSmall, MeetsLimit, IsNoCommand, IsCaused, ComesWhere, most_turns}
-use Rattle.raidzx_top.specs.Reopened.{BearsCut, MayFail, SurvivesOpening, SurvivesStops}
+use Rattle.raidzx_top.specs.Reopened.{BearsCut, SurvivesOpening, SurvivesStops}
 use Rattle.raidzx_top.specs.RunJournal.{NoneWantsMemory}
 use Rattle.raidzx_top.specs.RunText.{IsWritten, TextIsRight, create_text, status_line}
 use Rattle.raidzx_top.specs.Running.{IsStatusOf, StoppedFor, after_fault}
@@ -54,11 +55,16 @@ NoneShowsFrom call width = (image : Image) (device : ℕ) (uber : Uber) → widt
     → ⊥
 
 -- what `create` leaves where the bank tells what it holds: a pool of one group, which the bank keeps
--- where no other device shows an uberblock
+-- where no other device shows an uberblock, and with which a run may begin, where no page on the bank is by chance that
+-- group's
 pub record CreatePromises (call : Call) (parity width id : ℕ) : Type 0 where
   pub made : IsCreated (first_uber id parity width (rows_for call.old.sectors)) call.new
   pub keeps : (setting : Setting) → IsNewSetting call parity id setting → NoneShowsFrom call width
       → BankKeeps setting (first_kept id parity width call.old.sectors) [] call.new
+  pub begins : (setting : Setting) → IsNewSetting call parity id setting → setting.odd ≡ [] → NoneShowsFrom call width
+      → ((image : Image) → HoldsImage call.new image
+      → HasNoOtherPage setting (first_kept id parity width call.old.sectors ∷ []) image)
+      → MayBegin setting (first_kept id parity width call.old.sectors) [] call.new
 
 -- A command was carried out, whether its text was written whole or not.
 abbrev pub IsCarriedOut : Call → Type 0
@@ -109,9 +115,15 @@ pub record RunPromises (order : Order) (call : Call) : Type 0 where
   -- the script lists.
   pub taken : HasTakenTurns script (listed_by order script) run ran
   pub turns : call.turns ≡ ran.turns
+  -- That binds however many devices fail: those that have to be borne are no more than there are parities, and what was
+  -- answered is right for whoever can bear them.
+  pub binds : (setting : Setting) (first : Kept) (later : List Kept) (failed : ℕ) → MayBegin setting first later call.old
+      → first.uber.reflow.to ≡ run.opened.to → CanBear setting first call.old run.borne failed
+      → RunKeeps script (setting_with setting failed) first later call.old call.new call.journal run.parity run.silent
+      (banks_of run)
   -- What a stop leaves of it, at any moment, the next run or replay reads back.
   pub survives : (setting : Setting) (first : Kept) (later : List Kept) → MayBegin setting first later call.old
-      → MayFail setting first.uber.reflow.to run.silent run.borne
+      → first.uber.reflow.to ≡ run.opened.to → IsWithin run.borne setting.failed
       → SurvivesStops setting first later script call.old call.new call.journal (banks_of run)
   -- Each call is answered, unless memory was wanting, and then the status tells so, or the turns were used up.
   pub complete : call.status ≢ status.NoMemory → (StoppedFor ran trouble.Limit → ⊥)
@@ -132,7 +144,7 @@ pub record LeavesNone (call : Call) : Type 0 where
   pub untouched : (call.status ≡ status.NoMemory → ⊥)
       → ((out : ℕ) → call.status ≡ status.TooManyFailed out → ⊥)
       → Unchanged call.old call.new
-  pub cut : (call.new ≡ call.old) ⊎ CutsOpening call.old call.new
+  pub cut : Unchanged call.old call.new ⊎ CutsOpening call.old call.new
   -- What a stop leaves of it, at any moment, the next run or replay reads back.
   pub survives : (setting : Setting) (first : Kept) (later : List Kept) → MayBegin setting first later call.old
       → BearsCut setting first.uber.reflow.to cut

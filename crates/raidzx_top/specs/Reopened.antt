@@ -1,7 +1,7 @@
 -- What the next run or replay reads back of one that was stopped.
 use Rattle.std.proofs.Common.{inl, inr}
 use Rattle.std.specs.Prelude.{◌≡◌, ◌≢◌, ◌⊎◌, ℕ, ◌+◌, ◌≤◌, List, ◌∷◌, ◌++◌, length, Contains, ⊤}
-use Rattle.bank_trait.specs.Disk.{Image, Disk}
+use Rattle.bank_trait.specs.Disk.{Image, Disk, Unchanged}
 use Rattle.uberblock_ring.specs.Devices.{IsWithin}
 use Rattle.core_state.specs.declared.answer.Answer.TheVariants as answer
 use Rattle.core_state.specs.declared.item.Entry.{Entry}
@@ -13,18 +13,13 @@ use Rattle.core_state.specs.Keeps.{Kept, Setting}
 use Rattle.core_state.specs.Moment.{Groups}
 use Rattle.core_state.specs.Collision.{MightStand, HasNoOtherPage}
 use Rattle.core_open.specs.Holds.{shape_of}
-use Rattle.core_open.specs.Opens.{AddsOne, IsWithinBelow}
+use Rattle.core_open.specs.Opens.{AddsOne}
 use Rattle.client_script.specs.Script.{Script, asked_by, handed_by}
 use Rattle.open_pool.specs.Opening.{CutsOpening, MayBegin}
 use Rattle.open_pool.specs.Stopped.{IsImageOf, HoldsAlone}
 use Rattle.journal_law.specs.Moments.{KeepsLast, KeepsUntil}
 use Rattle.schedule.specs.Moments.{KeepsTurnByTurn}
 use Rattle.schedule.specs.WholeRun.{HasRun}
-
--- The devices that were silent when a pool of this width was looked for, and those that have to be borne, may fail.
-pub record MayFail (setting : Setting) (width silent borne : ℕ) : Type 0 where
-  pub silent_in : IsWithinBelow width silent setting.failed
-  pub borne_in : IsWithin borne setting.failed
 
 -- A crash at this moment might have left the image on the bank, and no uberblock in it is valid by chance.
 pub record IsLeft (setting : Setting) (disk : Disk) (moment : ℕ) (image : Image) : Type 0 where
@@ -36,7 +31,7 @@ pub record IsLeft (setting : Setting) (disk : Disk) (moment : ℕ) (image : Imag
 pub record IsLeftOn (setting : Setting) (groups : List Kept) (image : Image) (disk : Disk) : Type 0 where
   pub shape : setting.shape ≡ shape_of disk
   pub alone : HoldsAlone disk image
-  pub pages : HasNoOtherPage setting.shape groups image
+  pub pages : HasNoOtherPage setting groups image
 
 -- The bank keeps some of these groups, with which a pool of this width may be opened.
 pub record MayBeginAmong (setting : Setting) (width : ℕ) (groups : List Kept) (disk : Disk) : Type 0 where
@@ -55,11 +50,11 @@ pub record ReadsBack (groups : List Kept) (script : Script) (items : List Item) 
   pub sound : (index : ℕ) (entry : Entry) → CallAt items index entry → entry.answer ≢ answer.Damaged
 
 -- A bank that holds the image alone may be opened with some of these groups, and each script that is carried out on
--- it reads back one of them, where the devices that were silent or have to be borne may fail.
+-- it reads back one of them, where the pool that it opened has this width and the devices that have to be borne may fail.
 pub record IsReadBack (setting : Setting) (width : ℕ) (groups : List Kept) (image : Image) : Type 0 where
   pub opened : (disk : Disk) → IsLeftOn setting groups image disk → MayBeginAmong setting width groups disk
   pub each : (script : Script) (old new : Disk) (items : List Item) (out : ℕ) → (run : HasRun script old new items out)
-      → IsLeftOn setting groups image old → MayFail setting width run.silent run.borne
+      → IsLeftOn setting groups image old → run.opened.to ≡ width → IsWithin run.borne setting.failed
       → ReadsBack groups script items
 
 -- what is kept from one item of a journal to the next: the last group listed, and at most one begun after it
@@ -89,10 +84,11 @@ pub record SurvivesStops (setting : Setting) (first : Kept) (later : List Kept) 
   pub at_end : (image : Image) → IsLeft setting new new.clock image
       → IsReadBack setting first.uber.reflow.to (kept.last ∷ kept.begun) image
 
--- So it is with the devices that were silent in an opening that was cut short, and those that have to be borne in it.
-abbrev pub BearsCut : Setting → ℕ → {old new : Disk} → (new ≡ old) ⊎ CutsOpening old new → Type 0
+-- The pool that an opening chose which was cut short has this width, and the devices that have to be borne in it may
+-- fail.
+abbrev pub BearsCut : Setting → ℕ → {old new : Disk} → Unchanged old new ⊎ CutsOpening old new → Type 0
 BearsCut setting width (inl same) = ⊤
-BearsCut setting width (inr cuts) = MayFail setting width cuts.silent cuts.earlier
+BearsCut setting width (inr cuts) = (width ≡ cuts.width) × IsWithin cuts.borne setting.failed
 
 -- A stop of a call that opened no pool loses nothing either. What it leaves at any moment is read back as one of the
 -- groups kept before, or as one that was begun in place of one of these.

@@ -1,7 +1,7 @@
 -- How a run or a replay ends: its script is read, its pool opened, its calls answered, its text written.
 use Rattle.std.specs.Prelude.{◌≡◌, ◌⊎◌, ℕ, ◌<◌, ◌≤◌, List, [], ◌++◌, Some, All, Result, Ok, Err}
 use Rattle.bank_trait.specs.Causes.{Rose}
-use Rattle.bank_trait.specs.Disk.{Disk}
+use Rattle.bank_trait.specs.Disk.{Disk, Unchanged}
 use Rattle.core_state.specs.declared.answer.Answer.{Answer}
 use Rattle.core_state.specs.declared.answer.Answer.TheVariants as answer
 use Rattle.core_state.specs.declared.item.Entry.{Entry}
@@ -64,7 +64,7 @@ pub record IsUnread (source source_after : Stream) (why : ReadRefused) : Type 0 
 -- Why no pool was opened, and what that left.
 pub record IsUnopened (old new : Disk) (why : OpenWhy) : Type 0 where
   pub cause : IsOpenCause old new why
-  pub cut : CutsOpening old new
+  pub cut : Unchanged old new ⊎ CutsOpening old new
   pub untouched : LeavesUnopened why old new
   pub others : LeavesOthers old new
   pub opens : IsForMemory old new why

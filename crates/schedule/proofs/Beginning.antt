@@ -36,8 +36,8 @@ no_call group index entry there = elim (new_or_before [] (Group group) index (Ca
     apart : Group group ≡ Call entry → ⊥
     apart is = cc
 
-module _ {setting : Setting} {first : Kept} {later : List Kept} {pool : Pool} {old mid : Disk} (handed : Handed)
-    (may : MayOpen setting first later old) (begins : Begins setting first later pool old mid) where
+module _ {setting : Setting} {first : Kept} {later : List Kept} {pool : Pool} {silent : ℕ} {old mid : Disk} (handed : Handed)
+    (may : MayOpen setting first later old) (begins : Begins setting first later pool silent old mid) where
   abbrev item : GroupItem
   item = first_item pool
 

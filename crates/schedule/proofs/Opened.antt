@@ -47,8 +47,8 @@ pub none_of_blank : (count index : ℕ) (client : Client) (under : UnderWay)
 none_of_blank count index client under going =
     none_some (sym (ap (λ (c : Client). c.under_way) (blank_is count index client going.there)) ∙ going.under_way)
 
-module _ {setting : Setting} {first : Kept} {later : List Kept} {pool : Pool} {old mid : Disk} (handed : Handed)
-    (may : MayOpen setting first later old) (begins : Begins setting first later pool old mid) where
+module _ {setting : Setting} {first : Kept} {later : List Kept} {pool : Pool} {silent : ℕ} {old mid : Disk} (handed : Handed)
+    (may : MayOpen setting first later old) (begins : Begins setting first later pool silent old mid) where
   abbrev chosen_map : Map
   chosen_map = begins.opened.chosen.map
 

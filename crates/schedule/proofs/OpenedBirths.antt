@@ -138,14 +138,14 @@ module _ (setting : Setting) (first : Kept) (later : List Kept) (disk : Disk)
 
   -- So the opening, which renews one of these, has none later than its own group.
   pub opened_births : (pool : Pool) (silent : ℕ) (mid : Disk) → Lawful disk → IsBegunWith pool silent disk mid
-      → IsWithinBelow first.uber.reflow.to silent setting.failed → IsWithin pool.out setting.failed
+      → first.uber.reflow.to ≡ pool.uber.reflow.to → IsWithin pool.out setting.failed
       → NoneAbove pool.uber.group pool.uber.births
-  opened_births pool silent mid lawful begun silent_in out_in =
+  opened_births pool silent mid lawful begun width out_in =
       subst (λ (group : ℕ). NoneAbove group pool.uber.births) (sym number)
       (subst (λ (births : List Birth). NoneAbove (chosen.uber.group + 2) births) (sym births) born)
     where
-      begins : Begins setting first fewer pool disk mid
-      begins = begun.each setting first fewer may_fewer silent_in out_in
+      begins : Begins setting first fewer pool silent disk mid
+      begins = begun.each setting first fewer may_fewer width out_in
 
       chosen : Kept
       chosen = begins.opened.chosen

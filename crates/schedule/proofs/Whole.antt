@@ -17,10 +17,10 @@ use Rattle.core_state.specs.CoreState.{World}
 use Rattle.core_blocks.specs.Blocks.{AreUnderWay}
 use Rattle.core_client.specs.Outs.{point_of, OnlyFailedGoOut}
 use Rattle.core_commit.specs.Spared.{IsOnInUse}
-use Rattle.core_open.specs.Causes.{IsShownChoice, IsOutFor, AreOutFor, AreOutOf}
+use Rattle.core_open.specs.Causes.{IsOutFor, AreOutIn, AreOutOf}
 use Rattle.core_open.specs.Failing.{HaveFailed}
-use Rattle.core_open.specs.Holds.{HoldsImage}
-use Rattle.core_open.specs.Opens.{HasBank, IsWithinBelow}
+use Rattle.core_open.specs.Holds.{HoldsImage, shape_of}
+use Rattle.core_open.specs.Opens.{HasBank, IsWithinBelow, RenewsChoice}
 use Rattle.core_open.specs.Regions.{IsOnBelow}
 use Rattle.open_pool.specs.Opening.{AreLoaded, MayBegin, Begins, IsBegunWith}
 use Rattle.open_pool.specs.Pool.{Pool}
@@ -53,46 +53,36 @@ use Rattle.schedule.proofs.Recording.{recorded_throughout, recorded_keeps, recor
 use Rattle.schedule.proofs.UsingOpened.{uses_first}
 use Rattle.schedule.proofs.Syncs.{groups_know}
 
--- What failed earlier has failed later,
-module _ (old mid new : Disk) (later : Later mid new) where
-  rose_later : (device : ℕ) → Rose (old.faults device) (mid.faults device)
-      → Rose (old.faults device) (new.faults device)
-  rose_later device rose = let more = later.faults device in omega (arith, rose, more)
+-- What failed earlier has failed later, and each device that is out then has its reason.
+out_later : (old mid new : Disk) (uber : Uber) (silent out onward : ℕ) → Later old mid → Later mid new
+    → AreOutOf old mid silent uber out
+    → OnlyFailedGoOut (point_of out mid) (point_of onward new) → (image : Image) → HoldsImage old image
+    → AreOutIn old new silent uber.reflow.to uber.parity onward image
+out_later old mid new uber silent out onward earlier later outs goes image holds = record {
+  choice = was.choice;
+  width_is = was.width_is;
+  parity_is = was.parity_is;
+  each = λ device has. by device has (has_device out device) refl;
+}
+  where
+    was : AreOutIn old mid silent uber.reflow.to uber.parity out image
+    was = outs.each image holds
 
-  failed_later : (silent : ℕ) → HaveFailed old mid silent → HaveFailed old new silent
-  failed_later silent failed device has = let was = failed device has in (was.0, rose_later device was.1)
-
-  abbrev shown_later : (image : Image) → IsShownChoice old mid image → IsShownChoice old new image
-  shown_later image shown = record {
-    silent = shown.silent;
-    failed = failed_later shown.silent shown.failed;
-    device = shown.device;
-    uber = shown.uber;
-    entries = shown.entries;
-    chosen = shown.chosen;
-  }
-
-  -- and each device that is out then has its reason.
-  out_later : (uber : Uber) (out onward : ℕ) → Later old mid → AreOutOf old mid uber out
-      → OnlyFailedGoOut (point_of out mid) (point_of onward new) → (image : Image) → HoldsImage old image
-      → (shown : IsShownChoice old new image) × (shown.uber.parity ≡ uber.parity) × AreOutFor shown onward
-  out_later uber out onward earlier outs goes image holds =
-      (shown_later image was.0, was.1, λ device has. by device has (has_device out device) refl)
-    where
-      was : (shown : IsShownChoice old mid image) × (shown.uber.parity ≡ uber.parity) × AreOutFor shown out
-      was = outs.each image holds
-
-      by : (device : ℕ) → has_device onward device ≡ true → (before : Bool) → has_device out device ≡ before
-          → IsOutFor (shown_later image was.0) device
-      by device has true is = ⊎_elim (λ at. inl at) (λ rose. inr (rose_later device rose)) (was.2 device is)
-      by device has false is =
-          inr (let rose = goes.failed device is has in let more = earlier.faults device in omega (arith, rose, more))
+    by : (device : ℕ) → has_device onward device ≡ true → (before : Bool) → has_device out device ≡ before
+        → IsOutFor old new was.choice device
+    by device has true is = ⊎_elim (λ at. inl at)
+        (λ rose. inr (let more = later.faults device in omega (arith, rose, more))) (was.each device is)
+    by device has false is =
+        inr (let rose = goes.failed device is has in let more = earlier.faults device in omega (arith, rose, more))
 
 module _ (script : Script) (old mid : Disk) (pool : Pool) (silent : ℕ) (items : List Item) (clients : List Client)
     (final : CoreState) (passed : List TurnTaken) (opened_later : Later old mid)
     (opened_only : TouchesOnly (IsOnBelow pool.uber.reflow.to) old mid)
     (failed : HaveFailed old mid silent) (few : count_of pool.out ≤ pool.uber.parity)
-    (outs : AreOutOf old mid pool.uber pool.out) (begun : IsBegunWith pool silent old mid)
+    (missed : IsWithinBelow pool.uber.reflow.to silent pool.uber.out)
+    (renews : (image : Image) → HoldsImage old image
+    → RenewsChoice (shape_of old) silent image pool.uber pool.blocks.table.entries)
+    (outs : AreOutOf old mid silent pool.uber pool.out) (begun : IsBegunWith pool silent old mid)
     (rest : AreUnderWay pool.blocks []) (bank : HasBank pool.uber pool.out mid) (lawful : Lawful old)
     (right : IsRightUber pool.uber) (loaded : AreLoaded pool.uber pool.blocks.table.entries pool.blocks)
     (taken : HaveTaken script (first_turns script (at_disk (resting pool) mid) (first_item pool)) passed)
@@ -116,10 +106,10 @@ module _ (script : Script) (old mid : Disk) (pool : Pool) (silent : ℕ) (items 
       ∙ ap (λ (turns : Turns). turns.state.disk) come.ends
 
   module _ (setting : Setting) (first : Kept) (later : List Kept) (may : MayBegin setting first later old)
-      (silent_in : IsWithinBelow first.uber.reflow.to silent setting.failed)
+      (width : first.uber.reflow.to ≡ pool.uber.reflow.to)
       (borne_in : IsWithin come.borne setting.failed) where
-    begins : Begins setting first later pool old mid
-    begins = begun.each setting first later may silent_in
+    begins : Begins setting first later pool silent old mid
+    begins = begun.each setting first later may width
         (λ device out. borne_in device (come.from_start few device out))
 
     abbrev world : World
@@ -171,17 +161,16 @@ module _ (script : Script) (old mid : Disk) (pool : Pool) (silent : ℕ) (items 
         (ap (λ (u : Uber). u.reflow) alike ∙ ap (λ (u : Uber). u.reflow) renews)
         (begins.opened.entries_are ∙ begins.opened.renews.entries)
         (come.space pool.uber pool.blocks.table.entries (uses_first script pool mid right
-        (opened_births setting first later old may pool silent mid lawful begun silent_in out_in) loaded)).caused
+        (opened_births setting first later old may pool silent mid lawful begun width out_in) loaded)).caused
 
     -- What the run keeps, where these devices may fail.
-    pub run_keeps : RunKeeps script setting first later old final.disk items pool.uber.parity
+    pub run_keeps : RunKeeps script setting first later old final.disk items pool.uber.parity silent
         (bank_when first_state passed)
     unfolding begins
     run_keeps = record {
       chosen = begins.opened.chosen;
       known = begins.opened.listed;
-      choice = λ image holds. let shown = begins.opened.choice image holds in
-          (shown_later old mid final.disk come.later image shown.0, shown.1);
+      choice = begins.opened.choice;
       begins = begins_after;
       legal = record { groups = runs.recorded.in_order; calls_are = calls; answers = runs.recorded.right };
       sound = runs.recorded.sound;
@@ -208,19 +197,24 @@ module _ (script : Script) (old mid : Disk) (pool : Pool) (silent : ℕ) (items 
     later = opened_later;
     passed = passed;
     taken = taken;
+    onward = come.later;
     items_are = ap (λ (turns : Turns). turns.items) come.ends;
     disk_is = ap (λ (turns : Turns). turns.state.disk) come.ends;
     silent = silent;
-    failed = failed_later old mid final.disk come.later silent failed;
+    failed = failed;
+    renews = renews;
     parity = pool.uber.parity;
     only = touches_then (IsOnBelow pool.uber.reflow.to) (IsOnInUse pool.uber.reflow.to pool.out)
         (IsOnBelow pool.uber.reflow.to) (λ d x here. here) (λ d x here. here.0) opened_only come.only;
-    each = out_later old mid final.disk come.later pool.uber pool.out final.core.pool.out opened_later outs come.out;
+    each = out_later old mid final.disk pool.uber silent pool.out final.core.pool.out opened_later come.later outs
+        come.out;
     too_many = λ index listed entry there is. ⊎_elim
         (λ at. absurd (no_call item index entry at)) (λ many. many) (come.too_many index listed entry there is);
     borne = come.borne;
-    within = come.within;
     few = come.few;
+    within = come.within;
+    missed = λ device below has. come.from_start few device (outs.lists device (missed device below has));
+    listed = λ device has. come.from_start few device (outs.lists device has);
     keeps = run_keeps;
   }
 

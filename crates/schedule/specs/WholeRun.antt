@@ -12,10 +12,10 @@ use Rattle.core_state.specs.Legal.{GroupAt, CallAt}
 use Rattle.core_state.specs.Journal.{IsLegalJournal}
 use Rattle.core_state.specs.Keeps.{Kept, Setting}
 use Rattle.core_state.specs.Moment.{KeepsThroughout}
-use Rattle.core_open.specs.Causes.{IsShownChoice, AreOutFor}
+use Rattle.core_open.specs.Causes.{IsChoiceWithout, AreOutIn}
 use Rattle.core_open.specs.Failing.{HaveFailed}
-use Rattle.core_open.specs.Holds.{HoldsImage}
-use Rattle.core_open.specs.Opens.{IsWithinBelow}
+use Rattle.core_open.specs.Holds.{HoldsImage, shape_of}
+use Rattle.core_open.specs.Opens.{IsWithinBelow, RenewsChoice}
 use Rattle.core_open.specs.Regions.{IsOnBelow}
 use Rattle.client_script.specs.Script.{Script, asked_by, handed_by}
 use Rattle.open_pool.specs.Opening.{MayBegin}
@@ -43,11 +43,11 @@ use Rattle.schedule.specs.Turns.{Turns, TurnTaken, bank_when, last_left, turns_o
 -- that tells of a limit has its cause: the last group, or more ids than a table has room for. Where one says `NoSpace`,
 -- the chosen group's index and the script have too many blocks.
 pub record RunKeeps (script : Script) (setting : Setting) (first : Kept) (later : List Kept) (old new : Disk)
-    (items : List Item) (parity : ℕ) (banks : ℕ → Disk) : Type 0 where
+    (items : List Item) (parity silent : ℕ) (banks : ℕ → Disk) : Type 0 where
   pub chosen : Kept
   pub known : Contains (first ∷ later) chosen
   pub choice : (image : Image) → HoldsImage old image
-      → (shown : IsShownChoice old new image) × (shown.uber.group ≡ chosen.uber.group)
+      → (shown : IsChoiceWithout (shape_of old) silent image) × (shown.uber.group ≡ chosen.uber.group)
   pub begins : BeginsAfter chosen items
   pub legal : IsLegalJournal (asked_by script) (handed_by script) chosen.map items
   pub sound : (index : ℕ) (entry : Entry) → CallAt items index entry → entry.answer ≢ answer.Damaged
@@ -69,12 +69,9 @@ pub record RunKeeps (script : Script) (setting : Setting) (first : Kept) (later 
 abbrev pub first_turns : Script → CoreState → GroupItem → Turns
 first_turns script start opened = turns_of start (Group opened ∷ []) (blank_clients script.clients)
 
--- A script's calls were carried out on the pool that the devices showed, whoever's turns they were; the journal begins
--- with a group. Each device that is out at the end was out at the opening, or failed in the run. A call that tells of too
--- many devices lists devices that are out, more than there are parities. All that a run keeps it keeps where the devices
--- that were silent when the pool was looked for may fail, and those of the devices out that have to be borne, no more
--- than there are parities. No device is touched but those of the pool.
+-- A script's calls were carried out on the pool that the devices showed, whoever's turns they were.
 pub record HasRun (script : Script) (old new : Disk) (items : List Item) (out : ℕ) : Type 0 where
+  -- The journal begins with a group.
   pub opened : GroupItem
   pub there : GroupAt items 0 opened
   -- The opening left a core at rest, of the pool that it opened,
@@ -86,26 +83,37 @@ pub record HasRun (script : Script) (old new : Disk) (items : List Item) (out : 
   -- and from there these turns were taken.
   pub passed : List TurnTaken
   pub taken : HaveTaken script (first_turns script start opened) passed
+  pub onward : Later start.disk new
   pub items_are : (last_left (first_turns script start opened) passed).items ≡ items
   pub disk_is : (last_left (first_turns script start opened) passed).state.disk ≡ new
+  -- Some devices were silent when the pool was looked for: each failed by the end of the opening. But for them the
+  -- devices choose the group that the opening renews. Each device that is out at the end was out then, or failed in
+  -- the run. No device is touched but those of the pool.
   pub silent : ℕ
-  pub failed : HaveFailed old new silent
+  pub failed : HaveFailed old start.disk silent
+  pub renews : (image : Image) → HoldsImage old image
+      → RenewsChoice (shape_of old) silent image start.core.pool.uber start.core.pool.blocks.table.entries
   pub parity : ℕ
+  pub each : (image : Image) → HoldsImage old image → AreOutIn old new silent opened.to parity out image
   pub only : TouchesOnly (IsOnBelow opened.to) old new
-  pub each : (image : Image) → HoldsImage old image
-      → (shown : IsShownChoice old new image) × (shown.uber.parity ≡ parity) × AreOutFor shown out
+  -- A call that tells of too many devices lists devices that are out, more than there are parities.
   pub too_many : (index listed : ℕ) (entry : Entry) → CallAt items index entry
       → entry.answer ≡ answer.TooManyFailed listed
       → (parity < count_of listed) × IsWithin listed out
+  -- Some devices have to be borne: no more than there are parities, of those that are out at the end; with the silent
+  -- ones of the pool, and those that the opening's group lists as out.
   pub borne : ℕ
-  pub within : IsWithin borne out
   pub few : count_of borne ≤ parity
-  -- An item was listed with the bank as its turn left it.
+  pub within : IsWithin borne out
+  pub missed : IsWithinBelow opened.to silent borne
+  pub listed : IsWithin start.core.pool.uber.out borne
+  -- Where these may fail, and the groups that the bank kept have the pool's width, all that a run keeps is kept. An
+  -- item was listed with the bank as its turn left it.
   pub keeps : (setting : Setting) (first : Kept) (later : List Kept)
       → MayBegin setting first later old
-      → IsWithinBelow first.uber.reflow.to silent setting.failed
-      → IsWithin borne setting.failed
-      → RunKeeps script setting first later old new items parity (bank_when (first_turns script start opened) passed)
+      → first.uber.reflow.to ≡ opened.to → IsWithin borne setting.failed
+      → RunKeeps script setting first later old new items parity silent
+      (bank_when (first_turns script start opened) passed)
 
 -- the banks with which the items of a run were listed, by how many there were then
 abbrev pub banks_of : {script : Script} → {old new : Disk} → {items : List Item} → {out : ℕ}

@@ -1,5 +1,6 @@
 // A whole run: a pool is opened, and a script's calls are carried out on it turn by turn.
-ghost use Rattle.std.specs.Prelude.{◌≡◌, ◌<◌, ◌≤◌, [], All, IfOk, IfErr};
+ghost use Rattle.std.specs.Prelude.{◌≡◌, ◌⊎◌, ◌<◌, ◌≤◌, [], All, IfOk, IfErr};
+ghost use Rattle.bank_trait.specs.Disk.{Unchanged};
 ghost use Rattle.core_state.specs.Journal.{IsComplete};
 ghost use Rattle.core_open.specs.Causes.{IsOpenCause};
 ghost use Rattle.core_open.specs.Opens.{IsForMemory, LeavesOthers};
@@ -59,7 +60,8 @@ pub fn run_pool<B: Bank>(
     ensures limit { IfOk result (λ ran. ran.ended ≡ Limit → most_turns ≤ ran.turns) }
     ensures nothing { IfErr result (λ why. journal.new.items ≡ []) }
     ensures cause { IfErr result (IsOpenCause (B.disk bank.old) (B.disk bank.new)) }
-    ensures cut { IfErr result (λ why. CutsOpening (B.disk bank.old) (B.disk bank.new)) }
+    ensures cut { IfErr result (λ why. Unchanged (B.disk bank.old) (B.disk bank.new)
+        ⊎ CutsOpening (B.disk bank.old) (B.disk bank.new)) }
     ensures untouched { IfErr result (λ why.
         LeavesUnopened why (B.disk bank.old) (B.disk bank.new)) }
     ensures opens { IfErr result (IsForMemory (B.disk bank.old) (B.disk bank.new)) }
