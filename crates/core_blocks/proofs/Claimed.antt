@@ -7,7 +7,7 @@ use Rattle.width_map.specs.declared.birth.Birth.{Birth}
 use Rattle.space_alloc.specs.Space.{Run, HeldRun, Space, IsIn, IsFreeRun, IsTaking}
 use Rattle.block_record.specs.declared.entry.IndexEntry.{IndexEntry}
 use Rattle.core_state.specs.Index.{AreApart, block_end}
-use Rattle.core_blocks.specs.Runs.{AreClear, held_sectors}
+use Rattle.core_blocks.specs.Runs.{AreClear}
 use Rattle.core_blocks.specs.Blocks.{run_of}
 use Rattle.core_blocks.specs.Loading.{IsTakenBy}
 use Rattle.core_blocks.proofs.Lists.{gains_old, gains_item, gains_cases, none_listed}
@@ -35,28 +35,6 @@ pair_with_next {T} R xs index x d pairs within listed =
     subst (λ (y : T). R y (get_or xs index d)) is (pairs listed.0 index d short within)
 
 module _ (parity : ℕ) (births : List Birth) (capacity : ℕ) (entries : List IndexEntry) where
-  -- An empty space.
-  pub none_claimed : (space : Space) → space.capacity ≡ capacity → space.taken ≡ []
-      → space.held ≡ [] → IsTakenBy parity births capacity [] space
-  none_claimed space size none nothing = record {
-    size = size;
-    held = nothing;
-    spread = record {
-      inside = λ run listed. absurd (none_listed run
-          (subst (λ (l : List Run). Contains l run) none listed));
-      taken = subst (AllPairs AreClear) (sym none)
-          (λ i j d before within. absurd (omega (arith, within)));
-      held = subst (λ (l : List HeldRun). AllPairs (λ one other.
-          AreClear (held_sectors one) (held_sectors other)) l) (sym nothing)
-          (λ i j d before within. absurd (omega (arith, within)));
-      between = λ run held listed back. absurd (none_listed run
-          (subst (λ (l : List Run). Contains l run) none listed));
-    };
-    taken = λ entry listed. absurd (none_listed entry listed);
-    only = λ run listed. absurd (none_listed run
-        (subst (λ (l : List Run). Contains l run) none listed));
-  }
-
   module _ (space : Space) (index : ℕ) (d : IndexEntry) (within : index < length entries)
       (below : All (λ entry. block_end parity births entry ≤ capacity) entries)
       (apart : AreApart parity births entries)

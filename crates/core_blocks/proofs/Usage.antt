@@ -1,6 +1,6 @@
 -- A space that is full is tight, and what each step adds to what is in use.
-use Rattle.std.proofs.Common.{◌≡◌, ◌⊎◌, inl, inr, ⊎_elim, ℕ, zero, suc, ◌+◌, ◌-◌, ◌*◌, ◌<◌, ◌≤◌, List, [], ◌∷◌, ◌++◌, length, Bool, true, false, cond, Option, Some, None, refl, ◌∙◌, ap, subst, arith, length-append}
-use Rattle.std.specs.Prelude.{AllPairs, Contains, filter, map, nat_lt, sum, sum_by}
+use Rattle.std.proofs.Common.{◌≡◌, ◌⊎◌, inl, inr, ⊎_elim, ℕ, zero, suc, ◌+◌, ◌-◌, ◌*◌, ◌<◌, ◌≤◌, List, [], ◌∷◌, length, Option, Some, None, refl, ◌∙◌, ap, subst, arith}
+use Rattle.std.specs.Prelude.{AllPairs, Contains, map, sum_by}
 use Rattle.std.proofs.Math.Nat.{add-mul, mul-le-mul_right}
 use Rattle.std.proofs.lemmas.Bool.{cases_lt}
 use Rattle.std.proofs.lemmas.List.{length-map}
@@ -8,7 +8,7 @@ use Rattle.std.proofs.lemmas.List.Elements.{All-contains, Contains-append_left, 
 use Rattle.std.proofs.lemmas.List.Sums.{sum_by-append, sum_by-cons, sum-map, sum_by-le-sum_by}
 use Rattle.width_map.specs.declared.birth.Birth.{Birth}
 use Rattle.row_layout.specs.Layout.{allocated_of}
-use Rattle.space_alloc.specs.Space.{Run, HeldRun, Space, IsFull, Gains, IsTaking, IsDropping, IsHolding, after_group}
+use Rattle.space_alloc.specs.Space.{Run, HeldRun, Space, IsFull, Gains, IsTaking, IsDropping, IsHolding}
 use Rattle.block_record.specs.declared.entry.IndexEntry.{IndexEntry}
 use Rattle.core_state.specs.Index.{layout_of}
 use Rattle.core_blocks.specs.Runs.{AreClear, held_sectors}
@@ -89,18 +89,6 @@ module _ {T : Type 0} where
   gained_length old new x gains =
       let more = gained_sum (λ (y : T). 1) old new x gains in
       let now = ones new in let then = ones old in omega (arith, more, now, then)
-
-  -- What a filter lets pass weighs no more.
-  filtered_sum : (f : T → ℕ) (test : T → Bool) (xs : List T) → sum_by f (filter test xs) ≤ sum_by f xs
-  filtered_sum f test [] = omega arith
-  filtered_sum f test (x ∷ xs) = by (test x) (filtered_sum f test xs)
-    where
-      by : (passes : Bool) → sum_by f (filter test xs) ≤ sum_by f xs
-          → sum_by f (cond passes (x ∷ filter test xs) (filter test xs)) ≤ sum_by f (x ∷ xs)
-      by true rest =
-          let kept = sum_by-cons f x (filter test xs) in let all = sum_by-cons f x xs in
-          omega (arith, kept, all, rest)
-      by false rest = let all = sum_by-cons f x xs in omega (arith, all, rest)
 
 module _ (len : ℕ) (runs : List Run) (capacity : ℕ)
     (met : (start : ℕ) → start + len ≤ capacity → IsMet runs start len) where
@@ -226,12 +214,6 @@ module _ (f : Run → ℕ) where
       (record { start = start; len = len; group = group }) holding.held in
       omega (arith, now, was, taken, held)
 
-  synced_sum : (space : Space) (group : ℕ) → sum_by f (runs_in_use (after_group space group)) ≤ sum_by f (runs_in_use space)
-  synced_sum space group =
-      let now = in_use_sum (after_group space group) in let was = in_use_sum space in
-      let held = filtered_sum (λ (h : HeldRun). f (held_sectors h)) (λ run. nat_lt group run.group) space.held in
-      omega (arith, now, was, held)
-
 -- Each run counts once.
 abbrev one_each : Run → ℕ
 one_each run = 1
@@ -250,20 +232,6 @@ pub adds_none : (old new : Space) → new ≡ old → AddsAtMost old new []
 adds_none old new same = adds_by_weight old new (ap (λ (s : Space). s.capacity) same)
     (λ f. let equal = ap (λ (s : Space). sum_by f (runs_in_use s)) same in omega (arith, equal))
 
--- A run that is taken adds one of its size.
-pub adds_taking : (old new : Space) (start len : ℕ) → IsTaking old new start len → AddsAtMost old new (len ∷ [])
-adds_taking old new start len taking = record {
-  capacity = taking.capacity;
-  runs = (let more = taking_sum one_each old new start len taking in let now = ones (runs_in_use new) in
-      let was = ones (runs_in_use old) in omega (arith, more, now, was));
-  sectors = (let more = taking_sum (λ run. run.len) old new start len taking in omega (arith, more));
-}
-
--- One that is given back, or held back, adds nothing.
-pub adds_dropping : (old new : Space) (start len : ℕ) → IsDropping old new start len → AddsAtMost old new []
-adds_dropping old new start len dropping = adds_by_weight old new dropping.capacity
-    (λ f. let less = dropping_sum f old new start len dropping in omega (arith, less))
-
 pub adds_held_back : (parity : ℕ) (births : List Birth) (old new : Space) (group : ℕ) (gone : Option IndexEntry)
     → HoldsBack parity births old new group gone → AddsAtMost old new []
 adds_held_back parity births old new group None same = adds_none old new same
@@ -278,51 +246,6 @@ pub adds_taken_back : (old mid new : Space) (start len : ℕ) → IsTaking old m
 adds_taken_back old mid new start len taking dropping = adds_by_weight old new (dropping.capacity ∙ taking.capacity)
     (λ f. let more = taking_sum f old mid start len taking in let less = dropping_sum f mid new start len dropping in
     omega (arith, more, less))
-
--- or a group that is answered.
-pub adds_synced : (space : Space) (group : ℕ) → AddsAtMost space (after_group space group) []
-adds_synced space group = adds_by_weight space (after_group space group) refl (λ f. synced_sum f space group)
-
-sum_append : (one other : List ℕ) → sum (one ++ other) ≡ sum one + sum other
-sum_append one other = sum_by-append (λ (n : ℕ). n) one other
-
--- One step after another.
-pub adds_then : (old mid new : Space) (one other : List ℕ) → AddsAtMost old mid one → AddsAtMost mid new other
-    → AddsAtMost old new (one ++ other)
-adds_then old mid new one other first second = record {
-  capacity = second.capacity ∙ first.capacity;
-  runs = (let long = length-append one other in let a = first.runs in let b = second.runs in omega (arith, long, a, b));
-  sectors = (let total = sum_append one other in let a = first.sectors in let b = second.sectors in
-      omega (arith, total, a, b));
-}
-
-pub uses_more : (old new : Space) (sizes more : List ℕ) → UsesAtMost old sizes → AddsAtMost old new more
-    → UsesAtMost new (sizes ++ more)
-uses_more old new sizes more uses adds = record {
-  runs = (let long = length-append sizes more in let a = uses.runs in let b = adds.runs in omega (arith, long, a, b));
-  sectors = (let total = sum_append sizes more in let a = uses.sectors in let b = adds.sectors in
-      omega (arith, total, a, b));
-}
-
--- What adds nothing adds no more than any sizes.
-pub adds_fewer : (old new : Space) (sizes : List ℕ) → AddsAtMost old new [] → AddsAtMost old new sizes
-adds_fewer old new sizes adds = record {
-  capacity = adds.capacity;
-  runs = (let none = adds.runs in omega (arith, none));
-  sectors = (let none = adds.sectors in omega (arith, none));
-}
-
--- Larger sizes bound both.
-pub adds_larger : {T : Type 0} (old new : Space) (size larger : T → ℕ) (items : List T)
-    → ((item : T) → size item ≤ larger item) → AddsAtMost old new (map size items) → AddsAtMost old new (map larger items)
-adds_larger old new size larger items more adds = record {
-  capacity = adds.capacity;
-  runs = (let small = length-map items size in let large = length-map items larger in let few = adds.runs in
-      omega (arith, small, large, few));
-  sectors = (let small = sum-map size items in let large = sum-map larger items in
-      let less = sum_by-le-sum_by size larger items more in let few = adds.sectors in
-      omega (arith, small, large, less, few));
-}
 
 pub uses_larger : {T : Type 0} (space : Space) (size larger : T → ℕ) (items : List T)
     → ((item : T) → size item ≤ larger item) → UsesAtMost space (map size items) → UsesAtMost space (map larger items)

@@ -1,14 +1,12 @@
 -- When a commit may be begun, and what it keeps, at each moment of it and at its end.
-use Rattle.std.specs.Prelude.{◌≡◌, ◌≢◌, ◌⊎◌, ℕ, ◌+◌, ◌<◌, List, [], ◌∷◌, ◌++◌, false, Result, OnOk, OnErr}
+use Rattle.std.specs.Prelude.{◌≡◌, ◌≢◌, ◌⊎◌, ℕ, ◌+◌, ◌<◌, List, [], ◌∷◌, ◌++◌, false}
 use Rattle.block_record.specs.declared.entry.IndexEntry.{IndexEntry}
-use Rattle.uberblock_ring.specs.Devices.{has_device, IsWithin}
+use Rattle.uberblock_ring.specs.Devices.{has_device}
 use Rattle.uberblock_ring.specs.Uberblock.{Uber}
 use Rattle.core_state.specs.Map.{Map}
 use Rattle.core_state.specs.Keeps.{Kept, Setting, SameGroup}
 use Rattle.core_state.specs.Certain.{CellsOn, IsSound, IsRow, Knows}
 use Rattle.core_state.specs.Committing.{Point, TellsHead}
-use Rattle.core_state.specs.Moment.{KeepsSince}
-use Rattle.core_commit.specs.declared.committing.TooManyOut.{TooManyOut}
 
 -- what a commit begins with: the groups that images may show, in a row from the first that they show
 -- for certain; those that join the row from the first uberblock on; and the group that is made, with
@@ -25,10 +23,6 @@ pub record Begun : Type 0 where
 -- what follows the first group once the uberblock may be shown
 abbrev pub row_of : Begun → List Kept
 row_of begun = begun.later ++ begun.joined
-
--- all groups that images may have shown so far, and those that join them
-abbrev pub groups_of : Begun → List Kept
-groups_of begun = begun.earlier ++ (begun.first ∷ row_of begun)
 
 -- the group as it is written
 abbrev pub group_made : Begun → Uber → List IndexEntry → Kept
@@ -51,20 +45,3 @@ pub record MayCommit (begun : Begun) (uber : Uber) (entries : List IndexEntry) (
     pub told : TellsHead (group_made begun uber entries) point
     pub cells : (device : ℕ) → device < uber.reflow.to → has_device point.out device ≡ false
         → CellsOn begun.setting.odd point.disk.reads (group_made begun uber entries) device
-
--- Where the devices that the group lists as out may fail: each image of a moment since then keeps some
--- of the groups in a row; a commit that was cut short keeps all that it began with, and its own group
--- where images may show it; and from one that was carried out on, where all that are out may fail, its
--- group is the one that is kept.
-pub record CommitKeeps (uber : Uber) (entries : List IndexEntry) (before after : Point) (listed : ℕ)
-    (result : Result (Unit {0}) TooManyOut) : Type 0 where
-  pub since : (begun : Begun) (time : ℕ) → MayCommit begun uber entries before
-      → IsWithin listed begun.setting.failed
-      → KeepsSince begun.setting (groups_of begun) time before.disk
-      → KeepsSince begun.setting (groups_of begun) time after.disk
-  pub cut : OnErr result ((begun : Begun) → MayCommit begun uber entries before
-      → IsWithin listed begun.setting.failed
-      → Knows begun.setting begun.first (row_of begun) after.disk)
-  pub done : OnOk result ((begun : Begun) → MayCommit begun uber entries before
-      → IsWithin after.out begun.setting.failed
-      → Knows begun.setting begun.kept [] after.disk)

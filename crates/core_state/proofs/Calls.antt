@@ -1,11 +1,11 @@
 -- A device call between two points of a commit.
-use Rattle.std.proofs.Common.{◌≡◌, ◌≢◌, ◌⊎◌, inl, inr, ⊎_elim, ℕ, zero, suc, ◌+◌, ◌*◌, ◌<◌, ◌≤◌, List, [], ◌∷◌, ◌++◌, length, take, drop, Bool, true, false, Some, Result, Ok, Err, refl, sym, ◌∙◌, ap, subst, arith}
-use Rattle.std.specs.Prelude.{IsSome, OnOk, ◌==◌, ◌&&◌, ◌||◌, not, slice_get, is_ok}
+use Rattle.std.proofs.Common.{◌≡◌, ℕ, zero, suc, ◌+◌, ◌*◌, ◌<◌, List, [], ◌∷◌, ◌++◌, length, take, drop, Bool, true, false, Some, Result, Ok, Err, refl, sym, ◌∙◌, ap, arith}
+use Rattle.std.specs.Prelude.{IsSome, OnOk, ◌==◌, ◌&&◌, ◌||◌, slice_get}
 use Rattle.std.proofs.lemmas.Bool.Decides.{nat_tests}
 use Rattle.std.proofs.lemmas.Option.{slice_get_within}
 use Rattle.std.proofs.lemmas.List.{length-drop, drop-drop, take-append-drop}
 use Rattle.bank_trait.specs.declared.Failed.{Failed}
-use Rattle.bank_trait.specs.Disk.{Known, Disk, Wrote, Synced, Lawful}
+use Rattle.bank_trait.specs.Disk.{Known, Wrote, Synced, Lawful}
 use Rattle.block_record.specs.Page.{page_sectors, index_page}
 use Rattle.uberblock_ring.specs.Devices.{has_device}
 use Rattle.uberblock_ring.specs.Uberblock.{area_sector}

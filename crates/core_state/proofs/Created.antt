@@ -1,12 +1,12 @@
 -- A new pool is kept by the bank on which it was created.
-use Rattle.std.proofs.Common.{◌≡◌, ℕ, ◌<◌, ◌≤◌, []}
+use Rattle.std.proofs.Common.{ℕ, ◌≤◌, []}
 use Rattle.bank_trait.specs.Disk.{Image, Disk}
 use Rattle.uberblock_ring.specs.Uberblock.{Uber, first_uber}
 use Rattle.uberblock_ring.specs.Devices.{count_below}
-use Rattle.core_state.specs.Shown.{Shape, Shows}
-use Rattle.core_state.specs.Keeps.{Setting, Keeps}
+use Rattle.core_state.specs.Shown.{Shows}
+use Rattle.core_state.specs.Keeps.{Setting}
 use Rattle.core_state.specs.Collision.{MightStand, BankKeeps}
-use Rattle.core_state.specs.Create.{IsCreated, IsNew, new_ring, rows_for, first_kept}
+use Rattle.core_state.specs.Create.{IsCreated, new_ring, rows_for, first_kept}
 use Rattle.core_state.proofs.Fresh.{IsSized, fresh_keeps}
 
 -- Where no device beside the pool's shows an uberblock, the bank keeps the pool's first group.

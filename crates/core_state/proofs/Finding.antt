@@ -1,29 +1,27 @@
 -- From what each image keeps to what is certain on the devices.
-use Rattle.std.proofs.Common.{◌≡◌, ◌≢◌, ◌⊎◌, inl, inr, ⊎_elim, ℕ, zero, suc, ◌+◌, ◌-◌, ◌<◌, ◌≤◌, List, [], ◌∷◌, ◌++◌, length, true, false, Option, Some, None, refl, sym, ◌∙◌, ap, subst, arith, length-append, map}
-use Rattle.std.specs.Prelude.{Contains, slice_get, unwrap_or, slice_index_or}
-use Rattle.std.proofs.lemmas.Bool.{cases_lt, cases_eq}
-use Rattle.std.proofs.lemmas.Option.{slice_get_within}
+use Rattle.std.proofs.Common.{◌≡◌, inl, inr, ⊎_elim, ℕ, zero, suc, ◌+◌, ◌-◌, ◌<◌, ◌≤◌, List, [], ◌∷◌, ◌++◌, length, false, Option, Some, None, refl, sym, ◌∙◌, ap, subst, arith, length-append}
+use Rattle.std.specs.Prelude.{Contains, slice_get}
+use Rattle.std.proofs.lemmas.Bool.{cases_eq}
 use Rattle.sha2.specs.Sha256.{sha256}
 use Rattle.bank_trait.specs.Disk.{Image, Disk, Fits, Lawful, Other}
 use Rattle.bank_trait.proofs.Moments.{patched, patched-same, patched-other, place_cases}
 use Rattle.width_map.specs.declared.birth.Birth.{Birth}
 use Rattle.reflow_mark.specs.declared.reflow.Reflow.{Reflow}
 use Rattle.shadow_write.specs.Required.{IsRequiredPlace, front_after_stop}
-use Rattle.block_record.specs.declared.entry.IndexEntry.{IndexEntry}
-use Rattle.block_record.specs.Page.{page_sectors, index_page}
+use Rattle.block_record.specs.Page.{page_sectors}
 use Rattle.uberblock_ring.specs.Devices.{has_device, count_below}
 use Rattle.uberblock_ring.specs.Uberblock.{Uber, encoded, slot_of, area_sector}
-use Rattle.uberblock_ring.specs.Valid.{AreAlike, IsRightUber}
-use Rattle.core_state.specs.Index.{IsFitting, IsIndexOf}
+use Rattle.uberblock_ring.specs.Valid.{AreAlike}
+use Rattle.core_state.specs.Index.{IsIndexOf}
 use Rattle.core_state.specs.Whole.{Cell, IsCellOf}
-use Rattle.core_state.specs.Shown.{Shape, read_devices, Shows, Gives, page_on, sectors_from}
-use Rattle.core_state.specs.Keeps.{Kept, Setting, Keeps, IsKept, ShowsGroup}
+use Rattle.core_state.specs.Shown.{Shape, Shows, page_on, sectors_from}
+use Rattle.core_state.specs.Keeps.{Kept, Setting, Keeps, IsKept}
 use Rattle.core_state.specs.Collision.{MightStand, BankKeeps}
-use Rattle.core_state.specs.Certain.{Asks, CellsOn, joined, PageOn, SlotOn, IsSound, IsAble, IsCertain, IsRow, Knows, certain, able}
+use Rattle.core_state.specs.Certain.{Asks, joined, PageOn, SlotOn, IsSound, IsAble, IsCertain, Knows, certain, able}
 use Rattle.core_state.proofs.Fresh.{lacks_one, count_grows}
 use Rattle.core_state.proofs.Reader.{same_group, shown_alike}
 use Rattle.core_state.proofs.Listed.{contains_head}
-use Rattle.core_state.proofs.Places.{asks_sector, data_is_no_slot, slot_low, right_widths, IsDataSector}
+use Rattle.core_state.proofs.Places.{asks_sector, right_widths, IsDataSector}
 use Rattle.core_state.proofs.Keeping.{fitting_alike}
 use Rattle.core_state.proofs.Knowing.{present, present_might, shows_same, encoded_some}
 

@@ -1,7 +1,6 @@
 -- Each image of a new pool keeps its first group.
-use Rattle.std.proofs.Common.{◌≡◌, ◌≢◌, ℕ, zero, suc, ◌+◌, ◌-◌, ◌/◌, ◌%◌, ◌^◌, ◌<◌, ◌≤◌, Bool, true, false, List, [], ◌∷◌, Some, None, refl, sym, ◌∙◌, ap, subst, arith, inl, inr, ⊎_elim, mod-lt}
-use Rattle.std.specs.Prelude.{min, All, slice_index, ◌==◌, if◌then◌else◌, nat_eq}
-use Rattle.std.specs.List.{IsDistinct}
+use Rattle.std.proofs.Common.{◌≡◌, ◌≢◌, ℕ, zero, suc, ◌+◌, ◌-◌, ◌/◌, ◌%◌, ◌^◌, ◌<◌, ◌≤◌, Bool, true, false, List, [], ◌∷◌, Some, None, refl, sym, ◌∙◌, ap, subst, arith, inl, ⊎_elim, mod-lt}
+use Rattle.std.specs.Prelude.{min, slice_index, ◌==◌, if◌then◌else◌}
 use Rattle.std.proofs.Math.Nat.{zero-div, one-le-pow}
 use Rattle.std.proofs.lemmas.Bool.{cases_lt, cases_eq}
 use Rattle.std.proofs.lemmas.Bool.Decides.{nat_tests}
@@ -16,11 +15,9 @@ use Rattle.uberblock_ring.proofs.OneSpelling.{encoded_tells}
 use Rattle.core_state.specs.Map.{no_blocks}
 use Rattle.core_state.specs.Index.{IsFitting}
 use Rattle.core_state.specs.Shown.{Shape, Shows, Gives, page_on}
-use Rattle.core_state.specs.Choosing.{Names, IsChosenPool, Outvotes, IsOutAtOpening, IsListedOut}
+use Rattle.core_state.specs.Choosing.{Names}
 use Rattle.core_state.specs.Whole.{Odd, IsWhole}
-use Rattle.core_state.specs.Keeps.{ShowsGroup, Kept, Setting, Keeps, IsKept, ShowsOnly, StandsThere, ShowsCandidate, IsNotOutvoted}
-use Rattle.commit_job.specs.Stages.{calls_left}
-use Rattle.core_state.specs.Opening.{Found, IsOpening, copies_of, renewal_of}
+use Rattle.core_state.specs.Keeps.{Setting, Keeps, IsKept, ShowsOnly, StandsThere, ShowsCandidate, IsNotOutvoted}
 use Rattle.core_state.specs.Create.{IsNew, new_ring, rows_for, first_kept}
 
 -- The empty set has no device.
@@ -219,36 +216,6 @@ module _ (shape : Shape) (pool parity width failed : ℕ) (odd : Odd) (image : I
     pages = λ other below fine. gives_0 other (omega (arith, below, sized.devices, sized.width_in));
   }
 
-  not_true : (b : Bool) → (b ≡ true → ⊥) → b ≡ false
-  not_true false never = refl
-  not_true true never = absurd (never refl)
-
-  -- A device that works and isn't silent names the pool, and none another one.
-  chosen_0 : (silent : ℕ) → has_device silent works.0 ≡ false → IsChosenPool shape silent image pool
-  unfolding IsDistinct
-  chosen_0 silent quiet = record { voters = works.0 ∷ []; distinct = (tt, tt); each = each_names; wins = beats }
-    where
-      names : Names shape silent image pool works.0
-      names = record {
-        reads = quiet;
-        uber = uber_0;
-        shows = shows_0 works.0 works.1;
-        greatest = λ other shows. let same : other.group ≡ 1 = ap (λ (u : Uber). u.group) (is_0 works.0 other shows) in omega (arith, same);
-        pool_is = refl;
-      }
-
-      each_names : All (Names shape silent image pool) (works.0 ∷ [])
-      each_names zero d low = names
-      each_names (suc k) d low = absurd (omega (arith, low))
-
-      beats : (other : ℕ) (others : List ℕ) → other ≢ pool → IsDistinct nat_eq others → All (Names shape silent image other) others
-          → Outvotes (works.0 ∷ []) others
-      beats other [] differs distinct each = inl (omega arith)
-      beats other (device ∷ others) differs distinct each =
-          let name : Names shape silent image other device = each 0 device (omega arith) in
-          let same : name.uber.pool ≡ pool = ap (λ (u : Uber). u.pool) (is_0 device name.uber name.shows) in
-          absurd (differs (sym name.pool_is ∙ same))
-
   -- No device names another pool.
   votes_0 : IsNotOutvoted setting_0 (first_kept pool parity width shape.sectors) image
   votes_0 other [] differs distinct each = omega arith
@@ -268,50 +235,3 @@ module _ (shape : Shape) (pool parity width failed : ℕ) (odd : Odd) (image : I
     own = λ device uber below shows. ap (λ (u : Uber). u.pool) (is_0 device uber shows);
     votes = votes_0;
   }
-
-  abbrev found_0 : Found
-  found_0 = record { shape = shape; silent = 0; image = image; chosen = first_kept pool parity width shape.sectors }
-
-  abbrev next_0 : Kept
-  next_0 = record { uber = record uber_0 { group = 3 }; entries = []; map = no_blocks }
-
-  none_out : (device : ℕ) → IsOutAtOpening shape 0 image uber_0 device → ⊥
-  none_out device (below, why) = ⊎_elim (λ listed. by_list listed) (λ others. ⊎_elim (λ silent. none_is_in device silent)
-      (λ rest. ⊎_elim (λ absent. omega (arith, absent, below, sized.devices)) (λ blank. blank.none uber_0 (shows_0 device below) refl) rest) others) why
-    where
-      by_list : IsListedOut shape 0 image uber_0 device → ⊥
-      by_list listed = none_is_in device (sym (ap (λ (u : Uber). has_device u.out device) (is_0 listed.other listed.twin listed.candidate.shows)) ∙ listed.out)
-
-  -- The opening of a new pool copies nothing: it syncs each device and then writes the uberblock of group 3.
-  pub fresh_opens : IsOpening found_0 0 next_0 (calls_left 0 (copies_of width 0 0 0)) (calls_left 0 (renewal_of width))
-  fresh_opens = record {
-    choice = record {
-      device = 0;
-      choice = record {
-        pool = chosen_0 0 (none_in works.0);
-        reads = none_in 0;
-        candidate = candidate_0 0 (omega (arith, sized.width_in));
-        first = λ other later listed reads candidate. inr (ap (λ (u : Uber). u.group) (is_0 other later candidate.shows), omega arith);
-      };
-    };
-    out_is = λ device. ((λ is. absurd (none_is_in device is)), (λ out. absurd (none_out device out)));
-    lack_page = 0;
-    page_is = λ device. (
-      (λ is. absurd (none_is_in device is)),
-      (λ lacks. absurd (lacks.2 (gives_0 device (omega (arith, lacks.0, sized.devices, sized.width_in))))),
-    );
-    lack_uber = 0;
-    uber_is = λ device. ((λ is. absurd (none_is_in device is)), (λ lacks. absurd (lacks.2 uber_0 [] (candidate_0 device lacks.0) refl)));
-    copies_are = refl;
-    renews = record { entries = refl; map = λ id. refl; alike = refl };
-    renewal_is = refl;
-  }
-
-  -- It keeps no other group: one that was answered with no uberblock written is missed.
-  pub no_other_kept : (setting : Setting) (kept : Kept) (later : List Kept) → setting.shape ≡ shape
-      → kept.uber.group ≢ 1 → Keeps setting kept later image → ⊥
-  no_other_kept setting kept later same_shape other keeps =
-      let shown : ShowsGroup setting image kept keeps.there.device = keeps.there.shown in
-      let shows : Shows shape image keeps.there.device shown.0 =
-      subst (λ (s : Shape). Shows s image keeps.there.device shown.0) same_shape shown.2.shows in
-      other (sym shown.1 ∙ ap (λ (u : Uber). u.group) (is_0 keeps.there.device shown.0 shows))

@@ -1,8 +1,8 @@
 -- From what is certain on the devices to what each image keeps.
-use Rattle.std.proofs.Common.{◌≡◌, ℕ, zero, suc, ◌+◌, ◌<◌, ◌≤◌, List, [], ◌∷◌, ◌++◌, length, Some, false, refl, sym, ◌∙◌, ap, subst, arith}
-use Rattle.std.specs.Prelude.{Contains, slice_get}
+use Rattle.std.proofs.Common.{◌≡◌, ℕ, suc, ◌+◌, ◌<◌, ◌≤◌, List, [], ◌∷◌, ◌++◌, length, Some, false, refl, sym, ◌∙◌, ap, subst, arith}
+use Rattle.std.specs.Prelude.{slice_get}
 use Rattle.sha2.specs.Sha256.{sha256}
-use Rattle.bank_trait.specs.Disk.{Image, Known, Disk, Fits}
+use Rattle.bank_trait.specs.Disk.{Image, Disk, Fits}
 use Rattle.width_map.specs.declared.birth.Birth.{Birth}
 use Rattle.reflow_mark.specs.declared.reflow.Reflow.{Reflow}
 use Rattle.shadow_write.specs.Required.{IsRequiredPlace, front_after_stop}
@@ -12,11 +12,11 @@ use Rattle.uberblock_ring.specs.Devices.{has_device}
 use Rattle.uberblock_ring.specs.Uberblock.{Uber, encoded, slot_of, area_sector}
 use Rattle.uberblock_ring.specs.Valid.{AreAlike}
 use Rattle.core_state.specs.Index.{IsFitting}
-use Rattle.core_state.specs.Shown.{Shape, read_devices, Shows, Gives, page_on, sectors_from, IsCandidate}
-use Rattle.core_state.specs.Whole.{Odd, Cell, IsCellOf, RightOn, known_of, IsWhole}
+use Rattle.core_state.specs.Shown.{read_devices, Shows, Gives, page_on, sectors_from}
+use Rattle.core_state.specs.Whole.{Cell, IsCellOf}
 use Rattle.core_state.specs.Keeps.{Kept, Setting, Keeps, IsKept, ShowsGroup}
 use Rattle.core_state.specs.Collision.{MightStand, BankKeeps}
-use Rattle.core_state.specs.Certain.{Asks, CellsOn, joined, PageOn, SlotOn, IsSound, IsCertain, Knows, certain}
+use Rattle.core_state.specs.Certain.{Asks, joined, PageOn, IsSound, IsCertain, Knows, certain}
 use Rattle.core_state.proofs.Fresh.{none_in}
 
 -- The sectors of a page, end to end.

@@ -1,27 +1,25 @@
 -- What a device call leaves of what is certain of the groups.
-use Rattle.std.proofs.Common.{◌≡◌, ◌≢◌, ◌⊎◌, inl, inr, ⊎_elim, ℕ, zero, suc, ◌+◌, ◌<◌, ◌≤◌, List, [], ◌∷◌, length, Bool, true, false, Option, Some, None, Result, refl, sym, ◌∙◌, ap, subst, arith}
-use Rattle.std.specs.Prelude.{Contains, slice_get, slice_index, unwrap_or, if◌then◌else◌, nat_lt}
+use Rattle.std.proofs.Common.{◌≡◌, ◌≢◌, ◌⊎◌, inl, inr, ⊎_elim, ℕ, ◌+◌, ◌<◌, ◌≤◌, List, [], ◌∷◌, Bool, true, false, Option, Some, None, Result, refl, sym, ◌∙◌, ap, subst, arith}
+use Rattle.std.specs.Prelude.{Contains, slice_index, unwrap_or, if◌then◌else◌, nat_lt}
 use Rattle.std.proofs.lemmas.Bool.{cases_lt, cases_eq}
 use Rattle.std.proofs.lemmas.Bool.Decides.{nat_tests}
 use Rattle.std.proofs.lemmas.Option.{slice_get_within}
-use Rattle.sha2.specs.Sha256.{sha256}
 use Rattle.bank_trait.specs.declared.Failed.{Failed}
 use Rattle.bank_trait.specs.Disk.{Image, Disk, Fits, Wrote, Lawful}
 use Rattle.block_record.specs.Page.{page_sectors}
 use Rattle.uberblock_ring.specs.Devices.{has_device}
 use Rattle.uberblock_ring.specs.Uberblock.{Uber, encoded, slot_of, area_sector}
-use Rattle.uberblock_ring.specs.Valid.{AreAlike, IsRightUber}
+use Rattle.uberblock_ring.specs.Valid.{IsRightUber}
 use Rattle.uberblock_ring.proofs.OneSpelling.{encoded_tells}
-use Rattle.core_state.specs.Shown.{Shape, read_devices, Shows}
+use Rattle.core_state.specs.Shown.{Shape, Shows}
 use Rattle.core_state.specs.Choosing.{Names}
 use Rattle.core_state.specs.Whole.{Odd}
-use Rattle.core_state.specs.Keeps.{Kept, Setting, NamesOther, IsNotOutvoted}
-use Rattle.core_state.specs.Collision.{MightStand, HasNoOtherUber}
-use Rattle.core_state.specs.Certain.{Asks, CellsOn, PageOn, SlotOn, IsSound, IsAble, IsCertain, IsRow, Knows, certain, able}
+use Rattle.core_state.specs.Keeps.{Kept, Setting, IsNotOutvoted}
+use Rattle.core_state.specs.Collision.{MightStand}
+use Rattle.core_state.specs.Certain.{Asks, CellsOn, PageOn, SlotOn, IsAble, IsCertain, Knows, certain, able}
 use Rattle.core_state.specs.Free.{IsSpare}
 use Rattle.core_state.proofs.Fresh.{first_byte}
-use Rattle.core_state.proofs.Listed.{contains_cases, contains_head, contains_tail}
-use Rattle.core_state.proofs.Places.{asks_sector, data_is_no_slot, page_place, slot_low}
+use Rattle.core_state.proofs.Places.{asks_sector, data_is_no_slot, slot_low}
 use Rattle.core_state.proofs.Frames.{Frames, IsPlace, none_lost, wrote_frames}
 
 -- the devices as they are read

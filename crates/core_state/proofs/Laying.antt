@@ -1,5 +1,5 @@
 -- The first half of a commit: the index page is written, then each device synced.
-use Rattle.std.proofs.Common.{◌≡◌, ◌≢◌, ◌⊎◌, inl, inr, ⊎_elim, ℕ, ◌+◌, ◌*◌, ◌<◌, ◌≤◌, List, ◌∷◌, length, true, false, Some, Result, refl, sym, ◌∙◌, ap, subst, arith}
+use Rattle.std.proofs.Common.{◌≡◌, ◌≢◌, ◌⊎◌, inl, inr, ⊎_elim, ℕ, ◌+◌, ◌*◌, ◌<◌, ◌≤◌, List, ◌∷◌, length, true, false, Some, Result, sym, ◌∙◌, ap, subst, arith}
 use Rattle.std.specs.Prelude.{Contains}
 use Rattle.std.proofs.lemmas.Bool.{cases_eq}
 use Rattle.bank_trait.specs.declared.Failed.{Failed}
@@ -9,15 +9,15 @@ use Rattle.uberblock_ring.specs.Devices.{has_device}
 use Rattle.uberblock_ring.specs.Uberblock.{area_sector}
 use Rattle.commit_job.specs.Stages.{device_of}
 use Rattle.commit_job.specs.declared.call.CommitCall.{CommitCall}
-use Rattle.commit_job.specs.declared.call.CommitCall.TheVariants.{IndexWrite, BaseSync, UberWrite, UberSync}
+use Rattle.commit_job.specs.declared.call.CommitCall.TheVariants.{IndexWrite, BaseSync}
 use Rattle.core_state.specs.Keeps.{Kept, Setting}
-use Rattle.core_state.specs.Certain.{Asks, CellsOn, PageOn, Knows, certain}
+use Rattle.core_state.specs.Certain.{Asks, certain}
 use Rattle.core_state.specs.Free.{IsSpare}
-use Rattle.core_state.specs.Committing.{Among, Point, Called, page_part, TellsHead, IsLaid, HasBase, Unsigned}
+use Rattle.core_state.specs.Committing.{Among, Point, Called, page_part, HasBase, Unsigned}
 use Rattle.core_state.proofs.Places.{asks_sector, data_is_no_page, page_place}
 use Rattle.core_state.proofs.Frames.{IsPlace, Nowhere}
 use Rattle.core_state.proofs.Knowing.{knows_frame, page_frame, cells_frame, cells_read}
-use Rattle.core_state.proofs.Calls.{true_false, both_false, Moves, write_moves, sync_moves, written_read, synced_certain, page_known}
+use Rattle.core_state.proofs.Calls.{true_false, Moves, write_moves, sync_moves, written_read, synced_certain, page_known}
 
 -- A group's page is in one of the two areas, and not too long.
 pub record IsPaged (kept : Kept) : Type 0 where

@@ -2,8 +2,6 @@ pub mod Items
 pub mod Rows
 pub mod Fresh
 pub mod CommitRows
-pub mod FreshCore
-pub mod Prefix
 pub mod Reader
 pub mod OpeningRows
 pub mod Listed

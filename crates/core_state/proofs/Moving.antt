@@ -1,7 +1,7 @@
 -- How the row of groups that images may show grows and moves on.
-use Rattle.std.proofs.Common.{◌≡◌, ◌⊎◌, inl, inr, ⊎_elim, ℕ, ◌+◌, ◌<◌, ◌≤◌, List, [], ◌∷◌, length, Bool, true, false, Option, Some, refl, sym, ◌∙◌, ap, subst, arith}
+use Rattle.std.proofs.Common.{◌≡◌, inl, inr, ⊎_elim, ℕ, ◌<◌, ◌≤◌, List, [], ◌∷◌, Bool, true, false, refl, sym, ◌∙◌, ap, subst, arith}
 use Rattle.std.specs.Prelude.{Contains}
-use Rattle.bank_trait.specs.Disk.{Image, Disk}
+use Rattle.bank_trait.specs.Disk.{Disk}
 use Rattle.width_map.specs.declared.birth.Birth.{Birth}
 use Rattle.reflow_mark.specs.declared.reflow.Reflow.{Reflow}
 use Rattle.shadow_write.specs.Required.{IsRequiredPlace, front_after_stop}
@@ -11,15 +11,13 @@ use Rattle.uberblock_ring.specs.Uberblock.{Uber}
 use Rattle.uberblock_ring.specs.Valid.{AreAlike}
 use Rattle.commit_job.specs.declared.call.CommitCall.{CommitCall}
 use Rattle.commit_job.specs.declared.call.CommitCall.TheVariants.{IndexWrite, BaseSync, UberWrite, UberSync}
-use Rattle.core_state.specs.Map.{Map, SameMap}
 use Rattle.core_state.specs.Index.{IsIndexOf, IsListing}
 use Rattle.core_state.specs.Whole.{Cell, IsCellOf}
-use Rattle.core_state.specs.Keeps.{Kept, Setting, SameGroup, NamesOther, IsNotOutvoted, count_left}
-use Rattle.core_state.specs.Certain.{Asks, CellsOn, PageOn, SlotOn, IsSound, IsAble, IsCertain, IsRow, Knows, certain}
-use Rattle.core_state.specs.Committing.{Among, Point, IsLaid, HasBase, IsSealed, Unsigned, Signed}
-use Rattle.core_state.proofs.Places.{asks_device, right_widths}
+use Rattle.core_state.specs.Keeps.{Kept, Setting, SameGroup, count_left}
+use Rattle.core_state.specs.Certain.{Asks, IsSound, IsCertain, IsRow, Knows, certain}
+use Rattle.core_state.specs.Committing.{Among, Point, HasBase, IsSealed, Unsigned, Signed}
+use Rattle.core_state.proofs.Places.{asks_device}
 use Rattle.core_state.proofs.Calls.{true_false}
-use Rattle.core_state.proofs.Signing.{IsSigner}
 
 -- More groups join the row, or the same ones stand in another order.
 certain_widen : (setting : Setting) (disk : Disk) (groups more : List Kept) (uber : Uber)

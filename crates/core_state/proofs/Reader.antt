@@ -1,5 +1,5 @@
 -- What whoever reads an image concludes, where no page in it is another's by chance.
-use Rattle.std.proofs.Common.{◌≡◌, ℕ, zero, suc, ◌+◌, ◌<◌, ◌≤◌, List, ◌∷◌, sym, ◌∙◌, ap, subst, arith, ⊎_elim}
+use Rattle.std.proofs.Common.{◌≡◌, ℕ, ◌<◌, ◌≤◌, List, ◌∷◌, sym, ◌∙◌, ap, subst, arith, ⊎_elim}
 use Rattle.std.specs.Prelude.{Contains, AllPairs, slice_index_or}
 use Rattle.std.proofs.lemmas.Bool.{cases_lt, cases_eq}
 use Rattle.std.proofs.lemmas.List.{get_or_default}
@@ -9,7 +9,7 @@ use Rattle.block_record.specs.Page.{index_page}
 use Rattle.uberblock_ring.specs.Uberblock.{Uber}
 use Rattle.uberblock_ring.specs.Valid.{AreAlike}
 use Rattle.core_state.specs.Shown.{Shows}
-use Rattle.core_state.specs.Keeps.{Kept, Setting, Keeps, IsKept, IsNextOf, ShowsCandidate}
+use Rattle.core_state.specs.Keeps.{Kept, Setting, Keeps, IsKept, ShowsCandidate}
 use Rattle.core_state.specs.Collision.{HasNoOtherPage}
 
 -- A candidate from the first group on is one of the groups kept, whole, and its index page is that group's.
@@ -57,21 +57,3 @@ shown_alike setting first later image device uber kept keeps listed above shows 
     let held : IsKept setting image (first ∷ later) uber = keeps.only device uber (omega (arith, above, group)) shows pool_is in
     let number : uber.group ≡ held.kept.uber.group = ap (λ (u : Uber). u.group) held.alike in
     subst (λ (k : Kept). AreAlike uber k.uber) (same_group (first ∷ later) held.kept kept keeps.ascending held.listed listed (sym number ∙ group)) held.alike
-
--- No uberblock of the pool has a group above the next but one.
-pub none_above : (setting : Setting) (first : Kept) (later : List Kept) (image : Image) (device : ℕ) (uber : Uber)
-    → Keeps setting first later image → Shows setting.shape image device uber → uber.pool ≡ setting.pool → uber.group ≤ first.uber.group + 2
-none_above setting first later image device uber keeps shows pool_is =
-    ⊎_elim (λ below. omega (arith, below)) (λ above. from_list (keeps.only device uber above shows pool_is)) (cases_lt uber.group first.uber.group)
-  where
-    near : (kept : Kept) → IsNextOf first kept → kept.uber.group ≤ first.uber.group + 2
-    near kept next = ⊎_elim (λ one. let number = one.0 in omega (arith, number))
-        (λ renews. let number = ap (λ (u : Uber). u.group) renews.alike in omega (arith, number)) next
-
-    in_list : (kept : Kept) → Contains (first ∷ later) kept → kept.uber.group ≤ first.uber.group + 2
-    in_list kept (zero, low, is) = let same : first.uber.group ≡ kept.uber.group = ap (λ (k : Kept). k.uber.group) is in omega (arith, same)
-    in_list kept (suc k, low, is) = near kept (subst (λ (g : Kept). IsNextOf first g) is (keeps.further k kept (omega (arith, low))))
-
-    from_list : IsKept setting image (first ∷ later) uber → uber.group ≤ first.uber.group + 2
-    from_list held = let number : uber.group ≡ held.kept.uber.group = ap (λ (u : Uber). u.group) held.alike in
-        omega (arith, number, in_list held.kept held.listed)

@@ -1,23 +1,22 @@
 -- The second half of a commit, and the copies of an opening: an uberblock that images may show is
 -- written, and each device synced.
-use Rattle.std.proofs.Common.{◌≡◌, ◌≢◌, ◌⊎◌, inl, inr, ⊎_elim, ℕ, ◌+◌, ◌*◌, ◌<◌, ◌≤◌, List, ◌∷◌, length, true, false, Some, Result, refl, sym, ◌∙◌, ap, subst, arith}
-use Rattle.std.specs.Prelude.{Contains}
+use Rattle.std.proofs.Common.{◌≡◌, ◌≢◌, ◌⊎◌, inl, inr, ⊎_elim, ℕ, ◌+◌, ◌<◌, List, ◌∷◌, true, false, Some, Result, sym, ◌∙◌, ap, subst, arith}
 use Rattle.std.proofs.lemmas.Bool.{cases_eq}
 use Rattle.bank_trait.specs.declared.Failed.{Failed}
 use Rattle.bank_trait.specs.Disk.{Wrote, Synced}
-use Rattle.block_record.specs.Page.{page_sectors, index_page}
+use Rattle.block_record.specs.Page.{page_sectors}
 use Rattle.uberblock_ring.specs.Devices.{has_device}
 use Rattle.uberblock_ring.specs.Uberblock.{Uber, encoded, slot_of, area_sector}
 use Rattle.uberblock_ring.specs.Valid.{IsRightUber, AreAlike}
 use Rattle.commit_job.specs.Stages.{device_of}
 use Rattle.commit_job.specs.declared.call.CommitCall.{CommitCall}
-use Rattle.commit_job.specs.declared.call.CommitCall.TheVariants.{IndexWrite, BaseSync, UberWrite, UberSync}
+use Rattle.commit_job.specs.declared.call.CommitCall.TheVariants.{IndexWrite, UberWrite, UberSync}
 use Rattle.core_state.specs.Keeps.{Kept, Setting}
-use Rattle.core_state.specs.Certain.{Asks, PageOn, SlotOn, IsCertain, Knows, certain}
+use Rattle.core_state.specs.Certain.{SlotOn, IsCertain, Knows, certain}
 use Rattle.core_state.specs.Free.{IsSpare}
-use Rattle.core_state.specs.Committing.{Among, Point, Called, page_part, TellsHead, IsLaid, HasBase, IsSealed, Unsigned, Signed}
+use Rattle.core_state.specs.Committing.{Among, Point, Called, page_part, IsSealed, Signed}
 use Rattle.core_state.proofs.Places.{asks_sector, data_is_no_slot, page_place, slot_low}
-use Rattle.core_state.proofs.Frames.{Frames, IsPlace, Nowhere}
+use Rattle.core_state.proofs.Frames.{IsPlace, Nowhere}
 use Rattle.core_state.proofs.Knowing.{knows_frame, knows_copy, certain_frame, page_frame}
 use Rattle.core_state.proofs.Calls.{true_false, Moves, write_moves, sync_moves, written_read, synced_certain, page_known}
 use Rattle.core_state.proofs.Laying.{IsPaged, IsPageSpared, page_is_spare}

@@ -1,13 +1,11 @@
 -- What a run of calls that touches spare sectors alone leaves of what images keep.
-use Rattle.std.proofs.Common.{◌≡◌, ⊎_elim, ℕ, ◌<◌, ◌≤◌, List, refl, ◌∙◌, subst, arith}
+use Rattle.std.proofs.Common.{⊎_elim, ℕ, ◌≤◌, List, refl, ◌∙◌, subst, arith}
 use Rattle.std.specs.Prelude.{Contains}
 use Rattle.std.proofs.lemmas.Bool.{cases_lt}
-use Rattle.bank_trait.specs.Disk.{Image, Disk, Lawful}
+use Rattle.bank_trait.specs.Disk.{Disk, Lawful}
 use Rattle.bank_trait.specs.Regions.{TouchesOnly}
-use Rattle.uberblock_ring.specs.Uberblock.{encoded, slot_of}
 use Rattle.core_state.specs.Keeps.{Kept, Setting}
-use Rattle.core_state.specs.Collision.{MightStand}
-use Rattle.core_state.specs.Certain.{Knows, able}
+use Rattle.core_state.specs.Certain.{Knows}
 use Rattle.core_state.specs.Free.{IsSpare}
 use Rattle.core_state.specs.Moment.{IsRowOf, KeepsSince}
 use Rattle.core_state.proofs.Frames.{Frames, none_lost}

@@ -12,14 +12,8 @@ pub mod Certain
 pub mod Free
 pub mod Committing
 pub mod Moment
-pub mod Event
-pub mod CoreState
-pub mod BlocksStand
-pub mod HoldsStand
-pub mod SpaceStands
-pub mod GroupStands
-pub mod ScrubStands
-pub mod Stands
+pub mod World
 pub mod CommitChoice
+pub mod JobTurns
 pub mod Create
 pub mod Opening

@@ -2,9 +2,11 @@
 //!
 //! These are the definitions that the promises of the program rest on. Read them in this order:
 //! `specs/Map.antt` and `specs/Legal.antt` for what callers see; `specs/Shown.antt`,
-//! `specs/Whole.antt` and `specs/Keeps.antt` for what a stop leaves, `specs/Opening.antt` for what
-//! an opening writes; `specs/Event.antt`,
-//! `specs/CoreState.antt` and `specs/Stands.antt` for what holds between two turns.
+//! `specs/Whole.antt` and `specs/Keeps.antt` for what a stop leaves, `specs/Collision.antt` for the
+//! premise that no digest matches by chance; `specs/Certain.antt` and `specs/Committing.antt` for
+//! what is certain; `specs/Choosing.antt` and `specs/Opening.antt` for an opening;
+//! `specs/CommitChoice.antt` and `specs/JobTurns.antt` for what a reflow may do next. What stands
+//! between two turns of an open pool is told by `core_turns` and `schedule`.
 #![tactic(auto)]
 
 mod answer;

@@ -10,8 +10,8 @@ use crate::turn::too_many;
 use crate::{Core, Turn};
 use bank_trait::Bank;
 use core_commit::{CommitRun, CommitStep};
-use open_pool::next_uber;
 use core_state::Answer;
+use open_pool::next_uber;
 use std::alloc::Global;
 use uberblock_ring::MAX_GROUP;
 
@@ -28,9 +28,7 @@ impl Core {
             return Turn::Busy { by };
         }
         if self.begun >= MAX_GROUP - 1 {
-            return Turn::Done(Answer::Limit {
-                reached: MAX_GROUP,
-            });
+            return Turn::Done(Answer::Limit { reached: MAX_GROUP });
         }
         let entries = self.blocks.entries();
         let Ok(next) = next_uber(alloc, &self.uber, entries, self.out) else {

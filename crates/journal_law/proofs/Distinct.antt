@@ -1,5 +1,5 @@
 -- The ids of a list, each once.
-use Rattle.std.proofs.Common.{[], ◌≡◌, ◌≢◌, ℕ, List, ◌∷◌, Bool, true, false, cond, refl, sym, ◌∙◌, ap, subst}
+use Rattle.std.proofs.Common.{[], ◌≡◌, ℕ, List, ◌∷◌, Bool, true, false, cond, refl, sym, ◌∙◌, ap, subst}
 use Rattle.std.specs.Prelude.{All, nat_eq, ◌||◌}
 use Rattle.std.specs.List.{AllByRecursion, IsDistinct}
 use Rattle.std.specs.Set.{is_member, unique_keys}

@@ -1,6 +1,6 @@
 -- A run that keeps no older group than the last one listed goes on by an item.
-use Rattle.std.proofs.Common.{[], ◌≡◌, inl, inr, ℕ, ◌+◌, ◌<◌, List, ◌∷◌, ◌++◌, Bool, cond, refl, sym, ◌∙◌, ap, subst, arith, append_assoc, eq-eqb, ne_eqb}
-use Rattle.std.specs.Prelude.{◌==◌, Contains}
+use Rattle.std.proofs.Common.{[], ◌≡◌, inl, inr, List, ◌∷◌, ◌++◌, sym, ◌∙◌, subst, append_assoc}
+use Rattle.std.specs.Prelude.{Contains}
 use Rattle.std.proofs.lemmas.List.Elements.{Contains-append_left, Contains-append_right}
 use Rattle.bank_trait.specs.Disk.{Disk}
 use Rattle.uberblock_ring.specs.Uberblock.{Uber}
@@ -54,15 +54,3 @@ moved setting handed opening known part same from now first second items_are fir
     subst (λ (l : List Item). KeepsUntil setting handed opening known l first second) (sym items_are)
     (subst (λ (d : Disk). KeepsUntil setting handed opening known part d second) (sym first_is)
     (subst (λ (d : Disk). KeepsUntil setting handed opening known part from d) (sym second_is) keeps))
-
--- the banks, with this one at one number
-abbrev pub with_bank : (ℕ → Disk) → ℕ → Disk → ℕ → Disk
-with_bank bank place next count = cond (count == place) next (bank count)
-
-pub bank_below : (bank : ℕ → Disk) (place : ℕ) (next : Disk) (count : ℕ) → count < place
-    → with_bank bank place next count ≡ bank count
-bank_below bank place next count below = ap (λ (b : Bool). cond b next (bank count))
-    (ne_eqb count place (λ same. absurd (omega (arith, same, below))))
-
-pub bank_at : (bank : ℕ → Disk) (place : ℕ) (next : Disk) → with_bank bank place next place ≡ next
-bank_at bank place next = ap (λ (b : Bool). cond b next (bank place)) (eq-eqb place place refl)

@@ -1,30 +1,21 @@
 -- A run finds no space for a put only where its blocks are many, while the journal grows.
-use Rattle.std.proofs.Common.{[], ◌≡◌, inl, inr, ℕ, ◌+◌, ◌-◌, ◌*◌, ◌≤◌, List, ◌∷◌, ◌++◌, length, sym, ◌∙◌, ap, subst, arith, take, drop, length-append, append_assoc}
-use Rattle.std.specs.Prelude.{map, sum, flat_map}
-use Rattle.std.proofs.Math.Nat.{mul-le-mul_right}
-use Rattle.std.proofs.lemmas.Grind.{flat_map-append}
-use Rattle.std.proofs.lemmas.List.{map-append, take-append-drop}
-use Rattle.std.proofs.lemmas.List.Sums.{sum_by-append}
+use Rattle.std.proofs.Common.{[], ◌≡◌, inl, inr, ℕ, ◌-◌, ◌≤◌, List, ◌∷◌, ◌++◌, length, sym, ◌∙◌, ap, subst, arith}
 use Rattle.width_map.specs.declared.birth.Birth.{Birth}
 use Rattle.width_map.specs.Births.{first_width, width_of_birth}
-use Rattle.reflow_mark.specs.Reflow.{sectors_of}
 use Rattle.block_record.specs.declared.entry.IndexEntry.{IndexEntry}
 use Rattle.uberblock_ring.specs.Uberblock.{Uber}
 use Rattle.uberblock_ring.specs.Valid.{IsBirthsOf, IsRightUber}
 use Rattle.core_state.specs.declared.answer.Answer.TheVariants as answer
-use Rattle.core_state.specs.declared.answer.Kind.TheVariants as kind
 use Rattle.core_state.specs.declared.item.Entry.{Entry}
 use Rattle.core_state.specs.declared.item.Group.{Group as GroupItem}
 use Rattle.core_state.specs.declared.item.Item.{Item}
 use Rattle.core_state.specs.declared.item.Item.TheVariants.{Group, Call}
 use Rattle.core_state.specs.Legal.{CallAt}
 use Rattle.core_blocks.specs.Puts.{sectors_taken}
-use Rattle.core_blocks.specs.Usage.{IsTight}
 use Rattle.core_blocks.proofs.Sizes.{size_shrinks}
 use Rattle.core_open.proofs.BlockSpans.{births_between}
-use Rattle.client_script.specs.Lines.{fill_bytes}
-use Rattle.client_script.specs.Script.{Placed, Script}
-use Rattle.journal_law.specs.NoSpace.{length_put, lengths_of, largest_size, IsTightFor, FindsNoSpace, NoSpaceIsCaused}
+use Rattle.client_script.specs.Script.{Script}
+use Rattle.journal_law.specs.NoSpace.{largest_size, FindsNoSpace, NoSpaceIsCaused}
 use Rattle.journal_law.proofs.Grown.{new_or_before, group_before_grown}
 
 -- No width is below the first one,
@@ -47,40 +38,6 @@ pub largest : (uber : Uber) (len birth : ℕ) → IsRightUber uber
 largest uber len birth right = size_shrinks uber.parity (first_width uber.births) (width_of_birth uber.births birth) len
     (let wide = right.births.wide in omega (arith, wide))
     (first_least uber.births uber.parity uber.reflow.from uber.group birth right.births)
-
--- What is tight stays so with more blocks.
-tight_more : (capacity len : ℕ) (sizes more : List ℕ) → IsTight capacity sizes len → IsTight capacity (sizes ++ more) len
-tight_more capacity len sizes more is = record {
-  tight = (let long = length-append sizes more in
-      let total : sum (sizes ++ more) ≡ sum sizes + sum more = sum_by-append (λ (n : ℕ). n) sizes more in
-      let product : (length sizes + 1) * (len - 1) ≤ (length (sizes ++ more) + 1) * (len - 1) =
-      mul-le-mul_right (len - 1) (omega (arith, long)) in
-      let tight = is.tight in omega (arith, total, product, tight));
-}
-
--- The lengths of some calls and of those after them.
-lengths_then : (entries : List IndexEntry) (calls more : List Placed)
-    → lengths_of entries (calls ++ more)
-    ≡ lengths_of entries calls ++ flat_map (λ placed. length_put placed.call.kind (fill_bytes placed.call.fill)) more
-lengths_then entries calls more =
-    let put : Placed → List ℕ = λ placed. length_put placed.call.kind (fill_bytes placed.call.fill) in
-    ap (λ (l : List ℕ). map (λ entry. entry.len) entries ++ l) (flat_map-append put calls more)
-    ∙ sym (append_assoc (map (λ entry. entry.len) entries) (flat_map put calls) (flat_map put more))
-
-sizes_then : (uber : Uber) (entries : List IndexEntry) (calls more : List Placed)
-    → map (largest_size uber) (lengths_of entries (calls ++ more))
-    ≡ map (largest_size uber) (lengths_of entries calls)
-    ++ map (largest_size uber) (flat_map (λ placed. length_put placed.call.kind (fill_bytes placed.call.fill)) more)
-sizes_then uber entries calls more = ap (λ (l : List ℕ). map (largest_size uber) l) (lengths_then entries calls more)
-    ∙ map-append (largest_size uber) (lengths_of entries calls) _
-
-tight_for_all : (uber : Uber) (entries : List IndexEntry) (calls : List Placed) (count size : ℕ)
-    → IsTightFor uber entries (take count calls) size → IsTightFor uber entries calls size
-tight_for_all uber entries calls count size is =
-    subst (λ (l : List Placed). IsTightFor uber entries l size) (take-append-drop count calls)
-    (subst (λ (sizes : List ℕ). IsTight (sectors_of uber.reflow) sizes size)
-    (sym (sizes_then uber entries (take count calls) (drop count calls)))
-    (tight_more (sectors_of uber.reflow) size _ _ is))
 
 -- A cause in the items before an index is one in the grown journal.
 finds_grown : (script : Script) (uber : Uber) (entries : List IndexEntry) (items more : List Item) (index : ℕ) (entry : Entry)

@@ -1,10 +1,9 @@
 -- What a bank keeps where some devices may fail, it keeps where more of them may, as long as these are few.
-use Rattle.std.proofs.Common.{◌≡◌, ⊎_elim, ℕ, ◌+◌, ◌-◌, ◌<◌, ◌≤◌, List, ◌∷◌, Bool, true, false, refl, sym, ◌∙◌, ap, subst, arith}
+use Rattle.std.proofs.Common.{◌≡◌, ℕ, ◌+◌, ◌-◌, ◌<◌, ◌≤◌, List, Bool, true, false, refl, sym, ◌∙◌, ap, subst, arith}
 use Rattle.std.proofs.lemmas.Bool.{true≢false}
 use Rattle.bank_trait.specs.Disk.{Image, Disk}
 use Rattle.uberblock_ring.specs.Devices.{has_device, count_below, IsWithin}
 use Rattle.uberblock_ring.specs.Uberblock.{Uber}
-use Rattle.core_state.specs.Collision.{HasNoOtherPage, MightStand}
 use Rattle.core_state.specs.Keeps.{Kept, Setting, Keeps, IsNotOutvoted}
 use Rattle.core_state.proofs.Fresh.{count_grows, lacks_one}
 use Rattle.core_state.proofs.Listed.{contains_head}

@@ -1,5 +1,5 @@
 -- What the devices choose that kept groups of one width: a group of this width.
-use Rattle.std.proofs.Common.{◌≡◌, ℕ, List, ◌∷◌, ◌∙◌, sym, ap, subst}
+use Rattle.std.proofs.Common.{◌≡◌, ℕ, List, ◌∙◌, sym, ap, subst}
 use Rattle.bank_trait.specs.Disk.{Disk, Lawful}
 use Rattle.uberblock_ring.specs.Uberblock.{Uber}
 use Rattle.core_state.specs.Choosing.{IsChosen}

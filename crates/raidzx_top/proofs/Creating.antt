@@ -194,17 +194,17 @@ module _ (call : Call) (made : NewPool) (served_as : IsServedAs call.words (serv
       → (setting : Setting) → IsNewSetting call made.parity made.id setting → NoneShowsFrom call made.width
       → BankKeeps setting (first_kept made.id made.parity made.width call.old.sectors) [] call.new
   bank_keeps fits created setting new others =
-        subst (λ (n : ℕ). BankKeeps setting (first_kept n made.parity made.width call.old.sectors) [] call.new)
-        new.pool
-        (subst (λ (s : Shape). BankKeeps setting (first_kept setting.pool made.parity made.width s.sectors) [] call.new)
-        new.shape
-        (created_keeps setting made.parity made.width call.new (sized setting new) new.few
-        (subst (λ (s : Shape). IsCreated (first_uber setting.pool made.parity made.width (rows_for s.sectors)) call.new) (sym new.shape)
-        (subst (λ (n : ℕ). IsCreated (first_uber n made.parity made.width (rows_for call.old.sectors)) call.new) (sym new.pool)
-        created))
-        (λ image device uber above might shows. others image device uber above
-        (subst (λ (s : Shape). MightStand s call.new call.new.clock image) new.shape might)
-        (subst (λ (s : Shape). Shows s image device uber) new.shape shows))))
+      subst (λ (n : ℕ). BankKeeps setting (first_kept n made.parity made.width call.old.sectors) [] call.new)
+      new.pool
+      (subst (λ (s : Shape). BankKeeps setting (first_kept setting.pool made.parity made.width s.sectors) [] call.new)
+      new.shape
+      (created_keeps setting made.parity made.width call.new (sized setting new) new.few
+      (subst (λ (s : Shape). IsCreated (first_uber setting.pool made.parity made.width (rows_for s.sectors)) call.new) (sym new.shape)
+      (subst (λ (n : ℕ). IsCreated (first_uber n made.parity made.width (rows_for call.old.sectors)) call.new) (sym new.pool)
+      created))
+      (λ image device uber above might shows. others image device uber above
+      (subst (λ (s : Shape). MightStand s call.new call.new.clock image) new.shape might)
+      (subst (λ (s : Shape). Shows s image device uber) new.shape shows))))
     where
       spelled : SpellsCreate call.words made
       spelled = create_spells call.words made served_as

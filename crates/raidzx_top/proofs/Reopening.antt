@@ -13,7 +13,6 @@ use Rattle.core_state.specs.declared.item.Item.TheVariants.{Call}
 use Rattle.core_state.specs.Map.{Map, Handed, SameMap, map_after}
 use Rattle.core_state.specs.Legal.{CallAt}
 use Rattle.core_state.specs.Keeps.{Kept, Setting, Keeps}
-use Rattle.core_state.specs.Collision.{MightStand}
 use Rattle.core_state.specs.Moment.{IsGroupOf, IsBegunAfter, IsUnanswered, KeepsSince, groups_in}
 use Rattle.core_state.proofs.Listed.{contains_none, contains_cases}
 use Rattle.core_open.specs.Opens.{AddsOne}

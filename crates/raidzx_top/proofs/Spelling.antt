@@ -151,12 +151,3 @@ run_no_replay words run replay =
     (sym (served_alone words OfLines run).word ∙ (served_alone words AsListed replay).word) in
     let long : 3 ≡ 6 = ap length same in
     omega (arith, long)
-
-pub none_served : (words : List (List ℕ)) → (SpellsAlone (codes "run") words → ⊥)
-    → (SpellsAlone (codes "replay") words → ⊥)
-    → ((s : NewPool) → SpellsCreate words s → ⊥)
-    → IsServed words
-    → ⊥
-none_served words no_run no_replay no_create (served.Create s, is) = no_create s (create_spells words s is)
-none_served words no_run no_replay no_create (served.Run, is) = no_run (served_alone words OfLines is)
-none_served words no_run no_replay no_create (served.Replay, is) = no_replay (served_alone words AsListed is)

@@ -61,10 +61,6 @@ pub one_size : (word : List ℕ) (m n : ℕ) → IsMemoryOf word m → IsMemoryO
 one_size word m n one other = sym (same_sectors word (decimal m) m n (omega (arith, one.few)) (omega (arith, other.few))
     one.spelled refl other.spelled)
 
--- A word that names a device in memory begins as one.
-pub memory_begins : (word : List ℕ) (sectors : ℕ) → IsMemoryOf word sectors → IsMemoryWord word
-memory_begins word sectors is = ap (λ (l : List ℕ). take 4 l) is.spelled
-
 -- The first two dashes stand in one place.
 pub one_count : (words : List (List ℕ)) (memory : Option ℕ) (count other : ℕ)
     → AreImages words memory other → 1 ≤ count

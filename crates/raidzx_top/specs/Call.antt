@@ -61,10 +61,3 @@ abbrev pub size_of : Command → Option (ℕ × ℕ)
 size_of (Create parity width id) = Some (parity, width)
 size_of (Load seed blocks parity width) = Some (parity, width)
 size_of other = None
-
--- the script of a command: the source's, that of `load`, or none
-abbrev pub IsScriptOf : Command → List ℕ → Script → Type 0
-IsScriptOf (Run attach scrub) bytes script = IsScript bytes script
-IsScriptOf Replay bytes script = IsScript bytes script
-IsScriptOf (Load seed blocks parity width) bytes script = script ≡ load_script seed blocks
-IsScriptOf other bytes script = script ≡ record { clients = 0; calls = []; order = [] }

@@ -4,7 +4,6 @@ pub mod Images
 pub mod Call
 pub mod Exit
 pub mod Causes
-pub mod Answers
 pub mod RunJournal
 pub mod RunText
 pub mod Bearing

@@ -187,15 +187,6 @@ IsSmoothAnswer (answer.Paused device) = ⊥
 IsSmoothAnswer (answer.TooManyFailed out) = ⊥
 IsSmoothAnswer other = ⊤
 
--- Where the copier's attach was ok, its copy is completed at that width or a later one.
-abbrev pub CopiesOn : Call → Type 0
-CopiesOn call = (index : ℕ) (entry : Entry) (width group : ℕ) → CallAt call.journal index entry
-    → entry.caller ≡ 8
-    → entry.answer ≡ answer.Attached width group
-    → (later : ℕ) × (copied : Entry) × (wide : ℕ) × CallAt call.journal later copied
-    × (copied.caller ≡ 8)
-    × (copied.answer ≡ answer.Completed wide) × (width ≤ wide)
-
 -- Then the status is Done and each answer is smooth; or memory was wanting, or a group met the greatest
 -- number, or the turns were used up.
 pub record CompletesAll (order : Order) (call : Call) : Type 0 where

@@ -1,7 +1,8 @@
 //! The top call: what it answers, when, and what it keeps.
 //!
-//! Read `specs/Words.antt` for the commands, `specs/Causes.antt` for each status, `specs/Answers.antt`
-//! for each answer of the journal, and `specs/Promises.antt` for what a run and a replay keep.
+//! Read `specs/Words.antt` for the commands, `specs/Causes.antt` for each status,
+//! `specs/Promises.antt` for what a run and a replay keep, `specs/Bearing.antt` for the failures that
+//! have to be borne, and `specs/Reopened.antt` for what is read back of what a stop leaves.
 #![tactic(auto)]
 
 mod images;

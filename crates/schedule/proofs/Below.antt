@@ -13,19 +13,6 @@ use Rattle.schedule.specs.Recorded.{AllBelow}
 pub below_end : (items : List Item) (caller : ℕ) → AllBelow items caller (length items)
 below_end items caller place entry there same = slice_get_within items place (Call entry) there
 
--- and stay where they stand when another caller is answered,
-pub below_call : {caller point : ℕ} (items : List Item) (new : Entry) → new.caller ≢ caller
-    → AllBelow items caller point
-    → AllBelow (items ++ Call new ∷ []) caller point
-below_call {caller = caller} items new other below place entry there same =
-    elim (new_or_before items (Call new) place (Call entry) there) [
-      | inl last ↦ absurd (other (ap (λ (e : Entry). e.caller) (same_entry last.1) ∙ same))
-      | inr earlier ↦ below place entry earlier.1 same
-    ]
-  where
-    same_entry : Call new ≡ Call entry → new ≡ entry
-    same_entry is = cc
-
 -- or a group is listed.
 pub below_group : {caller point : ℕ} (items : List Item) (group : GroupItem) → AllBelow items caller point
     → AllBelow (items ++ Group group ∷ []) caller point

@@ -120,17 +120,6 @@ begun_more script given placed clients news there begun now others = record {
       (given_more script given actor placed there);
 }
 
--- All calls of the script are among so many.
-pub begun_all : (script : Script) (given : ℕ) (clients : List Client) → length script.calls ≤ given
-    → HaveBegun script given clients → HaveBegun script (length script.calls) clients
-begun_all script given clients past begun = record {
-  each = λ actor client there.
-      let enough = begun.each actor client there in
-      let all = ap (λ (calls : List Placed). length (filter (λ (placed : Placed). placed.actor == actor) calls))
-      (take_all (length script.calls) script.calls (omega arith) ∙ sym (take_all given script.calls past)) in
-      omega (arith, enough, all);
-}
-
 -- A call that is given next leaves fewer,
 pub next_smaller : (script : Script) (before after : InOrder) (actor number : ℕ) (call : ScriptCall)
     → before.script ≡ script → IsNextCall before after actor number call

@@ -14,7 +14,7 @@ use Rattle.core_state.specs.declared.item.Entry.{Entry}
 use Rattle.core_state.specs.declared.item.Item.{Item}
 use Rattle.core_state.specs.declared.item.Item.TheVariants.{Call as CallItem}
 use Rattle.core_state.specs.Legal.{CallAt}
-use Rattle.core_state.specs.CoreState.{World}
+use Rattle.core_state.specs.World.{World}
 use Rattle.core_client.specs.Outs.{point_of}
 use Rattle.core_client.proofs.Outs.{outs_none, outs_then}
 use Rattle.core_commit.specs.Spared.{IsOnInUse}
@@ -30,11 +30,6 @@ use Rattle.schedule.specs.Turns.{Turns, TurnTaken, last_left, AreListedWith, IsL
 use Rattle.schedule.specs.Running.{Runs}
 use Rattle.schedule.proofs.Fulls.{FullStays}
 use Rattle.schedule.specs.Moments.{Past}
-
--- how far the devices' failure has to be borne where nothing was done: those that are out, unless they are too many
-borne_by : (out parity : ℕ) → (count_of out ≤ parity) ⊎ (parity < count_of out) → ℕ
-borne_by out parity (inl few) = out
-borne_by out parity (inr many) = 0
 
 few_or_many : (out parity : ℕ) → (count_of out ≤ parity) ⊎ (parity < count_of out)
 few_or_many out parity = ⊎_elim (λ many. inr many) (λ few. inl few) (cases_lt parity (count_of out))

@@ -4,7 +4,6 @@ use Rattle.std.specs.Prelude.{Contains, count_by, nat_eq, ◌||◌, ◌==◌, sl
 use Rattle.std.specs.Set.{is_member, unique_keys}
 use Rattle.std.proofs.lemmas.Bool.{eqb-true, false≢true}
 use Rattle.std.proofs.lemmas.List.Sums.{sum_by-cons}
-use Rattle.bank_trait.specs.Disk.{Disk}
 use Rattle.block_table.specs.Table.{IsFull, ids_in_use, ids_of, known_ids}
 use Rattle.block_table.proofs.Counts.{held_is, known_split}
 use Rattle.core_state.specs.declared.answer.Answer.{Answer}
@@ -17,7 +16,7 @@ use Rattle.core_state.specs.declared.item.Item.{Item}
 use Rattle.core_state.specs.declared.item.Item.TheVariants.{Group, Call as CallItem}
 use Rattle.core_state.specs.Map.{Map, map_of}
 use Rattle.core_state.specs.Legal.{IsAnswerOf}
-use Rattle.core_state.specs.CoreState.{World}
+use Rattle.core_state.specs.World.{World}
 use Rattle.core_blocks.specs.Blocks.{puts_of}
 use Rattle.core_blocks.proofs.Lists.{first_listed, rest_listed}
 use Rattle.client_script.specs.declared.call.ScriptCall.{ScriptCall}

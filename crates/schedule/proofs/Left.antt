@@ -124,9 +124,6 @@ some_left (work.Sync run) = omega arith
 pub none_under : {under : UnderWay} → None ≡ Some under → ⊥
 none_under same = cc
 
-pub under_same : {one two : UnderWay} → Some one ≡ Some two → one ≡ two
-under_same same = cc
-
 -- A turn of a client that has a call under way begins no other, and leaves fewer turns.
 pub turned_fewer : (calls : List ScriptCall) (actor : ℕ) (before after : Station) (under : UnderWay)
     → Turned calls actor before after → before.client.under_way ≡ Some under

@@ -38,7 +38,6 @@ pub mod Opened
 pub mod OpenedBirths
 pub mod UsingOpened
 pub mod Whole
-pub mod OwnTurns
 pub mod Left
 pub mod Shared
 pub mod TurnTaken

@@ -5,7 +5,7 @@ use Rattle.bank_trait.specs.Disk.{Disk, Later}
 use Rattle.core_state.specs.declared.item.Item.TheVariants.{Group}
 use Rattle.core_state.specs.Map.{Map, Handed}
 use Rattle.core_state.specs.Keeps.{Kept, Setting}
-use Rattle.core_state.specs.CoreState.{World}
+use Rattle.core_state.specs.World.{World}
 use Rattle.core_state.proofs.Listed.{contains_none}
 use Rattle.core_blocks.specs.Blocks.{AreUnderWay}
 use Rattle.core_open.specs.Opens.{MayOpen}

@@ -14,7 +14,6 @@ use Rattle.core_state.proofs.Knowing.{present, present_might}
 use Rattle.core_state.proofs.Listed.{contains_head}
 use Rattle.core_state.proofs.Reader.{shown_alike}
 use Rattle.core_blocks.proofs.Lists.{first_listed, rest_listed, listed_cases, filter_listed, filter_was}
-use Rattle.core_open.specs.Opens.{IsWithinBelow}
 use Rattle.open_pool.specs.Opening.{MayBegin, Begins, IsBegunWith}
 use Rattle.open_pool.specs.Pool.{Pool}
 

@@ -11,7 +11,7 @@ use Rattle.core_state.specs.declared.item.Entry.{Entry}
 use Rattle.core_state.specs.declared.item.Item.TheVariants.{Call as CallItem}
 use Rattle.core_state.specs.Map.{Map, Handed, map_of, map_after_answer, with_block}
 use Rattle.core_state.specs.Legal.{IsAnswerOf}
-use Rattle.core_state.specs.CoreState.{World}
+use Rattle.core_state.specs.World.{World}
 use Rattle.core_blocks.specs.declared.range.PutRange.{PutRange}
 use Rattle.core_blocks.proofs.Lists.{gains_item}
 use Rattle.client_script.specs.declared.call.ScriptCall.{ScriptCall}

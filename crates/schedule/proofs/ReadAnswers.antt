@@ -16,7 +16,7 @@ use Rattle.core_state.specs.declared.item.Item.TheVariants.{Call as CallItem}
 use Rattle.core_state.specs.Map.{Map, Handed, map_after, map_after_answer}
 use Rattle.core_state.specs.Legal.{IsAnswerOf}
 use Rattle.core_state.specs.Keeps.{Kept, Setting}
-use Rattle.core_state.specs.CoreState.{World}
+use Rattle.core_state.specs.World.{World}
 use Rattle.core_commit.specs.CommitTurns.{CommitRun}
 use Rattle.core_turns.specs.Getting.{IsReadRight}
 use Rattle.client_script.specs.declared.call.ScriptCall.{ScriptCall}

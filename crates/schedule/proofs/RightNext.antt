@@ -11,7 +11,7 @@ use Rattle.core_state.specs.declared.item.Item.{Item}
 use Rattle.core_state.specs.declared.item.Item.TheVariants.{Group, Call}
 use Rattle.core_state.specs.Map.{Map, Handed, map_of, map_after}
 use Rattle.core_state.specs.Legal.{IsPrevious, IsGroupBefore, IsReadOf, IsCutShort, IsRightRead, IsRightFree, IsRightSync, IsRightCall}
-use Rattle.core_state.specs.CoreState.{World}
+use Rattle.core_state.specs.World.{World}
 use Rattle.uberblock_ring.specs.Uberblock.{max_group}
 use Rattle.core_turns.specs.Getting.{IsRead}
 use Rattle.journal_law.proofs.Grown.{grown_has, last_there, map_before, map_at_end}

@@ -9,7 +9,7 @@ use Rattle.core_state.specs.declared.item.Item.TheVariants.{Group, Call as CallI
 use Rattle.core_state.specs.Map.{Map}
 use Rattle.core_state.specs.Legal.{CallAt}
 use Rattle.core_state.specs.Keeps.{Kept}
-use Rattle.core_state.specs.CoreState.{World}
+use Rattle.core_state.specs.World.{World}
 use Rattle.client_script.specs.declared.call.ScriptCall.{ScriptCall}
 use Rattle.client_script.specs.Script.{Script}
 use Rattle.journal_law.proofs.Grown.{map_before, new_or_before}

@@ -1,7 +1,6 @@
 -- What stood before a turn of one client stands after it, where its call is answered.
 use Rattle.std.proofs.Common.{◌≡◌, ◌≢◌, ℕ, List, [], ◌∷◌, ◌++◌, Some, None, sym, ◌∙◌, ap, subst, length, ◌+◌, ◌<◌, arith, ◌≤◌, length-append}
 use Rattle.std.specs.Prelude.{Contains, slice_get}
-use Rattle.bank_trait.specs.Disk.{Disk}
 use Rattle.space_alloc.specs.Space.{Gains}
 use Rattle.uberblock_ring.specs.Uberblock.{Uber}
 use Rattle.core_state.specs.declared.answer.Answer.TheVariants as answer
@@ -14,7 +13,7 @@ use Rattle.core_state.specs.Map.{Map, map_of, map_after_answer}
 use Rattle.core_state.specs.Legal.{IsAnswerOf}
 use Rattle.core_state.specs.Keeps.{Kept}
 use Rattle.core_state.specs.Certain.{Knows}
-use Rattle.core_state.specs.CoreState.{World}
+use Rattle.core_state.specs.World.{World}
 use Rattle.core_blocks.proofs.Lists.{gains_old}
 use Rattle.core_commit.specs.CommitTurns.{CommitRun}
 use Rattle.client_script.specs.Script.{Script}
@@ -175,8 +174,12 @@ module _ (world : World) (script : Script) (past : Past) (before after : CoreSta
       (stands : Stands world.setting next [] map runs.calls None after) where
     -- Both were listed with this bank.
     both_with : (count : ℕ) → length items < count → count ≤ length items + 1 + 1 → past.banks count ≡ before.disk
-    both_with count from until = with count from (omega (arith, until, length-append items (Group group ∷ []),
-        length-append (items ++ Group group ∷ []) (CallItem entry ∷ []))) ∙ disk
+    both_with count from until = with count from (omega (
+      arith,
+      until,
+      length-append items (Group group ∷ []),
+      length-append (items ++ Group group ∷ []) (CallItem entry ∷ []),
+    )) ∙ disk
 
     my_end : IsClient world script items runs.item runs.begun runs.calls index old under
     my_end = runs.each index old under (record { there = was; under_way = old_is })

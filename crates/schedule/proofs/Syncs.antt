@@ -12,7 +12,7 @@ use Rattle.core_state.specs.Map.{Map, Handed, map_after_answer}
 use Rattle.core_state.specs.Legal.{IsGroupBefore, IsAnswerOf}
 use Rattle.core_state.specs.Keeps.{Kept, Setting}
 use Rattle.core_state.specs.Certain.{Knows}
-use Rattle.core_state.specs.CoreState.{World}
+use Rattle.core_state.specs.World.{World}
 use Rattle.core_client.specs.Outs.{point_of}
 use Rattle.core_commit.specs.CommitTurns.{CommitRun}
 use Rattle.core_commit.proofs.Beside.{committing_cut}

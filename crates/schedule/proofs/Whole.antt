@@ -1,7 +1,6 @@
 -- A run of turns from the opening of its pool to its end.
 use Rattle.std.proofs.Common.{◌≡◌, inl, inr, ⊎_elim, ℕ, ◌≤◌, List, [], ◌∷◌, ◌++◌, Bool, true, false, refl, sym, ◌∙◌, ap, arith, length, subst, ◌+◌}
 use Rattle.std.specs.Prelude.{Contains}
-use Rattle.bank_trait.specs.Causes.{Rose}
 use Rattle.bank_trait.specs.Disk.{Image, Disk, Later, Lawful}
 use Rattle.bank_trait.specs.Regions.{TouchesOnly}
 use Rattle.bank_trait.proofs.Touches.{touches_then}
@@ -13,7 +12,7 @@ use Rattle.core_state.specs.declared.item.Item.{Item}
 use Rattle.core_state.specs.declared.item.Item.TheVariants.{Group}
 use Rattle.core_state.specs.Journal.{CallsAreRight}
 use Rattle.core_state.specs.Keeps.{Kept, Setting}
-use Rattle.core_state.specs.CoreState.{World}
+use Rattle.core_state.specs.World.{World}
 use Rattle.core_blocks.specs.Blocks.{AreUnderWay}
 use Rattle.core_client.specs.Outs.{point_of, OnlyFailedGoOut}
 use Rattle.core_commit.specs.Spared.{IsOnInUse}

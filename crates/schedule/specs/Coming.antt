@@ -1,6 +1,6 @@
 -- What some turns of a script's clients come to.
 use Rattle.std.specs.Prelude.{◌≡◌, ◌⊎◌, ℕ, ◌≤◌, ◌<◌, List, Some, slice_get}
-use Rattle.bank_trait.specs.Disk.{Disk, Later}
+use Rattle.bank_trait.specs.Disk.{Later}
 use Rattle.bank_trait.specs.Regions.{TouchesOnly}
 use Rattle.block_record.specs.declared.entry.IndexEntry.{IndexEntry}
 use Rattle.uberblock_ring.specs.Devices.{count_of, IsWithin}
@@ -9,13 +9,11 @@ use Rattle.core_state.specs.declared.answer.Answer.TheVariants as answer
 use Rattle.core_state.specs.declared.item.Entry.{Entry}
 use Rattle.core_state.specs.declared.item.Item.{Item}
 use Rattle.core_state.specs.Legal.{CallAt}
-use Rattle.core_state.specs.CoreState.{World}
+use Rattle.core_state.specs.World.{World}
 use Rattle.core_client.specs.Outs.{point_of, OnlyFailedGoOut}
 use Rattle.core_commit.specs.Spared.{IsOnInUse}
 use Rattle.open_pool.specs.Pool.{HasBank}
 use Rattle.client_script.specs.Script.{Script, handed_by}
-use Rattle.core_turns.specs.Core.{CoreState}
-use Rattle.schedule.specs.declared.client.Client.{Client}
 use Rattle.schedule.specs.Caused.{FullIsCaused}
 use Rattle.schedule.specs.Clients.{AreAnswered}
 use Rattle.schedule.specs.Moments.{Past}

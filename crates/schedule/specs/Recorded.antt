@@ -12,7 +12,7 @@ use Rattle.core_state.specs.Legal.{CallAt, IsPrevious, IsGroupBefore, IsRightCal
 use Rattle.core_state.specs.Journal.{GroupsAreRight}
 use Rattle.core_state.specs.Keeps.{Kept}
 use Rattle.core_state.specs.Moment.{IsGroupOf, Groups, KeepsSince}
-use Rattle.core_state.specs.CoreState.{World}
+use Rattle.core_state.specs.World.{World}
 use Rattle.journal_law.specs.Caused.{IsAtLastGroup}
 use Rattle.journal_law.specs.Widths.{HaveWidthOf}
 use Rattle.schedule.specs.Moments.{KeptSoFar, KeepsOn, Past}

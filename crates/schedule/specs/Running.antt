@@ -1,6 +1,5 @@
 -- What stands between two turns of a script's clients.
 use Rattle.std.specs.Prelude.{◌≡◌, ◌⊎◌, ℕ, ◌-◌, ◌<◌, ◌≤◌, List, ◌∷◌, [], length, Option, Some, None, slice_get, Contains, ⊤}
-use Rattle.bank_trait.specs.Disk.{Disk}
 use Rattle.core_state.specs.declared.answer.Kind.TheVariants as kind
 use Rattle.core_state.specs.declared.item.Entry.{Entry}
 use Rattle.core_state.specs.declared.item.Group.{Group as GroupItem}
@@ -8,7 +7,7 @@ use Rattle.core_state.specs.declared.item.Item.{Item}
 use Rattle.core_state.specs.Map.{map_of, map_after}
 use Rattle.core_state.specs.Legal.{CallAt, IsGroupBefore}
 use Rattle.core_state.specs.Keeps.{Kept}
-use Rattle.core_state.specs.CoreState.{World}
+use Rattle.core_state.specs.World.{World}
 use Rattle.core_commit.specs.CommitTurns.{CommitRun}
 use Rattle.client_script.specs.declared.call.ScriptCall.{ScriptCall}
 use Rattle.client_script.specs.Lines.{fill_bytes}

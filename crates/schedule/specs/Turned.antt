@@ -267,10 +267,3 @@ MayGoOn core call (work.Put run) = IsPutOf core run × IsUnderWay core.pool.bloc
     × (length (fill_bytes call.fill) ≡ run.len)
 MayGoOn core call (work.Read run) = IsRead run.kind × IsGetOf core run
 MayGoOn core call (work.Sync run) = IsCommitOf core run
-
--- What a turn asks of a client: it has begun no more calls than there are, and its call under way may go on.
-pub record MayTake (calls : List ScriptCall) (core : Core) (client : Client) : Type 0 where
-  pub few : client.begun ≤ length calls
-  pub begun : (under : UnderWay) → client.under_way ≡ Some under → 1 ≤ client.begun
-  pub may : (under : UnderWay) (call : ScriptCall) → client.under_way ≡ Some under
-      → slice_get calls (client.begun - 1) ≡ Some call → MayGoOn core call under.work

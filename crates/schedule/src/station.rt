@@ -15,8 +15,8 @@ use bank_trait::Bank;
 use client_script::ScriptCall;
 use core_state::{Answer, Entry, Group, Item, Journal};
 use core_turns::{Core, Turn};
-use reflow_mark::Reflow;
 use journal_law::point_after;
+use reflow_mark::Reflow;
 use std::alloc::Global;
 
 /// The entry of a call of this number, which began after so many items.

@@ -45,12 +45,12 @@ returns-in_err-ran g c =
       told.nothing,
       Unopened script (was_read source after script read.ok read.allowed read.actors read.every_script read.every_fault
           read.every_limit) why (record {
-        cause = told.cause;
-        cut = told.cut;
-        untouched = told.untouched;
-        others = told.others;
-        opens = told.opens;
-      }) refl,
+            cause = told.cause;
+            cut = told.cut;
+            untouched = told.untouched;
+            others = told.others;
+            opens = told.opens;
+          }) refl,
     )
 
 pub returns : goal.returns

@@ -1,4 +1,4 @@
-use Rattle.std.proofs.Common.{List, [], length, refl, sym, ap, subst}
+use Rattle.std.proofs.Common.{List, [], length, refl, sym, subst}
 use Rattle.core_state.specs.declared.item.Item.{Item}
 use Rattle.core_state.specs.Journal.{CallsAreRight}
 use Rattle.client_script.specs.Script.{asked_by}

@@ -1,4 +1,4 @@
-use Rattle.std.proofs.Common.{◌<◌, List, ℕ, [], drop, get_or, length, arith, ap, refl}
+use Rattle.std.proofs.Common.{◌<◌, [], drop, length, arith, ap}
 use Rattle.std.proofs.lemmas.List.{drop_all, take_all}
 use Rattle.schedule.specs.InTurn.{InOrder, replay_by, turns_by}
 use Rattle.schedule.proofs.Playing.{at_err, have_had_turns, listed_more, listed_none, played_at, stopped_then}
