@@ -9,6 +9,7 @@ pub mod Stopping
 pub mod Planned
 pub mod Spreading
 pub mod Copying
+pub mod Writing
 pub mod Stepping
 pub mod Beside
 pub mod CommitTurns

@@ -2,5 +2,6 @@ pub mod Ran
 pub mod Commits
 pub mod Copies
 pub mod Spared
+pub mod Writing
 pub mod Ordered
 pub mod CommitTurns

@@ -11,12 +11,15 @@ use Rattle.commit_job.specs.declared.call.CommitCall.TheVariants.{IndexWrite, Ba
 use Rattle.commit_job.specs.Stages.{device_of, calls_left, after_next}
 use Rattle.core_state.specs.Committing.{Point, Called}
 
+-- one sector of the index page, counted from 0: 512 bytes
+abbrev pub index_part : List IndexEntry → ℕ → List ℕ
+index_part entries part = take 512 (drop (512 * part) (index_page entries))
+
 -- What the bank is after a call of a commit of this uberblock, with this index.
 abbrev pub HasMade : Uber → List IndexEntry → CommitCall → Disk → Disk → Result (Unit {0}) Failed
     → Type 0
 HasMade uber entries (IndexWrite device part) old new result =
-    Wrote old new device (area_sector uber.area + part)
-    (take 512 (drop (512 * part) (index_page entries))) result
+    Wrote old new device (area_sector uber.area + part) (index_part entries part) result
 HasMade uber entries (BaseSync device) old new result = Synced old new device result
 HasMade uber entries (UberWrite device) old new result =
     Wrote old new device (slot_of uber.group) (encoded uber device) result

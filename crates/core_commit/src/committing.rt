@@ -8,6 +8,7 @@ ghost use Rattle.commit_job.specs.Stages.{device_of, calls_left};
 ghost use Rattle.core_commit.specs.Copies.{CopyKeeps};
 ghost use Rattle.core_commit.specs.Ran.{HasMade, MadeOne, Ran, IsInside, FitsBank, IsSigning, point_of};
 ghost use Rattle.core_commit.specs.Spared.{Spares, HaveGoneOut, TouchesGroup, StopsInTime};
+ghost use Rattle.core_commit.specs.Writing.{IsCopyOf, WritesOnly};
 
 use bank_trait::{Bank, Failed};
 use block_record::{IndexEntry, index_sector};
@@ -151,6 +152,8 @@ pub fn copy<B: Bank>(
         (point_of out.new (B.disk bank.new)) }
     ensures stops { StopsInTime uber.now.parity (point_of out.old (B.disk bank.old))
         (point_of out.new (B.disk bank.new)) }
+    ensures writes { WritesOnly (IsCopyOf uber.now entries.now lack_page lack_uber out.old)
+        (B.disk bank.old) (B.disk bank.new) }
     ensures keeps { CopyKeeps uber.now entries.now lack_page lack_uber
         (point_of out.old (B.disk bank.old)) (point_of out.new (B.disk bank.new)) result }
 {

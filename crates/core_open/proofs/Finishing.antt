@@ -23,12 +23,13 @@ use Rattle.core_open.specs.Causes.{AreTooMany, AreOutOf, IsOpenCause}
 use Rattle.core_open.specs.Failing.{HaveFailed}
 use Rattle.core_open.specs.Finding.{IsFoundIn, FitsOpening}
 use Rattle.core_open.specs.Holds.{HoldsImage, shape_of}
-use Rattle.core_open.specs.Opens.{OpeningKeeps, IsWithinBelow, LeavesBank, LeavesOthers, HasBank, IsOpenedWith, RenewsChoice, StopsCopying, StopsRenewing, renewed_by}
+use Rattle.core_open.specs.Opens.{OpeningKeeps, IsWithinBelow, LeavesBank, LeavesOthers, HasBank, IsOpenedWith, RenewsChoice, WritesInOrder, StopsCopying, StopsRenewing, renewed_by}
 use Rattle.core_open.specs.Regions.{IsOnBelow}
 use Rattle.core_open.specs.OpensFound.{WritesFound, OpensFound}
 use Rattle.core_open.proofs.Renewal.{right_with}
 use Rattle.core_open.proofs.Unchanged.{unchanged_none, unchanged_then}
 use Rattle.core_open.proofs.Others.{found_touches}
+use Rattle.core_open.proofs.InOrder.{renewed_in_order}
 use Rattle.core_open.proofs.Written.{silent_now, choice, shown_by, limit_caused, many_caused, went_spread, went_renewed, out_caused, many_gone, missed, keeps_renewed, kept_renewed, cut_copied, cut_renewed}
 
 within_trans : (one two three : ℕ) → IsWithin one two → IsWithin two three → IsWithin one three
@@ -66,6 +67,7 @@ pub record IsOpen (old new : Disk) (opened : Opened) : Type 0 where
   pub since : OpeningKeeps opened.uber.reflow.to opened.uber.out old new
   pub only : TouchesOnly (IsOnBelow opened.uber.reflow.to) old new
   pub others : LeavesOthers old new
+  pub writes : WritesInOrder old new opened.silent opened.uber
 
 -- What is known of a pool that wasn't.
 pub record IsRefused (old new : Disk) (why : OpenWhy) : Type 0 where
@@ -159,6 +161,9 @@ module _ (found : Found) (old mid new : Disk) (lawful : Lawful old) (same_found 
               choice = (found_in image holds).chosen;
               renewed = ran.renewed_is ∙ ap (λ (n : ℕ). renewed_by found.uber n) (sym out_is);
             }));
+        writes = subst (λ (n : ℕ). WritesInOrder old new n opened.uber) (sym silent_is)
+            (renewed_in_order found old mid new same_found found_in opened.out (Ok opened.uber) writes opened.uber
+            (Ok writes.ends.0) ran);
         spares = record {
           later = later_trans same_found.goes_on.later later;
           reads = λ device x used region.

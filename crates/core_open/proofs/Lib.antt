@@ -24,6 +24,7 @@ pub mod Voting
 pub mod Joining
 pub mod Ends
 pub mod Renewal
+pub mod InOrder
 pub mod Written
 pub mod Unhindered
 pub mod Finishing

@@ -9,6 +9,7 @@ use Rattle.uberblock_ring.proofs.DeviceSets.{count_above}
 use Rattle.core_state.specs.Committing.{Point}
 use Rattle.core_commit.specs.declared.committing.TooManyOut.{TooManyOut}
 use Rattle.core_commit.specs.Copies.{CopyKeeps}
+use Rattle.core_commit.specs.Writing.{IsCopyOf, WritesOnly}
 use Rattle.core_commit.specs.Spared.{HaveGoneOut, Spares, StopsInTime, TouchesGroup}
 use Rattle.core_open.specs.declared.why.OpenWhy.TheVariants as reason
 use Rattle.core_open.specs.Opens.{HasSpread, HasRenewed, EndsRenewal, renewed_by, every_device}
@@ -75,14 +76,17 @@ pub spread_of : (uber : Uber) (entries : List IndexEntry) (none all : ℕ) (befo
     → none ≡ 0 → all ≡ every_device → CopyKeeps uber entries none all before after result
     → HaveGoneOut before before.out after → Spares before after → TouchesGroup uber before after
     → StopsInTime uber.parity before after
+    → WritesOnly (IsCopyOf uber entries none all before.out) before.disk after.disk
     → HasSpread uber entries 0 every_device before after result
-spread_of uber entries none all before after result none_is all_is keeps gone spares touches stops = record {
+spread_of uber entries none all before after result none_is all_is keeps gone spares touches stops writes = record {
   keeps = subst (λ (n : ℕ). CopyKeeps uber entries n every_device before after result) none_is
       (subst (λ (n : ℕ). CopyKeeps uber entries none n before after result) all_is keeps);
   gone = gone;
   spares = spares;
   touches = touches;
   stops = stops;
+  writes = subst (λ (n : ℕ). WritesOnly (IsCopyOf uber entries n every_device before.out) before.disk after.disk) none_is
+      (subst (λ (n : ℕ). WritesOnly (IsCopyOf uber entries none n before.out) before.disk after.disk) all_is writes);
 }
 
 module _ (uber : Uber) (entries : List IndexEntry) (lack_page lack_uber : ℕ) (before mid : Point)

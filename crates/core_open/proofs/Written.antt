@@ -28,6 +28,9 @@ use Rattle.core_open.specs.Holds.{HoldsImage, shape_of}
 use Rattle.core_open.specs.Opens.{MayOpen, IsWithinBelow, HasOpened, OpeningKeeps, CutsOpening, IsOpenedWith, HasRenewed, HasSpread, every_device}
 use Rattle.core_open.specs.OpensFound.{WritesFound}
 use Rattle.core_open.proofs.ChosenCopies.{AreRead}
+use Rattle.core_open.specs.Writes.{IsRenewal, renewed_by}
+use Rattle.core_commit.proofs.Writing.{writes_none}
+use Rattle.core_open.proofs.InOrder.{in_order, renewed_in_order}
 use Rattle.core_open.proofs.Others.{found_touches}
 use Rattle.core_open.proofs.Ends.{present_held, width_is, since_copied, since_renewed, opened_next}
 use Rattle.core_open.proofs.Renewal.{count_within}
@@ -315,6 +318,11 @@ module _ (found : Found) (old mid new : Disk) (lawful : Lawful old) (same_found 
         };
         keeps = keeps_copied ended spread;
         only = found_touches found out result same_found writes;
+        writes = (
+          renewed_by found.uber 0,
+          in_order found old mid new same_found found_in out result writes (renewed_by found.uber 0) new spread.writes
+              refl (writes_none (IsRenewal (renewed_by found.uber 0) found.out) new),
+        );
       },
       gone_listed out spread.gone.stay,
     )
@@ -342,6 +350,7 @@ module _ (found : Found) (old mid new : Disk) (lawful : Lawful old) (same_found 
         };
         keeps = keeps_renewed renewed ended ran;
         only = found_touches found out result same_found writes;
+        writes = (renewed, renewed_in_order found old mid new same_found found_in out result writes renewed ended ran);
       },
       ran.spread.gone.stay,
     )

@@ -13,3 +13,4 @@ pub mod Regions
 pub mod Sets
 pub mod Spans
 pub mod Votes
+pub mod Writes

@@ -1,5 +1,5 @@
 -- What an opening keeps of what images kept when it began, and the group with which it ends.
-use Rattle.std.specs.Prelude.{◌≡◌, ◌⊎◌, ℕ, ◌-◌, ◌^◌, ◌+◌, ◌<◌, ◌≤◌, true, List, [], ◌∷◌, ◌++◌, length, Contains, Result, Ok, Err}
+use Rattle.std.specs.Prelude.{◌≡◌, ◌⊎◌, ℕ, ◌^◌, ◌+◌, ◌<◌, ◌≤◌, true, List, [], ◌∷◌, ◌++◌, length, Contains, Result, Ok, Err}
 use Rattle.bank_trait.specs.Causes.{Rose}
 use Rattle.bank_trait.specs.Disk.{Image, Disk, Unchanged}
 use Rattle.bank_trait.specs.Regions.{Tells, TouchesOnly}
@@ -16,6 +16,7 @@ use Rattle.core_state.specs.Committing.{Point}
 use Rattle.core_state.specs.Moment.{KeepsSince}
 use Rattle.core_commit.specs.declared.committing.TooManyOut.{TooManyOut}
 use Rattle.core_commit.specs.Copies.{CopyKeeps}
+use Rattle.core_commit.specs.Writing.{IsCopyOf, WritesOnly}
 use Rattle.core_commit.specs.Spared.{HaveGoneOut, Spares, StopsInTime, TouchesGroup}
 use Rattle.core_open.specs.declared.why.OpenWhy.{OpenWhy}
 use Rattle.core_open.specs.declared.why.OpenWhy.TheVariants as reason
@@ -24,6 +25,7 @@ use Rattle.core_open.specs.Failing.{HaveFailed}
 use Rattle.core_open.specs.Holds.{HoldsImage, shape_of}
 use Rattle.core_open.specs.Lacking.{HasAllBut}
 use Rattle.core_open.specs.Regions.{IsOnBelow}
+pub use Rattle.core_open.specs.Writes.{every_device, renewed_by, WritesInOrder}
 
 -- Each image that a crash may leave keeps these groups, all of one width; the bank tells what it holds,
 -- and no page in that is another's by chance.
@@ -75,6 +77,8 @@ pub record CutsOpening (old new : Disk) : Type 0 where
   -- Where these may fail, what was kept is kept; and no device is touched but those of the pool.
   pub keeps : OpeningKeeps width borne old new
   pub only : TouchesOnly (IsOnBelow width) old new
+  -- What it wrote, it wrote in this order.
+  pub writes : (renewed : Uber) × WritesInOrder old new silent renewed
 
 -- A refusal changes nothing but counts of faults. Where too many devices are out it may have been cut short:
 -- those that have to be borne are then among the ones that are told.
@@ -128,10 +132,6 @@ pub record IsOpenedWith (uber : Uber) (entries : List IndexEntry) (silent out : 
         → first.uber.reflow.to ≡ uber.reflow.to → IsWithin out setting.failed
         → HasOpened setting first later uber entries silent old new
 
--- the uberblock of an opening's group
-abbrev pub renewed_by : Uber → ℕ → Uber
-renewed_by uber out = record uber { group = uber.group + 2; out = out }
-
 -- The uberblock is the one that the devices choose but for the silent ones, with this index: only its number
 -- is two more, and it lists other devices as out.
 pub record RenewsChoice (shape : Shape) (silent : ℕ) (image : Image) (uber : Uber)
@@ -171,14 +171,11 @@ IsForMemory old new why = (setting : Setting) (first : Kept) (later : List Kept)
     → IsUnhindered setting first later old new
     → why ≡ reason.NoMemory
 
--- all devices that a mask can have
-abbrev pub every_device : ℕ
-every_device = 2 ^ 64 - 1
-
 -- One run of copies.
 pub record HasSpread (uber : Uber) (entries : List IndexEntry) (lack_page lack_uber : ℕ)
     (before after : Point) (result : Result (Unit {0}) TooManyOut) : Type 0 where
   pub keeps : CopyKeeps uber entries lack_page lack_uber before after result
+  pub writes : WritesOnly (IsCopyOf uber entries lack_page lack_uber before.out) before.disk after.disk
   pub gone : HaveGoneOut before before.out after
   pub spares : Spares before after
   pub touches : TouchesGroup uber before after

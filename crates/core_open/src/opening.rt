@@ -13,7 +13,7 @@ ghost use Rattle.core_open.specs.Causes.{AreOutOf, IsOpenCause};
 ghost use Rattle.core_open.specs.Failing.{HaveFailed};
 ghost use Rattle.core_open.specs.Finding.{FitsOpening};
 ghost use Rattle.core_open.specs.Holds.{HoldsImage, shape_of};
-ghost use Rattle.core_open.specs.Opens.{EndsRenewal, HasBank, IsForMemory, IsOpenedWith, IsWithinBelow, LeavesBank, LeavesOthers, OpeningKeeps, RenewsChoice};
+ghost use Rattle.core_open.specs.Opens.{EndsRenewal, HasBank, IsForMemory, IsOpenedWith, IsWithinBelow, LeavesBank, LeavesOthers, OpeningKeeps, RenewsChoice, WritesInOrder};
 ghost use Rattle.core_open.specs.OpensFound.{OpensFound};
 ghost use Rattle.core_open.specs.Regions.{IsOnBelow};
 
@@ -130,6 +130,10 @@ pub fn open<B: Bank>(alloc: Global, bank: &mut B) -> Result<Opened, OpenWhy>
     ensures untouched { IfErr result (λ why.
         LeavesBank why (B.disk bank.old) (B.disk bank.new)) }
     ensures opens { IfErr result (IsForMemory (B.disk bank.old) (B.disk bank.new)) }
+
+    // Copies of the chosen group are written, and nothing else until the uberblock that renews it.
+    ensures writes { IfOk result (λ opened. WritesInOrder (B.disk bank.old) (B.disk bank.new)
+        opened.silent opened.uber) }
 
     // No device is touched but those of the pool.
     ensures only { IfOk result (λ opened. TouchesOnly (IsOnBelow opened.uber.reflow.to)

@@ -31,7 +31,7 @@ use Rattle.core_open.specs.Causes.{AreOutOf}
 use Rattle.core_open.specs.declared.why.OpenWhy.{OpenWhy}
 use Rattle.core_open.specs.declared.why.OpenWhy.TheVariants as reason
 use Rattle.core_open.specs.Failing.{HaveFailed}
-use Rattle.core_open.specs.Opens.{HasOpened, IsWithinBelow, LeavesBank, OpeningKeeps, RenewsChoice}
+use Rattle.core_open.specs.Opens.{HasOpened, IsWithinBelow, LeavesBank, OpeningKeeps, RenewsChoice, WritesInOrder}
 use Rattle.core_open.specs.Regions.{IsOnBelow}
 use Rattle.core_open.proofs.BlockSpans.{block_width}
 use Rattle.open_pool.specs.Pool.{IsPool, HasBank, IsTableOf, HoldsMap, State, pool_of, state_of}
@@ -219,10 +219,10 @@ refused_cuts (Err why) old new leaves = refusal_cuts why old new leaves
 pub memory_cuts : (result : Result OpenedPool OpenWhy) (uber : Uber) (silent out : ℕ)
     (old new : Disk) → HaveFailed old new silent → AreOutOf old new silent uber out → count_of out ≤ uber.parity
     → IsWithinBelow uber.reflow.to silent uber.out → OpeningKeeps uber.reflow.to uber.out old new
-    → TouchesOnly (IsOnBelow uber.reflow.to) old new
+    → TouchesOnly (IsOnBelow uber.reflow.to) old new → WritesInOrder old new silent uber
     → IfErr result (λ why. Unchanged old new ⊎ CutsOpening old new)
-memory_cuts (Ok opened) uber silent out old new failed outs few missed keeps only = tt
-memory_cuts (Err why) uber silent out old new failed outs few missed keeps only = inr (record {
+memory_cuts (Ok opened) uber silent out old new failed outs few missed keeps only writes = tt
+memory_cuts (Err why) uber silent out old new failed outs few missed keeps only writes = inr (record {
   silent = silent;
   failed = failed;
   width = uber.reflow.to;
@@ -238,4 +238,5 @@ memory_cuts (Err why) uber silent out old new failed outs few missed keeps only 
   };
   keeps = keeps;
   only = only;
+  writes = (uber, writes);
 })

@@ -9,7 +9,7 @@ ghost use Rattle.core_open.specs.Candidates.{IsIndexFor};
 ghost use Rattle.core_open.specs.Causes.{AreOutOf, IsOpenCause};
 ghost use Rattle.core_open.specs.Failing.{HaveFailed};
 ghost use Rattle.core_open.specs.Holds.{HoldsImage, shape_of};
-ghost use Rattle.core_open.specs.Opens.{IsForMemory, IsWithinBelow, LeavesOthers, RenewsChoice};
+ghost use Rattle.core_open.specs.Opens.{IsForMemory, IsWithinBelow, LeavesOthers, RenewsChoice, WritesInOrder};
 ghost use Rattle.core_open.specs.Regions.{IsOnBelow};
 ghost use Rattle.open_pool.specs.Opening.{AreLoaded, CutsOpening, IsBegunWith, LeavesUnopened};
 ghost use Rattle.open_pool.specs.Pool.{HasBank};
@@ -74,6 +74,10 @@ pub fn open_pool<B: Bank>(alloc: Global, bank: &mut B) -> Result<OpenedPool, Ope
     ensures untouched { IfErr result (λ why.
         LeavesUnopened why (B.disk bank.old) (B.disk bank.new)) }
     ensures opens { IfErr result (IsForMemory (B.disk bank.old) (B.disk bank.new)) }
+
+    // Copies of the chosen group are written, and nothing else until the uberblock that renews it.
+    ensures writes { IfOk result (λ opened. WritesInOrder (B.disk bank.old) (B.disk bank.new)
+        opened.silent opened.pool.uber) }
 
     // No device is touched but those of the pool.
     ensures only { IfOk result (λ opened. TouchesOnly (IsOnBelow opened.pool.uber.reflow.to)

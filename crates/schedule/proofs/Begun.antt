@@ -10,7 +10,7 @@ use Rattle.core_state.specs.declared.item.Item.TheVariants.{Group, Call}
 use Rattle.core_state.specs.Map.{Map, SameMap, map_of}
 use Rattle.core_state.specs.Legal.{GroupAt, IsGroupBefore}
 use Rattle.core_state.specs.Keeps.{Kept}
-use Rattle.core_state.specs.World.{World}
+use Rattle.core_state.specs.CoreState.{World}
 use Rattle.journal_law.proofs.Grown.{map_before, map_at_end}
 use Rattle.journal_law.proofs.GrownGroups.{latest_grown_call}
 use Rattle.schedule.specs.Recorded.{Recorded, IsBegunAt}
@@ -36,6 +36,26 @@ one_latest {items = items} {one = one} {other = other} first second = ⊎_elim
 module _ {world : World} {past : Past} {items : List Item} {last next : Kept} {begun : List Kept} {uber : Uber}
     {now : Disk} {point : ℕ} (before : Recorded world past items last begun uber now)
     (is : IsBegunAt world items before.item point next) where
+  -- While the journal is the same,
+  pub begun_same : {newer : Kept} {left : List Kept} {other : Uber} {later : Disk}
+      → (after : Recorded world past items newer left other later)
+      → IsBegunAt world items after.item point next
+  begun_same after = subst (λ (item : GroupItem). IsBegunAt world items item point next)
+      (one_latest before.latest after.latest) is
+
+  -- and when a call is answered.
+  pub begun_answers : {newer : Kept} {left : List Kept} {other : Uber} {later : Disk} (entry : Entry)
+      → (after : Recorded world past (items ++ Call entry ∷ []) newer left other later)
+      → IsBegunAt world (items ++ Call entry ∷ []) after.item point next
+  begun_answers entry after =
+      subst (λ (item : GroupItem). IsBegunAt world (items ++ Call entry ∷ []) item point next)
+      (one_latest (latest_grown_call items entry before.item before.latest) after.latest) (record {
+        number = is.number;
+        listed = (is.listed.0, (let few = is.listed.1 in omega (arith, few, length-append items (Call entry ∷ []))));
+        map = λ id. is.map id ∙ ap (λ (map : Map). map id)
+            (sym (map_before world.handed world.opening items (Call entry ∷ []) point is.listed.1));
+        widths = is.widths;
+      })
 
 -- A commit begins now: the group after the last one, with its widths and the map of all items.
 pub begun_now : {world : World} {past : Past} {items : List Item} {last next : Kept} {begun : List Kept} {uber : Uber}

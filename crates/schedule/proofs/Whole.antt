@@ -19,7 +19,7 @@ use Rattle.core_commit.specs.Spared.{IsOnInUse}
 use Rattle.core_open.specs.Causes.{IsOutFor, AreOutIn, AreOutOf}
 use Rattle.core_open.specs.Failing.{HaveFailed}
 use Rattle.core_open.specs.Holds.{HoldsImage, shape_of}
-use Rattle.core_open.specs.Opens.{HasBank, IsWithinBelow, RenewsChoice}
+use Rattle.core_open.specs.Opens.{HasBank, IsWithinBelow, RenewsChoice, WritesInOrder}
 use Rattle.core_open.specs.Regions.{IsOnBelow}
 use Rattle.open_pool.specs.Opening.{AreLoaded, MayBegin, Begins, IsBegunWith}
 use Rattle.open_pool.specs.Pool.{Pool}
@@ -81,6 +81,7 @@ module _ (script : Script) (old mid : Disk) (pool : Pool) (silent : ℕ) (items 
     (missed : IsWithinBelow pool.uber.reflow.to silent pool.uber.out)
     (renews : (image : Image) → HoldsImage old image
     → RenewsChoice (shape_of old) silent image pool.uber pool.blocks.table.entries)
+    (writes : WritesInOrder old mid silent pool.uber)
     (outs : AreOutOf old mid silent pool.uber pool.out) (begun : IsBegunWith pool silent old mid)
     (rest : AreUnderWay pool.blocks []) (bank : HasBank pool.uber pool.out mid) (lawful : Lawful old)
     (right : IsRightUber pool.uber) (loaded : AreLoaded pool.uber pool.blocks.table.entries pool.blocks)
@@ -202,6 +203,7 @@ module _ (script : Script) (old mid : Disk) (pool : Pool) (silent : ℕ) (items 
     silent = silent;
     failed = failed;
     renews = renews;
+    writes = writes;
     parity = pool.uber.parity;
     only = touches_then (IsOnBelow pool.uber.reflow.to) (IsOnInUse pool.uber.reflow.to pool.out)
         (IsOnBelow pool.uber.reflow.to) (λ d x here. here) (λ d x here. here.0) opened_only come.only;

@@ -15,7 +15,7 @@ use Rattle.core_state.specs.Moment.{KeepsThroughout}
 use Rattle.core_open.specs.Causes.{IsChoiceWithout, AreOutIn}
 use Rattle.core_open.specs.Failing.{HaveFailed}
 use Rattle.core_open.specs.Holds.{HoldsImage, shape_of}
-use Rattle.core_open.specs.Opens.{IsWithinBelow, RenewsChoice}
+use Rattle.core_open.specs.Opens.{IsWithinBelow, RenewsChoice, WritesInOrder}
 use Rattle.core_open.specs.Regions.{IsOnBelow}
 use Rattle.client_script.specs.Script.{Script, asked_by, handed_by}
 use Rattle.open_pool.specs.Opening.{MayBegin}
@@ -87,12 +87,14 @@ pub record HasRun (script : Script) (old new : Disk) (items : List Item) (out : 
   pub items_are : (last_left (first_turns script start opened) passed).items ≡ items
   pub disk_is : (last_left (first_turns script start opened) passed).state.disk ≡ new
   -- Some devices were silent when the pool was looked for: each failed by the end of the opening. But for them the
-  -- devices choose the group that the opening renews. Each device that is out at the end was out then, or failed in
-  -- the run. No device is touched but those of the pool.
+  -- devices choose the group that the opening renews. The opening wrote copies of that group, and nothing else until
+  -- the uberblock that renews it. Each device that is out at the end was out then, or failed in the run. No device is
+  -- touched but those of the pool.
   pub silent : ℕ
   pub failed : HaveFailed old start.disk silent
   pub renews : (image : Image) → HoldsImage old image
       → RenewsChoice (shape_of old) silent image start.core.pool.uber start.core.pool.blocks.table.entries
+  pub writes : WritesInOrder old start.disk silent start.core.pool.uber
   pub parity : ℕ
   pub each : (image : Image) → HoldsImage old image → AreOutIn old new silent opened.to parity out image
   pub only : TouchesOnly (IsOnBelow opened.to) old new

@@ -3,6 +3,7 @@ use Rattle.reflow_mark.specs.declared.reflow.Reflow.{Reflow}
 use Rattle.commit_job.specs.Stages.{copies_of}
 use Rattle.core_commit.specs.Ran.{point_of}
 use Rattle.core_commit.proofs.Copying.{copies_all_inside, copy_gone, copy_spares, copy_short, copy_whole}
+use Rattle.core_commit.proofs.Writing.{ran_writes}
 use Rattle.core_commit.proofs.committing.copy.Goals as goal
 
 pub make_all-requires-clause-inside : goal.make_all-requires-clause-inside
@@ -61,3 +62,19 @@ returns-clause-keeps g c = copy_whole c.args.uber.now c.args.entries.now c.args.
     ∙ ap (λ (n : ℕ). copies_of c.args.uber.now.reflow.to n c.args.lack_page c.args.lack_uber) c.count.ensures.value) c.make_all.ensures.ran
     (g.met.B.Bank.lawful c.args.bank.now) _
     (c.make_all.ensures.ends (omega (arith, c.if-len-parity.false, c.len.ensures.value, c.parity.ensures.value)))
+
+pub returns-then-len-parity-clause-writes : goal.returns-then-len-parity-clause-writes
+returns-then-len-parity-clause-writes g c = ran_writes c.args.uber.now c.args.entries.now c.args.lack_page c.args.lack_uber
+    c.copies-calls.result c.make_all.new.calls (point_of c.args.out.now (g.B.Bank.disk c.args.bank.now))
+    (point_of c.make_all.new.out (g.B.Bank.disk c.make_all.new.bank)) (g.met.B.Bank.lawful c.args.bank.now)
+    (c.copies-calls.ensures.value
+    ∙ ap (λ (r : Reflow). copies_of r.to c.count.result c.args.lack_page c.args.lack_uber) c.reflow.ensures.value
+    ∙ ap (λ (n : ℕ). copies_of c.args.uber.now.reflow.to n c.args.lack_page c.args.lack_uber) c.count.ensures.value) c.make_all.ensures.ran
+
+pub returns-clause-writes : goal.returns-clause-writes
+returns-clause-writes g c = ran_writes c.args.uber.now c.args.entries.now c.args.lack_page c.args.lack_uber
+    c.copies-calls.result c.make_all.new.calls (point_of c.args.out.now (g.B.Bank.disk c.args.bank.now))
+    (point_of c.make_all.new.out (g.B.Bank.disk c.make_all.new.bank)) (g.met.B.Bank.lawful c.args.bank.now)
+    (c.copies-calls.ensures.value
+    ∙ ap (λ (r : Reflow). copies_of r.to c.count.result c.args.lack_page c.args.lack_uber) c.reflow.ensures.value
+    ∙ ap (λ (n : ℕ). copies_of c.args.uber.now.reflow.to n c.args.lack_page c.args.lack_uber) c.count.ensures.value) c.make_all.ensures.ran

@@ -33,6 +33,11 @@ returns-clause-missed g c = known c.open_found.result (λ opened told. told.miss
     c.find.ensures.unchanged c.in_ok-found.ensures.found c.in_ok-found.ensures.right c.in_ok-found.ensures.silent
     c.in_ok-found.ensures.fits c.in_ok-found.ensures.index c.open_found.ensures.opens).0
 
+pub returns-clause-writes : goal.returns-clause-writes
+returns-clause-writes g c = known c.open_found.result (λ opened told. told.writes) (opens_promises _ c.open_found.result (g.met.B.Bank.lawful c.args.bank.now)
+    c.find.ensures.unchanged c.in_ok-found.ensures.found c.in_ok-found.ensures.right c.in_ok-found.ensures.silent
+    c.in_ok-found.ensures.fits c.in_ok-found.ensures.index c.open_found.ensures.opens).0
+
 pub returns-clause-renews : goal.returns-clause-renews
 returns-clause-renews g c = known c.open_found.result (λ opened told. told.renews) (opens_promises _ c.open_found.result (g.met.B.Bank.lawful c.args.bank.now)
     c.find.ensures.unchanged c.in_ok-found.ensures.found c.in_ok-found.ensures.right c.in_ok-found.ensures.silent

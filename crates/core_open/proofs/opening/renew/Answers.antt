@@ -15,7 +15,7 @@ pub returns-then-is_err-2-clause-ends : goal.returns-then-is_err-2-clause-ends
 returns-then-is_err-2-clause-ends g c = stops_renewing c.args.uber.now c.args.entries.now c.args.lack_page c.args.lack_uber
     (point_of c.args.out.now (g.B.Bank.disk c.args.bank.now))
     (point_of c.copy.new.out (g.B.Bank.disk c.copy.new.bank)) c.copy.result c.requires.right
-    (record { keeps = c.copy.ensures.keeps; gone = c.copy.ensures.gone; spares = c.copy.ensures.spares; touches = c.copy.ensures.touches; stops = c.copy.ensures.stops })
+    (record { keeps = c.copy.ensures.keeps; gone = c.copy.ensures.gone; spares = c.copy.ensures.spares; touches = c.copy.ensures.touches; stops = c.copy.ensures.stops; writes = c.copy.ensures.writes })
     c.if-is_err.ensures.value c.copy.ensures.below c.copy.ensures.ok c.set_out.new.self
     (c.set_out.ensures.value ∙ (ap (λ (u : Uber). record u { out = c.copy.new.out })
     (c.set_group.ensures.value ∙ ap (λ (n : ℕ). record c.args.uber.now { group = n + 2 }) c.group.ensures.value)))
@@ -24,14 +24,14 @@ returns-then-is_err-2-clause-ends g c = stops_renewing c.args.uber.now c.args.en
     (point_of c.copy.new.out (g.B.Bank.disk c.copy.new.bank))
     (point_of c.copy-2.new.out (g.B.Bank.disk c.copy-2.new.bank)) c.copy-2.result c.empty.ensures.value
     c.from_bits-every.ensures.value c.copy-2.ensures.keeps c.copy-2.ensures.gone c.copy-2.ensures.spares
-    c.copy-2.ensures.touches c.copy-2.ensures.stops)
+    c.copy-2.ensures.touches c.copy-2.ensures.stops c.copy-2.ensures.writes)
     c.if-is_err-2.ensures.value c.copy-2.ensures.err
 
 pub returns-clause-ends : goal.returns-clause-ends
 returns-clause-ends g c = ends_renewing c.args.uber.now c.args.entries.now c.args.lack_page c.args.lack_uber
     (point_of c.args.out.now (g.B.Bank.disk c.args.bank.now))
     (point_of c.copy.new.out (g.B.Bank.disk c.copy.new.bank)) c.copy.result c.requires.right
-    (record { keeps = c.copy.ensures.keeps; gone = c.copy.ensures.gone; spares = c.copy.ensures.spares; touches = c.copy.ensures.touches; stops = c.copy.ensures.stops })
+    (record { keeps = c.copy.ensures.keeps; gone = c.copy.ensures.gone; spares = c.copy.ensures.spares; touches = c.copy.ensures.touches; stops = c.copy.ensures.stops; writes = c.copy.ensures.writes })
     c.if-is_err.ensures.value c.copy.ensures.below c.copy.ensures.ok c.set_out.new.self
     (c.set_out.ensures.value ∙ (ap (λ (u : Uber). record u { out = c.copy.new.out })
     (c.set_group.ensures.value ∙ ap (λ (n : ℕ). record c.args.uber.now { group = n + 2 }) c.group.ensures.value)))
@@ -40,5 +40,5 @@ returns-clause-ends g c = ends_renewing c.args.uber.now c.args.entries.now c.arg
     (point_of c.copy.new.out (g.B.Bank.disk c.copy.new.bank))
     (point_of c.copy-2.new.out (g.B.Bank.disk c.copy-2.new.bank)) c.copy-2.result c.empty.ensures.value
     c.from_bits-every.ensures.value c.copy-2.ensures.keeps c.copy-2.ensures.gone c.copy-2.ensures.spares
-    c.copy-2.ensures.touches c.copy-2.ensures.stops)
+    c.copy-2.ensures.touches c.copy-2.ensures.stops c.copy-2.ensures.writes)
     c.if-is_err-2.ensures.value c.copy-2.ensures.ok

@@ -16,7 +16,7 @@ returns-in_err-blocks-clause-cut g c = memory_cuts c.from_residual-in_err-blocks
     c.in_ok-opened.opened.silent c.in_ok-opened.opened.out
     (g.B.Bank.disk c.args.bank.now) (g.B.Bank.disk c.open.new.bank) c.in_ok-opened.ensures.silent
     c.in_ok-opened.ensures.out c.in_ok-opened.ensures.few c.in_ok-opened.ensures.missed c.in_ok-opened.ensures.since
-    c.in_ok-opened.ensures.only
+    c.in_ok-opened.ensures.only c.in_ok-opened.ensures.writes
 
 pub invariant_of-result : goal.invariant_of-result
 invariant_of-result g c = begun_is_pool c.in_ok-opened.opened.uber c.in_ok-opened.opened.entries.items _
