@@ -1,6 +1,5 @@
 // New pools on banks in memory.
-ghost use Rattle.std.specs.Prelude.{◌≡◌, ◌≤◌, IfOk};
-ghost use Rattle.bank_mem.specs.MemBank.{disk_of};
+ghost use Rattle.std.specs.Prelude.{◌≤◌};
 
 use bank_mem::MemBank;
 use bank_trait::Bank;

@@ -10,8 +10,6 @@ mod bank_tests;
 #[cfg(test)]
 mod banks;
 #[cfg(test)]
-mod block_tests;
-#[cfg(test)]
 mod calls;
 #[cfg(test)]
 mod commit_tests;
@@ -55,3 +53,5 @@ mod small_pool_tests;
 mod stop_tests;
 #[cfg(test)]
 mod turn_order_tests;
+#[cfg(test)]
+mod widening_tests;

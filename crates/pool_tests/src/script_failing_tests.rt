@@ -35,15 +35,25 @@ const READS_ANSWERED: &[u8] = b"0 group 6 after 0
 2 a.2 sum 8 at 2 length 1000 sha 18249577807d9788926ea4deef2c0c38ddd276c1419f2e5fcb76b7cee66a0b09
 ";
 
-/// What that script is answered where these devices are too many, and fail once the put is done.
-fn refused(alloc: Global, out: DeviceSet) -> Result<MemSink, Fail> {
+/// What that script is answered where too many devices are out by the read of block 8, each line up to these.
+const READ_REFUSED: [&[u8]; 3] = [
+    b"0 group 3 after 0\n1 a.1 put 8 ok\n2 a.2 sum 8 too many failed",
+    b"\n3 a.3 sync too many failed",
+    b"\n4 a.4 put 7 too many failed",
+];
+
+/// The same where they are out by its put.
+const PUT_REFUSED: [&[u8]; 4] = [
+    b"0 group 3 after 0\n1 a.1 put 8 too many failed",
+    b"\n2 a.2 sum 8 too many failed",
+    b"\n3 a.3 sync too many failed",
+    b"\n4 a.4 put 7 too many failed",
+];
+
+/// These lines, each of which ends in these devices.
+fn refused(alloc: Global, lines: &[&[u8]], out: DeviceSet) -> Result<MemSink, Fail> {
     let mut text = MemSink::with_room(alloc, 1 << 10, &[])?;
     let mut writer = TextWriter::new();
-    let lines: [&[u8]; 3] = [
-        b"0 group 3 after 0\n1 a.1 put 8 ok\n2 a.2 sum 8 too many failed",
-        b"\n3 a.3 sync too many failed",
-        b"\n4 a.4 put 7 too many failed",
-    ];
     for line in lines {
         writer.text(&mut text, line);
         writer.devices(&mut text, out.bits());
@@ -106,7 +116,7 @@ fn one_device_more_is_told_and_no_run_opens_then(rt: HostRuntime) -> Result<(), 
             }
             let mut bank = failing_bank(&rt, alloc, parity, width, out)?;
             let told = run(alloc, &mut bank, SCRIPT)?;
-            let wanted = refused(alloc, out)?;
+            let wanted = refused(alloc, &READ_REFUSED, out)?;
             assert_eq!(rt;
                 told.text.as_slice(),
                 wanted.as_slice(),
@@ -118,6 +128,82 @@ fn one_device_more_is_told_and_no_run_opens_then(rt: HostRuntime) -> Result<(), 
             let why = OpenWhy::TooManyFailed { out };
             assert_eq!(rt; told.ended, Err(why), "{bits} of {width}");
         }
+    }
+    Ok(())
+}
+
+/// All devices fail, from their write of the block on or from their read of it on. Those that aren't called any
+/// more are not out.
+#[test]
+fn no_device_is_called_once_too_many_are_out(rt: HostRuntime) -> Result<(), Fail> {
+    let alloc = rt.alloc();
+    let cases: [(u64, &[&[u8]]); 2] = [
+        (MAKING + OPENING, &PUT_REFUSED),
+        (MAKING + OPENING + 1, &READ_REFUSED),
+    ];
+    // (the parities, the devices, as many of the lowest as are too many)
+    for (parity, width, lowest) in [(1, 3, 3), (2, 4, 7), (3, 5, 15)] {
+        let out = DeviceSet::from_bits(lowest);
+        for (from, lines) in cases {
+            let mut bank = bank_of_width(&rt, alloc, parity, width)?;
+            for device in 0..width {
+                bank.fail_from(device, from)?;
+            }
+            let told = run(alloc, &mut bank, SCRIPT)?;
+            let wanted = refused(alloc, lines, out)?;
+            assert_eq!(rt;
+                told.text.as_slice(),
+                wanted.as_slice(),
+                "{width} from {from}"
+            );
+            assert_eq!(rt; told.out(), Some(out), "{width} from {from}");
+        }
+    }
+    Ok(())
+}
+
+/// The first devices of a new pool, so many of them.
+fn bank_that_lacks_the_last(
+    rt: &impl Abort,
+    alloc: Global,
+    parity: u32,
+    width: u32,
+    there: usize,
+) -> Result<MemBank, Fail> {
+    let bank = bank_of_width(rt, alloc, parity, width)?;
+    let mut images = bank.crash_at(alloc, bank.clock(), &[])?;
+    images.truncate(there);
+    Ok(MemBank::from_images(alloc, images)?)
+}
+
+#[test]
+fn a_bank_may_lack_as_many_devices_as_there_are_parities(rt: HostRuntime) -> Result<(), Fail> {
+    let alloc = rt.alloc();
+    // (the parities, the devices, how many are there, those that aren't)
+    for (parity, width, there, lacking) in [(1, 3, 2, 4), (2, 4, 2, 12), (3, 5, 2, 28)] {
+        let mut bank = bank_that_lacks_the_last(&rt, alloc, parity, width, there)?;
+        for (script, wanted) in [(SCRIPT, ANSWERED), (READS, READS_ANSWERED)] {
+            let told = run(alloc, &mut bank, script)?;
+            assert_eq!(rt; told.text.as_slice(), wanted, "{there} of {width}");
+            assert_eq!(rt;
+                told.out(),
+                Some(DeviceSet::from_bits(lacking)),
+                "{there} of {width}"
+            );
+        }
+    }
+    Ok(())
+}
+
+#[test]
+fn a_bank_that_lacks_one_device_more_has_no_run(rt: HostRuntime) -> Result<(), Fail> {
+    let alloc = rt.alloc();
+    for (parity, width, lacking) in [(1, 3, 6), (2, 4, 14), (3, 5, 30)] {
+        let out = DeviceSet::from_bits(lacking);
+        let mut bank = bank_that_lacks_the_last(&rt, alloc, parity, width, 1)?;
+        let told = run(alloc, &mut bank, SCRIPT)?;
+        assert_eq!(rt; told.text.as_slice(), b"".as_slice(), "{width}");
+        assert_eq!(rt; told.ended, Err(OpenWhy::TooManyFailed { out }), "{width}");
     }
     Ok(())
 }

@@ -1,0 +1,175 @@
+// Pools on their way from three devices to four, and from where their blocks are read.
+use crate::banks::{bank_of_nine, show};
+use crate::runs::run;
+use bank_mem::MemBank;
+use bank_trait::Bank;
+use reflow_mark::{Reflow, State};
+use std::alloc::Global;
+use std::process::Abort;
+use std::test::Fail;
+use uberblock_ring::{DeviceSet, Uber};
+use width_map::Births;
+
+/// How many blocks of two content sectors are put. With their parity and a spare one they take four sectors each,
+/// and the first begins at sector 2.
+const BLOCKS: u64 = 47;
+
+/// How far a pool has come: where its sectors stand that lie below the mark, and the mark.
+type Way = (State, u64);
+
+/// A device and a device sector.
+type Place = (u32, u64);
+
+/// What lies below 128 stands in the scratch area.
+const SCRATCH: Way = (State::Valid, 128);
+
+/// What lies below 128 stands at its new places.
+const NEW: Way = (State::Moved, 128);
+
+/// Four devices with pool 9, which has one parity and was made on three of them.
+fn bank_on_the_way(rt: &impl Abort, alloc: Global, way: Way) -> Result<MemBank, Fail> {
+    let (state, mark) = way;
+    let reflow = Reflow {
+        from: 3,
+        to: 4,
+        rows: 64,
+        mark,
+        state,
+    };
+    let mut uber = Uber::first(9, 1, 3, 64);
+    uber.set_widths(reflow, Births::first(3));
+    let mut bank = MemBank::new(alloc, 4, 256)?;
+    for device in 0..4 {
+        show(rt, &mut bank, &uber, device)?;
+    }
+    Ok(bank)
+}
+
+/// Puts a block of one content sector, and behind it those of two. Each has other bytes.
+fn puts(alloc: Global) -> Result<Vec<u8>, Fail> {
+    let mut script = Vec::from_slice(alloc, b"clients 1\na put 0 512 0\n")?;
+    for id in 1..BLOCKS + 1 {
+        let line = format!(in alloc; "a put {id} 1000 {id}\n")?;
+        script.extend_from_slice(line.as_bytes())?;
+    }
+    script.extend_from_slice(b"a sync\n")?;
+    Ok(script)
+}
+
+/// Reads all blocks.
+fn reads(alloc: Global) -> Result<Vec<u8>, Fail> {
+    let mut script = Vec::from_slice(alloc, b"clients 1\n")?;
+    for id in 0..BLOCKS + 1 {
+        let line = format!(in alloc; "a get {id}\n")?;
+        script.extend_from_slice(line.as_bytes())?;
+    }
+    Ok(script)
+}
+
+/// The same devices once all blocks were put.
+fn filled(alloc: Global, bank: MemBank) -> Result<MemBank, Fail> {
+    let mut bank = bank;
+    let told = run(alloc, &mut bank, puts(alloc)?.as_slice())?;
+    if told.out() != Some(DeviceSet::empty()) {
+        return Err("a device is out".into());
+    }
+    Ok(bank)
+}
+
+/// What the devices hold.
+fn copy_of(alloc: Global, bank: &MemBank) -> Result<MemBank, Fail> {
+    Ok(MemBank::from_images(alloc, bank.crash_at(alloc, bank.clock(), &[])?)?)
+}
+
+#[test]
+fn a_pool_on_its_way_reads_what_one_at_rest_reads_also_without_a_device(
+    rt: HostRuntime,
+) -> Result<(), Fail> {
+    let alloc = rt.alloc();
+    let reads = reads(alloc)?;
+    let mut at_rest = filled(alloc, bank_of_nine(alloc)?)?;
+    let wanted = run(alloc, &mut at_rest, reads.as_slice())?;
+    // Each of the bytes is told by two digits.
+    assert!(rt; wanted.text.as_slice().len() > 47 * 2000);
+    for way in [(State::None, 0), SCRATCH, NEW, (State::Moved, 167)] {
+        let bank = filled(alloc, bank_on_the_way(&rt, alloc, way)?)?;
+        for failing in 0..5 {
+            let mut left = copy_of(alloc, &bank)?;
+            left.fail_from(failing, 0)?;
+            let told = run(alloc, &mut left, reads.as_slice())?;
+            assert_eq!(rt;
+                told.text.as_slice(),
+                wanted.text.as_slice(),
+                "{way:?} without {failing}"
+            );
+        }
+    }
+    Ok(())
+}
+
+/// The places of a content sector of block 31, which ends below the mark, of block 32, across it, and of block 33,
+/// behind it, which has none in the scratch area.
+const OLD_31: Place = (0, 192 + 41);
+
+const SCRATCH_31: Place = (3, 32 + 30);
+
+const NEW_31: Place = (3, 192 + 30);
+
+const OLD_32: Place = (1, 192 + 42);
+
+const SCRATCH_32: Place = (3, 32 + 31);
+
+const NEW_32: Place = (3, 192 + 31);
+
+const OLD_33: Place = (2, 192 + 43);
+
+const NEW_33: Place = (3, 192 + 32);
+
+/// Whether a block is told to be damaged where this place is spoiled. Else its bytes are told.
+fn is_damaged_by(
+    rt: &impl Abort,
+    alloc: Global,
+    bank: &MemBank,
+    block: u64,
+    place: Place,
+) -> Result<bool, Fail> {
+    let (device, device_sector) = place;
+    let mut left = copy_of(alloc, bank)?;
+    assert!(rt; device < left.devices() && device_sector < left.sectors());
+    left.spoil(device, device_sector, 0xff)?;
+    let script = format!(in alloc; "clients 1\na sum {block}\n")?;
+    let told = run(alloc, &mut left, script.as_bytes())?;
+    let damaged = format!(in alloc; "0 group 6 after 0\n1 a.1 sum {block} at 1 damaged\n")?;
+    let read = format!(in alloc; "0 group 6 after 0\n1 a.1 sum {block} at 1 length 1000 sha ")?;
+    let is_damaged = told.text.as_slice() == damaged.as_bytes();
+    assert!(rt; is_damaged || told.text.as_slice().starts_with(read.as_bytes()));
+    Ok(is_damaged)
+}
+
+#[test]
+fn a_block_is_read_from_where_it_stands_and_nowhere_else(rt: HostRuntime) -> Result<(), Fail> {
+    let alloc = rt.alloc();
+    // (how far the pool has come, the block, where it stands, its other places)
+    let rows: [(Way, u64, Place, &[Place]); 6] = [
+        (SCRATCH, 31, SCRATCH_31, &[OLD_31, NEW_31]),
+        (SCRATCH, 32, OLD_32, &[SCRATCH_32, NEW_32]),
+        (SCRATCH, 33, OLD_33, &[NEW_33]),
+        (NEW, 31, NEW_31, &[OLD_31, SCRATCH_31]),
+        (NEW, 32, OLD_32, &[SCRATCH_32, NEW_32]),
+        (NEW, 33, OLD_33, &[NEW_33]),
+    ];
+    for (way, block, stands, others) in rows {
+        let bank = filled(alloc, bank_on_the_way(&rt, alloc, way)?)?;
+        assert!(rt;
+            is_damaged_by(&rt, alloc, &bank, block, stands)?,
+            "{block} of {way:?}"
+        );
+        for other in others {
+            assert!(rt;
+                !is_damaged_by(&rt, alloc, &bank, block, *other)?,
+                "{block} of {way:?} at {other:?}"
+            );
+        }
+    }
+    Ok(())
+}
