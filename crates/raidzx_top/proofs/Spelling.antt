@@ -8,7 +8,7 @@ use Rattle.raidzx_top.specs.declared.order.Order.{Order}
 use Rattle.raidzx_top.specs.declared.order.Order.TheVariants.{OfLines, AsListed}
 use Rattle.raidzx_top.specs.declared.words.NewPool.{NewPool}
 use Rattle.raidzx_top.specs.declared.words.ServedCommand.TheVariants as served
-use Rattle.raidzx_top.specs.Spelled.{SpellsCreate, SpellsAlone, IsServedAs, IsServed}
+use Rattle.raidzx_top.specs.Spelled.{SpellsCreate, SpellsAlone, IsServedAs}
 
 -- A list of eight words, told by their places.
 eight : (words : List (List ℕ)) (b c d e f g h : List ℕ) → length words ≡ 8

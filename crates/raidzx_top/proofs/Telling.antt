@@ -1,18 +1,14 @@
 -- Whether a call of a journal was answered with some trouble.
-use Rattle.std.proofs.Common.{◌≡◌, ◌⊎◌, inl, inr, ⊎_elim, ℕ, ◌+◌, ◌<◌, ◌≤◌, List, Some, None, length, refl, subst, arith}
-use Rattle.std.specs.Prelude.{slice_get, get_or}
-use Rattle.std.proofs.lemmas.Bool.{cases_eq}
-use Rattle.std.proofs.lemmas.Option.{slice_get_cases, slice_get_read}
+use Rattle.std.proofs.Common.{◌≡◌, ℕ, ◌<◌, List, refl}
 use Rattle.core_state.specs.declared.item.Entry.{Entry}
 use Rattle.core_state.specs.declared.item.Item.{Item}
-use Rattle.core_state.specs.declared.item.Item.TheVariants.{Group, Call}
 use Rattle.core_state.specs.Legal.{CallAt}
 use Rattle.schedule.specs.declared.whole_run.Ended.{Ended}
 use Rattle.schedule.specs.declared.whole_run.Ended.TheVariants as ended
 use Rattle.schedule.specs.declared.whole_run.Ran.{Ran}
 use Rattle.raidzx_top.specs.declared.running.Trouble.{Trouble}
 use Rattle.raidzx_top.specs.declared.running.Trouble.TheVariants as why
-use Rattle.raidzx_top.specs.Running.{AnswersSo, IsTold, ItemTells, StoppedFor}
+use Rattle.raidzx_top.specs.Running.{IsTold, StoppedFor}
 
 -- None of the first items tells.
 abbrev pub NoneTells : Trouble → List Item → ℕ → Type 0

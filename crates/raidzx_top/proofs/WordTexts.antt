@@ -3,10 +3,10 @@ use Rattle.std.proofs.Common.{◌≡◌, ⊎_elim, ℕ, ◌+◌, ◌<◌, ◌≤
 use Rattle.std.proofs.lemmas.Bool.{cases_lt}
 use Rattle.std.proofs.lemmas.List.{length-map}
 use Rattle.std.proofs.lemmas.Fmt.{decimal_injective}
-use Rattle.std.specs.Prelude.{◌++◌, codes, take, drop, ◌^◌, IfNone, None, decimal, Option, Some, slice_get, map, String, string_bytes, option_map}
+use Rattle.std.specs.Prelude.{◌++◌, codes, drop, ◌^◌, IfNone, None, decimal, Option, Some, slice_get, map, String, string_bytes, option_map}
 use Rattle.std.proofs.lemmas.Option.{slice_get-map, slice_get-get_or, slice_get_within}
 use Rattle.std.specs.declared.alloc.Global.{Global}
-use Rattle.raidzx_top.specs.Images.{AreImages, EachImage, IsImageWord, IsMemoryOf, IsMemoryWord}
+use Rattle.raidzx_top.specs.Images.{AreImages, EachImage, IsImageWord, IsMemoryOf}
 
 pub text_at : (words : List (String Global)) (i : ℕ) (word : String Global) → i < length words → word ≡ get_or words i word → slice_get (map string_bytes words) i ≡ Some (string_bytes word)
 text_at words i word within is = slice_get-map string_bytes words i ∙ ap (λ o. option_map string_bytes o) (slice_get-get_or words i word within ∙ ap Some (sym is))

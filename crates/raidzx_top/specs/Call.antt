@@ -1,11 +1,10 @@
 -- One call of the top call: what it was given, and what it left.
-use Rattle.std.specs.Prelude.{◌≡◌, ℕ, List, [], Option, Some, None, ⊤}
+use Rattle.std.specs.Prelude.{ℕ, List, Option, Some, None, ⊤}
 use Rattle.bank_trait.specs.Disk.{Disk}
 use Rattle.core_state.specs.declared.item.Item.{Item}
 pub use Rattle.core_open.specs.Holds.{HoldsImage, shape_of}
-use Rattle.client_script.specs.Script.{Script, IsScript}
 use Rattle.raidzx_top.specs.declared.status.Status.{Status}
-use Rattle.raidzx_top.specs.Words.{Command, Create, Run, Replay, Load, load_script}
+use Rattle.raidzx_top.specs.Words.{Command, Create, Run, Replay, Load}
 
 -- a source or sink: its bytes, where told, and how often it has failed
 pub record Stream : Type 0 where

@@ -10,7 +10,7 @@ use Rattle.core_state.specs.declared.item.Item.TheVariants.{Group, Call}
 use Rattle.core_state.specs.Map.{Map, SameMap, map_of}
 use Rattle.core_state.specs.Legal.{GroupAt, IsGroupBefore}
 use Rattle.core_state.specs.Keeps.{Kept}
-use Rattle.core_state.specs.CoreState.{World}
+use Rattle.core_state.specs.World.{World}
 use Rattle.journal_law.proofs.Grown.{map_before, map_at_end}
 use Rattle.journal_law.proofs.GrownGroups.{latest_grown_call}
 use Rattle.schedule.specs.Recorded.{Recorded, IsBegunAt}

@@ -1,8 +1,7 @@
 -- Calls of a script, one after the other: the turns of one call, and of the rest.
 use Rattle.std.proofs.Common.{◌≡◌, ◌≢◌, ◌⊎◌, inl, inr, ⊎_elim, ℕ, ◌+◌, ◌-◌, ◌<◌, ◌≤◌, List, length, Option, Some, None, refl, sym, ◌∙◌, ap, subst, arith, cond, eq-eqb, ne_eqb, slice_index_or}
-use Rattle.std.specs.Prelude.{filter, slice_get, true, false, ◌==◌}
+use Rattle.std.specs.Prelude.{slice_get, true, false, ◌==◌}
 use Rattle.std.proofs.lemmas.Bool.{cases_eq}
-use Rattle.std.proofs.lemmas.List.{take_all}
 use Rattle.std.proofs.lemmas.List.Filters.{length-filter_more}
 use Rattle.std.proofs.lemmas.Option.{get_or_from_slice_get, slice_get-get_or, slice_get_within}
 use Rattle.client_script.specs.declared.call.ScriptCall.{ScriptCall}

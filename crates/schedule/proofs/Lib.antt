@@ -48,3 +48,4 @@ pub mod Playing
 pub mod Rooms
 pub mod AtRest
 pub mod Banks
+pub mod ListedGroups

@@ -1,0 +1,44 @@
+-- What a stop leaves once a group was listed shows that group, so no run commits later than it lists.
+use Rattle.std.specs.Prelude.{◌≡◌, ℕ, ◌<◌, ◌≤◌, List, length, take}
+use Rattle.std.proofs.Common.{◌∙◌, ap, arith}
+use Rattle.bank_trait.specs.Disk.{Image, Disk}
+use Rattle.uberblock_ring.specs.Uberblock.{Uber}
+use Rattle.core_state.specs.declared.item.Group.{Group as GroupItem}
+use Rattle.core_state.specs.declared.item.Item.{Item}
+use Rattle.core_state.specs.Legal.{IsGroupBefore}
+use Rattle.core_state.specs.Shown.{Shows}
+use Rattle.core_state.specs.Keeps.{Kept, Setting}
+use Rattle.core_state.specs.Collision.{MightStand}
+use Rattle.client_script.specs.Script.{Script}
+use Rattle.schedule.specs.WholeRun.{RunKeeps}
+use Rattle.schedule.proofs.Begun.{one_latest}
+
+-- A device shows an uberblock of this group.
+abbrev pub IsShown : Setting → Image → GroupItem → Type 0
+IsShown setting image group = (device : ℕ) × (uber : Uber) × Shows setting.shape image device uber
+    × (uber.group ≡ group.group)
+
+module _ {script : Script} {setting : Setting} {first : Kept} {later : List Kept} {old new : Disk} {items : List Item}
+    {parity silent : ℕ} {banks : ℕ → Disk}
+    (run : RunKeeps script setting first later old new items parity silent banks)
+    (count : ℕ) (some : 1 ≤ count) (few : count ≤ length items) (group : GroupItem)
+    (last : IsGroupBefore (take count items) (length (take count items)) group) (image : Image)
+    (left : MightStand setting.shape (banks count) (banks count).clock image) where
+  -- A group was listed: it is shown by whatever a stop leaves of the bank as it was then.
+  pub listed_is_shown : IsShown setting image group
+  listed_is_shown =
+      let until = run.no_older.each count some few in
+      let stands = (until.kept.keeps image left).there in (
+        stands.device,
+        stands.shown.0,
+        stands.shown.2.shows,
+        stands.shown.1 ∙ until.kept.last_is.number ∙ ap (λ (item : GroupItem). item.group) (one_latest until.kept.latest last),
+      )
+
+  -- So where a stop leaves older groups alone, as of a run that commits all at its end, no such promise is met.
+  pub commits_come_first : ((device : ℕ) (uber : Uber) → Shows setting.shape image device uber → uber.group < group.group)
+      → ⊥
+  commits_come_first older =
+      let shown = listed_is_shown in
+      let less = older shown.0 shown.1 shown.2 in
+      omega (arith, less, shown.3)
