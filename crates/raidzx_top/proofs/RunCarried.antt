@@ -102,7 +102,7 @@ module _ (order : Order) (call : Call) (lawful : Lawful call.old)
       → (image : Image) → HoldsImage call.old image → AreTooMany call.old call.new image listed
   many_listed index listed entry there is image holds =
       let each = run.each image holds in
-      let told = run.too_many index listed entry there is in
+      let told = (run.fits index entry there).too_many listed is in
       let same = each.parity_is in
       record {
         shown = shown_by image holds;
@@ -116,7 +116,7 @@ module _ (order : Order) (call : Call) (lawful : Lawful call.old)
   many_out (inl stopped) image holds = absurd stopped
   many_out (inr tells) image holds =
       let each = run.each image holds in
-      let told = run.too_many tells.0 tells.3.0 tells.1 tells.2 tells.3.1 in
+      let told = (run.fits tells.0 tells.1 tells.2).too_many tells.3.0 tells.3.1 in
       let same = each.parity_is in
       let more = count_grows tells.3.0 out told.1 in
       record {

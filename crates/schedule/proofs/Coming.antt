@@ -9,10 +9,7 @@ use Rattle.bank_trait.proofs.Touches.{touches_none, touches_then}
 use Rattle.reflow_mark.specs.declared.reflow.Reflow.{Reflow}
 use Rattle.uberblock_ring.specs.Devices.{count_of, has_device, IsWithin}
 use Rattle.uberblock_ring.proofs.DeviceSets.{none_in}
-use Rattle.core_state.specs.declared.answer.Answer.TheVariants as answer
-use Rattle.core_state.specs.declared.item.Entry.{Entry}
 use Rattle.core_state.specs.declared.item.Item.{Item}
-use Rattle.core_state.specs.declared.item.Item.TheVariants.{Call as CallItem}
 use Rattle.core_state.specs.Legal.{CallAt}
 use Rattle.core_state.specs.World.{World}
 use Rattle.core_client.specs.Outs.{point_of}
@@ -22,12 +19,13 @@ use Rattle.core_commit.proofs.Going.{in_use_before}
 use Rattle.core_open.proofs.Written.{none_listed}
 use Rattle.open_pool.proofs.Banks.{count_grows}
 use Rattle.client_script.specs.Script.{Script, handed_by}
-use Rattle.journal_law.proofs.Grown.{grown_has, new_or_before}
-use Rattle.core_turns.specs.Getting.{HasTooManyOut}
+use Rattle.journal_law.proofs.Grown.{grown_has}
 use Rattle.core_turns.specs.UnderWay.{TurnGoesOn}
 use Rattle.schedule.specs.Coming.{HasCome, KeepsUsing}
 use Rattle.schedule.specs.Turns.{Turns, TurnTaken, last_left, AreListedWith, IsListedWith, taken_by}
+use Rattle.schedule.specs.Fitting.{FitsCall}
 use Rattle.schedule.specs.Running.{Runs}
+use Rattle.schedule.proofs.Fitting.{FitSince}
 use Rattle.schedule.proofs.Fulls.{FullStays}
 use Rattle.schedule.specs.Moments.{Past}
 
@@ -52,7 +50,7 @@ came_nowhere script turns passed same = by (few_or_many turns.state.core.pool.ou
       only = touches_none (IsOnInUse turns.state.core.pool.uber.reflow.to turns.state.core.pool.out) turns.state.disk;
       out = outs_none (point_of turns.state.core.pool.out turns.state.disk);
       listed = λ index item there. there;
-      too_many = λ index listed entry there is. inl there;
+      fits = λ index entry there. inl there;
       borne = turns.state.core.pool.out;
       few = few;
       from_start = λ still device out. out;
@@ -70,7 +68,7 @@ came_nowhere script turns passed same = by (few_or_many turns.state.core.pool.ou
       only = touches_none (IsOnInUse turns.state.core.pool.uber.reflow.to turns.state.core.pool.out) turns.state.disk;
       out = outs_none (point_of turns.state.core.pool.out turns.state.disk);
       listed = λ index item there. there;
-      too_many = λ index listed entry there is. inl there;
+      fits = λ index entry there. inl there;
       borne = 0;
       few = none_listed turns.state.core.pool.uber.parity;
       from_start = λ few. absurd (omega (arith, few, many));
@@ -124,15 +122,19 @@ module _ (script : Script) (start middle now : Turns) (one two : List TurnTaken)
       ))
       first.only second.only
 
-  told : (index listed : ℕ) (entry : Entry) → CallAt now.items index entry → entry.answer ≡ answer.TooManyFailed listed
-      → CallAt start.items index entry
-      ⊎ ((start.state.core.pool.uber.parity < count_of listed) × IsWithin listed now.state.core.pool.out)
-  told index listed entry there is = ⊎_elim
+  fits_then : FitSince start now
+  fits_then index entry there = ⊎_elim
       (λ (was : CallAt middle.items index entry). ⊎_elim (λ at. inl at)
-      (λ many. inr (many.0, λ device out. second.out.still device (many.1 device out)))
-      (first.too_many index listed entry was is))
-      (λ many. inr ((let more = many.0 in let same = first.parity in omega (arith, more, same)), many.1))
-      (second.too_many index listed entry there is)
+      (λ fit. inr (record {
+        of_kind = fit.of_kind;
+        too_many = λ listed is. let many = fit.too_many listed is in
+            (many.0, λ device out. second.out.still device (many.1 device out));
+        limit = fit.limit;
+        memory = fit.memory;
+      }))
+      (first.fits index entry was))
+      (λ fit. inr (subst (λ (n : ℕ). FitsCall n now.state.core.pool.out entry) first.parity fit))
+      (second.fits index entry there)
 
   -- the devices that have to be borne in both
   by : (count_of middle.state.core.pool.out ≤ middle.state.core.pool.uber.parity)
@@ -147,7 +149,7 @@ module _ (script : Script) (start middle now : Turns) (one two : List TurnTaken)
         (point_of middle.state.core.pool.out middle.state.disk) (point_of now.state.core.pool.out now.state.disk)
         first.later.faults second.later.faults first.out second.out;
     listed = λ index item there. second.listed index item (first.listed index item there);
-    too_many = told;
+    fits = fits_then;
     borne = second.borne;
     few = (let low = second.few in let same = first.parity in omega (arith, low, same));
     from_start = λ still device out. second.from_start few device (first.out.still device out);
@@ -175,7 +177,7 @@ module _ (script : Script) (start middle now : Turns) (one two : List TurnTaken)
         (point_of middle.state.core.pool.out middle.state.disk) (point_of now.state.core.pool.out now.state.disk)
         first.later.faults second.later.faults first.out second.out;
     listed = λ index item there. second.listed index item (first.listed index item there);
-    too_many = told;
+    fits = fits_then;
     borne = first.borne;
     few = first.few;
     from_start = first.from_start;
@@ -199,9 +201,7 @@ module _ (script : Script) (start middle now : Turns) (one two : List TurnTaken)
 -- One turn, in which these items were listed.
 module _ (script : Script) (actor : ℕ) (before after : Turns) (goes : TurnGoesOn before.state after.state)
     (space : KeepsUsing script before after) (more : List Item) (items : after.items ≡ before.items ++ more)
-    (told : (index listed : ℕ) (entry : Entry) → CallAt after.items index entry
-    → entry.answer ≡ answer.TooManyFailed listed → CallAt before.items index entry
-    ⊎ ((before.state.core.pool.uber.parity < count_of listed) × IsWithin listed after.state.core.pool.out))
+    (fit : FitSince before after)
     (runs : (world : World) (past : Past) → world.handed ≡ handed_by script
     → (count_of before.state.core.pool.out ≤ before.state.core.pool.uber.parity
     → IsWithin before.state.core.pool.out world.setting.failed)
@@ -220,7 +220,7 @@ module _ (script : Script) (actor : ℕ) (before after : Turns) (goes : TurnGoes
     out = goes.out;
     listed = λ index item there. subst (λ (l : List Item). slice_get l index ≡ Some item) (sym items)
         (grown_has before.items more index item there);
-    too_many = told;
+    fits = fit;
     borne = before.state.core.pool.out;
     few = few;
     from_start = λ still device out. out;
@@ -239,7 +239,7 @@ module _ (script : Script) (actor : ℕ) (before after : Turns) (goes : TurnGoes
     out = goes.out;
     listed = λ index item there. subst (λ (l : List Item). slice_get l index ≡ Some item) (sym items)
         (grown_has before.items more index item there);
-    too_many = told;
+    fits = fit;
     borne = 0;
     few = none_listed before.state.core.pool.uber.parity;
     from_start = λ few. absurd (omega (arith, few, many));
@@ -253,37 +253,3 @@ module _ (script : Script) (actor : ℕ) (before after : Turns) (goes : TurnGoes
 
   pub came_turn : HasCome script before (taken_by actor after ∷ []) after
   came_turn = turn (few_or_many before.state.core.pool.out before.state.core.pool.uber.parity)
-
--- Where nothing was listed, nothing more is told.
-pub told_same : (before after : Turns) → after.items ≡ before.items
-    → (index listed : ℕ) (entry : Entry) → CallAt after.items index entry → entry.answer ≡ answer.TooManyFailed listed
-    → CallAt before.items index entry
-    ⊎ ((before.state.core.pool.uber.parity < count_of listed) × IsWithin listed after.state.core.pool.out)
-told_same before after items index listed entry there is =
-    inl (subst (λ (l : List Item). slice_get l index ≡ Some (CallItem entry)) items there)
-
--- Where an entry was listed that tells of too many devices, it lists those that are out.
-pub told_entry : (before after : Turns) (last : Entry) → after.items ≡ before.items ++ CallItem last ∷ []
-    → ((listed : ℕ) → last.answer ≡ answer.TooManyFailed listed → HasTooManyOut before.state.core
-    × (listed ≡ before.state.core.pool.out))
-    → IsWithin before.state.core.pool.out after.state.core.pool.out
-    → (index listed : ℕ) (entry : Entry) → CallAt after.items index entry → entry.answer ≡ answer.TooManyFailed listed
-    → CallAt before.items index entry
-    ⊎ ((before.state.core.pool.uber.parity < count_of listed) × IsWithin listed after.state.core.pool.out)
-told_entry before after last items tells still index listed entry there is =
-    elim (new_or_before before.items (CallItem last) index (CallItem entry)
-    (subst (λ (l : List Item). slice_get l index ≡ Some (CallItem entry)) items there)) [
-      | inl new ↦ inr (lists (same new.1))
-      | inr earlier ↦ inl earlier.1
-    ]
-  where
-    same : CallItem last ≡ CallItem entry → last ≡ entry
-    same is = cc
-
-    lists : last ≡ entry → (before.state.core.pool.uber.parity < count_of listed)
-        × IsWithin listed after.state.core.pool.out
-    lists same_entry =
-        let found = tells listed (ap (λ (e : Entry). e.answer) same_entry ∙ is) in (
-          subst (λ (n : ℕ). before.state.core.pool.uber.parity < count_of n) (sym found.1) found.0,
-          λ device out. still device (subst (λ (n : ℕ). has_device n device ≡ true) found.1 out),
-        )

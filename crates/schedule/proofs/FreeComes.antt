@@ -22,6 +22,7 @@ use Rattle.core_turns.proofs.GetStands.{frees_calls, frees_stands}
 use Rattle.schedule.specs.declared.client.Client.{Client}
 use Rattle.schedule.specs.Turned.{Station, Frees, LeavesBegun}
 use Rattle.schedule.specs.Comes.{TakesTurn, Comes}
+use Rattle.schedule.proofs.Fitting.{plain_no_limit}
 use Rattle.schedule.proofs.RightNext.{IsPlain, free_right}
 use Rattle.schedule.proofs.Theirs.{none_some}
 use Rattle.schedule.proofs.LeavesPool.{LeavesPool, leaves_pool}
@@ -83,9 +84,13 @@ module _ (script : Script) (actor : ℕ) (before after : Station) (clients news 
       let of = frees_of before.state.core after.state.core id given frees.frees in
       comes_at_once script actor before after clients news takes call given idle next
       (frees_pool before.state.core after.state.core id given frees.frees) disk left
-      (subst (λ (k : Kind). IsAnswerOf k given) (sym asked) of.0)
-      (λ out tells. let many = subst (FreesBlock before.state.core after.state.core id) tells frees.frees in
-      (many.0, many.1))
+      (record {
+        of_kind = subst (λ (k : Kind). IsAnswerOf k given) (sym asked) of.0;
+        tells = λ out told. let many = subst (FreesBlock before.state.core after.state.core id) told frees.frees in
+            (many.0, many.1);
+        limit = λ reached told. absurd (plain_no_limit given of.1 reached told);
+        memory = λ wanting. absurd (subst (FreesBlock before.state.core after.state.core id) wanting frees.frees);
+      })
       (λ full. absurd (put_alone kind.Free given free_no_put of.0 full))
       (frees_calls before.state.core after.state.core id given takes.schedule.going.calls frees.frees frees.under
       takes.schedule.going.are)

@@ -17,6 +17,7 @@ pub mod Using
 pub mod UsingTurns
 pub mod UsingEnds
 pub mod UsingLaw
+pub mod Fitting
 pub mod Coming
 pub mod Going
 pub mod Syncs

@@ -29,6 +29,7 @@ use Rattle.schedule.specs.Running.{IsGoing, IsSync, AreGoing, Runs}
 use Rattle.schedule.specs.Turns.{turns_of}
 use Rattle.schedule.specs.Turned.{Station, LeavesBegun}
 use Rattle.schedule.specs.Comes.{TakesTurn, Comes}
+use Rattle.schedule.proofs.Fitting.{fits, plain_no_limit, put_no_free}
 use Rattle.schedule.proofs.RightNext.{put_right}
 use Rattle.schedule.proofs.Theirs.{some_is, none_some, none_going, calls_of_others}
 use Rattle.schedule.proofs.Fulls.{full_put}
@@ -168,7 +169,9 @@ module _ (script : Script) (actor : ℕ) (before after : Station) (clients news 
       let entry : Entry = first_entry call actor before given in
       comes_at_once script actor before after clients news takes call given idle next
       (rearranged_leaves old now (leaves_rearranges old now refuses.leaves)) disk leaves
+      (fits old call.kind given
       (subst (λ (k : Kind). IsAnswerOf k given) (sym asked) (unstored_answers given refuses.unstored)) refuses.tells
+      (plain_no_limit given (unstored_plain given refuses.unstored)) (put_no_free call.kind asked))
       (λ full.
       full_put script (turns_of before.state before.items clients) takes.schedule actor before.client.begun call
       id next asked id_is (subst (IsPutRefused old now id (length content)) full is).1)

@@ -17,7 +17,8 @@ use Rattle.core_turns.specs.UnderWay.{Call, Putting, AreCallsOf, Stands}
 use Rattle.core_turns.proofs.PutCalls.{put_fills_calls}
 use Rattle.core_turns.proofs.PutStands.{put_fills_stands}
 use Rattle.schedule.specs.Turned.{EndsPutting, IsFilledIn}
-use Rattle.schedule.proofs.Puts.{IsUnstored, TellsOut, tells_out}
+use Rattle.schedule.proofs.Fitting.{TellsOut}
+use Rattle.schedule.proofs.Puts.{IsUnstored, tells_out}
 use Rattle.schedule.proofs.Lists.{gains_first}
 
 -- ---- a put is filled in

@@ -31,13 +31,14 @@ use Rattle.schedule.specs.declared.client.Work.TheVariants as work
 use Rattle.schedule.specs.Running.{IsGoing, IsWorkFor, IsSync, AreGoing, Runs}
 use Rattle.schedule.specs.Turned.{Station, EndsPutting, GoesOnPutting, IsFilledIn, LeavesGoing, entry_for, listed_for}
 use Rattle.schedule.specs.Comes.{TakesTurn, Comes}
+use Rattle.schedule.proofs.Fitting.{TellsOut, fits, plain_no_limit, put_no_free}
 use Rattle.schedule.proofs.RightNext.{IsPlain, put_right}
 use Rattle.schedule.proofs.Theirs.{none_some, some_is, going_under}
 use Rattle.schedule.proofs.Going.{goes as going_goes, ends as going_ends}
 use Rattle.schedule.proofs.RunsGoOn.{GoesOnSince, goes_on as runs_goes_on}
 use Rattle.schedule.proofs.RunsEnd.{ends as runs_ends}
 use Rattle.schedule.proofs.TurnComes.{comes_on, comes_answered}
-use Rattle.schedule.proofs.Puts.{IsAmong, TellsOut, put_no_sync, put_among, unstored_plain, unstored_answers, unstored_listed, unstored_map, rearranged_leaves}
+use Rattle.schedule.proofs.Puts.{IsAmong, put_no_sync, put_among, unstored_plain, unstored_answers, unstored_listed, unstored_map, rearranged_leaves}
 use Rattle.schedule.proofs.Lists.{gains_first}
 use Rattle.schedule.proofs.Answered.{answered_going}
 use Rattle.schedule.proofs.Syncs.{groups_know}
@@ -208,7 +209,9 @@ module _ (script : Script) (actor : ℕ) (before after : Station) (clients news 
         let some = takes.schedule.answered.some actor before.client under takes.was under_is in
         let count = answered_going before.client under_is in
         comes_answered script actor before after clients news takes call before.client.begun under.at given
-        (omega (arith, count, some)) (ap (slice_get (calls_of script actor)) count ∙ is) goes listed leaves.1 tells
+        (omega (arith, count, some)) (ap (slice_get (calls_of script actor)) count ∙ is) goes listed leaves.1
+        (fits old call.kind given (subst (λ (k : Kind). IsAnswerOf k given) (sym asked_for.0) answers) tells
+        (plain_no_limit given plain) (put_no_free call.kind asked_for.0))
         (λ full. absurd (other full))
         (going_ends script old now clients news actor before.client after.client takes.changes takes.was going
         change.committing (leaves_commit old now change) (leaves_many old now change)

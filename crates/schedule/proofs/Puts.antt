@@ -23,6 +23,7 @@ use Rattle.schedule.specs.declared.client.Work.{Work}
 use Rattle.schedule.specs.declared.client.Work.TheVariants as work
 use Rattle.schedule.specs.Running.{IsWorkOf, IsSync, AreTheirs}
 use Rattle.schedule.specs.Turned.{listed_for}
+use Rattle.schedule.proofs.Fitting.{TellsOut}
 use Rattle.schedule.proofs.RightNext.{IsPlain}
 use Rattle.schedule.proofs.Theirs.{actor_of}
 use Rattle.schedule.proofs.Lists.{gains_of}
@@ -112,12 +113,7 @@ unstored_listed core items at entry answer.Full unstored = refl
 unstored_listed core items at entry (answer.NoSpace sectors) unstored = refl
 unstored_listed core items at entry other unstored = absurd unstored
 
--- Where it tells of too many devices, it lists those that are out.
-abbrev pub TellsOut : Core → Answer → Type 0
-TellsOut core given = (listed : ℕ) → given ≡ answer.TooManyFailed listed
-    → HasTooManyOut core × (listed ≡ core.pool.out)
-
--- So it is where the call says what is out.
+-- Where it tells of too many devices and says what is out, it lists those that are.
 pub tells_out : (core : Core) (out : ℕ) → HasTooManyOut core → out ≡ core.pool.out
     → TellsOut core (answer.TooManyFailed out)
 tells_out core out many out_is listed is = (many, same is ∙ out_is)

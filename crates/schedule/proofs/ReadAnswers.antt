@@ -31,6 +31,7 @@ use Rattle.core_turns.specs.UnderWay.{Call, Reading, AreCallsOf, Stands}
 use Rattle.core_turns.proofs.GetStands.{get_solves_calls, get_stops_calls, get_ends_calls, get_solves_stands, get_stops_stands, get_ends_stands}
 use Rattle.schedule.specs.Recorded.{IsRightNext, AllBelow}
 use Rattle.schedule.specs.Turned.{EndsReading, entry_for, listed_for}
+use Rattle.schedule.proofs.Fitting.{NoLimit}
 use Rattle.schedule.proofs.RightNext.{read_right, read_cut_right, same_out}
 use Rattle.schedule.proofs.LeavesPool.{LeavesPool, leaves_pool}
 use Rattle.schedule.proofs.Lists.{gains_first}
@@ -102,23 +103,23 @@ refused_right core id held asked answer.Absent none refused =
 refused_right core id held asked answer.NoMemory none refused = tt
 refused_right core id held asked other none refused = absurd refused
 
--- What was solved is answered so, and never that too many devices are out.
+-- What was solved is answered so, and never that too many devices are out or of a limit.
 solved_of : (run : GetRun) (solved : Solved) (given : Answer) → IsRead run.kind → AnswersSolved run solved given
-    → IsAnswerOf run.kind given × ((out : ℕ) → given ≡ answer.TooManyFailed out → ⊥)
+    → IsAnswerOf run.kind given × ((out : ℕ) → given ≡ answer.TooManyFailed out → ⊥) × NoLimit given
 solved_of run solved given is answers = by solved answers
   where
     Tells : Kind → Answer → Type 0
-    Tells asked told = IsAnswerOf asked told × ((out : ℕ) → told ≡ answer.TooManyFailed out → ⊥)
+    Tells asked told = IsAnswerOf asked told × ((out : ℕ) → told ≡ answer.TooManyFailed out → ⊥) × NoLimit told
 
     block : (asked : Kind) (bytes : List ℕ) → IsRead asked → Tells asked (answer_of asked run.entry bytes)
-    block kind.Get bytes asked = (refl, λ out same. cc)
-    block kind.Sum bytes asked = (refl, λ out same. cc)
+    block kind.Get bytes asked = (refl, λ out same. cc, λ reached same. cc)
+    block kind.Sum bytes asked = (refl, λ out same. cc, λ reached same. cc)
     block other bytes asked = absurd asked
 
     by : (solved : Solved) → AnswersSolved run solved given → Tells run.kind given
-    by NotYet told = subst (Tells run.kind) (sym told) (tt, λ out same. cc)
+    by NotYet told = subst (Tells run.kind) (sym told) (tt, λ out same. cc, λ reached same. cc)
     by (Bytes bytes) told = subst (Tells run.kind) (sym told) (block run.kind bytes is)
-    by Damaged told = subst (Tells run.kind) (sym told) (damaged_of run.kind is, λ out same. cc)
+    by Damaged told = subst (Tells run.kind) (sym told) (damaged_of run.kind is, λ out same. cc, λ reached same. cc)
 
 -- ---- the end of a read
 
@@ -127,6 +128,7 @@ pub record EndsRead (before after : CoreState) (run : GetRun) (given : Answer) :
   pub leaves : LeavesPool before.core after.core
   pub answer_is : IsAnswerOf run.kind given
   pub too_many : (out : ℕ) → given ≡ answer.TooManyFailed out → HasTooManyOut before.core × (out ≡ before.core.pool.out)
+  pub no_limit : NoLimit given
   pub calls : (content : List ℕ) (left calls : List Call) → Gains left calls (Reading run content)
       → AreCallsOf before.core calls → AreCallsOf after.core left
   pub stands : (setting : Setting) (last : Kept) (begun : List Kept) (map : Map) (commit : Option CommitRun)
@@ -141,12 +143,16 @@ stopped_ends before after run given stops = record {
   leaves = leaves_pool before.core after.core before.core.pool.blocks after.core.holds stops.0.rest;
   answer_is = subst (IsAnswerOf run.kind) (sym stops.0.given_is) tt;
   too_many = λ out tells. (stops.0.many, same_out (sym tells ∙ stops.0.given_is));
+  no_limit = λ reached told. none_told reached (sym stops.0.given_is ∙ told);
   calls = λ content left calls gains are. get_stops_calls before after run content given left calls stops gains are;
   stands = λ setting last begun map commit content left calls gains stands. (
     get_stops_stands setting last begun map commit before after run content given left calls stops gains stands,
     subst (IsReadRight (Some content) run.kind) (sym stops.0.given_is) tt,
   );
 }
+  where
+    none_told : NoLimit (answer.TooManyFailed before.core.pool.out)
+    none_told reached same = cc
 
 -- or it is answered as it was solved,
 answered_ends : (before after : CoreState) (run : GetRun) (given : Answer) → IsRead run.kind
@@ -161,6 +167,10 @@ answered_ends before after run given is ends disk = record {
       (λ many. (many, same_out (sym tells ∙ ends.too_many many)))
       (λ low. absurd ((solved_of run run.solved given is (ends.solved (few low))).1 out tells))
       (cases_lt before.core.pool.uber.parity (count_of before.core.pool.out));
+  no_limit = λ reached told. ⊎_elim
+      (λ many. none_told reached (sym (ends.too_many many) ∙ told))
+      (λ low. (solved_of run run.solved given is (ends.solved (few low))).2 reached told)
+      (cases_lt before.core.pool.uber.parity (count_of before.core.pool.out));
   calls = λ content left calls gains are.
       get_ends_calls before.core after.core run content given left calls ends gains are;
   stands = λ setting last begun map commit content left calls gains stands.
@@ -174,6 +184,9 @@ answered_ends before after run given is ends disk = record {
     few : count_of before.core.pool.out ≤ before.core.pool.uber.parity → HasTooManyOut before.core → ⊥
     few low many = omega (arith, low, many)
 
+    none_told : NoLimit (answer.TooManyFailed before.core.pool.out)
+    none_told reached same = cc
+
 -- where it may be solved just then.
 solved_ends : (before after : CoreState) (run solved : GetRun) (given : Answer) → SolvesGet run solved
     → run.read.row ≡ rows_of run.read.layout → EndsRead before after solved given → EndsRead before after run given
@@ -181,6 +194,7 @@ solved_ends before after run solved given solves whole ends = record {
   leaves = ends.leaves;
   answer_is = subst (λ (k : Kind). IsAnswerOf k given) same_kind ends.answer_is;
   too_many = ends.too_many;
+  no_limit = ends.no_limit;
   calls = λ content left calls gains are.
       ends.calls content left (Reading solved content ∷ left) (gains_first (Reading solved content) left)
       (get_solves_calls before.core run solved content left calls (Reading solved content ∷ left) solves gains

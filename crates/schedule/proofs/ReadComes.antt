@@ -34,6 +34,7 @@ use Rattle.schedule.specs.declared.client.Work.TheVariants as work
 use Rattle.schedule.specs.Running.{AreGoing, IsGoing, IsWorkOf, IsSync, IsWorkFor, AreTheirs}
 use Rattle.schedule.specs.Turned.{Station, GoesOnReading, EndsReading, LeavesBegun, LeavesGoing, entry_for}
 use Rattle.schedule.specs.Comes.{TakesTurn, Comes}
+use Rattle.schedule.proofs.Fitting.{fits, read_no_free}
 use Rattle.schedule.proofs.Answered.{answered, answered_idle, answered_going}
 use Rattle.schedule.proofs.Below.{below_end}
 use Rattle.schedule.proofs.Theirs.{actor_of, some_is, none_some, none_going, calls_of_others, going_under}
@@ -162,8 +163,9 @@ module _ (script : Script) (actor : ℕ) (before after : Station) (clients news 
         let of = refused_of before.state.core id call.kind given is begins.1 in
         comes_at_once script actor before after clients news takes call given idle next
         (leaves_pool before.state.core after.state.core before.state.core.pool.blocks before.state.core.holds begins.0)
-        disk left of
-        (λ out tells. subst (IsGetRefused before.state.core id) tells begins.1)
+        disk left
+        (fits before.state.core call.kind given of (λ out tells. subst (IsGetRefused before.state.core id) tells begins.1)
+        (λ reached told. subst (IsGetRefused before.state.core id) told begins.1) (read_no_free call.kind is))
         (λ full. absurd (put_alone call.kind given (read_no_put call.kind is) of full))
         (subst (λ (c : Core). AreCallsOf c takes.schedule.going.calls) (sym begins.0) takes.schedule.going.are)
         (λ world past runs.
@@ -355,5 +357,5 @@ module _ (script : Script) (actor : ℕ) (before after : Station) (clients news 
         (its_number under run work_is under_is)
         (ap (slice_get (calls_of script actor)) (answered_going before.client under_is) ∙ is) turn
         (left.0 ∙ listed_read before.state.core before.items under.at entry call.kind given call_read given_is)
-        left.1 ends.too_many
+        left.1 (fits before.state.core call.kind given given_is ends.too_many ends.no_limit (read_no_free call.kind call_read))
         (λ full. absurd (put_alone call.kind given (read_no_put call.kind call_read) given_is full)) end_going end_runs

@@ -14,7 +14,7 @@ use Rattle.client_script.specs.declared.call.ScriptCall.{ScriptCall}
 use Rattle.client_script.specs.Script.{Script, calls_of}
 use Rattle.core_turns.specs.declared.turn.Turn.TheVariants.{More, Busy, Done}
 use Rattle.core_turns.specs.Core.{Core, at_disk}
-use Rattle.core_turns.specs.Committing.{BeginsCommit}
+use Rattle.core_turns.specs.Committing.{BeginsCommit, IsSyncRefused}
 use Rattle.core_turns.specs.UnderWay.{AreCallsOf, Stands, TurnGoesOn}
 use Rattle.core_turns.proofs.Commits.{few_out, rests}
 use Rattle.core_turns.proofs.CommitStands.{commit_begins_calls, commit_begins_stands}
@@ -24,6 +24,7 @@ use Rattle.schedule.specs.declared.client.Work.TheVariants as work
 use Rattle.schedule.specs.Running.{IsGoing, IsSync, AreGoing}
 use Rattle.schedule.specs.Turned.{Station, LeavesBegun}
 use Rattle.schedule.specs.Comes.{TakesTurn, Comes}
+use Rattle.schedule.proofs.Fitting.{sync_no_free}
 use Rattle.schedule.proofs.Theirs.{none_some, none_going}
 use Rattle.schedule.proofs.Answered.{answered, answered_idle}
 use Rattle.schedule.proofs.Begun.{begun_now}
@@ -133,7 +134,13 @@ module _ (script : Script) (actor : ℕ) (before after : Station) (clients news 
       let of = refused_answers call.kind before.state.core given refused.0 in
       comes_at_once script actor before after clients news takes call given idle next
       (leaves_pool before.state.core after.state.core before.state.core.pool.blocks before.state.core.holds refused.1)
-      disk leaves of (refused_tells before.state.core given refused.0)
+      disk leaves
+      (record {
+        of_kind = of;
+        tells = refused_tells before.state.core given refused.0;
+        limit = λ reached told. (asked, (subst (IsSyncRefused before.state.core) told refused.0).2);
+        memory = λ wanting. sync_no_free call.kind asked;
+      })
       (λ full. absurd (put_alone call.kind given (λ put. no_put (sym asked ∙ put)) of full))
       (subst (λ (c : Core). AreCallsOf c takes.schedule.going.calls) (sym refused.1) takes.schedule.going.are)
       (λ world past runs.

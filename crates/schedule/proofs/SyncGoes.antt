@@ -1,8 +1,7 @@
 -- What a sync comes to that goes on or ends, among the other clients' calls.
-use Rattle.std.proofs.Common.{◌≡◌, ◌⊎◌, inl, inr, ℕ, ◌+◌, ◌-◌, ◌<◌, ◌≤◌, List, [], ◌∷◌, ◌++◌, Option, Some, None, refl, sym, ◌∙◌, ap, subst, arith, append_assoc}
+use Rattle.std.proofs.Common.{◌≡◌, inl, inr, ℕ, ◌+◌, ◌-◌, ◌≤◌, List, [], ◌∷◌, ◌++◌, Option, Some, None, refl, sym, ◌∙◌, ap, subst, arith, append_assoc}
 use Rattle.std.specs.Prelude.{slice_get}
 use Rattle.reflow_mark.specs.declared.reflow.Reflow.{Reflow}
-use Rattle.uberblock_ring.specs.Devices.{count_of, IsWithin}
 use Rattle.uberblock_ring.specs.Uberblock.{Uber}
 use Rattle.core_state.specs.declared.answer.Answer.{Answer}
 use Rattle.core_state.specs.declared.answer.Answer.TheVariants as answer
@@ -12,7 +11,6 @@ use Rattle.core_state.specs.declared.item.Group.{Group as GroupItem}
 use Rattle.core_state.specs.declared.item.Item.{Item}
 use Rattle.core_state.specs.declared.item.Item.TheVariants.{Group, Call as CallItem}
 use Rattle.core_state.specs.Map.{Map, map_of}
-use Rattle.core_state.specs.Legal.{CallAt}
 use Rattle.core_state.specs.Keeps.{Kept}
 use Rattle.core_state.specs.Certain.{Knows}
 use Rattle.core_state.specs.Committing.{Point}
@@ -38,6 +36,8 @@ use Rattle.schedule.specs.Comes.{TakesTurn, Comes}
 use Rattle.schedule.proofs.RightNext.{sync_cut_right, same_out}
 use Rattle.schedule.proofs.Theirs.{some_is, none_some, going_under}
 use Rattle.schedule.proofs.Answered.{answered, answers_call, answers_group, answered_going}
+use Rattle.schedule.specs.Fitting.{FitsCall}
+use Rattle.schedule.proofs.Fitting.{FitSince, fits, sync_no_free}
 use Rattle.schedule.proofs.Fulls.{full_synced}
 use Rattle.schedule.proofs.Going.{commits_on, commit_ends as going_ends, one_sync}
 use Rattle.schedule.proofs.Running.{group_apart}
@@ -154,7 +154,7 @@ module _ (script : Script) (actor : ℕ) (before after : Station) (clients news 
         → Comes script actor before after clients news
     synced number answers goes leaves = record {
       come = came_listed script actor before after clients news takes (Group group ∷ CallItem entry ∷ []) goes
-          (leaves.0 ∙ both) told (subst (RunsOn script before after clients news) both on)
+          (leaves.0 ∙ both) fit (subst (RunsOn script before after clients news) both on)
           (full_synced script (turns_of before.state before.items clients) (turns_of after.state after.items news) group
           entry leaves.0 (λ full. no_full full));
       schedule = record {
@@ -185,18 +185,31 @@ module _ (script : Script) (actor : ℕ) (before after : Station) (clients news 
         no_full : answer.Synced number ≡ answer.Full → ⊥
         no_full same = cc
 
-        -- Neither item tells of too many devices.
-        told : (index listed : ℕ) (other : Entry) → CallAt after.items index other
-            → other.answer ≡ answer.TooManyFailed listed → CallAt before.items index other
-            ⊎ ((before.state.core.pool.uber.parity < count_of listed) × IsWithin listed after.state.core.pool.out)
-        told index listed other there is = elim (new_or_before (before.items ++ Group group ∷ []) (CallItem entry) index
+        -- The group answers no call, and the entry fits the sync.
+        fit : FitSince (turns_of before.state before.items clients) (turns_of after.state after.items news)
+        fit index other there = elim (new_or_before (before.items ++ Group group ∷ []) (CallItem entry) index
             (CallItem other) (subst (λ (l : List Item). slice_get l index ≡ Some (CallItem other)) leaves.0 there)) [
-              | inl last ↦ absurd (never other last.1 is)
+              | inl last ↦ inr (subst (FitsCall before.state.core.pool.uber.parity after.state.core.pool.out)
+                  (same last.1) its)
               | inr earlier ↦ inl (group_apart before.items group index other earlier.1)
             ]
           where
-            never : (other : Entry) → CallItem entry ≡ CallItem other → other.answer ≡ answer.TooManyFailed listed → ⊥
-            never other same is = cc
+            same : CallItem entry ≡ CallItem other → entry ≡ other
+            same is = cc
+
+            none_out : (listed : ℕ) → answer.Synced number ≡ answer.TooManyFailed listed → ⊥
+            none_out listed told = cc
+
+            no_limit : (reached : ℕ) → answer.Synced number ≡ answer.Limit reached → ⊥
+            no_limit reached told = cc
+
+            its : FitsCall before.state.core.pool.uber.parity after.state.core.pool.out entry
+            its = record {
+              of_kind = for_call.0;
+              too_many = λ listed told. absurd (none_out listed told);
+              limit = λ reached told. absurd (no_limit reached told);
+              memory = λ wanting. sync_no_free call.kind for_call.0;
+            }
 
         going : AreGoing script after.state.core news
         going = going_ends script before.state.core after.state.core clients news actor before.client after.client
@@ -238,7 +251,10 @@ module _ (script : Script) (actor : ℕ) (before after : Station) (clients news 
     cut out steps goes leaves = comes_answered script actor before after clients news takes call before.client.begun
         under.at (answer.TooManyFailed out) its_number
         (ap (slice_get (calls_of script actor)) (answered_going before.client was_under) ∙ next_is) goes leaves.0
-        leaves.1 (λ listed is. (steps.0, same_out (sym is) ∙ steps.1)) (λ full. absurd (no_full full))
+        leaves.1
+        (fits before.state.core call.kind (answer.TooManyFailed out) tt
+        (λ listed is. (steps.0, same_out (sym is) ∙ steps.1)) (λ reached told. no_limit reached told)
+        (sync_no_free call.kind for_call.0)) (λ full. absurd (no_full full))
         (subst (λ (s : CoreState). AreGoing script s.core news) (sym steps.2) going) on
       where
         entry : Entry
@@ -246,6 +262,9 @@ module _ (script : Script) (actor : ℕ) (before after : Station) (clients news 
 
         no_full : answer.TooManyFailed out ≡ answer.Full → ⊥
         no_full same = cc
+
+        no_limit : (reached : ℕ) → answer.TooManyFailed out ≡ answer.Limit reached → ⊥
+        no_limit reached same = cc
 
         ended : after.client.under_way ≡ None
         ended = ap (λ (c : Client). c.under_way) leaves.1

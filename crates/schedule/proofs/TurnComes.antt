@@ -1,5 +1,5 @@
 -- What a turn comes to, once it is known what it did to the calls under way and to what stood.
-use Rattle.std.proofs.Common.{◌≡◌, ⊎_elim, ℕ, ◌+◌, ◌<◌, ◌≤◌, List, [], ◌∷◌, ◌++◌, length, Some, None, refl, sym, ◌∙◌, ap, subst, arith, ◌⊎◌}
+use Rattle.std.proofs.Common.{◌≡◌, ⊎_elim, ℕ, ◌+◌, ◌≤◌, List, [], ◌∷◌, ◌++◌, length, Some, None, refl, sym, ◌∙◌, ap, subst, arith}
 use Rattle.std.specs.Prelude.{slice_get}
 use Rattle.std.proofs.lemmas.Bool.{cases_eq}
 use Rattle.std.proofs.lemmas.List.{append-nil}
@@ -11,11 +11,9 @@ use Rattle.core_state.specs.declared.item.Entry.{Entry}
 use Rattle.core_state.specs.declared.item.Item.{Item}
 use Rattle.core_state.specs.declared.item.Item.TheVariants.{Call as CallItem}
 use Rattle.core_state.specs.Map.{map_of, map_after_answer}
-use Rattle.core_state.specs.Legal.{IsAnswerOf, CallAt}
 use Rattle.core_state.specs.World.{World}
 use Rattle.client_script.specs.declared.call.ScriptCall.{ScriptCall}
 use Rattle.client_script.specs.Script.{Script, calls_of, handed_by}
-use Rattle.core_turns.specs.Getting.{HasTooManyOut}
 use Rattle.core_turns.specs.UnderWay.{AreCallsOf, Stands, TurnGoesOn}
 use Rattle.core_turns.specs.declared.turn.Turn.TheVariants.{Done}
 use Rattle.core_turns.proofs.Commits.{turn_bank}
@@ -33,7 +31,8 @@ use Rattle.schedule.proofs.Answered.{answered, answers_same, answers_call, answe
 use Rattle.schedule.proofs.Going.{at_once}
 use Rattle.schedule.proofs.RunsEnd.{answers_at_once}
 use Rattle.schedule.proofs.Fulls.{full_same, HasManyAt, full_answer, FullStays}
-use Rattle.schedule.proofs.Coming.{came_nowhere, came_turn, told_same, told_entry}
+use Rattle.schedule.proofs.Coming.{came_nowhere, came_turn}
+use Rattle.schedule.proofs.Fitting.{Fits, FitSince, fit_same, fit_entry}
 use Rattle.schedule.proofs.Lists.{same_list}
 use Rattle.schedule.proofs.Syncs.{groups_know}
 use Rattle.schedule.proofs.LeavesPool.{LeavesPool, leaves_commit, leaves_many, turn_still}
@@ -78,12 +77,10 @@ module _ (script : Script) (actor : ℕ) (before after : Station) (clients news 
 
   -- A turn that lists these items.
   pub came_listed : (more : List Item) → TurnGoesOn before.state after.state → after.items ≡ before.items ++ more
-      → ((index listed : ℕ) (entry : Entry) → CallAt after.items index entry
-      → entry.answer ≡ answer.TooManyFailed listed → CallAt before.items index entry
-      ⊎ ((before.state.core.pool.uber.parity < count_of listed) × IsWithin listed after.state.core.pool.out))
+      → FitSince was now
       → RunsOn script before after clients news (before.items ++ more) → FullStays script was now
       → HasCome script was (taken_by actor now ∷ []) now
-  came_listed more goes items told runs full = came_turn script actor was now goes takes.space more items told
+  came_listed more goes items fit runs full = came_turn script actor was now goes takes.space more items fit
       (λ world past handed within listed stood.
       subst (λ (l : List Item). Runs world script past after.state l news) (sym items)
       (runs world past handed within
@@ -97,7 +94,7 @@ module _ (script : Script) (actor : ℕ) (before after : Station) (clients news 
       → AreGoing script after.state.core news → RunsOn script before after clients news before.items
       → Comes script actor before after clients news
   comes_on goes items same few some going runs = record {
-    come = came_listed [] goes (items ∙ sym (append-nil before.items)) (told_same was now items)
+    come = came_listed [] goes (items ∙ sym (append-nil before.items)) (fit_same was now items)
         (subst (RunsOn script before after clients news) (sym (append-nil before.items)) runs)
         (full_same script was now items);
     schedule = record {
@@ -118,15 +115,14 @@ module _ (script : Script) (actor : ℕ) (before after : Station) (clients news 
 
     pub comes_answered : TurnGoesOn before.state after.state → after.items ≡ before.items ++ CallItem its_entry ∷ []
         → after.client ≡ record { begun = number; under_way = None }
-        → ((out : ℕ) → given ≡ answer.TooManyFailed out → HasTooManyOut before.state.core
-        × (out ≡ before.state.core.pool.out))
+        → Fits before.state.core call.kind given
         → (given ≡ answer.Full → HasManyAt script was)
         → AreGoing script after.state.core news
         → RunsOn script before after clients news (before.items ++ CallItem its_entry ∷ [])
         → Comes script actor before after clients news
-    comes_answered goes items client_is tells full going runs = record {
+    comes_answered goes items client_is fit full going runs = record {
       come = came_listed (CallItem its_entry ∷ []) goes items
-          (told_entry was now its_entry items tells goes.out.still) runs
+          (fit_entry was now its_entry items fit goes.out.still) runs
           (full_answer script was now its_entry items full);
       schedule = record {
         going = going;
@@ -148,9 +144,8 @@ module _ (script : Script) (actor : ℕ) (before after : Station) (clients news 
   module _ (call : ScriptCall) (given : Answer) (idle : before.client.under_way ≡ None)
       (next : slice_get (calls_of script actor) before.client.begun ≡ Some call)
       (leaves : LeavesPool before.state.core after.state.core) (disk : after.state.disk ≡ before.state.disk)
-      (left : LeavesBegun actor call before after (Done given)) (of : IsAnswerOf call.kind given)
-      (tells : (out : ℕ) → given ≡ answer.TooManyFailed out → HasTooManyOut before.state.core
-      × (out ≡ before.state.core.pool.out)) (full : given ≡ answer.Full → HasManyAt script was) where
+      (left : LeavesBegun actor call before after (Done given)) (fit : Fits before.state.core call.kind given)
+      (full : given ≡ answer.Full → HasManyAt script was) where
     ended : after.client.under_way ≡ None
     ended = ap (λ (c : Client). c.under_way) left.1
 
@@ -172,11 +167,11 @@ module _ (script : Script) (actor : ℕ) (before after : Station) (clients news 
     comes_at_once are stands = comes_answered call (before.client.begun + 1) (length before.items) given
         (ap (λ (n : ℕ). n + 1) (sym (answered_idle before.client idle)))
         (ap (slice_get (calls_of script actor)) (answered_idle before.client idle) ∙ next)
-        (turn_still before.state after.state leaves.uber leaves.out disk) left.0 left.1 tells full
+        (turn_still before.state after.state leaves.uber leaves.out disk) left.0 left.1 fit full
         (still_going are)
         (λ world past handed within listed runs.
         let now = stands world past runs in
         answers_at_once world script past before.state after.state before.items clients news actor before.client
         after.client takes.changes takes.was runs (first_entry call actor before given) refl ended leaves.uber disk
         (groups_know world.setting runs.last runs.begun runs.calls runs.commit before.state runs.stands.groups)
-        now.0 of listed idle now.1)
+        now.0 fit.of_kind listed idle now.1)

@@ -209,8 +209,9 @@ module _ (script : Script) (old mid : Disk) (pool : Pool) (silent : ℕ) (items 
         (IsOnBelow pool.uber.reflow.to) (λ d x here. here) (λ d x here. here.0) opened_only come.only;
     each = out_later old mid final.disk pool.uber silent pool.out final.core.pool.out opened_later come.later outs
         come.out;
-    too_many = λ index listed entry there is. ⊎_elim
-        (λ at. absurd (no_call item index entry at)) (λ many. many) (come.too_many index listed entry there is);
+    calls = calls;
+    fits = λ index entry there. ⊎_elim
+        (λ at. absurd (no_call item index entry at)) (λ fit. fit) (come.fits index entry there);
     borne = come.borne;
     few = come.few;
     within = come.within;

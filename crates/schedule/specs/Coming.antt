@@ -5,7 +5,6 @@ use Rattle.bank_trait.specs.Regions.{TouchesOnly}
 use Rattle.block_record.specs.declared.entry.IndexEntry.{IndexEntry}
 use Rattle.uberblock_ring.specs.Devices.{count_of, IsWithin}
 use Rattle.uberblock_ring.specs.Uberblock.{Uber}
-use Rattle.core_state.specs.declared.answer.Answer.TheVariants as answer
 use Rattle.core_state.specs.declared.item.Entry.{Entry}
 use Rattle.core_state.specs.declared.item.Item.{Item}
 use Rattle.core_state.specs.Legal.{CallAt}
@@ -16,6 +15,7 @@ use Rattle.open_pool.specs.Pool.{HasBank}
 use Rattle.client_script.specs.Script.{Script, handed_by}
 use Rattle.schedule.specs.Caused.{FullIsCaused}
 use Rattle.schedule.specs.Clients.{AreAnswered}
+use Rattle.schedule.specs.Fitting.{FitsCall}
 use Rattle.schedule.specs.Moments.{Past}
 use Rattle.schedule.specs.Running.{AreGoing, Runs}
 use Rattle.schedule.specs.Turns.{Turns, TurnTaken, AreListedWith, last_left}
@@ -34,8 +34,7 @@ KeepsUsing script start now = (uber : Uber) (entries : List IndexEntry)
     → HasUsedRuns script uber entries now.state.core now.items now.clients
 
 -- These turns have come from one state to another. Devices went out where they failed, and none was touched but those
--- of the pool that were in use. An answer that tells of too many devices lists devices that are out, more than
--- there are parities. The devices whose failure has to be borne were out when it began, or have failed, and are no
+-- of the pool that were in use. What was answered fits its call. The devices whose failure has to be borne were out when it began, or have failed, and are no
 -- more than there are parities; none where too many were out then, since no device is called any more. Where these may
 -- fail, what stood stands, and answers that the table is full have their cause.
 pub record HasCome (script : Script) (start : Turns) (passed : List TurnTaken) (now : Turns) : Type 0 where
@@ -49,10 +48,9 @@ pub record HasCome (script : Script) (start : Turns) (passed : List TurnTaken) (
       (point_of now.state.core.pool.out now.state.disk)
   pub listed : (index : ℕ) (item : Item) → slice_get start.items index ≡ Some item
       → slice_get now.items index ≡ Some item
-  pub too_many : (index listed : ℕ) (entry : Entry) → CallAt now.items index entry
-      → entry.answer ≡ answer.TooManyFailed listed
+  pub fits : (index : ℕ) (entry : Entry) → CallAt now.items index entry
       → CallAt start.items index entry
-      ⊎ ((start.state.core.pool.uber.parity < count_of listed) × IsWithin listed now.state.core.pool.out)
+      ⊎ FitsCall start.state.core.pool.uber.parity now.state.core.pool.out entry
   pub borne : ℕ
   pub few : count_of borne ≤ start.state.core.pool.uber.parity
   pub from_start : count_of start.state.core.pool.out ≤ start.state.core.pool.uber.parity

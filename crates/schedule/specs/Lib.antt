@@ -5,6 +5,7 @@ pub mod Recorded
 pub mod Clients
 pub mod Running
 pub mod Using
+pub mod Fitting
 pub mod Coming
 pub mod Turned
 pub mod Comes

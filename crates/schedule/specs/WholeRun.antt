@@ -1,5 +1,5 @@
 -- What a run of turns keeps, from the opening of its pool to its end.
-use Rattle.std.specs.Prelude.{◌≡◌, ◌≢◌, ℕ, ◌<◌, ◌≤◌, List, [], ◌∷◌, ◌++◌, Contains}
+use Rattle.std.specs.Prelude.{◌≡◌, ◌≢◌, ℕ, ◌≤◌, List, [], ◌∷◌, ◌++◌, Contains}
 use Rattle.bank_trait.specs.Disk.{Image, Disk, Later}
 use Rattle.bank_trait.specs.Regions.{TouchesOnly}
 use Rattle.uberblock_ring.specs.Devices.{count_of, IsWithin}
@@ -9,7 +9,7 @@ use Rattle.core_state.specs.declared.item.Group.{Group as GroupItem}
 use Rattle.core_state.specs.declared.item.Item.{Item}
 use Rattle.core_state.specs.declared.item.Item.TheVariants.{Group}
 use Rattle.core_state.specs.Legal.{GroupAt, CallAt}
-use Rattle.core_state.specs.Journal.{IsLegalJournal}
+use Rattle.core_state.specs.Journal.{CallsAreRight, IsLegalJournal}
 use Rattle.core_state.specs.Keeps.{Kept, Setting}
 use Rattle.core_state.specs.Moment.{KeepsThroughout}
 use Rattle.core_open.specs.Causes.{IsChoiceWithout, AreOutIn}
@@ -28,6 +28,7 @@ use Rattle.journal_law.specs.Widths.{HaveWidthOf}
 use Rattle.journal_law.specs.FirstGroup.{BeginsAfter}
 use Rattle.open_pool.specs.Pool.{first_item}
 use Rattle.schedule.specs.declared.whole_run.Ran.{Ran}
+use Rattle.schedule.specs.Fitting.{FitsCall}
 use Rattle.schedule.specs.InTurn.{Cursor, HaveTaken, InOrder, replay_at}
 use Rattle.schedule.specs.Moments.{KeepsTurnByTurn}
 use Rattle.schedule.specs.Playing.{EndsSo}
@@ -98,10 +99,9 @@ pub record HasRun (script : Script) (old new : Disk) (items : List Item) (out : 
   pub parity : ℕ
   pub each : (image : Image) → HoldsImage old image → AreOutIn old new silent opened.to parity out image
   pub only : TouchesOnly (IsOnBelow opened.to) old new
-  -- A call that tells of too many devices lists devices that are out, more than there are parities.
-  pub too_many : (index listed : ℕ) (entry : Entry) → CallAt items index entry
-      → entry.answer ≡ answer.TooManyFailed listed
-      → (parity < count_of listed) × IsWithin listed out
+  -- The calls that were answered are the script's, those of each client in its order, and each answer fits its call.
+  pub calls : CallsAreRight (asked_by script) items
+  pub fits : (index : ℕ) (entry : Entry) → CallAt items index entry → FitsCall parity out entry
   -- Some devices have to be borne: no more than there are parities, of those that are out at the end; with the silent
   -- ones of the pool, and those that the opening's group lists as out.
   pub borne : ℕ
