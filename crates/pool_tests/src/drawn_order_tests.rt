@@ -112,7 +112,7 @@ fn the_third_fifty_orders_are_answered_rightly(rt: HostRuntime) -> Result<(), Fa
 
 /// A call on a device fails, if it is made, or all from that one on. Gives the device.
 fn let_one_fail(bank: &mut MemBank, number: u64) -> Result<u32, AllocError> {
-    let mut draw = Draw::new(1000 + number);
+    let mut draw = Draw::new(number.wrapping_add(1000));
     let device = draw.below(3) as u32;
     let call = OPENING + draw.below(AFTER_OPENING);
     if draw.below(2) == 0 {
