@@ -5,7 +5,7 @@ use Rattle.std.specs.Prelude.{◌&&◌, ◌==◌, if◌then◌else◌, IsSome, o
 use Rattle.bank_trait.specs.Disk.{Known}
 use Rattle.bank_mem.specs.declared.record.Call.{Call}
 use Rattle.bank_mem.specs.declared.record.Call.TheVariants.{Write, FailedWrite, Sync, Spoil}
-use Rattle.bank_mem.specs.Record.{Held, at_rest, after, replay}
+use Rattle.bank_mem.specs.Record.{Held, held_durably, after, replay}
 
 -- Of each sector that is known at first.
 pub record IsCounted (known : Known) (held : Held) : Type 0 where
@@ -130,8 +130,8 @@ replay_counted known (call ∷ calls) held was =
     replay_counted known calls (after held call) (after_counted known held call was)
 
 -- after all of these calls
-pub counted : (known : Known) (calls : List Call) → IsCounted known (replay (at_rest known) calls)
-counted known calls = replay_counted known calls (at_rest known) (record {
+pub counted : (known : Known) (calls : List Call) → IsCounted known (replay (held_durably known) calls)
+counted known calls = replay_counted known calls (held_durably known) (record {
   told = λ d x is. is;
   some = λ d x is. some_one (known d x) is;
   many = λ d x is none. absurd (no_none (known d x) is none);

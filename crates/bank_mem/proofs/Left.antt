@@ -13,7 +13,7 @@ use Rattle.bank_mem.specs.declared.record.Call.{Call}
 use Rattle.bank_mem.specs.declared.record.Call.TheVariants.{Write, FailedWrite, Sync, Spoil}
 use Rattle.bank_mem.specs.declared.crash.Tear.{Tear}
 use Rattle.bank_mem.specs.declared.crash.Tear.TheVariants.{Kept, Filled}
-use Rattle.bank_mem.specs.Record.{Held, at_rest, after, replay, put, handed, could_only, filled, device_of, sector_of}
+use Rattle.bank_mem.specs.Record.{Held, held_durably, after, replay, put, handed, could_only, filled, called_device, called_sector}
 use Rattle.bank_mem.specs.CrashSteps.{IsSyncedUpTo, torn_to, torn_after}
 use Rattle.bank_mem.proofs.Steps.{replay-append, put-same, put-other, handed-same, handed-other}
 
@@ -60,7 +60,7 @@ pub record IsLeft (syncs : ℕ → ℕ) (listed : ℕ → ℕ → Option Tear) (
 -- before the first call
 pub left_first : (syncs : ℕ → ℕ) (listed : ℕ → ℕ → Option Tear) (first known : Known)
     → ((d x : ℕ) → known d x ≡ first d x)
-    → IsLeft syncs listed 0 (at_rest first) known
+    → IsLeft syncs listed 0 (held_durably first) known
 left_first syncs listed first known same = record {
   settled = λ d x later. same d x;
   torn = λ d x past. same d x ∙ left_one (listed d x) (first d x);
@@ -106,8 +106,8 @@ module _ (syncs : ℕ → ℕ) (listed : ℕ → ℕ → Option Tear) (calls : L
 
   -- a call that a sync of its device covers
   pub settled_step : (call : Call) → slice_get calls index ≡ Some call
-      → index < syncs (device_of call) → (new : Known)
-      → ((e y : ℕ) → new e y ≡ (after (at_rest known) call).reads e y)
+      → index < syncs (called_device call) → (new : Known)
+      → ((e y : ℕ) → new e y ≡ (after (held_durably known) call).reads e y)
       → IsLeft syncs listed (index + 1) (after held call) new
   settled_step (Write number d x bytes) found later new is =
       one_place (Write number d x bytes) found (λ other e same. absurd (cc)) d x
@@ -141,7 +141,7 @@ module _ (syncs : ℕ → ℕ) (listed : ℕ → ℕ → Option Tear) (calls : L
         ∙ ap (λ (l : List (List ℕ)). left_of (listed d y) l) (sym (could_here y))))
         (λ ne. is e y
         ∙ before.torn e y
-        (behind (Sync number d) found e (λ other same. ne (sym (ap device_of same))) past)
+        (behind (Sync number d) found e (λ other same. ne (sym (ap called_device same))) past)
         ∙ ap (λ (l : List (List ℕ)). left_of (listed e y) l) (sym (could_elsewhere e y ne)))
         (cases_eq e d);
   }
@@ -165,8 +165,8 @@ module _ (syncs : ℕ → ℕ) (listed : ℕ → ℕ → Option Tear) (calls : L
       ∙ ap (λ (l : List (List ℕ)). left_of (listed d x) l) (sym (handed-same held.could d x bytes))
 
   -- a call that no sync of its device covers
-  pub torn_step : (call : Call) → slice_get calls index ≡ Some call → syncs (device_of call) ≤ index
-      → ((x : ℕ) → sector_of call ≡ Some x → IsSome (known (device_of call) x)) → (new : Known)
+  pub torn_step : (call : Call) → slice_get calls index ≡ Some call → syncs (called_device call) ≤ index
+      → ((x : ℕ) → called_sector call ≡ Some x → IsSome (known (called_device call) x)) → (new : Known)
       → ((e y : ℕ) → new e y ≡ torn_after listed known call e y)
       → IsLeft syncs listed (index + 1) (after held call) new
   torn_step (Write number d x bytes) found past some new is =
@@ -202,11 +202,11 @@ module _ (syncs : ℕ → ℕ) (listed : ℕ → ℕ → Option Tear) (calls : L
 pub left_step : (syncs seen : List ℕ) (listed : ℕ → ℕ → Option Tear) (calls : List Call) (index : ℕ)
     (other : Call) (start : Held) (known new : Known) → index < length calls
     → seen ≡ syncs → ((d : ℕ) → IsSyncedUpTo calls d (slice_index syncs d))
-    → ((x : ℕ) → sector_of (get_or calls index other) ≡ Some x
-    → IsSome (known (device_of (get_or calls index other)) x))
-    → (index < slice_index seen (device_of (get_or calls index other)) → (e y : ℕ)
-    → new e y ≡ (after (at_rest known) (get_or calls index other)).reads e y)
-    → (slice_index seen (device_of (get_or calls index other)) ≤ index → (e y : ℕ)
+    → ((x : ℕ) → called_sector (get_or calls index other) ≡ Some x
+    → IsSome (known (called_device (get_or calls index other)) x))
+    → (index < slice_index seen (called_device (get_or calls index other)) → (e y : ℕ)
+    → new e y ≡ (after (held_durably known) (get_or calls index other)).reads e y)
+    → (slice_index seen (called_device (get_or calls index other)) ≤ index → (e y : ℕ)
     → new e y ≡ torn_after listed known (get_or calls index other) e y)
     → IsLeft (slice_index syncs) listed index (replay start (take index calls)) known
     → IsLeft (slice_index syncs) listed (index + 1) (replay start (take (index + 1) calls)) new
@@ -219,13 +219,13 @@ left_step syncs seen listed calls index other start known new below same synced 
     (λ past. torn_step (slice_index syncs) listed calls index synced
     (replay start (take index calls)) known before call found past some new
     (torn (omega (arith, past, reached))))
-    (cases_lt index (slice_index syncs (device_of call))))
+    (cases_lt index (slice_index syncs (called_device call))))
   where
     call : Call
     call = get_or calls index other
 
-    reached : slice_index seen (device_of call) ≡ slice_index syncs (device_of call)
-    reached = ap (λ (l : List ℕ). slice_index l (device_of call)) same
+    reached : slice_index seen (called_device call) ≡ slice_index syncs (called_device call)
+    reached = ap (λ (l : List ℕ). slice_index l (called_device call)) same
 
     found : slice_get calls index ≡ Some call
     found = slice_get-get_or calls index other below

@@ -4,19 +4,19 @@ use Rattle.std.specs.Prelude.{IsSome}
 use Rattle.std.specs.declared.alloc.Global.{Global}
 use Rattle.std.proofs.lemmas.List.Elements.{All-push, All-take}
 use Rattle.bank_mem.specs.declared.record.Call.{Call}
-use Rattle.bank_mem.specs.Record.{Shelf, content, device_of, sector_of}
+use Rattle.bank_mem.specs.Record.{Shelf, content, called_device, called_sector}
 use Rattle.bank_mem.proofs.Copied.{told_in}
 use Rattle.bank_mem.specs.Sound.{AllPlaced, AllWide, HasPlaceOf}
 
 -- The call is for a device, and for a sector of it, that there is.
 abbrev pub Fits : ℕ → ℕ → Call → Type 0
 Fits devices sectors call =
-    (device_of call < devices) × ((x : ℕ) → sector_of call ≡ Some x → x < sectors)
+    (called_device call < devices) × ((x : ℕ) → called_sector call ≡ Some x → x < sectors)
 
 -- one call more
 pub placed_more : (devices sectors many : ℕ) (calls later : List Call) (call : Call)
     → later ≡ calls ++ call ∷ [] → many ≡ devices
-    → device_of call < devices → ((x : ℕ) → sector_of call ≡ Some x → x < sectors)
+    → called_device call < devices → ((x : ℕ) → called_sector call ≡ Some x → x < sectors)
     → AllPlaced devices sectors calls
     → AllPlaced many sectors later
 placed_more devices sectors many calls later call one_more as_many device sector placed =
@@ -27,7 +27,7 @@ placed_more devices sectors many calls later call one_more as_many device sector
 -- one call more, or none
 pub placed_noted : (devices sectors : ℕ) (calls later : List Call) (call : Call)
     → (later ≡ calls ++ call ∷ []) ⊎ (later ≡ calls)
-    → device_of call < devices → ((x : ℕ) → sector_of call ≡ Some x → x < sectors)
+    → called_device call < devices → ((x : ℕ) → called_sector call ≡ Some x → x < sectors)
     → AllPlaced devices sectors calls
     → AllPlaced devices sectors later
 placed_noted devices sectors calls later call (inl noted) device sector placed =
@@ -43,8 +43,8 @@ same_sector x sectors below y is =
     subst (λ (k : ℕ). k < sectors) same below
 
 -- A call's sector is in the row of its device.
-pub in_row : (shelf : Shelf) (call : Call) (d x : ℕ) → HasPlaceOf shelf call → device_of call ≡ d
-    → sector_of call ≡ Some x
+pub in_row : (shelf : Shelf) (call : Call) (d x : ℕ) → HasPlaceOf shelf call → called_device call ≡ d
+    → called_sector call ≡ Some x
     → (row : Vec (List ℕ) Global) → slice_get shelf d ≡ Some row → x < length row.items
 in_row shelf call d x place device sector row is =
     place.1 row x (subst (λ (e : ℕ). slice_get shelf e ≡ Some row) (sym device) is) sector
@@ -63,7 +63,7 @@ pub place_of : (shelf : Shelf) (devices sectors : ℕ) (call : Call) → length 
     → HasPlaceOf shelf call
 place_of shelf devices sectors call many wide fits = (
   omega (arith, many, fits.0),
-  λ row x is sector. omega (arith, wide (device_of call) row is, fits.1 x sector),
+  λ row x is sector. omega (arith, wide (called_device call) row is, fits.1 x sector),
 )
 
 -- A number below one count is below the same count.
@@ -73,6 +73,6 @@ below_same k count other below same = omega (arith, same)
 -- A shelf of that shape tells what the sector of such a call holds.
 pub told_call : (shelf : Shelf) (devices sectors : ℕ) (call : Call) → length shelf ≡ devices
     → AllWide shelf sectors → Fits devices sectors call
-    → (x : ℕ) → sector_of call ≡ Some x → IsSome (content shelf (device_of call) x)
+    → (x : ℕ) → called_sector call ≡ Some x → IsSome (content shelf (called_device call) x)
 told_call shelf devices sectors call many wide fits x sector =
-    told_in shelf devices sectors many wide (device_of call) x fits.0 (fits.1 x sector)
+    told_in shelf devices sectors many wide (called_device call) x fits.0 (fits.1 x sector)

@@ -3,12 +3,12 @@ use Rattle.std.proofs.Common.{◌≡◌, ◌≢◌, ◌⊎◌, inl, inr, ℕ, ze
 use Rattle.std.specs.Prelude.{◌&&◌, ◌==◌, if◌then◌else◌, IsSome, Contains, option_to_list}
 use Rattle.std.proofs.lemmas.List.{take_all, take-append-le}
 use Rattle.std.proofs.lemmas.Bool.Decides.{nat_tests}
-use Rattle.bank_trait.specs.Causes.{Rose, FailedOnce, NoneFailed}
+use Rattle.bank_trait.specs.Causes.{FaultCounted, FailedOnce, NoneFailed}
 use Rattle.bank_trait.specs.declared.Failed.{Failed}
 use Rattle.bank_trait.specs.Disk.{Disk, Known, Continues, Other, Wrote, Synced}
 use Rattle.bank_mem.specs.declared.record.Call.{Call}
 use Rattle.bank_mem.specs.declared.record.Call.TheVariants.{Write, FailedWrite, Sync, Spoil}
-use Rattle.bank_mem.specs.Record.{Shelf, content, Held, at_rest, put, handed, after, replay}
+use Rattle.bank_mem.specs.Record.{Shelf, content, Held, held_durably, put, handed, after, replay}
 use Rattle.bank_mem.specs.Spoiled.{Spoiled}
 use Rattle.bank_mem.specs.Sound.{LeadsTo}
 use Rattle.bank_mem.specs.MemBank.{view}
@@ -68,7 +68,7 @@ module _ (sectors : ℕ) (first now new : Shelf) (calls later : List Call) (faul
     (more : (d : ℕ) → slice_index faults d ≤ slice_index counts d)
     (told : (d x : ℕ) → IsSome (content now d x) → IsSome (content new d x)) where
   abbrev start : Held
-  start = at_rest (content first)
+  start = held_durably (content first)
 
   longer : length later ≡ length calls + 1
   longer = omega (arith, ap length one_more, length-append calls (call ∷ []))
@@ -129,7 +129,7 @@ pub wrote : (sectors : ℕ) (first now new : Shelf) (calls later : List Call) (f
     → Wrote (view sectors first now calls faults) (view sectors first new later counts) d x bytes
     (Ok tt)
 wrote sectors first now new calls later faults counts number d x bytes one_more as_many more none held =
-    let before = replay (at_rest (content first)) calls in
+    let before = replay (held_durably (content first)) calls in
     let on = goes_on sectors first now new calls later faults counts (Write number d x bytes)
     one_more as_many more
     (λ e y is. subst IsSome (sym (held e y)) (put_told (content now) d x bytes e y is)) in
@@ -158,12 +158,12 @@ pub write_torn : (sectors : ℕ) (first now : Shelf) (calls later : List Call)
     (faults counts : List ℕ) (number d x : ℕ) (bytes : List ℕ) (e : Failed)
     → later ≡ calls ++ FailedWrite number d x bytes ∷ []
     → ((e : ℕ) → slice_index faults e ≤ slice_index counts e)
-    → Rose (slice_index faults d) (slice_index counts d)
+    → FaultCounted (slice_index faults d) (slice_index counts d)
     → FailedOnce (slice_index faults) (slice_index counts) d
     → Wrote (view sectors first now calls faults) (view sectors first now later counts) d x bytes
     (Err e)
 write_torn sectors first now calls later faults counts number d x bytes e one_more more rose once =
-    let before = replay (at_rest (content first)) calls in
+    let before = replay (held_durably (content first)) calls in
     let on = goes_on sectors first now now calls later faults counts
     (FailedWrite number d x bytes) one_more refl more (λ f y is. is) in
     record {
@@ -192,7 +192,7 @@ pub synced : (sectors : ℕ) (first now : Shelf) (calls later : List Call) (faul
     → NoneFailed (slice_index faults) (slice_index counts) → LeadsTo first calls now
     → Synced (view sectors first now calls faults) (view sectors first now later counts) d (Ok tt)
 synced sectors first now calls later faults counts number d one_more more none leads =
-    let before = replay (at_rest (content first)) calls in
+    let before = replay (held_durably (content first)) calls in
     let call : Call = Sync number d in
     let on = goes_on sectors first now now calls later faults counts (Sync number d) one_more refl
     more (λ f y is. is) in
@@ -227,11 +227,11 @@ synced sectors first now calls later faults counts number d one_more more none l
 -- Where the record leads after one more call.
 replays_to : (first now new : Shelf) (calls later : List Call) (call : Call)
     → later ≡ calls ++ call ∷ []
-    → ((e y : ℕ) → (after (replay (at_rest (content first)) calls) call).reads e y ≡ content new e y)
+    → ((e y : ℕ) → (after (replay (held_durably (content first)) calls) call).reads e y ≡ content new e y)
     → LeadsTo first later new
 replays_to first now new calls later call one_more reads e y =
-    ap (λ (l : List Call). (replay (at_rest (content first)) l).reads e y) one_more
-    ∙ ap (λ (h : Held). h.reads e y) (replay-append calls (at_rest (content first)) call)
+    ap (λ (l : List Call). (replay (held_durably (content first)) l).reads e y) one_more
+    ∙ ap (λ (h : Held). h.reads e y) (replay-append calls (held_durably (content first)) call)
     ∙ reads e y
 
 pub wrote_leads : (first now new : Shelf) (calls later : List Call) (number d x : ℕ)
@@ -312,8 +312,8 @@ same_view sectors first now calls faults counts none i = record {
   reads = content now;
   faults = λ e. none e i;
   clock = length calls;
-  leaves = λ t. (replay (at_rest (content first)) (take t calls)).stays;
-  could = λ t. (replay (at_rest (content first)) (take t calls)).could;
+  leaves = λ t. (replay (held_durably (content first)) (take t calls)).stays;
+  could = λ t. (replay (held_durably (content first)) (take t calls)).could;
 }
 
 -- Counts of faults alone go up.
@@ -336,7 +336,7 @@ unmoved sectors first now calls faults counts more = record {
 pub write_failed : (sectors : ℕ) (first now : Shelf) (calls : List Call) (faults counts : List ℕ)
     (d x : ℕ) (bytes : List ℕ) (e : Failed)
     → ((e : ℕ) → slice_index faults e ≤ slice_index counts e)
-    → Rose (slice_index faults d) (slice_index counts d)
+    → FaultCounted (slice_index faults d) (slice_index counts d)
     → FailedOnce (slice_index faults) (slice_index counts) d
     → Wrote (view sectors first now calls faults) (view sectors first now calls counts) d x bytes
     (Err e)
@@ -358,7 +358,7 @@ pub write_noted : (sectors : ℕ) (first now : Shelf) (calls later : List Call)
     (faults counts : List ℕ) (number d x : ℕ) (bytes : List ℕ) (e : Failed)
     → (later ≡ calls ++ FailedWrite number d x bytes ∷ []) ⊎ (later ≡ calls)
     → ((e : ℕ) → slice_index faults e ≤ slice_index counts e)
-    → Rose (slice_index faults d) (slice_index counts d)
+    → FaultCounted (slice_index faults d) (slice_index counts d)
     → FailedOnce (slice_index faults) (slice_index counts) d
     → Wrote (view sectors first now calls faults) (view sectors first now later counts) d x bytes
     (Err e)

@@ -11,7 +11,7 @@ use Rattle.bank_mem.specs.declared.record.Call.TheVariants.{Sync}
 use Rattle.bank_mem.specs.declared.crash.Torn.{Torn}
 use Rattle.bank_mem.specs.declared.crash.Tear.{Tear}
 use Rattle.bank_mem.specs.declared.crash.Tear.TheVariants.{Kept, Filled}
-use Rattle.bank_mem.specs.Record.{Shelf, content, Held, at_rest, replay, filled}
+use Rattle.bank_mem.specs.Record.{Shelf, content, Held, held_durably, replay, filled}
 use Rattle.bank_mem.specs.Crash.{listed_as, held_at_sync, handed_last, image_of}
 use Rattle.bank_mem.specs.CrashSteps.{IsSyncedUpTo}
 use Rattle.bank_mem.proofs.Could.{counted}
@@ -21,7 +21,7 @@ use Rattle.bank_mem.proofs.Left.{left_of, IsLeft}
 pub record IsStopped (torn : List Torn) (first : Known) (calls : List Call) (known : Known) :
     Type 0 where
   pub left : (d x : ℕ)
-      → known d x ≡ left_of (listed_as torn d x) ((replay (at_rest first) calls).could d x)
+      → known d x ≡ left_of (listed_as torn d x) ((replay (held_durably first) calls).could d x)
 
 -- As many of the first calls as there are.
 take_min : (calls : List Call) (call : ℕ) → take (min call (length calls)) calls ≡ take call calls
@@ -37,7 +37,7 @@ pub left_all : (syncs : ℕ → ℕ) (listed : ℕ → ℕ → Option Tear) (tor
     (first known : Known) (calls made : List Call) (call index : ℕ)
     → made ≡ take (min call (length calls)) calls → length made ≤ index
     → ((d : ℕ) → IsSyncedUpTo made d (syncs d)) → ((d x : ℕ) → listed d x ≡ listed_as torn d x)
-    → IsLeft syncs listed index (replay (at_rest first) (take index made)) known
+    → IsLeft syncs listed index (replay (held_durably first) (take index made)) known
     → IsStopped torn first (take call calls) known
 left_all syncs listed torn first known calls made call index is all synced same left = record {
   left = λ d x. left.torn d x (past d)
@@ -47,7 +47,7 @@ left_all syncs listed torn first known calls made call index is all synced same 
 }
   where
     could_after : List Call → ℕ → ℕ → List (List ℕ)
-    could_after l = (replay (at_rest first) l).could
+    could_after l = (replay (held_durably first) l).could
 
     past : (d : ℕ) → syncs d ≤ index
     past d = ⊎_elim
@@ -116,7 +116,7 @@ left_told (Some (Filled byte)) (bytes ∷ (next ∷ older)) some = (filled byte,
 module _ (torn : List Torn) (first : Known) (calls : List Call) (shelf : Shelf)
     (stopped : IsStopped torn first calls (content shelf)) where
   abbrev held : Held
-  held = replay (at_rest first) calls
+  held = replay (held_durably first) calls
 
   abbrev left_as : ℕ → ℕ → Option Tear → Option (List ℕ)
   left_as d x how = left_of how (held.could d x)

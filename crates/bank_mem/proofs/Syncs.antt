@@ -5,7 +5,7 @@ use Rattle.std.proofs.lemmas.List.{get_or-set_same, get_or-set_other, get_or-rep
 use Rattle.std.proofs.lemmas.Option.{slice_get_within, slice_get-get_or}
 use Rattle.bank_mem.specs.declared.record.Call.{Call}
 use Rattle.bank_mem.specs.declared.record.Call.TheVariants.{Sync}
-use Rattle.bank_mem.specs.Record.{device_of}
+use Rattle.bank_mem.specs.Record.{called_device}
 use Rattle.bank_mem.specs.CrashSteps.{IsSyncedUpTo}
 
 -- The last sync of device d among the calls before one is the last of the first n calls.
@@ -60,7 +60,7 @@ synced_here calls index d number is = record {
 pub synced_set : (calls : List Call) (index d number devices : ℕ) (syncs more : List ℕ)
     (other : Call)
     → index < length calls → get_or calls index other ≡ Sync number d
-    → device_of (get_or calls index other) < devices → length syncs ≡ devices
+    → called_device (get_or calls index other) < devices → length syncs ≡ devices
     → more ≡ set syncs d (index + 1)
     → ((e : ℕ) → SyncedBelow calls index e (slice_index syncs e))
     → (e : ℕ) → SyncedBelow calls (index + 1) e (slice_index more e)
@@ -74,14 +74,14 @@ synced_set calls index d number devices syncs more other below is device many co
     (λ ne. subst (λ (n : ℕ). SyncedBelow calls (index + 1) e n)
     (sym (get_or-set_other syncs d e (index + 1) 0 ne))
     (synced_past calls index e (slice_index syncs e) (Sync number d) found
-    (λ k same. ne (sym (ap device_of same))) (before e)))
+    (λ k same. ne (sym (ap called_device same))) (before e)))
     (cases_eq e d))
   where
     found : slice_get calls index ≡ Some (Sync number d)
     found = slice_get-get_or calls index other below ∙ ap Some is
 
     there : d < length syncs
-    there = omega (arith, device, ap device_of is, many)
+    there = omega (arith, device, ap called_device is, many)
 
 -- For all devices, after a call that is no sync.
 pub synced_kept : (calls : List Call) (index : ℕ) (syncs more : List ℕ) (other : Call)

@@ -6,7 +6,7 @@ use Rattle.std.proofs.lemmas.List.{take_all}
 use Rattle.bank_trait.specs.Disk.{Lawful}
 use Rattle.bank_mem.specs.declared.record.Call.{Call}
 use Rattle.bank_mem.specs.declared.record.Call.TheVariants.{Write, FailedWrite, Sync, Spoil}
-use Rattle.bank_mem.specs.Record.{Shelf, content, Held, at_rest, after, replay}
+use Rattle.bank_mem.specs.Record.{Shelf, content, Held, held_durably, after, replay}
 use Rattle.bank_mem.specs.Sound.{LeadsTo}
 use Rattle.bank_mem.specs.MemBank.{view}
 
@@ -160,7 +160,7 @@ replay_lawful (call ∷ calls) held law =
     replay_lawful calls (after held call) (after_lawful held call law)
 
 -- what a shelf holds at first
-rest_lawful : (first : Shelf) → IsLawful (at_rest (content first))
+rest_lawful : (first : Shelf) → IsLawful (held_durably (content first))
 rest_lawful first = record {
   stays_read = λ d x bytes is. is;
   reads_could = λ d x bytes is. in_list (content first d x) bytes is;
@@ -173,10 +173,10 @@ pub lawful : (sectors : ℕ) (first now : Shelf) (calls : List Call) (faults : L
 lawful sectors first now calls faults leads =
     let all : take (length calls) calls ≡ calls = take_all (length calls) calls (omega arith) in
     let Reads : List Call → ℕ → ℕ → Option (List ℕ) =
-    λ (l : List Call). (replay (at_rest (content first)) l).reads in
+    λ (l : List Call). (replay (held_durably (content first)) l).reads in
     let read : (d x : ℕ) → Reads (take (length calls) calls) d x ≡ content now d x =
     λ d x. subst (λ (l : List Call). Reads l d x ≡ content now d x) (sym all) (leads d x) in
-    let law = replay_lawful (take (length calls) calls) (at_rest (content first)) (rest_lawful first) in
+    let law = replay_lawful (take (length calls) calls) (held_durably (content first)) (rest_lawful first) in
     record {
       stays_read = λ d x bytes is. sym (read d x) ∙ law.stays_read d x bytes is;
       reads_could = λ d x bytes is. law.reads_could d x bytes (read d x ∙ is);

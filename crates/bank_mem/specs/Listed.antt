@@ -2,6 +2,6 @@
 use Rattle.std.specs.Prelude.{◌≡◌, ◌⊎◌, ℕ, ◌≤◌, List, Contains, Any}
 
 -- The device's call of this number is listed, or its calls fail from a number on that is no larger.
-abbrev pub IsListed : List (ℕ × ℕ) → List (ℕ × ℕ) → ℕ → ℕ → Type 0
-IsListed calls starts device number =
+abbrev pub IsListedCall : List (ℕ × ℕ) → List (ℕ × ℕ) → ℕ → ℕ → Type 0
+IsListedCall calls starts device number =
     Contains calls (device, number) ⊎ Any (λ s. (s.0 ≡ device) × (s.1 ≤ number)) starts

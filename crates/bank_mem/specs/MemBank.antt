@@ -1,8 +1,8 @@
 -- A bank in memory as contracts see it.
 use Rattle.std.specs.Prelude.{◌≡◌, ℕ, List, length, take, slice_index}
 use Rattle.bank_trait.specs.Disk.{Disk}
-use Rattle.bank_mem.specs.Listed.{IsListed}
-use Rattle.bank_mem.specs.Record.{Shelf, content, at_rest, replay}
+use Rattle.bank_mem.specs.Listed.{IsListedCall}
+use Rattle.bank_mem.specs.Record.{Shelf, content, held_durably, replay}
 use Rattle.bank_mem.specs.declared.record.Call.{Call}
 use Rattle.bank_mem.specs.declared.bank.MemBank.{MemBank}
 
@@ -14,13 +14,13 @@ view sectors first now calls faults = record {
   reads = content now;
   faults = slice_index faults;
   clock = length calls;
-  leaves = λ t. (replay (at_rest (content first)) (take t calls)).stays;
-  could = λ t. (replay (at_rest (content first)) (take t calls)).could;
+  leaves = λ t. (replay (held_durably (content first)) (take t calls)).stays;
+  could = λ t. (replay (held_durably (content first)) (take t calls)).could;
 }
 
 -- the devices
-abbrev pub disk_of : MemBank → Disk
-disk_of b = view b.sectors b.first.items b.present.items b.calls.items b.plan.faults.items
+abbrev pub mem_disk : MemBank → Disk
+mem_disk b = view b.sectors b.first.items b.present.items b.calls.items b.plan.faults.items
 
 -- how many calls were made on each device
 abbrev pub made_on : MemBank → ℕ → ℕ
@@ -41,4 +41,4 @@ SamePlan old new =
 
 -- The next call on this device is listed to fail.
 abbrev pub FailsNext : MemBank → ℕ → Type 0
-FailsNext b device = IsListed (listed_calls b) (listed_starts b) device (made_on b device)
+FailsNext b device = IsListedCall (listed_calls b) (listed_starts b) device (made_on b device)

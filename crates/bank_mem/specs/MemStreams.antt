@@ -4,8 +4,8 @@ use Rattle.bank_mem.specs.declared.source.MemSource.{MemSource}
 use Rattle.bank_mem.specs.declared.sink.MemSink.{MemSink}
 
 -- the bytes that are left
-abbrev pub left_of : MemSource → List ℕ
-left_of s = drop s.at s.bytes.items
+abbrev pub bytes_left : MemSource → List ℕ
+bytes_left s = drop s.at s.bytes.items
 
 -- how often a read has failed
 abbrev pub read_faults : MemSource → ℕ
@@ -20,8 +20,8 @@ abbrev pub listed_reads : MemSource → List ℕ
 listed_reads s = s.fails.items
 
 -- the bytes taken so far
-abbrev pub held_of : MemSink → List ℕ
-held_of s = s.bytes.items
+abbrev pub bytes_taken : MemSink → List ℕ
+bytes_taken s = s.bytes.items
 
 -- how many bytes it takes in all
 abbrev pub room_of : MemSink → ℕ

@@ -23,8 +23,8 @@ pub record Held : Type 0 where
   pub could : ℕ → ℕ → List (List ℕ)
 
 -- all of it is on the devices
-abbrev pub at_rest : Known → Held
-at_rest known =
+abbrev pub held_durably : Known → Held
+held_durably known =
     record { reads = known; stays = known; could = λ d x. option_to_list (known d x) }
 
 -- another value at one place
@@ -73,18 +73,18 @@ replay held [] = held
 replay held (call ∷ calls) = replay (after held call) calls
 
 -- the device that a call is for
-abbrev pub device_of : Call → ℕ
-device_of (Write number d x bytes) = d
-device_of (FailedWrite number d x bytes) = d
-device_of (Sync number d) = d
-device_of (Spoil number d x bytes) = d
+abbrev pub called_device : Call → ℕ
+called_device (Write number d x bytes) = d
+called_device (FailedWrite number d x bytes) = d
+called_device (Sync number d) = d
+called_device (Spoil number d x bytes) = d
 
 -- the sector that a call is for, where it is for one
-abbrev pub sector_of : Call → Option ℕ
-sector_of (Write number d x bytes) = Some x
-sector_of (FailedWrite number d x bytes) = Some x
-sector_of (Sync number d) = None
-sector_of (Spoil number d x bytes) = Some x
+abbrev pub called_sector : Call → Option ℕ
+called_sector (Write number d x bytes) = Some x
+called_sector (FailedWrite number d x bytes) = Some x
+called_sector (Sync number d) = None
+called_sector (Spoil number d x bytes) = Some x
 
 -- devices that hold zeros
 abbrev pub blank : ℕ → ℕ → Known

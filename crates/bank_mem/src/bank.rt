@@ -28,17 +28,17 @@ pub struct MemBank {
 
 impl MemBank {
     ghost use Rattle.bank_mem.specs.Record.{blank};
-    ghost use Rattle.bank_mem.specs.MemBank.{disk_of, made_on, listed_calls, listed_starts};
+    ghost use Rattle.bank_mem.specs.MemBank.{mem_disk, made_on, listed_calls, listed_starts};
 
     /// Devices that hold zeros, all of it on the disk, of which no call fails.
     pub fn new(alloc: Global, devices: u32, sectors: u64) -> Result<MemBank, AllocError>
-        ensures devices { IfOk result (λ b. (disk_of b).devices ≡ devices) }
-        ensures sectors { IfOk result (λ b. (disk_of b).sectors ≡ sectors) }
+        ensures devices { IfOk result (λ b. (mem_disk b).devices ≡ devices) }
+        ensures sectors { IfOk result (λ b. (mem_disk b).sectors ≡ sectors) }
         ensures reads { IfOk result (λ b. (d x : ℕ)
-            → (disk_of b).reads d x ≡ blank devices sectors d x) }
+            → (mem_disk b).reads d x ≡ blank devices sectors d x) }
         ensures leaves { IfOk result (λ b. (d x : ℕ)
-            → (disk_of b).leaves (disk_of b).clock d x ≡ blank devices sectors d x) }
-        ensures faults { IfOk result (λ b. (d : ℕ) → (disk_of b).faults d ≡ 0) }
+            → (mem_disk b).leaves (mem_disk b).clock d x ≡ blank devices sectors d x) }
+        ensures faults { IfOk result (λ b. (d : ℕ) → (mem_disk b).faults d ≡ 0) }
         ensures made { IfOk result (λ b. (d : ℕ) → made_on b d ≡ 0) }
         ensures listed { IfOk result (λ b. listed_calls b ≡ []) }
         ensures starts { IfOk result (λ b. listed_starts b ≡ []) }
@@ -67,7 +67,7 @@ impl MemBank {
     pub fn fail_at(&mut self, calls: &[(u32, u64)]) -> Result<(), AllocError>
         ensures ok { OnOk result (listed_calls self.new ≡ listed_calls self.old ++ calls.now) }
         ensures err { OnErr result (listed_calls self.new ≡ listed_calls self.old) }
-        ensures same { disk_of self.new ≡ disk_of self.old }
+        ensures same { mem_disk self.new ≡ mem_disk self.old }
         ensures made { (d : ℕ) → made_on self.new d ≡ made_on self.old d }
         ensures starts { listed_starts self.new ≡ listed_starts self.old }
     {
@@ -79,7 +79,7 @@ impl MemBank {
         ensures ok { OnOk result
             (listed_starts self.new ≡ listed_starts self.old ++ (device, call) ∷ []) }
         ensures err { OnErr result (listed_starts self.new ≡ listed_starts self.old) }
-        ensures same { disk_of self.new ≡ disk_of self.old }
+        ensures same { mem_disk self.new ≡ mem_disk self.old }
         ensures made { (d : ℕ) → made_on self.new d ≡ made_on self.old d }
         ensures listed { listed_calls self.new ≡ listed_calls self.old }
     {
@@ -90,18 +90,18 @@ impl MemBank {
 
 impl MemBank {
     ghost use Rattle.bank_mem.specs.Record.{content};
-    ghost use Rattle.bank_mem.specs.MemBank.{disk_of, made_on, listed_calls, listed_starts};
+    ghost use Rattle.bank_mem.specs.MemBank.{mem_disk, made_on, listed_calls, listed_starts};
 
     /// Devices that hold what these images hold, sector by sector, all of it on the disk, of which
     /// no call fails.
     pub fn from_images(alloc: Global, images: Vec<Vec<[u8; 512]>>) -> Result<MemBank, ImagesRefused>
-        ensures devices { IfOk result (λ b. (disk_of b).devices ≡ length images.items) }
-        ensures sectors { IfOk result (λ b. AllWide images.items (disk_of b).sectors) }
+        ensures devices { IfOk result (λ b. (mem_disk b).devices ≡ length images.items) }
+        ensures sectors { IfOk result (λ b. AllWide images.items (mem_disk b).sectors) }
         ensures reads { IfOk result (λ b. (d x : ℕ)
-            → (disk_of b).reads d x ≡ content images.items d x) }
+            → (mem_disk b).reads d x ≡ content images.items d x) }
         ensures leaves { IfOk result (λ b. (d x : ℕ)
-            → (disk_of b).leaves (disk_of b).clock d x ≡ content images.items d x) }
-        ensures faults { IfOk result (λ b. (d : ℕ) → (disk_of b).faults d ≡ 0) }
+            → (mem_disk b).leaves (mem_disk b).clock d x ≡ content images.items d x) }
+        ensures faults { IfOk result (λ b. (d : ℕ) → (mem_disk b).faults d ≡ 0) }
         ensures made { IfOk result (λ b. (d : ℕ) → made_on b d ≡ 0) }
         ensures listed { IfOk result (λ b. listed_calls b ≡ []) }
         ensures starts { IfOk result (λ b. listed_starts b ≡ []) }
@@ -142,17 +142,17 @@ impl MemBank {
 impl MemBank {
     ghost use Rattle.bank_mem.specs.Record.{filled};
     ghost use Rattle.bank_mem.specs.Spoiled.{Spoiled};
-    ghost use Rattle.bank_mem.specs.MemBank.{disk_of, made_on, listed_calls, listed_starts};
+    ghost use Rattle.bank_mem.specs.MemBank.{mem_disk, made_on, listed_calls, listed_starts};
 
     /// Sets all bytes of a sector to this one, on the disk, as a sector that rots there. It is no
     /// call, raises no count of faults, and takes memory for its record.
     pub fn spoil(&mut self, device: u32, sector: u64, byte: u8) -> Result<(), AllocError>
-        requires device { device < (disk_of self.old).devices }
-        requires sector { sector < (disk_of self.old).sectors }
+        requires device { device < (mem_disk self.old).devices }
+        requires sector { sector < (mem_disk self.old).sectors }
         ensures ok { OnOk result
-            (Spoiled (disk_of self.old) (disk_of self.new) device sector (filled byte)) }
-        ensures err { OnErr result (disk_of self.new ≡ disk_of self.old) }
-        ensures faults { (d : ℕ) → (disk_of self.new).faults d ≡ (disk_of self.old).faults d }
+            (Spoiled (mem_disk self.old) (mem_disk self.new) device sector (filled byte)) }
+        ensures err { OnErr result (mem_disk self.new ≡ mem_disk self.old) }
+        ensures faults { (d : ℕ) → (mem_disk self.new).faults d ≡ (mem_disk self.old).faults d }
         ensures made { (d : ℕ) → made_on self.new d ≡ made_on self.old d }
         ensures listed { listed_calls self.new ≡ listed_calls self.old }
         ensures starts { listed_starts self.new ≡ listed_starts self.old }
@@ -174,13 +174,13 @@ impl MemBank {
 impl MemBank {
     ghost use Rattle.bank_trait.specs.Disk.{Fits};
     ghost use Rattle.bank_mem.specs.Record.{content, filled};
-    ghost use Rattle.bank_mem.specs.MemBank.{disk_of};
+    ghost use Rattle.bank_mem.specs.MemBank.{mem_disk};
     ghost use Rattle.bank_mem.specs.declared.crash.Tear.TheVariants.{Kept, Filled};
     ghost use Rattle.bank_mem.specs.Crash.{listed_as, held_at_sync, handed_last, image_of};
 
     /// How many writes, syncs and spoils are on record.
     pub fn clock(&self) -> u64
-        ensures { result ≡ (disk_of self.now).clock }
+        ensures { result ≡ (mem_disk self.now).clock }
     {
         self.calls.len() as u64
     }
@@ -195,22 +195,22 @@ impl MemBank {
         torn: &[Torn],
     ) -> Result<Vec<Vec<[u8; 512]>>, AllocError>
         ensures devices { IfOk result (λ images.
-            length images.items ≡ (disk_of self.now).devices) }
+            length images.items ≡ (mem_disk self.now).devices) }
         ensures sectors { IfOk result (λ images.
-            AllWide images.items (disk_of self.now).sectors) }
+            AllWide images.items (mem_disk self.now).sectors) }
         ensures may_leave { IfOk result (λ images.
-            Fits ((disk_of self.now).leaves call) (image_of images.items)) }
-        ensures could { IfOk result (λ images. (d x : ℕ) → d < (disk_of self.now).devices
-            → x < (disk_of self.now).sectors
+            Fits ((mem_disk self.now).leaves call) (image_of images.items)) }
+        ensures could { IfOk result (λ images. (d x : ℕ) → d < (mem_disk self.now).devices
+            → x < (mem_disk self.now).sectors
             → ((byte : ℕ) → listed_as torn.now d x ≢ Some (Filled byte))
-            → Contains ((disk_of self.now).could call d x) (image_of images.items d x)) }
+            → Contains ((mem_disk self.now).could call d x) (image_of images.items d x)) }
         ensures others { IfOk result (λ images. (d x : ℕ) → listed_as torn.now d x ≡ None
-            → content images.items d x ≡ held_at_sync ((disk_of self.now).could call d x)) }
+            → content images.items d x ≡ held_at_sync ((mem_disk self.now).could call d x)) }
         ensures kept { IfOk result (λ images. (d x : ℕ) → listed_as torn.now d x ≡ Some Kept
-            → content images.items d x ≡ handed_last ((disk_of self.now).could call d x)) }
-        ensures filled { IfOk result (λ images. (d x byte : ℕ) → d < (disk_of self.now).devices
-            → x < (disk_of self.now).sectors → listed_as torn.now d x ≡ Some (Filled byte)
-            → (disk_of self.now).leaves call d x ≡ None
+            → content images.items d x ≡ handed_last ((mem_disk self.now).could call d x)) }
+        ensures filled { IfOk result (λ images. (d x byte : ℕ) → d < (mem_disk self.now).devices
+            → x < (mem_disk self.now).sectors → listed_as torn.now d x ≡ Some (Filled byte)
+            → (mem_disk self.now).leaves call d x ≡ None
             → image_of images.items d x ≡ filled byte) }
     {
         let until = (call as usize).min(self.calls.len());
@@ -226,12 +226,12 @@ impl MemBank {
 }
 
 impl Bank for MemBank {
-    ghost use Rattle.bank_trait.specs.Causes.{Rose, FailedOnce, counted_on};
+    ghost use Rattle.bank_trait.specs.Causes.{FaultCounted, FailedOnce, counted_on};
     ghost use Rattle.bank_trait.specs.Disk.{Unchanged, Wrote, Synced};
-    ghost use Rattle.bank_mem.specs.MemBank.{disk_of, made_on, SamePlan, FailsNext};
+    ghost use Rattle.bank_mem.specs.MemBank.{mem_disk, made_on, SamePlan, FailsNext};
     ghost use Rattle.bank_mem.specs.Laws.{lawful};
 
-    ghost disk = { disk_of };
+    ghost disk = { mem_disk };
 
     ghost lawful = { λ b. lawful b.sectors b.first.items b.present.items b.calls.items b.plan.faults.items b.same };
 
@@ -245,18 +245,18 @@ impl Bank for MemBank {
 
     /// A read fails where it is listed, and nowhere else.
     fn read(&mut self, device: u32, sector: u64, into: &mut [u8; 512]) -> Result<(), Failed>
-        requires device { device < (disk_of self.old).devices }
-        requires sector { sector < (disk_of self.old).sectors }
+        requires device { device < (mem_disk self.old).devices }
+        requires sector { sector < (mem_disk self.old).sectors }
         ensures bytes { OnOk result ((bytes : List ℕ)
-            → (disk_of self.old).reads device sector ≡ Some bytes → into.new ≡ bytes) }
+            → (mem_disk self.old).reads device sector ≡ Some bytes → into.new ≡ bytes) }
         ensures failed { OnErr result
-            (Rose ((disk_of self.old).faults device) ((disk_of self.new).faults device)) }
-        ensures unchanged { Unchanged (disk_of self.old) (disk_of self.new) }
+            (FaultCounted ((mem_disk self.old).faults device) ((mem_disk self.new).faults device)) }
+        ensures unchanged { Unchanged (mem_disk self.old) (mem_disk self.new) }
         ensures listed { OnOk result (FailsNext self.old device → ⊥) }
         ensures only_listed { OnErr result (FailsNext self.old device) }
         ensures once { OnErr result
-            (FailedOnce (disk_of self.old).faults (disk_of self.new).faults device) }
-        ensures well { OnOk result (disk_of self.new ≡ disk_of self.old) }
+            (FailedOnce (mem_disk self.old).faults (mem_disk self.new).faults device) }
+        ensures well { OnOk result (mem_disk self.new ≡ mem_disk self.old) }
         ensures made { (d : ℕ) → made_on self.new d ≡ counted_on (made_on self.old) device d }
         ensures plan { SamePlan self.old self.new }
     {
@@ -270,9 +270,9 @@ impl Bank for MemBank {
 
     /// A write fails where it is listed, and else only where its record finds no memory.
     fn write(&mut self, device: u32, sector: u64, from: &[u8; 512]) -> Result<(), Failed>
-        requires device { device < (disk_of self.old).devices }
-        requires sector { sector < (disk_of self.old).sectors }
-        ensures wrote { Wrote (disk_of self.old) (disk_of self.new) device sector from.now result }
+        requires device { device < (mem_disk self.old).devices }
+        requires sector { sector < (mem_disk self.old).sectors }
+        ensures wrote { Wrote (mem_disk self.old) (mem_disk self.new) device sector from.now result }
         ensures listed { OnOk result (FailsNext self.old device → ⊥) }
         ensures made { (d : ℕ) → made_on self.new d ≡ counted_on (made_on self.old) device d }
         ensures plan { SamePlan self.old self.new }
@@ -304,8 +304,8 @@ impl Bank for MemBank {
 
     /// A sync fails where it is listed, and else only where its record finds no memory.
     fn sync(&mut self, device: u32) -> Result<(), Failed>
-        requires { device < (disk_of self.old).devices }
-        ensures synced { Synced (disk_of self.old) (disk_of self.new) device result }
+        requires { device < (mem_disk self.old).devices }
+        ensures synced { Synced (mem_disk self.old) (mem_disk self.new) device result }
         ensures listed { OnOk result (FailsNext self.old device → ⊥) }
         ensures made { (d : ℕ) → made_on self.new d ≡ counted_on (made_on self.old) device d }
         ensures plan { SamePlan self.old self.new }

@@ -2,7 +2,7 @@
 ghost use Rattle.std.specs.Prelude.{◌≡◌, ◌<◌, ◌≤◌, ℕ, IfOk, All, length, slice_index};
 ghost use Rattle.bank_mem.specs.Crash.{listed_as};
 ghost use Rattle.bank_mem.specs.CrashSteps.{tear_of, torn_after, IsSyncedUpTo};
-ghost use Rattle.bank_mem.specs.Record.{content, at_rest, after, device_of};
+ghost use Rattle.bank_mem.specs.Record.{content, held_durably, after, called_device};
 ghost use Rattle.bank_mem.specs.Sound.{AllWide, HasPlaceOf};
 
 use crate::record::Call;
@@ -44,7 +44,7 @@ pub fn listed_tears(alloc: Global, torn: &[Torn]) -> Result<Tears, AllocError>
 
 /// Of the calls on record, how many each device's last sync covers.
 pub fn last_syncs(alloc: Global, devices: u32, calls: &[Call]) -> Result<Vec<u64>, AllocError>
-    requires { All (λ call. device_of call < devices) calls.now }
+    requires { All (λ call. called_device call < devices) calls.now }
     ensures len { IfOk result (λ syncs. length syncs.items ≡ devices) }
     ensures syncs { IfOk result (λ syncs. (d : ℕ)
         → IsSyncedUpTo calls.now d (slice_index syncs.items d)) }
@@ -62,7 +62,7 @@ pub fn last_syncs(alloc: Global, devices: u32, calls: &[Call]) -> Result<Vec<u64
 fn put_settled(images: &mut Vec<Vec<[u8; 512]>>, call: &Call)
     requires { HasPlaceOf images.old.items call.now }
     ensures held { (d x : ℕ) → content images.new.items d x
-        ≡ (after (at_rest (content images.old.items)) call.now).reads d x }
+        ≡ (after (held_durably (content images.old.items)) call.now).reads d x }
     ensures len { length images.new.items ≡ length images.old.items }
     ensures width { (n : ℕ) → AllWide images.old.items n → AllWide images.new.items n }
 {
@@ -133,12 +133,12 @@ pub fn put_call(
     syncs: &[u64],
     tears: &Tears,
 )
-    requires synced { device_of call.now < length syncs.now }
+    requires synced { called_device call.now < length syncs.now }
     requires placed { HasPlaceOf images.old.items call.now }
-    ensures settled { index < slice_index syncs.now (device_of call.now) → (d x : ℕ)
+    ensures settled { index < slice_index syncs.now (called_device call.now) → (d x : ℕ)
         → content images.new.items d x
-        ≡ (after (at_rest (content images.old.items)) call.now).reads d x }
-    ensures torn { slice_index syncs.now (device_of call.now) ≤ index → (d x : ℕ)
+        ≡ (after (held_durably (content images.old.items)) call.now).reads d x }
+    ensures torn { slice_index syncs.now (called_device call.now) ≤ index → (d x : ℕ)
         → content images.new.items d x
         ≡ torn_after (tear_of tears.now) (content images.old.items) call.now d x }
     ensures len { length images.new.items ≡ length images.old.items }

@@ -1,7 +1,7 @@
 // Which calls fail, how many were made, and how often each device has failed.
 ghost use Rattle.std.specs.Prelude.{◌≡◌, ◌<◌, ◌≤◌, ◌↔◌, ℕ, false, IsTrue, Contains, Any, length, slice_index};
-ghost use Rattle.bank_trait.specs.Causes.{Rose, FailedOnce, NoneFailed, counted, counted_on};
-ghost use Rattle.bank_mem.specs.Listed.{IsListed};
+ghost use Rattle.bank_trait.specs.Causes.{FaultCounted, FailedOnce, NoneFailed, counted, counted_on};
+ghost use Rattle.bank_mem.specs.Listed.{IsListedCall};
 
 #[derive(Drop)]
 pub struct Plan {
@@ -33,7 +33,7 @@ fn is_begun(starts: &[(u32, u64)], device: u32, number: u64) -> bool
 
 // Whether a device's call of this number fails.
 fn is_listed(fails: &[(u32, u64)], starts: &[(u32, u64)], device: u32, number: u64) -> bool
-    ensures { IsTrue result ↔ IsListed fails.now starts.now device number }
+    ensures { IsTrue result ↔ IsListedCall fails.now starts.now device number }
 {
     is_among(fails, device, number) || is_begun(starts, device, number)
 }
@@ -45,13 +45,13 @@ impl Plan {
         ensures len { length self.new.faults.items ≡ length self.old.faults.items }
         ensures faults { (d : ℕ) → slice_index self.old.faults.items d
             ≤ slice_index self.new.faults.items d }
-        ensures counted { IsTrue result → Rose (slice_index self.old.faults.items device)
+        ensures counted { IsTrue result → FaultCounted (slice_index self.old.faults.items device)
             (slice_index self.new.faults.items device) }
         ensures once { IsTrue result → FailedOnce (slice_index self.old.faults.items)
             (slice_index self.new.faults.items) device }
         ensures well { result ≡ false → NoneFailed (slice_index self.old.faults.items)
             (slice_index self.new.faults.items) }
-        ensures fails { IsTrue result ↔ IsListed self.old.fails.items self.old.starts.items device
+        ensures fails { IsTrue result ↔ IsListedCall self.old.fails.items self.old.starts.items device
             (slice_index self.old.made.items device) }
         ensures made { (d : ℕ) → slice_index self.new.made.items d
             ≡ counted_on (slice_index self.old.made.items) device d }
@@ -76,7 +76,7 @@ impl Plan {
         ensures len { length self.new.faults.items ≡ length self.old.faults.items }
         ensures faults { (d : ℕ) → slice_index self.old.faults.items d
             ≤ slice_index self.new.faults.items d }
-        ensures counted { Rose (slice_index self.old.faults.items device)
+        ensures counted { FaultCounted (slice_index self.old.faults.items device)
             (slice_index self.new.faults.items device) }
         ensures once { FailedOnce (slice_index self.old.faults.items)
             (slice_index self.new.faults.items) device }

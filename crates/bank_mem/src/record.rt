@@ -32,11 +32,11 @@ pub enum Call {
 }
 
 impl Call {
-    ghost use Rattle.bank_mem.specs.Record.{device_of};
+    ghost use Rattle.bank_mem.specs.Record.{called_device};
 
     /// The device that it is for.
     pub fn device(&self) -> u32
-        ensures { result ≡ device_of self.now }
+        ensures { result ≡ called_device self.now }
     {
         match self {
             Call::Write { device, .. }

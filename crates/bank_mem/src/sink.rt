@@ -18,12 +18,12 @@ pub struct MemSink {
 }
 
 impl MemSink {
-    ghost use Rattle.bank_mem.specs.MemStreams.{held_of, room_of, write_faults, writes_made, listed_writes};
+    ghost use Rattle.bank_mem.specs.MemStreams.{bytes_taken, room_of, write_faults, writes_made, listed_writes};
 
     /// Takes what still fits in so many bytes; with no room left a write is a fault. The calls of these
     /// numbers, from 0, fail.
     pub fn with_room(alloc: Global, room: u64, fails: &[u64]) -> Result<MemSink, AllocError>
-        ensures held { IfOk result (λ s. held_of s ≡ []) }
+        ensures held { IfOk result (λ s. bytes_taken s ≡ []) }
         ensures room { IfOk result (λ s. room_of s ≡ room) }
         ensures faults { IfOk result (λ s. write_faults s ≡ 0) }
         ensures made { IfOk result (λ s. writes_made s ≡ 0) }
@@ -40,7 +40,7 @@ impl MemSink {
 
     /// The bytes taken so far.
     pub fn as_slice(&self) -> &[u8]
-        ensures value { result.now ≡ held_of self.now }
+        ensures value { result.now ≡ bytes_taken self.now }
     {
         self.bytes.as_slice()
     }
@@ -49,9 +49,9 @@ impl MemSink {
 impl Sink for MemSink {
     ghost use Rattle.bank_trait.specs.Causes.{HasCause, counted};
     ghost use Rattle.bank_trait.specs.Stream.{Takes};
-    ghost use Rattle.bank_mem.specs.MemStreams.{held_of, room_of, write_faults, writes_made, listed_writes, WriteFailsNext};
+    ghost use Rattle.bank_mem.specs.MemStreams.{bytes_taken, room_of, write_faults, writes_made, listed_writes, WriteFailsNext};
 
-    ghost held = { λ s. Some (held_of s) };
+    ghost held = { λ s. Some (bytes_taken s) };
 
     ghost faults = { write_faults };
 
@@ -59,12 +59,12 @@ impl Sink for MemSink {
     fn write(&mut self, piece: &[u8]) -> Result<usize, Failed>
         ensures bound { IfOk result (λ k. (k ≤ length piece.now)
             × (0 < length piece.now → 0 < k)) }
-        ensures bytes { Takes (Some (held_of self.old)) (Some (held_of self.new)) result piece.now }
+        ensures bytes { Takes (Some (bytes_taken self.old)) (Some (bytes_taken self.new)) result piece.now }
         ensures cause { HasCause (write_faults self.old) (write_faults self.new) result }
         ensures none_more { OnOk result (write_faults self.new ≡ write_faults self.old) }
         ensures one_more { OnErr result (write_faults self.new ≡ counted (write_faults self.old)) }
         ensures count { IfOk result (λ k. k
-            ≡ min (length piece.now) (room_of self.old - length (held_of self.old))) }
+            ≡ min (length piece.now) (room_of self.old - length (bytes_taken self.old))) }
         ensures listed { OnOk result (WriteFailsNext self.old → ⊥) }
         ensures made { writes_made self.new ≡ counted (writes_made self.old) }
         ensures room { room_of self.new ≡ room_of self.old }

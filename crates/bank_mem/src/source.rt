@@ -18,11 +18,11 @@ pub struct MemSource {
 }
 
 impl MemSource {
-    ghost use Rattle.bank_mem.specs.MemStreams.{left_of, read_faults, reads_made, listed_reads};
+    ghost use Rattle.bank_mem.specs.MemStreams.{bytes_left, read_faults, reads_made, listed_reads};
 
     /// Hands over these bytes. The calls of these numbers, from 0, fail.
     pub fn new(alloc: Global, bytes: &[u8], fails: &[u64]) -> Result<MemSource, AllocError>
-        ensures left { IfOk result (λ s. left_of s ≡ bytes.now) }
+        ensures left { IfOk result (λ s. bytes_left s ≡ bytes.now) }
         ensures faults { IfOk result (λ s. read_faults s ≡ 0) }
         ensures made { IfOk result (λ s. reads_made s ≡ 0) }
         ensures listed { IfOk result (λ s. listed_reads s ≡ fails.now) }
@@ -40,20 +40,20 @@ impl MemSource {
 impl Source for MemSource {
     ghost use Rattle.bank_trait.specs.Causes.{HasCause, counted};
     ghost use Rattle.bank_trait.specs.Stream.{Hands};
-    ghost use Rattle.bank_mem.specs.MemStreams.{left_of, read_faults, reads_made, listed_reads, ReadFailsNext};
+    ghost use Rattle.bank_mem.specs.MemStreams.{bytes_left, read_faults, reads_made, listed_reads, ReadFailsNext};
 
-    ghost left = { λ s. Some (left_of s) };
+    ghost left = { λ s. Some (bytes_left s) };
 
     ghost faults = { read_faults };
 
     /// A read fails where it is listed, and nowhere else.
     fn read(&mut self, into: &mut [u8]) -> Result<usize, Failed>
         ensures bound { IfOk result (λ k. k ≤ length into.new) }
-        ensures bytes { Hands (Some (left_of self.old)) (Some (left_of self.new)) result into.new }
+        ensures bytes { Hands (Some (bytes_left self.old)) (Some (bytes_left self.new)) result into.new }
         ensures cause { HasCause (read_faults self.old) (read_faults self.new) result }
         ensures none_more { OnOk result (read_faults self.new ≡ read_faults self.old) }
         ensures one_more { OnErr result (read_faults self.new ≡ counted (read_faults self.old)) }
-        ensures count { IfOk result (λ k. k ≡ min (length into.new) (length (left_of self.old))) }
+        ensures count { IfOk result (λ k. k ≡ min (length into.new) (length (bytes_left self.old))) }
         ensures listed { OnOk result (ReadFailsNext self.old → ⊥) }
         ensures only_listed { OnErr result (ReadFailsNext self.old) }
         ensures made { reads_made self.new ≡ counted (reads_made self.old) }

@@ -1,6 +1,6 @@
 // Several devices of equally many sectors of 512 bytes.
 ghost use Rattle.std.specs.Prelude.{◌≡◌, ◌<◌, ℕ, List, Some, OnOk, OnErr};
-ghost use Rattle.bank_trait.specs.Causes.{Rose, FailedOnce};
+ghost use Rattle.bank_trait.specs.Causes.{FaultCounted, FailedOnce};
 ghost use Rattle.bank_trait.specs.Disk.{Disk, Unchanged, Wrote, Synced, Lawful};
 
 use crate::Failed;
@@ -20,7 +20,7 @@ pub trait Bank {
         requires sector { sector < (disk self.old).sectors }
         ensures bytes { OnOk result ((bytes : List ℕ)
             → (disk self.old).reads device sector ≡ Some bytes → into.new ≡ bytes) }
-        ensures failed { OnErr result (Rose ((disk self.old).faults device) ((disk self.new).faults device)) }
+        ensures failed { OnErr result (FaultCounted ((disk self.old).faults device) ((disk self.new).faults device)) }
         ensures unchanged { Unchanged (disk self.old) (disk self.new) }
 
         // A read that fails is counted once, on its device alone; one that goes well changes nothing at all.

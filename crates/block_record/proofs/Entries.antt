@@ -4,7 +4,7 @@ use Rattle.std.proofs.lemmas.List.{drop_at, take_all, take_at}
 use Rattle.block_record.specs.declared.entry.IndexEntry.{IndexEntry}
 use Rattle.block_record.specs.Bytes.{be32, be64}
 use Rattle.block_record.specs.Page.{entry_bytes, IsRightEntry}
-use Rattle.block_record.specs.Index.{entry_fields, FitsFields, HasRightNumbers, IsEntryOf}
+use Rattle.block_record.specs.Index.{entry_fields, FitsFields, HasRightLengthAndBirth, SpellsEntry}
 use Rattle.block_record.proofs.Reading.{joined}
 use Rattle.block_record.proofs.Spelling.{be32_number, be64_number, last32, last64, length-be32, split_last}
 
@@ -18,7 +18,7 @@ right_fits entry right = record {
   digest = right.digest;
 }
 
-pub right_entry : (entry : IndexEntry) → FitsFields entry → HasRightNumbers entry → IsRightEntry entry
+pub right_entry : (entry : IndexEntry) → FitsFields entry → HasRightLengthAndBirth entry → IsRightEntry entry
 right_entry entry fit numbers = record {
   id = fit.id;
   start = fit.start;
@@ -27,7 +27,7 @@ right_entry entry fit numbers = record {
   digest = fit.digest;
 }
 
-pub right_numbers : (entry : IndexEntry) → IsRightEntry entry → HasRightNumbers entry
+pub right_numbers : (entry : IndexEntry) → IsRightEntry entry → HasRightLengthAndBirth entry
 right_numbers entry right = (right.len.0, right.len.1, right.birth.0)
 
 -- An entry is its fields and four zeros.
@@ -69,13 +69,13 @@ fields_tell one other fit good same =
     (be32_number _ _ fit.len good.len e2.1) (be64_number _ _ fit.birth good.birth e1.1) e0.1
 
 -- The first 60 bytes of an entry are its fields.
-pub fields_of_entry : (bytes : List ℕ) (entry : IndexEntry) → IsEntryOf bytes entry → take 60 bytes ≡ entry_fields entry
+pub fields_of_entry : (bytes : List ℕ) (entry : IndexEntry) → SpellsEntry bytes entry → take 60 bytes ≡ entry_fields entry
 fields_of_entry bytes entry is =
     ap (λ (xs : List ℕ). take 60 xs) (is.spelled ∙ entry_parts entry)
     ∙ take_at (entry_fields entry) (be32 0) 60 (length-entry_fields entry is.right.digest.wide)
 
 -- The last four bytes of an entry are zeros.
-pub rest_of_entry : (bytes : List ℕ) (entry : IndexEntry) → IsEntryOf bytes entry → take 4 (drop 60 bytes) ≡ be32 0
+pub rest_of_entry : (bytes : List ℕ) (entry : IndexEntry) → SpellsEntry bytes entry → take 4 (drop 60 bytes) ≡ be32 0
 rest_of_entry bytes entry is =
     ap (λ (xs : List ℕ). take 4 (drop 60 xs)) (is.spelled ∙ entry_parts entry)
     ∙ ap (λ (xs : List ℕ). take 4 xs) (drop_at (entry_fields entry) (be32 0) 60 (length-entry_fields entry is.right.digest.wide))
@@ -83,22 +83,22 @@ rest_of_entry bytes entry is =
 
 -- The fields that were read of an entry are its own,
 pub read_fields : (bytes : List ℕ) (read entry : IndexEntry) → take 60 bytes ≡ entry_fields read → FitsFields read
-    → IsEntryOf bytes entry → read ≡ entry
+    → SpellsEntry bytes entry → read ≡ entry
 read_fields bytes read entry front fit is = fields_tell read entry fit (right_fits entry is.right) (sym front ∙ fields_of_entry bytes entry is)
 
 -- so its numbers are right, and the bytes behind them zeros.
 pub read_numbers : (bytes : List ℕ) (read entry : IndexEntry) → take 60 bytes ≡ entry_fields read → FitsFields read
-    → IsEntryOf bytes entry → HasRightNumbers read
+    → SpellsEntry bytes entry → HasRightLengthAndBirth read
 read_numbers bytes read entry front fit is =
-    subst (λ (e : IndexEntry). HasRightNumbers e) (sym (read_fields bytes read entry front fit is)) (right_numbers entry is.right)
+    subst (λ (e : IndexEntry). HasRightLengthAndBirth e) (sym (read_fields bytes read entry front fit is)) (right_numbers entry is.right)
 
 pub read_rest : (bytes : List ℕ) (entry : IndexEntry) (rest : ℕ) → take 4 (drop 60 bytes) ≡ be32 rest → rest < 2 ^ 32
-    → IsEntryOf bytes entry → rest ≡ 0
+    → SpellsEntry bytes entry → rest ≡ 0
 read_rest bytes entry rest back small is = be32_number rest 0 small (omega arith) (sym back ∙ rest_of_entry bytes entry is)
 
 -- Sixty-four bytes whose fields are right and whose last four bytes are zeros are an entry.
 pub entry_is_read : (bytes : List ℕ) (read : IndexEntry) → length bytes ≡ 64 → take 60 bytes ≡ entry_fields read → FitsFields read
-    → take 4 (drop 60 bytes) ≡ be32 0 → HasRightNumbers read → IsEntryOf bytes read
+    → take 4 (drop 60 bytes) ≡ be32 0 → HasRightLengthAndBirth read → SpellsEntry bytes read
 entry_is_read bytes read wide front fit back numbers = record {
   right = right_entry read fit numbers;
   spelled = sym (take_all 64 bytes (omega (arith, wide))) ∙ joined 60 4 bytes front back ∙ sym (entry_parts read);

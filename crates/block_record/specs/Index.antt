@@ -10,7 +10,7 @@ entry_fields entry =
     be64 entry.id ++ be64 entry.start ++ be32 entry.len ++ be64 entry.birth ++ entry.digest
 
 -- These 64 bytes are a right entry.
-pub record IsEntryOf (bytes : List ℕ) (entry : IndexEntry) : Type 0 where
+pub record SpellsEntry (bytes : List ℕ) (entry : IndexEntry) : Type 0 where
   pub right : IsRightEntry entry
   pub spelled : bytes ≡ entry_bytes entry
 
@@ -23,12 +23,12 @@ pub record FitsFields (entry : IndexEntry) : Type 0 where
   pub digest : IsDigest entry.digest
 
 -- The length is that of a block, and the birth a group.
-abbrev pub HasRightNumbers : IndexEntry → Type 0
-HasRightNumbers entry = (1 ≤ entry.len) × (entry.len ≤ 65536) × (1 ≤ entry.birth)
+abbrev pub HasRightLengthAndBirth : IndexEntry → Type 0
+HasRightLengthAndBirth entry = (1 ≤ entry.len) × (entry.len ≤ 65536) × (1 ≤ entry.birth)
 
 -- They are an entry that may stand behind these.
 pub record IsNext (entries : List IndexEntry) (bytes : List ℕ) (next : IndexEntry) : Type 0 where
-  pub entry : IsEntryOf bytes next
+  pub entry : SpellsEntry bytes next
   pub behind : All (λ one. one.id < next.id) entries
 
 -- The bytes from one place to before another are zeros.

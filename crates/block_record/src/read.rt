@@ -3,7 +3,7 @@ ghost use Rattle.std.specs.Prelude.{◌≡◌, ◌≢◌, ℕ, ◌+◌, ◌*◌,
 ghost use Rattle.block_record.specs.declared.entry.IndexEntry.{IndexEntry};
 ghost use Rattle.block_record.specs.declared.read.IndexRefused.TheVariants.{BadIndex, NoMemory};
 ghost use Rattle.block_record.specs.Page.{page_sectors, IsIndex, IsPageOf};
-ghost use Rattle.block_record.specs.Index.{AreZeros, BeginsWith, entry_fields, FitsFields, HasRightNumbers, IsBadIndex, IsEntryOf, IsNext};
+ghost use Rattle.block_record.specs.Index.{AreZeros, BeginsWith, entry_fields, FitsFields, HasRightLengthAndBirth, IsBadIndex, SpellsEntry, IsNext};
 ghost use Rattle.block_record.specs.Refused.{IsBadAt, IsWrongAt};
 
 use crate::entry::IndexEntry;
@@ -99,8 +99,8 @@ fn is_behind(entries: &[IndexEntry], id: u64) -> bool
 
 fn read_entry(bytes: &[u8]) -> Option<IndexEntry>
     requires whole { length bytes.now ≡ 64 }
-    ensures some { IfSome result (IsEntryOf bytes.now) }
-    ensures none { IfNone result ((entry : IndexEntry) → IsEntryOf bytes.now entry → ⊥) }
+    ensures some { IfSome result (SpellsEntry bytes.now) }
+    ensures none { IfNone result ((entry : IndexEntry) → SpellsEntry bytes.now entry → ⊥) }
 {
     let entry = entry_at(bytes);
     if is_right(&entry) && u32_at(bytes, 60) == 0 {
@@ -125,7 +125,7 @@ fn entry_at(bytes: &[u8]) -> IndexEntry
 }
 
 fn is_right(entry: &IndexEntry) -> bool
-    ensures value { IsTrue result ↔ HasRightNumbers entry.now }
+    ensures value { IsTrue result ↔ HasRightLengthAndBirth entry.now }
 {
     entry.len >= 1 && entry.len <= 65536 && entry.birth >= 1
 }

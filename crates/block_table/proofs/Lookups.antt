@@ -6,7 +6,7 @@ use Rattle.std.proofs.lemmas.List.{drop_more, get_or_default, get_or-drop, lengt
 use Rattle.std.proofs.lemmas.List.Elements.{All-head, All-tail}
 use Rattle.block_record.specs.declared.entry.IndexEntry.{IndexEntry}
 use Rattle.block_record.specs.Page.{IsIndex, IsRightEntry}
-use Rattle.block_table.specs.Table.{ChangesOnly, entry_of, IsFound, IsGap, IsMissing, IsPlace, IsThere}
+use Rattle.block_table.specs.Table.{ChangesOnly, entry_of, IsFound, IsInsertionPlace, IsMissing, IsPlaceOfId, IsThere}
 use Rattle.block_table.proofs.Orders.{head_below, index_back, index_front, index_put, index_without}
 
 -- Entries of other ids are passed over.
@@ -38,7 +38,7 @@ others_same (one ∷ before) behind entry other apart =
     ap (λ (o : Option IndexEntry). cond (eqb one.id other) (Some one) o) (others_same before behind entry other apart)
 
 pub there_is : (entries : List IndexEntry) (place id : ℕ) (d : IndexEntry) → IsIndex entries
-    → IsPlace entries (take place entries) (drop place entries) id → place < length entries → (get_or entries place d).id ≡ id
+    → IsPlaceOfId entries (take place entries) (drop place entries) id → place < length entries → (get_or entries place d).id ≡ id
     → IsThere entries (take place entries) (drop (place + 1) entries) (get_or entries place d) id
 there_is entries place id d index is inside same =
     let split : drop place entries ≡ get_or entries place d ∷ drop (place + 1) entries = drop_more entries place d inside in
@@ -70,8 +70,8 @@ gap_above (entry ∷ behind) id d index above apart = λ k e low.
     (cases_lt k 1)
 
 pub gap_is : (entries : List IndexEntry) (place id : ℕ) (d : IndexEntry) → IsIndex entries
-    → IsPlace entries (take place entries) (drop place entries) id → (place < length entries → (get_or entries place d).id ≢ id)
-    → IsGap entries (take place entries) (drop place entries) id
+    → IsPlaceOfId entries (take place entries) (drop place entries) id → (place < length entries → (get_or entries place d).id ≢ id)
+    → IsInsertionPlace entries (take place entries) (drop place entries) id
 gap_is entries place id d index is apart = record {
   whole = is.whole;
   below = is.below;
@@ -87,7 +87,7 @@ pub found_there : (entries before behind : List IndexEntry) (entry : IndexEntry)
 found_there entries before behind entry id is =
     ap (λ (es : List IndexEntry). entry_of es id) is.whole ∙ past_front before (entry ∷ behind) id is.below ∙ entry_here entry behind id is.same
 
-pub found_none : (entries before behind : List IndexEntry) (id : ℕ) → IsGap entries before behind id → entry_of entries id ≡ None
+pub found_none : (entries before behind : List IndexEntry) (id : ℕ) → IsInsertionPlace entries before behind id → entry_of entries id ≡ None
 found_none entries before behind id is =
     ap (λ (es : List IndexEntry). entry_of es id) is.whole ∙ past_front before behind id is.below ∙ none_behind behind id is.above
 
@@ -112,7 +112,7 @@ replaced entries before behind new was entry index right is now =
 
 -- an entry in the gap,
 pub inserted : (entries before behind new : List IndexEntry) (entry : IndexEntry) → IsIndex entries → IsRightEntry entry
-    → IsGap entries before behind entry.id → new ≡ before ++ entry ∷ behind
+    → IsInsertionPlace entries before behind entry.id → new ≡ before ++ entry ∷ behind
     → IsIndex new × ChangesOnly entries new entry.id (Some entry)
 inserted entries before behind new entry index right is now =
     let whole : IsIndex (before ++ behind) = subst (λ (es : List IndexEntry). IsIndex es) is.whole index in
@@ -150,7 +150,7 @@ unchanged entries id none = record { there = none; others = λ other apart. refl
 
 -- What a search tells.
 pub search_found : (entries : List IndexEntry) (place id : ℕ) (d : IndexEntry) → IsIndex entries
-    → IsPlace entries (take place entries) (drop place entries) id → place < length entries → (get_or entries place d).id ≡ id
+    → IsPlaceOfId entries (take place entries) (drop place entries) id → place < length entries → (get_or entries place d).id ≡ id
     → IsFound entries id place
 search_found entries place id d index is inside same = record {
   inside = inside;
@@ -159,7 +159,7 @@ search_found entries place id d index is inside same = record {
 }
 
 pub search_past : (entries : List IndexEntry) (place id : ℕ) (d : IndexEntry) → IsIndex entries
-    → IsPlace entries (take place entries) (drop place entries) id → place ≤ length entries
+    → IsPlaceOfId entries (take place entries) (drop place entries) id → place ≤ length entries
     → (place < length entries → (get_or entries place d).id ≢ id) → IsMissing entries id place
 search_past entries place id d index is inside apart = record { inside = inside; gap = gap_is entries place id d index is apart }
 

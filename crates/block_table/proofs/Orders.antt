@@ -6,7 +6,7 @@ use Rattle.std.proofs.lemmas.List.{get_or_append_left, get_or-append-add, get_or
 use Rattle.std.proofs.lemmas.List.Elements.{All-append, All-cons, All-nil}
 use Rattle.block_record.specs.declared.entry.IndexEntry.{IndexEntry}
 use Rattle.block_record.specs.Page.{IsIndex, IsRightEntry}
-use Rattle.block_table.specs.Table.{IsPlace}
+use Rattle.block_table.specs.Table.{IsPlaceOfId}
 
 -- One entry is before another.
 abbrev pub IsBefore : IndexEntry → IndexEntry → Type 0
@@ -160,7 +160,7 @@ narrowed_down entries id low high middle d index is from to not_less = record {
 
 -- Where both meet, the place is found.
 pub place_found : (entries : List IndexEntry) (id low high : ℕ) → IsNarrowed entries id low high → high ≤ low
-    → IsPlace entries (take low entries) (drop low entries) id
+    → IsPlaceOfId entries (take low entries) (drop low entries) id
 place_found entries id low high is met = record {
   whole = sym (take-append-drop low entries);
   below = λ k d inside.

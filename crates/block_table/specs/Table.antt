@@ -49,7 +49,7 @@ pub record IsTable (table : Table) : Type 0 where
   pub few : ids_in_use table ≤ 512
 
 -- No entry before a place has the id or a greater one, and none from there on a smaller one.
-pub record IsPlace (entries before behind : List IndexEntry) (id : ℕ) : Type 0 where
+pub record IsPlaceOfId (entries before behind : List IndexEntry) (id : ℕ) : Type 0 where
   pub whole : entries ≡ before ++ behind
   pub below : All (λ entry. entry.id < id) before
   pub above : All (λ entry. id ≤ entry.id) behind
@@ -63,7 +63,7 @@ pub record IsThere (entries before behind : List IndexEntry) (entry : IndexEntry
     pub above : All (λ e. id < e.id) behind
 
 -- The place of an id that no entry has.
-pub record IsGap (entries before behind : List IndexEntry) (id : ℕ) : Type 0 where
+pub record IsInsertionPlace (entries before behind : List IndexEntry) (id : ℕ) : Type 0 where
   pub whole : entries ≡ before ++ behind
   pub below : All (λ e. e.id < id) before
   pub above : All (λ e. id < e.id) behind
@@ -78,8 +78,8 @@ pub record IsFound (entries : List IndexEntry) (id place : ℕ) : Type 0 where
 -- An entry with the id would go to this place.
 pub record IsMissing (entries : List IndexEntry) (id place : ℕ) : Type 0 where
   pub inside : place ≤ length entries
-  pub gap : IsGap entries (take place entries) (drop place entries) id
+  pub gap : IsInsertionPlace entries (take place entries) (drop place entries) id
 
 -- There is room for the entry of each put under way.
-pub record HasRoom (entries : Vec IndexEntry Global) (reserved : Vec ℕ Global) : Type 0 where
+pub record HasRoomForPuts (entries : Vec IndexEntry Global) (reserved : Vec ℕ Global) : Type 0 where
   pub room : vec_len entries + vec_len reserved ≤ vec_capacity entries

@@ -3,7 +3,7 @@ ghost use Rattle.std.specs.Prelude.{◌≡◌, ◌<◌, ◌≤◌, ◌+◌, drop
 ghost use Rattle.std.specs.Option.{option_copied};
 ghost use Rattle.std.specs.Vec.{vec_capacity};
 ghost use Rattle.block_record.specs.Page.{IsIndex, IsRightEntry};
-ghost use Rattle.block_table.specs.Table.{ChangesOnly, entry_of, IsFound, IsMissing, IsPlace};
+ghost use Rattle.block_table.specs.Table.{ChangesOnly, entry_of, IsFound, IsMissing, IsPlaceOfId};
 
 use block_record::IndexEntry;
 
@@ -11,7 +11,7 @@ use block_record::IndexEntry;
 pub fn place_of(entries: &[IndexEntry], id: u64) -> usize
     requires index { IsIndex entries.now }
     ensures inside { result ≤ length entries.now }
-    ensures place { IsPlace entries.now (take result entries.now) (drop result entries.now) id }
+    ensures place { IsPlaceOfId entries.now (take result entries.now) (drop result entries.now) id }
 {
     let mut low = 0;
     let mut high = entries.len();

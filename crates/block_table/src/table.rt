@@ -29,13 +29,13 @@ pub struct Table {
 }
 
 impl Model for Table {
-    ghost use Rattle.block_table.specs.Table.{Table as TableOf, IsTable, HasRoom};
+    ghost use Rattle.block_table.specs.Table.{Table as TableOf, IsTable, HasRoomForPuts};
 
     ghost Value = { TableOf };
 
     ghost view = { λ t. record { entries = t.entries.items; reserved = t.reserved.items } };
 
-    ghost invariant = { λ t. HasRoom t.entries t.reserved
+    ghost invariant = { λ t. HasRoomForPuts t.entries t.reserved
         × IsTable (record { entries = t.entries.items; reserved = t.reserved.items }) };
 }
 

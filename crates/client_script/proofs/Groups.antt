@@ -10,17 +10,17 @@ use Rattle.std.proofs.lemmas.List.{nil_from_length, length-drop, length-map, map
 use Rattle.std.proofs.lemmas.List.Elements.{filter-append}
 use Rattle.client_script.specs.declared.call.ScriptCall.{ScriptCall}
 use Rattle.client_script.specs.Script.{Placed}
-use Rattle.client_script.specs.Grouped.{Groups, groups_of, first_of, without_first, with_call, in_turn, HasTurns}
+use Rattle.client_script.specs.Grouped.{CallsByActor, groups_of, first_of, without_first, with_call, in_turn, HasTurns}
 
 -- The actor whose turn is first has a call.
-has_first : (actor : ℕ) (actors : List ℕ) (groups : Groups) → HasTurns (actor ∷ actors) groups → 0 < length (groups actor)
+has_first : (actor : ℕ) (actors : List ℕ) (groups : CallsByActor) → HasTurns (actor ∷ actors) groups → 0 < length (groups actor)
 has_first actor actors groups turns =
     let same : (actor == actor) ≡ true = eq-eqb actor actor refl in
     let count = rw same at (turns.each actor) in
     omega (arith, count)
 
 -- Without the first turn and its call each actor has as many turns as calls.
-rest_of_turns : (actor : ℕ) (actors : List ℕ) (groups : Groups) → HasTurns (actor ∷ actors) groups → HasTurns actors (without_first groups actor)
+rest_of_turns : (actor : ℕ) (actors : List ℕ) (groups : CallsByActor) → HasTurns (actor ∷ actors) groups → HasTurns actors (without_first groups actor)
 rest_of_turns actor actors groups turns = record {
   each = λ other.
       ⊎_elim
@@ -50,7 +50,7 @@ either_order false false calls call some = refl
 eqb_true : (a b : ℕ) → (a == b) ≡ true → a ≡ b
 eqb_true a b e = ⊎_elim (λ is. is) (λ isnt. absurd (let no_more : false ≡ true = sym (ne_eqb a b isnt) ∙ e in cc)) (cases_eq a b)
 
-taken_and_added : (groups : Groups) (first actor : ℕ) (call : ScriptCall) → 0 < length (groups first)
+taken_and_added : (groups : CallsByActor) (first actor : ℕ) (call : ScriptCall) → 0 < length (groups first)
     → without_first (with_call groups actor call) first ≡ with_call (without_first groups first) actor call
 taken_and_added groups first actor call some = λ i other.
     either_order (other == first) (other == actor) (groups other) call
@@ -62,7 +62,7 @@ same_first actor true (first ∷ calls) call some = refl
 same_first actor false (first ∷ calls) call some = refl
 
 -- One call more is the last in turn.
-pub in_turn_push : (actors : List ℕ) (groups : Groups) (actor : ℕ) (call : ScriptCall) → HasTurns actors groups
+pub in_turn_push : (actors : List ℕ) (groups : CallsByActor) (actor : ℕ) (call : ScriptCall) → HasTurns actors groups
     → in_turn (actors ++ actor ∷ []) (with_call groups actor call) ≡ in_turn actors groups ++ record { actor = actor; call = call } ∷ []
 in_turn_push [] groups actor call turns =
     let same : (actor == actor) ≡ true = eq-eqb actor actor refl in
@@ -75,7 +75,7 @@ in_turn_push (first ∷ actors) groups actor call turns =
     ∙ ap (λ (l : List Placed). first_of first (groups first) ++ l) (in_turn_push actors (without_first groups first) actor call (rest_of_turns first actors groups turns))
     ∙ sym (append_assoc (first_of first (groups first)) (in_turn actors (without_first groups first)) (record { actor = actor; call = call } ∷ []))
 
-pub turns_push : (actors : List ℕ) (groups : Groups) (actor : ℕ) (call : ScriptCall) → HasTurns actors groups → HasTurns (actors ++ actor ∷ []) (with_call groups actor call)
+pub turns_push : (actors : List ℕ) (groups : CallsByActor) (actor : ℕ) (call : ScriptCall) → HasTurns actors groups → HasTurns (actors ++ actor ∷ []) (with_call groups actor call)
 turns_push actors groups actor call turns = record {
   each = λ other.
       ap length (filter-append (λ o. o == other) actors (actor ∷ []))
@@ -100,7 +100,7 @@ first_calls : (actor other : ℕ) (calls : List ScriptCall) → 0 < length calls
 first_calls actor other [] some = absurd (omega (arith, some))
 first_calls actor other (call ∷ calls) some = first_kept (actor == other) (record { actor = actor; call = call })
 
-first_and_rest : (groups : Groups) (first actor : ℕ) → cond (first == actor) (take 1 (groups first)) [] ++ without_first groups first actor ≡ groups actor
+first_and_rest : (groups : CallsByActor) (first actor : ℕ) → cond (first == actor) (take 1 (groups first)) [] ++ without_first groups first actor ≡ groups actor
 first_and_rest groups first actor =
     ⊎_elim
     (λ (is : first ≡ actor).
@@ -114,7 +114,7 @@ first_and_rest groups first actor =
     (cases_eq first actor)
 
 -- An actor's calls in turn are its group.
-pub calls_in_turn : (actors : List ℕ) (groups : Groups) (actor : ℕ) → HasTurns actors groups
+pub calls_in_turn : (actors : List ℕ) (groups : CallsByActor) (actor : ℕ) → HasTurns actors groups
     → map (λ placed. placed.call) (filter (λ placed. placed.actor == actor) (in_turn actors groups)) ≡ groups actor
 calls_in_turn [] groups actor turns = sym (nil_from_length (groups actor) (sym (turns.each actor)))
 calls_in_turn (first ∷ actors) groups actor turns =
@@ -129,7 +129,7 @@ first_actor actor [] some = absurd (omega (arith, some))
 first_actor actor (call ∷ calls) some = refl
 
 -- The actors of calls in turn.
-pub actors_in_turn : (actors : List ℕ) (groups : Groups) → HasTurns actors groups → map (λ placed. placed.actor) (in_turn actors groups) ≡ actors
+pub actors_in_turn : (actors : List ℕ) (groups : CallsByActor) → HasTurns actors groups → map (λ placed. placed.actor) (in_turn actors groups) ≡ actors
 actors_in_turn [] groups turns = refl
 actors_in_turn (first ∷ actors) groups turns =
     map-append (λ placed. placed.actor) (first_of first (groups first)) (in_turn actors (without_first groups first))

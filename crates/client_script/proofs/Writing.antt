@@ -3,7 +3,7 @@ use Rattle.std.proofs.Common.{◌≡◌, ℕ, ◌+◌, List, [], ◌++◌, lengt
 use Rattle.std.specs.Prelude.{min}
 use Rattle.std.proofs.lemmas.List.{append-nil, take_all, take-append-le, take_min}
 use Rattle.std.proofs.Math.Seq.{take-append-add}
-use Rattle.client_script.specs.Written.{Writing, IsAdded, IsPartAdded, IsGiven, Gains, Blames}
+use Rattle.client_script.specs.Written.{Writing, IsAdded, IsPartAdded, WriterHasText, GainsText, FailsOnlyWithFault}
 
 -- A front of a list is one of a longer list.
 front_of_more : (len : ℕ) (text more : List ℕ) → take len text ≡ take (min len (length text)) (text ++ more)
@@ -25,24 +25,24 @@ part_from_whole before now text all = record {
 }
 
 -- Nothing was given at the start.
-pub given_none : (start : Option (List ℕ)) → IsGiven start start (record { waiting = []; failed = false }) []
+pub given_none : (start : Option (List ℕ)) → WriterHasText start start (record { waiting = []; failed = false }) []
 given_none start = record {
   part = record { front = λ held is. (0, is ∙ ap Some (sym (append-nil held))) };
   whole = λ unfailed held is. ([], is ∙ ap Some (sym (append-nil held)), refl);
 }
 
 -- What a new writer gains is all that it was given.
-pub given_by_new : (start now : Option (List ℕ)) (old new : Writing) (text : List ℕ) → old ≡ record { waiting = []; failed = false } → Gains start now old new text → IsGiven start now new text
-given_by_new start now old new text fresh gains = gains.more start [] (subst (λ (w : Writing). IsGiven start start w []) (sym fresh) (given_none start))
+pub given_by_new : (start now : Option (List ℕ)) (old new : Writing) (text : List ℕ) → old ≡ record { waiting = []; failed = false } → GainsText start now old new text → WriterHasText start now new text
+given_by_new start now old new text fresh gains = gains.more start [] (subst (λ (w : Writing). WriterHasText start start w []) (sym fresh) (given_none start))
 
 -- One call after another.
-pub gains_then : (one two three : Option (List ℕ)) (a b c : Writing) (text more : List ℕ) → Gains one two a b text → Gains two three b c more → Gains one three a c (text ++ more)
+pub gains_then : (one two three : Option (List ℕ)) (a b c : Writing) (text more : List ℕ) → GainsText one two a b text → GainsText two three b c more → GainsText one three a c (text ++ more)
 gains_then one two three a b c text more first second = record {
   more = λ start given was.
-      subst (λ (t : List ℕ). IsGiven start three c t) (append_assoc given text more) (second.more start (given ++ text) (first.more start given was));
+      subst (λ (t : List ℕ). WriterHasText start three c t) (append_assoc given text more) (second.more start (given ++ text) (first.more start given was));
 }
 
-pub blames_then : (one two three : ℕ) (a b c : Writing) → Blames one two a b → Blames two three b c → Blames one three a c
+pub blames_then : (one two three : ℕ) (a b c : Writing) → FailsOnlyWithFault one two a b → FailsOnlyWithFault two three b c → FailsOnlyWithFault one three a c
 blames_then one two three a b c first second = record {
   later = omega (arith, first.later, second.later);
   failed = λ yes.
@@ -53,11 +53,11 @@ blames_then one two three a b c first second = record {
 }
 
 -- A writer that stays as it was blames nobody.
-pub blames_none : (faults : ℕ) (a b : Writing) → b.failed ≡ a.failed → Blames faults faults a b
+pub blames_none : (faults : ℕ) (a b : Writing) → b.failed ≡ a.failed → FailsOnlyWithFault faults faults a b
 blames_none faults a b same = record { later = omega arith; failed = λ yes. inl (sym same ∙ yes) }
 
 -- A text that waits behind what waited.
-pub gains_waiting : (sink : Option (List ℕ)) (a b : Writing) (text : List ℕ) → b.failed ≡ a.failed → b.waiting ≡ a.waiting ++ text → Gains sink sink a b text
+pub gains_waiting : (sink : Option (List ℕ)) (a b : Writing) (text : List ℕ) → b.failed ≡ a.failed → b.waiting ≡ a.waiting ++ text → GainsText sink sink a b text
 gains_waiting sink a b text same waits = record {
   more = λ start given was. record {
     part = part_of_more start sink given text was.part;
@@ -77,7 +77,7 @@ regrouped sent waiting text given piece were is =
 
 -- What waited and a text are handed over in one piece.
 module _ (before now : Option (List ℕ)) (a b : Writing) (piece text : List ℕ) (piece_is : piece ≡ a.waiting ++ text) where
-  part_of_sent : (start : Option (List ℕ)) (given : List ℕ) → IsGiven start before a given → a.failed ≡ false → IsPartAdded before now piece → IsPartAdded start now (given ++ text)
+  part_of_sent : (start : Option (List ℕ)) (given : List ℕ) → WriterHasText start before a given → a.failed ≡ false → IsPartAdded before now piece → IsPartAdded start now (given ++ text)
   part_of_sent start given was unfailed part = record {
     front = λ held is.
         let sent = was.whole unfailed held is in
@@ -88,11 +88,11 @@ module _ (before now : Option (List ℕ)) (a b : Writing) (piece text : List ℕ
         );
   }
 
-  part_of_dropped : (start : Option (List ℕ)) (given : List ℕ) → IsGiven start before a given → now ≡ before → IsPartAdded start now (given ++ text)
+  part_of_dropped : (start : Option (List ℕ)) (given : List ℕ) → WriterHasText start before a given → now ≡ before → IsPartAdded start now (given ++ text)
   part_of_dropped start given was same =
       subst (λ (s : Option (List ℕ)). IsPartAdded start s (given ++ text)) (sym same) (part_of_more start before given text was.part)
 
-  part_of_either : (start : Option (List ℕ)) (given : List ℕ) → IsGiven start before a given → (a.failed ≡ false → IsPartAdded before now piece) → (a.failed ≡ true → (now ≡ before) × (b.failed ≡ true))
+  part_of_either : (start : Option (List ℕ)) (given : List ℕ) → WriterHasText start before a given → (a.failed ≡ false → IsPartAdded before now piece) → (a.failed ≡ true → (now ≡ before) × (b.failed ≡ true))
       → (failed : Bool) → a.failed ≡ failed → IsPartAdded start now (given ++ text)
   part_of_either start given was part same true failed = part_of_dropped start given was (same failed).0
   part_of_either start given was part same false unfailed = part_of_sent start given was unfailed (part unfailed)
@@ -101,7 +101,7 @@ module _ (before now : Option (List ℕ)) (a b : Writing) (piece text : List ℕ
   none_failed same unfailed true failed = absurd (false_is_true (sym unfailed ∙ (same failed).1))
   none_failed same unfailed false was = was
 
-  whole_of_sent : (start : Option (List ℕ)) (given : List ℕ) → IsGiven start before a given → a.failed ≡ false → IsAdded before now piece → b.waiting ≡ []
+  whole_of_sent : (start : Option (List ℕ)) (given : List ℕ) → WriterHasText start before a given → a.failed ≡ false → IsAdded before now piece → b.waiting ≡ []
       → (held : List ℕ) → start ≡ Some held → (sent : List ℕ) × (now ≡ Some (held ++ sent)) × (sent ++ b.waiting ≡ given ++ text)
   whole_of_sent start given was unfailed all none held is =
       let sent = was.whole unfailed held is in (
@@ -111,7 +111,7 @@ module _ (before now : Option (List ℕ)) (a b : Writing) (piece text : List ℕ
       )
 
   pub gains_sent : (b.failed ≡ false → IsAdded before now piece) → (a.failed ≡ false → IsPartAdded before now piece) → (a.failed ≡ true → (now ≡ before) × (b.failed ≡ true)) → b.waiting ≡ []
-      → Gains before now a b text
+      → GainsText before now a b text
   gains_sent all part same none = record {
     more = λ start given was. record {
       part = part_of_either start given was part same a.failed refl;

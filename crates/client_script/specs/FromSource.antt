@@ -1,6 +1,6 @@
 -- What a script that is read from a source may say of it.
 use Rattle.std.specs.Prelude.{◌≡◌, ◌⊎◌, ℕ, ◌+◌, ◌<◌, List, length, Option, Some, Result, Err, ⊤}
-use Rattle.bank_trait.specs.Causes.{Rose}
+use Rattle.bank_trait.specs.Causes.{FaultCounted}
 use Rattle.client_script.specs.declared.refused.ParseRefused.{ParseRefused}
 use Rattle.client_script.specs.declared.refused.ParseRefused.TheVariants as parse
 use Rattle.client_script.specs.declared.refused.ReadRefused.{ReadRefused}
@@ -16,11 +16,11 @@ read_refusal parse.NoMemory = NoMemory
 -- A source tells its bytes, and none of its reads failed.
 pub record IsToldWell (left : Option (List ℕ)) (bytes : List ℕ) (before now : ℕ) : Type 0 where
   pub told : left ≡ Some bytes
-  pub well : Rose before now → ⊥
+  pub well : FaultCounted before now → ⊥
 
 -- Why the bytes of a source were not all read.
 abbrev pub IsUnreadFor : Option (List ℕ) → ℕ → ℕ → ReadRefused → Type 0
-IsUnreadFor left before now SourceFault = Rose before now
+IsUnreadFor left before now SourceFault = FaultCounted before now
 IsUnreadFor left before now (ScriptFault line) = ⊥
 IsUnreadFor left before now (Limit reached) = (reached ≡ most_bytes + 1)
     × ((bytes : List ℕ) → left ≡ Some bytes → most_bytes < length bytes)
@@ -28,7 +28,7 @@ IsUnreadFor left before now NoMemory = ⊤
 
 -- Why there is no script.
 abbrev pub IsNotReadFor : Option (List ℕ) → ℕ → ℕ → ReadRefused → Type 0
-IsNotReadFor left before now SourceFault = Rose before now
+IsNotReadFor left before now SourceFault = FaultCounted before now
 IsNotReadFor left before now (ScriptFault line) =
     (bytes : List ℕ) → left ≡ Some bytes → IsFaultAt bytes line
 IsNotReadFor left before now (Limit reached) = (bytes : List ℕ) → left ≡ Some bytes

@@ -77,18 +77,18 @@ IsRightId None = ⊤
 IsRightId (Some id) = id < 2 ^ 64
 
 -- Calls that are carried out today.
-abbrev pub IsServed : Kind → Type 0
-IsServed Put = ⊤
-IsServed Get = ⊤
-IsServed Sum = ⊤
-IsServed Free = ⊤
-IsServed Sync = ⊤
-IsServed kind = ⊥
+abbrev pub IsServedKind : Kind → Type 0
+IsServedKind Put = ⊤
+IsServedKind Get = ⊤
+IsServedKind Sum = ⊤
+IsServedKind Free = ⊤
+IsServedKind Sync = ⊤
+IsServedKind kind = ⊥
 
 -- A call is spelled so: its letter, a space, its words.
 pub record IsCallText (text : List ℕ) (actor : ℕ) (kind : Kind) (id : Option ℕ) (fill : Fill) : Type
     0 where
-  pub served : IsServed kind
+  pub served : IsServedKind kind
   pub some : 0 < length (call_text kind id fill)
   pub spelled : text ≡ client_letter actor ∷ (32 ∷ call_text kind id fill)
   pub id_fits : IsRightId id

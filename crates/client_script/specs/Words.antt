@@ -3,7 +3,7 @@ use Rattle.std.specs.Prelude.{◌≡◌, ◌≢◌, ℕ, ◌^◌, ◌<◌, ◌�
 use Rattle.core_state.specs.declared.answer.Kind.{Kind}
 use Rattle.client_script.specs.declared.call.Fill.{Fill}
 use Rattle.client_script.specs.declared.call.Fill.TheVariants.{Nothing}
-use Rattle.client_script.specs.Lines.{call_text, hex_text, IsRightFill, IsRightId, IsServed, IsNumberText}
+use Rattle.client_script.specs.Lines.{call_text, hex_text, IsRightFill, IsRightId, IsServedKind, IsNumberText}
 
 -- A text is cut in two at the first byte of a kind, which neither part has.
 pub record IsCut (text : List ℕ) (byte : ℕ) (front back : List ℕ) : Type 0 where
@@ -47,7 +47,7 @@ pub record IsHexWords (text : List ℕ) (id : ℕ) (bytes : List ℕ) : Type 0 w
 
 -- These are the words of a call after its letter.
 pub record IsWords (words : List ℕ) (kind : Kind) (id : Option ℕ) (fill : Fill) : Type 0 where
-  pub served : IsServed kind
+  pub served : IsServedKind kind
   pub some : 0 < length (call_text kind id fill)
   pub spelled : words ≡ call_text kind id fill
   pub id_fits : IsRightId id
@@ -60,4 +60,4 @@ HasNoCall words = (kind : Kind) (id : Option ℕ) (fill : Fill) → IsWords word
 -- the word of a call that has nothing else
 abbrev pub IsBareWord : List ℕ → Kind → Type 0
 IsBareWord word kind =
-    IsServed kind × (0 < length (call_text kind None Nothing)) × (word ≡ call_text kind None Nothing)
+    IsServedKind kind × (0 < length (call_text kind None Nothing)) × (word ≡ call_text kind None Nothing)

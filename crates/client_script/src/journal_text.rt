@@ -3,13 +3,13 @@ ghost use Rattle.std.specs.Prelude.{◌≡◌, ◌++◌, [], ◌∷◌, codes, d
 ghost use Rattle.bank_trait.specs.Causes.{HasCause};
 ghost use Rattle.client_script.specs.Lines.{hex_text};
 ghost use Rattle.client_script.specs.Texts.{actor_letter as letter_of, kind_word as word_of, number_after_space, point_text, numbers_text, damaged_text, answer_text, entry_text, item_text, journal_text};
-ghost use Rattle.client_script.specs.Written.{IsAdded, IsPartAdded, Gains, Blames};
+ghost use Rattle.client_script.specs.Written.{IsAdded, IsPartAdded, GainsText, FailsOnlyWithFault};
 
 use crate::text_writer::TextWriter;
 use bank_trait::{Failed, Sink};
 use core_state::{Answer, Entry, Item, Journal, Kind};
 
-/// Writes the text of a journal. After a failure a front of it is written. Gains no memory.
+/// Writes the text of a journal. After a failure a front of it is written. GainsText no memory.
 pub fn print_journal<K: Sink>(journal: &Journal, out: &mut K) -> Result<(), Failed>
     ensures ok { OnOk result
         (IsAdded (K.held out.old) (K.held out.new) (journal_text journal.now.items)) }
@@ -24,9 +24,9 @@ pub fn print_journal<K: Sink>(journal: &Journal, out: &mut K) -> Result<(), Fail
 
 /// Hands the text of a journal to a writer.
 pub fn write_journal<K: Sink>(writer: &mut TextWriter, out: &mut K, journal: &Journal)
-    ensures gains { Gains (K.held out.old) (K.held out.new) writer.old writer.new
+    ensures gains { GainsText (K.held out.old) (K.held out.new) writer.old writer.new
         (journal_text journal.now.items) }
-    ensures cause { Blames (K.faults out.old) (K.faults out.new) writer.old writer.new }
+    ensures cause { FailsOnlyWithFault (K.faults out.old) (K.faults out.new) writer.old writer.new }
 {
     for (number, item) in journal.as_slice().iter().enumerate() {
         put_line(writer, out, number as u64, item);
@@ -34,9 +34,9 @@ pub fn write_journal<K: Sink>(writer: &mut TextWriter, out: &mut K, journal: &Jo
 }
 
 fn put_line<K: Sink>(writer: &mut TextWriter, out: &mut K, number: u64, item: &Item)
-    ensures gains { Gains (K.held out.old) (K.held out.new) writer.old writer.new
+    ensures gains { GainsText (K.held out.old) (K.held out.new) writer.old writer.new
         (decimal number ++ codes " " ++ item_text item.now ++ codes "\n") }
-    ensures cause { Blames (K.faults out.old) (K.faults out.new) writer.old writer.new }
+    ensures cause { FailsOnlyWithFault (K.faults out.old) (K.faults out.new) writer.old writer.new }
 {
     writer.number(out, number);
     writer.text(out, b" ");
@@ -45,9 +45,9 @@ fn put_line<K: Sink>(writer: &mut TextWriter, out: &mut K, number: u64, item: &I
 }
 
 fn put_item<K: Sink>(writer: &mut TextWriter, out: &mut K, item: &Item)
-    ensures gains { Gains (K.held out.old) (K.held out.new) writer.old writer.new
+    ensures gains { GainsText (K.held out.old) (K.held out.new) writer.old writer.new
         (item_text item.now) }
-    ensures cause { Blames (K.faults out.old) (K.faults out.new) writer.old writer.new }
+    ensures cause { FailsOnlyWithFault (K.faults out.old) (K.faults out.new) writer.old writer.new }
 {
     match item {
         Item::Group(group) => {
@@ -59,9 +59,9 @@ fn put_item<K: Sink>(writer: &mut TextWriter, out: &mut K, item: &Item)
 }
 
 fn put_entry<K: Sink>(writer: &mut TextWriter, out: &mut K, entry: &Entry)
-    ensures gains { Gains (K.held out.old) (K.held out.new) writer.old writer.new
+    ensures gains { GainsText (K.held out.old) (K.held out.new) writer.old writer.new
         (entry_text entry.now) }
-    ensures cause { Blames (K.faults out.old) (K.faults out.new) writer.old writer.new }
+    ensures cause { FailsOnlyWithFault (K.faults out.old) (K.faults out.new) writer.old writer.new }
 {
     writer.text(out, &[actor_letter(entry.caller), b'.']);
     writer.number(out, entry.call);
@@ -73,9 +73,9 @@ fn put_entry<K: Sink>(writer: &mut TextWriter, out: &mut K, entry: &Entry)
 }
 
 fn put_id<K: Sink>(writer: &mut TextWriter, out: &mut K, id: Option<u64>)
-    ensures gains { Gains (K.held out.old) (K.held out.new) writer.old writer.new
+    ensures gains { GainsText (K.held out.old) (K.held out.new) writer.old writer.new
         (number_after_space id) }
-    ensures cause { Blames (K.faults out.old) (K.faults out.new) writer.old writer.new }
+    ensures cause { FailsOnlyWithFault (K.faults out.old) (K.faults out.new) writer.old writer.new }
 {
     match id {
         Some(id) => put_number(writer, out, b" ", id),
@@ -84,9 +84,9 @@ fn put_id<K: Sink>(writer: &mut TextWriter, out: &mut K, id: Option<u64>)
 }
 
 fn put_point<K: Sink>(writer: &mut TextWriter, out: &mut K, at: Option<u64>)
-    ensures gains { Gains (K.held out.old) (K.held out.new) writer.old writer.new
+    ensures gains { GainsText (K.held out.old) (K.held out.new) writer.old writer.new
         (point_text at) }
-    ensures cause { Blames (K.faults out.old) (K.faults out.new) writer.old writer.new }
+    ensures cause { FailsOnlyWithFault (K.faults out.old) (K.faults out.new) writer.old writer.new }
 {
     match at {
         Some(at) => put_number(writer, out, b" at ", at),
@@ -95,9 +95,9 @@ fn put_point<K: Sink>(writer: &mut TextWriter, out: &mut K, at: Option<u64>)
 }
 
 fn put_answer<K: Sink>(writer: &mut TextWriter, out: &mut K, answer: &Answer)
-    ensures gains { Gains (K.held out.old) (K.held out.new) writer.old writer.new
+    ensures gains { GainsText (K.held out.old) (K.held out.new) writer.old writer.new
         (answer_text answer.now) }
-    ensures cause { Blames (K.faults out.old) (K.faults out.new) writer.old writer.new }
+    ensures cause { FailsOnlyWithFault (K.faults out.old) (K.faults out.new) writer.old writer.new }
 {
     match answer {
         Answer::Stored => writer.text(out, b" ok"),
@@ -147,10 +147,10 @@ fn put_scrub<K: Sink>(
     repaired: u64,
     damaged: &[u64],
 )
-    ensures gains { Gains (K.held out.old) (K.held out.new) writer.old writer.new
+    ensures gains { GainsText (K.held out.old) (K.held out.new) writer.old writer.new
         (codes " blocks " ++ decimal blocks ++ codes " repaired " ++ decimal repaired
         ++ codes " damaged" ++ damaged_text damaged.now) }
-    ensures cause { Blames (K.faults out.old) (K.faults out.new) writer.old writer.new }
+    ensures cause { FailsOnlyWithFault (K.faults out.old) (K.faults out.new) writer.old writer.new }
 {
     put_number(writer, out, b" blocks ", u64::from(blocks));
     put_number(writer, out, b" repaired ", repaired);
@@ -159,9 +159,9 @@ fn put_scrub<K: Sink>(
 }
 
 fn put_damaged<K: Sink>(writer: &mut TextWriter, out: &mut K, damaged: &[u64])
-    ensures gains { Gains (K.held out.old) (K.held out.new) writer.old writer.new
+    ensures gains { GainsText (K.held out.old) (K.held out.new) writer.old writer.new
         (damaged_text damaged.now) }
-    ensures cause { Blames (K.faults out.old) (K.faults out.new) writer.old writer.new }
+    ensures cause { FailsOnlyWithFault (K.faults out.old) (K.faults out.new) writer.old writer.new }
 {
     if damaged.is_empty() {
         writer.text(out, b" none");
@@ -171,9 +171,9 @@ fn put_damaged<K: Sink>(writer: &mut TextWriter, out: &mut K, damaged: &[u64])
 }
 
 fn put_numbers<K: Sink>(writer: &mut TextWriter, out: &mut K, numbers: &[u64])
-    ensures gains { Gains (K.held out.old) (K.held out.new) writer.old writer.new
+    ensures gains { GainsText (K.held out.old) (K.held out.new) writer.old writer.new
         (numbers_text numbers.now) }
-    ensures cause { Blames (K.faults out.old) (K.faults out.new) writer.old writer.new }
+    ensures cause { FailsOnlyWithFault (K.faults out.old) (K.faults out.new) writer.old writer.new }
 {
     for number in numbers {
         put_number(writer, out, b" ", *number);
@@ -181,27 +181,27 @@ fn put_numbers<K: Sink>(writer: &mut TextWriter, out: &mut K, numbers: &[u64])
 }
 
 fn put_digest<K: Sink>(writer: &mut TextWriter, out: &mut K, len: u32, sha: &[u8])
-    ensures gains { Gains (K.held out.old) (K.held out.new) writer.old writer.new
+    ensures gains { GainsText (K.held out.old) (K.held out.new) writer.old writer.new
         (codes " length " ++ decimal len ++ codes " sha " ++ hex_text sha.now) }
-    ensures cause { Blames (K.faults out.old) (K.faults out.new) writer.old writer.new }
+    ensures cause { FailsOnlyWithFault (K.faults out.old) (K.faults out.new) writer.old writer.new }
 {
     put_number(writer, out, b" length ", u64::from(len));
     put_bytes(writer, out, b" sha ", sha);
 }
 
 fn put_number<K: Sink>(writer: &mut TextWriter, out: &mut K, name: &[u8], number: u64)
-    ensures gains { Gains (K.held out.old) (K.held out.new) writer.old writer.new
+    ensures gains { GainsText (K.held out.old) (K.held out.new) writer.old writer.new
         (name.now ++ decimal number) }
-    ensures cause { Blames (K.faults out.old) (K.faults out.new) writer.old writer.new }
+    ensures cause { FailsOnlyWithFault (K.faults out.old) (K.faults out.new) writer.old writer.new }
 {
     writer.text(out, name);
     writer.number(out, number);
 }
 
 fn put_bytes<K: Sink>(writer: &mut TextWriter, out: &mut K, name: &[u8], bytes: &[u8])
-    ensures gains { Gains (K.held out.old) (K.held out.new) writer.old writer.new
+    ensures gains { GainsText (K.held out.old) (K.held out.new) writer.old writer.new
         (name.now ++ hex_text bytes.now) }
-    ensures cause { Blames (K.faults out.old) (K.faults out.new) writer.old writer.new }
+    ensures cause { FailsOnlyWithFault (K.faults out.old) (K.faults out.new) writer.old writer.new }
 {
     writer.text(out, name);
     writer.hex(out, bytes);

@@ -1,9 +1,9 @@
 // Short pieces of text, gathered in front of a sink.
 ghost use Rattle.std.specs.Prelude.{◌≡◌, ◌⊎◌, ◌+◌, ◌<◌, ◌≤◌, ℕ, List, [], Option, Bool, true, false, length, take, decimal, OnOk, OnErr};
-ghost use Rattle.bank_trait.specs.Causes.{Rose};
+ghost use Rattle.bank_trait.specs.Causes.{FaultCounted};
 ghost use Rattle.client_script.specs.Lines.{hex_digit as digit_of, hex_text};
 ghost use Rattle.client_script.specs.Texts.{devices_text};
-ghost use Rattle.client_script.specs.Written.{IsAdded, IsPartAdded, IsGiven, Gains, Blames};
+ghost use Rattle.client_script.specs.Written.{IsAdded, IsPartAdded, WriterHasText, GainsText, FailsOnlyWithFault};
 
 use crate::output::write_all;
 use bank_trait::{Failed, Sink};
@@ -47,8 +47,8 @@ impl TextWriter {
     }
 
     pub fn text<K: Sink>(&mut self, out: &mut K, text: &[u8])
-        ensures gains { Gains (K.held out.old) (K.held out.new) self.old self.new text.now }
-        ensures cause { Blames (K.faults out.old) (K.faults out.new) self.old self.new }
+        ensures gains { GainsText (K.held out.old) (K.held out.new) self.old self.new text.now }
+        ensures cause { FailsOnlyWithFault (K.faults out.old) (K.faults out.new) self.old self.new }
     {
         if text.len() <= ROOM - self.used {
             self.keep(text);
@@ -59,8 +59,8 @@ impl TextWriter {
     }
 
     pub fn number<K: Sink>(&mut self, out: &mut K, number: u64)
-        ensures gains { Gains (K.held out.old) (K.held out.new) self.old self.new (decimal number) }
-        ensures cause { Blames (K.faults out.old) (K.faults out.new) self.old self.new }
+        ensures gains { GainsText (K.held out.old) (K.held out.new) self.old self.new (decimal number) }
+        ensures cause { FailsOnlyWithFault (K.faults out.old) (K.faults out.new) self.old self.new }
     {
         let mut digits = Buffer::new();
         self.text(out, digits.format(number).as_bytes());
@@ -68,9 +68,9 @@ impl TextWriter {
 
     /// Bytes as two lower-case digits each.
     pub fn hex<K: Sink>(&mut self, out: &mut K, bytes: &[u8])
-        ensures gains { Gains (K.held out.old) (K.held out.new) self.old self.new
+        ensures gains { GainsText (K.held out.old) (K.held out.new) self.old self.new
             (hex_text bytes.now) }
-        ensures cause { Blames (K.faults out.old) (K.faults out.new) self.old self.new }
+        ensures cause { FailsOnlyWithFault (K.faults out.old) (K.faults out.new) self.old self.new }
     {
         for byte in bytes {
             self.text(out, &[hex_digit(*byte / 16), hex_digit(*byte % 16)]);
@@ -79,9 +79,9 @@ impl TextWriter {
 
     /// The devices of a set, ascending, each after a space.
     pub fn devices<K: Sink>(&mut self, out: &mut K, devices: u64)
-        ensures gains { Gains (K.held out.old) (K.held out.new) self.old self.new
+        ensures gains { GainsText (K.held out.old) (K.held out.new) self.old self.new
             (devices_text devices) }
-        ensures cause { Blames (K.faults out.old) (K.faults out.new) self.old self.new }
+        ensures cause { FailsOnlyWithFault (K.faults out.old) (K.faults out.new) self.old self.new }
     {
         for device in 0..64 {
             if (devices >> device) % 2 == 1 {
@@ -94,12 +94,12 @@ impl TextWriter {
     /// Hands over what waits, and tells whether some write has failed.
     pub fn finish<K: Sink>(mut self, out: &mut K) -> Result<(), Failed>
         ensures ok { OnOk result ((start : Option (List ℕ)) (text : List ℕ)
-            → IsGiven start (K.held out.old) self text → IsAdded start (K.held out.new) text) }
+            → WriterHasText start (K.held out.old) self text → IsAdded start (K.held out.new) text) }
         ensures err { OnErr result ((start : Option (List ℕ)) (text : List ℕ)
-            → IsGiven start (K.held out.old) self text → IsPartAdded start (K.held out.new) text) }
+            → WriterHasText start (K.held out.old) self text → IsPartAdded start (K.held out.new) text) }
         ensures later { K.faults out.old ≤ K.faults out.new }
         ensures cause { OnErr result
-            ((self.failed ≡ true) ⊎ Rose (K.faults out.old) (K.faults out.new)) }
+            ((self.failed ≡ true) ⊎ FaultCounted (K.faults out.old) (K.faults out.new)) }
     {
         self.flush(out);
         if self.failed { Err(Failed) } else { Ok(()) }
@@ -108,7 +108,7 @@ impl TextWriter {
     // Lets a text wait, for which there is room.
     fn keep(&mut self, text: &[u8])
         requires room { length self.old.waiting + length text.now ≤ ROOM }
-        ensures gains { (sink : Option (List ℕ)) → Gains sink sink self.old self.new text.now }
+        ensures gains { (sink : Option (List ℕ)) → GainsText sink sink self.old self.new text.now }
         ensures failed { self.new.failed ≡ self.old.failed }
     {
         let end = self.used + text.len();
@@ -118,8 +118,8 @@ impl TextWriter {
 
     // Hands over all that waits.
     fn flush<K: Sink>(&mut self, out: &mut K)
-        ensures gains { Gains (K.held out.old) (K.held out.new) self.old self.new [] }
-        ensures cause { Blames (K.faults out.old) (K.faults out.new) self.old self.new }
+        ensures gains { GainsText (K.held out.old) (K.held out.new) self.old self.new [] }
+        ensures cause { FailsOnlyWithFault (K.faults out.old) (K.faults out.new) self.old self.new }
         ensures none { self.new.waiting ≡ [] }
     {
         self.failed = hand_over(out, &self.buffer[..self.used], self.failed);
@@ -129,8 +129,8 @@ impl TextWriter {
     // Lets a text wait where it is short, and hands it over where it is long.
     fn pass<K: Sink>(&mut self, out: &mut K, text: &[u8])
         requires { self.old.waiting ≡ [] }
-        ensures gains { Gains (K.held out.old) (K.held out.new) self.old self.new text.now }
-        ensures cause { Blames (K.faults out.old) (K.faults out.new) self.old self.new }
+        ensures gains { GainsText (K.held out.old) (K.held out.new) self.old self.new text.now }
+        ensures cause { FailsOnlyWithFault (K.faults out.old) (K.faults out.new) self.old self.new }
     {
         if text.len() <= ROOM {
             self.keep(text);
@@ -158,7 +158,7 @@ fn hand_over<K: Sink>(out: &mut K, piece: &[u8], failed: bool) -> bool
     ensures same { failed ≡ true → (K.held out.new ≡ K.held out.old) × (result ≡ true) }
     ensures later { K.faults out.old ≤ K.faults out.new }
     ensures cause { result ≡ true
-        → (failed ≡ true) ⊎ Rose (K.faults out.old) (K.faults out.new) }
+        → (failed ≡ true) ⊎ FaultCounted (K.faults out.old) (K.faults out.new) }
 {
     if failed {
         return true;

@@ -5,7 +5,7 @@ use Rattle.std.proofs.lemmas.Bool.{cases_lt}
 use Rattle.std.proofs.lemmas.Nat.{le-div}
 use Rattle.row_layout.specs.Layout.{Layout, content_columns, whole_rows, left_over, rows_of, total_of}
 use Rattle.row_layout.proofs.Counts.{split, rows_whole, rows_short}
-use Rattle.core_state.specs.Index.{sectors_for}
+use Rattle.reconstruct.specs.Rows.{sectors_for}
 use Rattle.core_blocks.specs.Usage.{size_at}
 
 -- The rows of a layout hold its content,

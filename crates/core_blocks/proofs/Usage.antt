@@ -8,7 +8,7 @@ use Rattle.std.proofs.lemmas.List.Elements.{All-contains, Contains-append_left, 
 use Rattle.std.proofs.lemmas.List.Sums.{sum_by-append, sum_by-cons, sum-map, sum_by-le-sum_by}
 use Rattle.width_map.specs.declared.birth.Birth.{Birth}
 use Rattle.row_layout.specs.Layout.{allocated_of}
-use Rattle.space_alloc.specs.Space.{Run, HeldRun, Space, IsFull, Gains, IsTaking, IsDropping, IsHolding}
+use Rattle.space_alloc.specs.Space.{Run, HeldRun, Space, HasNoFreeRun, Gains, IsTaking, IsDropping, IsHolding}
 use Rattle.block_record.specs.declared.entry.IndexEntry.{IndexEntry}
 use Rattle.core_state.specs.Index.{layout_of}
 use Rattle.core_blocks.specs.Runs.{AreClear, held_sectors}
@@ -156,7 +156,7 @@ module _ {X Y : Type 0} (g : X → Y) where
       let rest = mapped_sum f xs in omega (arith, left, right, rest)
 
 -- A space with no free run of this length is tight for it.
-pub full_tight : (space : Space) (sizes : List ℕ) (len : ℕ) → UsesAtMost space sizes → IsFull space [] len
+pub full_tight : (space : Space) (sizes : List ℕ) (len : ℕ) → UsesAtMost space sizes → HasNoFreeRun space [] len
     → IsTight space.capacity sizes len
 full_tight space sizes len uses full =
     let runs = runs_in_use space in

@@ -9,7 +9,7 @@ use Rattle.space_alloc.specs.declared.refused.TakeRefused.TheVariants as take
 use Rattle.space_alloc.specs.Space.{Space, IsFirstFit, IsTaking, IsHolding, IsTakeCause}
 use Rattle.block_record.specs.declared.entry.IndexEntry.{IndexEntry}
 use Rattle.block_table.specs.Table.{IsFull}
-use Rattle.core_state.specs.Index.{sectors_for}
+use Rattle.reconstruct.specs.Rows.{sectors_for}
 use Rattle.core_blocks.specs.declared.range.PutRange.{PutRange}
 use Rattle.core_blocks.specs.declared.refused.PutRefused.{PutRefused}
 use Rattle.core_blocks.specs.declared.refused.PutRefused.TheVariants.{Full, NoSpace, Busy, NoMemory}

@@ -2,7 +2,7 @@
 use Rattle.std.specs.Prelude.{◌≡◌, ℕ, ◌+◌, ◌-◌, ◌*◌, ◌≤◌, List, ◌++◌, length, map, sum, sum_by}
 use Rattle.row_layout.specs.Layout.{allocated_of}
 use Rattle.space_alloc.specs.Space.{Run, Space}
-use Rattle.core_state.specs.Index.{sectors_for}
+use Rattle.reconstruct.specs.Rows.{sectors_for}
 use Rattle.core_blocks.specs.Runs.{held_sectors}
 
 -- the runs that are taken, and those that are held back

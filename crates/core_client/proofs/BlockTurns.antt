@@ -19,8 +19,8 @@ use Rattle.core_state.specs.Committing.{Point}
 use Rattle.core_client.specs.declared.columns_read.ColumnsRead.{ColumnsRead}
 use Rattle.core_client.specs.Pool.{IsInPool, IsRightBlock}
 use Rattle.core_client.specs.Reading.{spot_of, IsGot}
-use Rattle.core_client.specs.Got.{got_of, is_lost, HasLostFew, IsShapedAs}
-use Rattle.core_client.specs.BlockTurns.{BlockWrite, IsWrittenSoFar, BlockRead, IsPlace, IsBefore, IsReadBegun, GoesOneOn, ReadsColumn, IsColumnOf, IsReadSoFar}
+use Rattle.core_client.specs.Got.{got_of, has_lost, HasLostFew, IsShapedAs}
+use Rattle.core_client.specs.BlockTurns.{BlockWrite, IsWrittenSoFar, BlockRead, IsAtColumn, IsPassedColumn, IsReadBegun, GoesOneOn, ReadsColumn, IsColumnOf, IsReadSoFar}
 use Rattle.core_client.specs.Writing.{bytes_of, IsMade, IsPassedOrMade, IsPlanOf}
 use Rattle.core_client.proofs.Outs.{was_used, went_well, outs_called}
 use Rattle.core_client.proofs.Written.{IsNumber, plan_agrees}
@@ -167,7 +167,7 @@ written_all layout bytes reflow done known out run whole so_far = record {
 -- A reading begins with the first column.
 pub place_begun : (layout : Layout) (read : ColumnsRead) → IsLayout layout → IsShapedAs layout read
     → ((row column : ℕ) → row < rows_of layout → column < columns_of layout → got_of read row column ≡ Some zero_sector)
-    → IsPlace (record { layout = layout; read = read; row = 0; column = 0 })
+    → IsAtColumn (record { layout = layout; read = read; row = 0; column = 0 })
 place_begun layout read is shape zero = record {
   is = is;
   shape = shape;
@@ -175,7 +175,7 @@ place_begun layout read is shape zero = record {
   column_in = λ some. omega (arith, parity_in_row layout 0 is, is.parity);
   first = λ none. refl;
   unlost = λ row column row_in column_in later.
-      (has_bytes (is_lost read row column) (column_at read.rows row column) zero_sector (zero row column row_in column_in)).0;
+      (has_bytes (has_lost read row column) (column_at read.rows row column) zero_sector (zero row column row_in column_in)).0;
 }
 
 -- Nothing was read yet.
@@ -217,8 +217,8 @@ column_got layout bytes reflow done known before after row column (Some bytes_go
 
 -- What comes before the next column once one more was read came before, or is that one.
 before_more : (before after : BlockRead) (row column : ℕ) → GoesOneOn before after → column < columns_in before.layout row
-    → IsBefore after row column
-    → IsBefore before row column ⊎ ((row ≡ before.row) × (column ≡ before.column))
+    → IsPassedColumn after row column
+    → IsPassedColumn before row column ⊎ ((row ≡ before.row) × (column ≡ before.column))
 before_more before after row column on inside earlier = ⊎_elim
     (λ same. ⊎_elim
     (λ low. inl (inl (let r = same.1 in omega (arith, low, r))))
@@ -243,7 +243,7 @@ before_more before after row column on inside earlier = ⊎_elim
 
 -- One column more was read.
 pub read_more : (bytes : List ℕ) (reflow : Reflow) (done : ℕ) (before after : BlockRead) (here there : Point)
-    → IsPlace before → before.row < rows_of before.layout → IsInPool before.layout reflow → IsFrontIn reflow.state reflow done
+    → IsAtColumn before → before.row < rows_of before.layout → IsInPool before.layout reflow → IsFrontIn reflow.state reflow done
     → IsRightBlock before.layout bytes reflow done here.disk.reads here.out
     → ReadsColumn reflow before here after there → IsReadSoFar bytes reflow here.out before
     → IsReadSoFar bytes reflow there.out after
@@ -285,7 +285,7 @@ read_more bytes reflow done before after here there place left pool front right 
         front right at
         (got_by_step (spot_of before.layout reflow before.row before.column) reads.given here there reads.read))))
 
-    old_got : (row column : ℕ) → IsColumn before.layout row column → IsBefore before row column
+    old_got : (row column : ℕ) → IsColumn before.layout row column → IsPassedColumn before row column
         → (row ≡ before.row) ⊎ (row ≢ before.row) → (column ≡ before.column) ⊎ (column ≢ before.column)
         → IsColumnOf before.layout bytes reflow there.out row column (got_of after.read row column)
     old_got row column is old rows columns =
@@ -301,11 +301,11 @@ read_more bytes reflow done before after here there place left pool front right 
 -- ---- what a whole reading has
 
 -- A column that isn't lost has its bytes.
-got_unlost : (read : ColumnsRead) (row column : ℕ) → is_lost read row column ≡ false
+got_unlost : (read : ColumnsRead) (row column : ℕ) → has_lost read row column ≡ false
     → got_of read row column ≡ Some (column_at read.rows row column)
 got_unlost read row column unlost = ap (λ (b : Bool). if b then None else Some (column_at read.rows row column)) unlost
 
-got_lost : (read : ColumnsRead) (row column : ℕ) → is_lost read row column ≡ true → got_of read row column ≡ None
+got_lost : (read : ColumnsRead) (row column : ℕ) → has_lost read row column ≡ true → got_of read row column ≡ None
 got_lost read row column lost = ap (λ (b : Bool). if b then None else Some (column_at read.rows row column)) lost
 
 -- Once all columns were read, what is there of the block is left of these bytes,
@@ -316,12 +316,12 @@ read_left_over bytes reflow out run is whole so_far = record {
   there = λ row column row_in column_in not_lost. ⊎_elim
       (λ (inside : column < columns_in run.layout row).
       let test : nat_lt column (columns_in run.layout row) ≡ true = grind (arith, nat_tests, inside) in
-      let unlost : is_lost run.read row column ≡ false =
-      sym (ap (λ (b : Bool). b && is_lost run.read row column) test) ∙ not_lost in
+      let unlost : has_lost run.read row column ≡ false =
+      sym (ap (λ (b : Bool). b && has_lost run.read row column) test) ∙ not_lost in
       subst (IsColumnOf run.layout bytes reflow out row column) (got_unlost run.read row column unlost)
       (so_far.got row column (record { row_in = row_in; column_in = inside }) (inl (omega (arith, row_in, whole)))))
       (λ (behind : columns_in run.layout row ≤ column).
-      (has_bytes (is_lost run.read row column) (column_at run.read.rows row column) zero_sector
+      (has_bytes (has_lost run.read row column) (column_at run.read.rows row column) zero_sector
       (so_far.missing row column row_in behind column_in)).1
       ∙ sym (missing_bytes run.layout bytes row column ((missing_behind run.layout row column is row_in column_in).1 behind)))
       (cases_lt column (columns_in run.layout row));

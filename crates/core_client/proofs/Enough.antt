@@ -19,7 +19,7 @@ use Rattle.uberblock_ring.proofs.DeviceSets.{none_above}
 use Rattle.core_client.specs.declared.columns_read.ColumnsRead.{ColumnsRead}
 use Rattle.core_client.specs.Pool.{IsInPool}
 use Rattle.core_client.specs.Reading.{spot_in, spot_of}
-use Rattle.core_client.specs.Got.{is_lost}
+use Rattle.core_client.specs.Got.{has_lost}
 use Rattle.core_state.proofs.Fresh.{count_grows}
 use Rattle.core_client.proofs.Gotten.{parity_in_row}
 use Rattle.core_client.proofs.Places.{HasWidths, widths_of}
@@ -212,12 +212,12 @@ few_enough layout reflow out pool few = record {
 -- Where each column that is lost stands on a device that is out, its row has not lost too much.
 pub lost_few_out : (layout : Layout) (reflow : Reflow) (out : ℕ) (read : ColumnsRead) → IsInPool layout reflow
     → count_of out ≤ layout.parity → (row : ℕ) → row < rows_of layout
-    → ((column : ℕ) → column < columns_in layout row → is_lost read row column ≡ true
+    → ((column : ℕ) → column < columns_in layout row → has_lost read row column ≡ true
     → has_device out (spot_of layout reflow row column).device ≡ true)
     → HasTooFew layout read.lost.items row → ⊥
 lost_few_out layout reflow out read pool few row row_in lost_out too_few =
     let enough = few_enough layout reflow out pool few in
-    let counted = count_mono (is_lost read row) (λ column. has_device out (spot_of layout reflow row column).device) 0
+    let counted = count_mono (has_lost read row) (λ column. has_device out (spot_of layout reflow row column).device) 0
     (columns_in layout row) (λ column from below lost. lost_out column (omega (arith, below)) lost) in
     omega (arith, counted, enough.each row row_in, too_few)
 

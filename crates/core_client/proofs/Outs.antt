@@ -4,7 +4,7 @@ use Rattle.std.specs.Prelude.{◌&&◌, ◌||◌, ◌==◌, is_err, OnErr}
 use Rattle.std.proofs.lemmas.Bool.{cases_eq, cases_Bool, true≢false, false≢true}
 use Rattle.std.proofs.lemmas.Bool.Decides.{nat_tests}
 use Rattle.bank_trait.specs.declared.Failed.{Failed}
-use Rattle.bank_trait.specs.Causes.{Rose}
+use Rattle.bank_trait.specs.Causes.{FaultCounted}
 use Rattle.uberblock_ring.specs.Devices.{has_device, with_device}
 use Rattle.uberblock_ring.proofs.DeviceSets.{has_with, others_with}
 use Rattle.core_state.specs.Committing.{Point, Called, lost_by}
@@ -73,11 +73,11 @@ outs_none point = record {
 
 -- one call
 pub outs_called : (device : ℕ) (result : Result (Unit {0}) Failed) (before after : Point) → Called device result before after
-    → OnErr result (Rose (before.disk.faults device) (after.disk.faults device)) → OnlyFailedGoOut before after
+    → OnErr result (FaultCounted (before.disk.faults device) (after.disk.faults device)) → OnlyFailedGoOut before after
 outs_called device result before after called failed = record {
   still = λ other out. called.out other ∙ ap (λ (b : Bool). b || lost_by device result other) out;
   failed = λ other used out.
-      lost_failed device other result (λ (d : ℕ). Rose (before.disk.faults d) (after.disk.faults d)) failed
+      lost_failed device other result (λ (d : ℕ). FaultCounted (before.disk.faults d) (after.disk.faults d)) failed
       (sym (called.out other ∙ ap (λ (b : Bool). b || lost_by device result other) used) ∙ out);
 }
 
@@ -89,10 +89,10 @@ outs_then before mid after rise go_on first next = record {
   still = λ device out. next.still device (first.still device out);
   failed = λ device used out. ⊎_elim
       (λ (earlier : has_device mid.out device ≡ true).
-      let rose : Rose (before.disk.faults device) (mid.disk.faults device) = first.failed device used earlier in
+      let rose : FaultCounted (before.disk.faults device) (mid.disk.faults device) = first.failed device used earlier in
       omega (arith, rose, go_on device))
       (λ (later : has_device mid.out device ≡ false).
-      let rose : Rose (mid.disk.faults device) (after.disk.faults device) = next.failed device later out in
+      let rose : FaultCounted (mid.disk.faults device) (after.disk.faults device) = next.failed device later out in
       omega (arith, rose, rise device))
       (cases_Bool (has_device mid.out device));
 }

@@ -17,7 +17,7 @@ use Rattle.shadow_write.specs.Writes.{AreRequired}
 use Rattle.reconstruct.specs.Rows.{Rows, IsShaped}
 use Rattle.core_client.specs.Pool.{IsInPool, HasPool}
 use Rattle.core_client.specs.Reading.{spot_in}
-use Rattle.core_client.specs.Writing.{IsInside}
+use Rattle.core_client.specs.Writing.{IsOnBank}
 use Rattle.core_client.proofs.Places.{widths_of, in_pool}
 use Rattle.core_client.proofs.Spots.{IsOnPool, on_pool}
 
@@ -64,7 +64,7 @@ plan_below layout reflow done writes pool plan number past low =
 -- and can be made.
 pub plan_inside : (layout : Layout) (reflow : Reflow) (done : ℕ) (rows : Rows) (writes : List Write) (out : ℕ) (disk : Disk)
     → IsInPool layout reflow → HasPool reflow out disk → IsShaped layout rows → AreRequired layout reflow done writes
-    → All (IsInside rows out disk) writes
+    → All (IsOnBank rows out disk) writes
 plan_inside layout reflow done rows writes out disk pool bank shape plan number past low =
     let write : Write = slice_index_or writes number past in
     let listed : Contains writes write = (number, low, get_or_default writes number write past low) in

@@ -11,7 +11,7 @@ use Rattle.core_state.specs.Committing.{Point}
 use Rattle.core_client.specs.declared.columns_read.ColumnsRead.{ColumnsRead}
 use Rattle.core_client.specs.Reading.{spot_of, IsPassedOrRead}
 use Rattle.core_client.specs.Writing.{bytes_of, IsPlanOf}
-use Rattle.core_client.specs.Got.{got_of, is_lost, HasPut, IsShapedAs}
+use Rattle.core_client.specs.Got.{got_of, has_lost, HasPut, IsShapedAs}
 
 -- ---- writes
 
@@ -40,7 +40,7 @@ pub record BlockRead : Type 0 where
   pub column : ℕ
 
 -- The next column is one of the block's, or all rows were passed.
-pub record IsPlace (run : BlockRead) : Type 0 where
+pub record IsAtColumn (run : BlockRead) : Type 0 where
   pub is : IsLayout run.layout
   pub shape : IsShapedAs run.layout run.read
   pub row_in : run.row ≤ rows_of run.layout
@@ -48,11 +48,11 @@ pub record IsPlace (run : BlockRead) : Type 0 where
   pub first : run.row ≡ rows_of run.layout → run.column ≡ 0
   pub unlost : (row column : ℕ) → row < rows_of run.layout → column < columns_of run.layout
       → (run.row < row) ⊎ ((run.row ≡ row) × (run.column ≤ column))
-      → is_lost run.read row column ≡ false
+      → has_lost run.read row column ≡ false
 
 -- The column comes before the next one.
-abbrev pub IsBefore : BlockRead → ℕ → ℕ → Type 0
-IsBefore run row column = (row < run.row) ⊎ ((row ≡ run.row) × (column < run.column))
+abbrev pub IsPassedColumn : BlockRead → ℕ → ℕ → Type 0
+IsPassedColumn run row column = (row < run.row) ⊎ ((row ≡ run.row) × (column < run.column))
 
 -- Nothing was read yet: all columns are zeros.
 pub record IsReadBegun (layout : Layout) (run : BlockRead) : Type 0 where
@@ -85,7 +85,7 @@ IsColumnOf layout bytes reflow out row column (Some got) = got ≡ column_bytes 
 
 -- What was read so far are columns of a block of these bytes, and all others are zeros.
 pub record IsReadSoFar (bytes : List ℕ) (reflow : Reflow) (out : ℕ) (run : BlockRead) : Type 0 where
-  pub got : (row column : ℕ) → IsColumn run.layout row column → IsBefore run row column
+  pub got : (row column : ℕ) → IsColumn run.layout row column → IsPassedColumn run row column
       → IsColumnOf run.layout bytes reflow out row column (got_of run.read row column)
   pub missing : (row column : ℕ) → row < rows_of run.layout → columns_in run.layout row ≤ column
       → column < columns_of run.layout → got_of run.read row column ≡ Some zero_sector

@@ -7,13 +7,13 @@ use Rattle.reconstruct.specs.Lost.{HasTooFew}
 use Rattle.core_client.specs.declared.columns_read.ColumnsRead.{ColumnsRead}
 
 -- The reading has not got this column.
-abbrev pub is_lost : ColumnsRead → ℕ → ℕ → Bool
-is_lost read row column = is_masked (slice_index read.lost.items row) column
+abbrev pub has_lost : ColumnsRead → ℕ → ℕ → Bool
+has_lost read row column = is_masked (slice_index read.lost.items row) column
 
 -- what it has of a column
 abbrev pub got_of : ColumnsRead → ℕ → ℕ → Option (List ℕ)
 got_of read row column =
-    if is_lost read row column then None else Some (column_at read.rows row column)
+    if has_lost read row column then None else Some (column_at read.rows row column)
 
 -- It has the rows and columns of the layout, and a mask for each row.
 pub record IsShapedAs (layout : Layout) (read : ColumnsRead) : Type 0 where

@@ -1,17 +1,13 @@
 -- Which devices go out in a run of calls.
 use Rattle.std.specs.Prelude.{◌≡◌, ℕ, true, false}
-use Rattle.bank_trait.specs.Causes.{Rose}
+use Rattle.bank_trait.specs.Causes.{FaultCounted}
 use Rattle.bank_trait.specs.Disk.{Disk}
 use Rattle.uberblock_ring.specs.Devices.{has_device, IsWithin}
 use Rattle.core_state.specs.Committing.{Point}
-
--- the devices out, and the disk
-abbrev pub point_of : ℕ → Disk → Point
-point_of out disk = record { out = out; disk = disk }
 
 -- A device goes out only where a call on it failed, and none comes back.
 pub record OnlyFailedGoOut (before after : Point) : Type 0 where
   pub still : IsWithin before.out after.out
   pub failed : (device : ℕ) → has_device before.out device ≡ false
       → has_device after.out device ≡ true
-      → Rose (before.disk.faults device) (after.disk.faults device)
+      → FaultCounted (before.disk.faults device) (after.disk.faults device)

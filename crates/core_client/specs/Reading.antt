@@ -1,7 +1,7 @@
 -- Where a column is read, and what a reading has of it.
 use Rattle.std.specs.Prelude.{◌≡◌, ◌⊎◌, ℕ, ◌+◌, List, Option, Some, None, true, false, Result, Ok, Err, OnOk, OnErr}
 use Rattle.bank_trait.specs.declared.Failed.{Failed}
-use Rattle.bank_trait.specs.Causes.{Rose, FailedOnce}
+use Rattle.bank_trait.specs.Causes.{FaultCounted, FailedOnce}
 use Rattle.bank_trait.specs.Disk.{Known, Unchanged}
 use Rattle.width_map.specs.declared.position.Place.{Place}
 use Rattle.width_map.specs.Place.{first_data_sector}
@@ -53,7 +53,7 @@ pub record IsRead (spot : Spot) (given : Option (List ℕ)) (before after : Poin
   pub result : Result (Unit {0}) Failed
   pub gave : HasGiven before.disk.reads spot result given
   pub well : OnOk result (after.disk ≡ before.disk)
-  pub failed : OnErr result (Rose (before.disk.faults spot.device) (after.disk.faults spot.device))
+  pub failed : OnErr result (FaultCounted (before.disk.faults spot.device) (after.disk.faults spot.device))
   pub once : OnErr result (FailedOnce before.disk.faults after.disk.faults spot.device)
   pub unchanged : Unchanged before.disk after.disk
   pub called : Called spot.device result before after

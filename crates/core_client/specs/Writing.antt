@@ -12,7 +12,7 @@ use Rattle.core_state.specs.Committing.{Point, Called}
 use Rattle.core_client.specs.Pool.{IsInPool, IsFrontOf}
 
 -- The write's column is one of the rows', and its place is on the bank, if its device isn't out.
-pub record IsInside (rows : Rows) (out : ℕ) (disk : Disk) (write : Write) : Type 0 where
+pub record IsOnBank (rows : Rows) (out : ℕ) (disk : Disk) (write : Write) : Type 0 where
   pub row : write.row < rows.rows
   pub column : write.column < rows.cols
   pub device : has_device out write.device ≡ false → write.device < disk.devices

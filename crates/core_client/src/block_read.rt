@@ -2,7 +2,8 @@
 ghost use Rattle.std.specs.Prelude.{◌≡◌, ◌+◌, ◌^◌, ◌<◌, ◌↔◌, IfOk, IsTrue, false};
 ghost use Rattle.bank_trait.specs.Disk.{Unchanged};
 ghost use Rattle.row_layout.specs.Layout.{IsLayout, rows_of};
-ghost use Rattle.core_client.specs.Outs.{point_of, OnlyFailedGoOut};
+ghost use Rattle.core_client.specs.Outs.{OnlyFailedGoOut};
+ghost use Rattle.core_state.specs.Committing.{point_of};
 ghost use Rattle.core_client.specs.Pool.{IsInPool, HasPool};
 ghost use Rattle.core_client.specs.Got.{IsShapedAs};
 ghost use Rattle.core_client.specs.BlockTurns.{IsReadBegun, ReadsColumn};
@@ -27,7 +28,7 @@ pub struct BlockRead {
 
 impl Model for BlockRead {
     ghost use Rattle.core_client.specs.Got.{IsShapedAs};
-    ghost use Rattle.core_client.specs.BlockTurns.{BlockRead as BlockReadOf, IsPlace};
+    ghost use Rattle.core_client.specs.BlockTurns.{BlockRead as BlockReadOf, IsAtColumn};
 
     ghost Value = { BlockReadOf };
 
@@ -38,7 +39,7 @@ impl Model for BlockRead {
       column = run.column;
     } };
 
-    ghost invariant = { λ run. IsPlace (record {
+    ghost invariant = { λ run. IsAtColumn (record {
       layout = run.layout;
       read = run.read;
       row = run.row;

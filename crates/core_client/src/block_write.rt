@@ -3,9 +3,9 @@ ghost use Rattle.std.specs.Prelude.{◌≡◌, ◌+◌, ◌<◌, ◌↔◌, All,
 ghost use Rattle.shadow_write.specs.Writes.{writes_of};
 ghost use Rattle.shadow_write.specs.declared.write.Write.{Write as WriteOf};
 ghost use Rattle.reconstruct.specs.Rows.{sectors_for};
-ghost use Rattle.core_client.specs.Outs.{point_of};
+ghost use Rattle.core_state.specs.Committing.{point_of};
 ghost use Rattle.core_client.specs.Pool.{IsInPool, IsFrontOf};
-ghost use Rattle.core_client.specs.Writing.{IsInside, IsPassedOrMade, IsPlanOf};
+ghost use Rattle.core_client.specs.Writing.{IsOnBank, IsPassedOrMade, IsPlanOf};
 
 use crate::write_column;
 use bank_trait::Bank;
@@ -78,7 +78,7 @@ impl BlockWrite {
     /// Makes the next write. A device that is out is passed over; one whose write fails is out.
     pub fn step<B: Bank>(&mut self, bank: &mut B, out: &mut DeviceSet)
         requires left { self.old.next < length self.old.writes }
-        requires inside { All (IsInside self.old.rows out.old (B.disk bank.old)) self.old.writes }
+        requires inside { All (IsOnBank self.old.rows out.old (B.disk bank.old)) self.old.writes }
         ensures step { (write : WriteOf) → slice_get self.old.writes self.old.next ≡ Some write
             → IsPassedOrMade self.old.rows write (point_of out.old (B.disk bank.old))
             (point_of out.new (B.disk bank.new)) }

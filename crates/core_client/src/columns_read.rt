@@ -3,7 +3,7 @@ ghost use Rattle.std.specs.Prelude.{◌≡◌, ◌≢◌, ◌⊎◌, ℕ, ◌<�
 ghost use Rattle.reconstruct.specs.Columns.{zero_sector};
 ghost use Rattle.row_layout.specs.Layout.{columns_of, rows_of};
 ghost use Rattle.uberblock_ring.specs.Devices.{with_device};
-ghost use Rattle.core_client.specs.Got.{got_of, is_lost, HasPut, IsShapedAs};
+ghost use Rattle.core_client.specs.Got.{got_of, has_lost, HasPut, IsShapedAs};
 
 use reconstruct::Rows;
 use row_layout::Layout;
@@ -35,7 +35,7 @@ impl ColumnsRead {
         requires row { row < self.old.rows.rows }
         requires column { column < self.old.rows.cols }
         requires narrow { self.old.rows.cols ≤ 64 }
-        requires unread { is_lost self.old row column ≡ false }
+        requires unread { has_lost self.old row column ≡ false }
         ensures { HasPut row column got self.old self.new }
     {
         match got {
@@ -49,9 +49,9 @@ impl ColumnsRead {
         requires column { column < 64 }
         ensures rows { self.new.rows ≡ self.old.rows }
         ensures masks { length self.new.lost.items ≡ length self.old.lost.items }
-        ensures here { is_lost self.new row column ≡ true }
+        ensures here { has_lost self.new row column ≡ true }
         ensures others { (other_row other : ℕ) → (other_row ≢ row) ⊎ (other ≢ column)
-            → is_lost self.new other_row other ≡ is_lost self.old other_row other }
+            → has_lost self.new other_row other ≡ has_lost self.old other_row other }
     {
         let row = row as usize;
         self.lost[row] = with_column(self.lost[row], column);

@@ -1,10 +1,11 @@
 // A column that is read.
 ghost use Rattle.std.specs.Prelude.{◌≡◌, ℕ, ◌^◌, ◌<◌, List, Some, IfOk, OnErr, OnOk, false};
-ghost use Rattle.bank_trait.specs.Causes.{Rose, FailedOnce};
+ghost use Rattle.bank_trait.specs.Causes.{FaultCounted, FailedOnce};
 ghost use Rattle.bank_trait.specs.Disk.{Unchanged};
 ghost use Rattle.row_layout.specs.Layout.{IsColumn};
 ghost use Rattle.uberblock_ring.specs.Devices.{has_device};
-ghost use Rattle.core_client.specs.Outs.{point_of, OnlyFailedGoOut};
+ghost use Rattle.core_client.specs.Outs.{OnlyFailedGoOut};
+ghost use Rattle.core_state.specs.Committing.{point_of};
 ghost use Rattle.core_client.specs.Pool.{IsInPool, HasPool};
 ghost use Rattle.core_client.specs.Reading.{spot_of, IsGot, IsPassedOrRead};
 
@@ -67,7 +68,7 @@ fn sector_at<B: Bank>(bank: &mut B, spot: Spot) -> Result<[u8; 512], Failed>
         → (B.disk bank.old).reads spot.device spot.device_sector ≡ Some told → bytes ≡ told) }
     ensures well { OnOk result (B.disk bank.new ≡ B.disk bank.old) }
     ensures failed { OnErr result
-        (Rose ((B.disk bank.old).faults spot.device) ((B.disk bank.new).faults spot.device)) }
+        (FaultCounted ((B.disk bank.old).faults spot.device) ((B.disk bank.new).faults spot.device)) }
     ensures once { OnErr result
         (FailedOnce (B.disk bank.old).faults (B.disk bank.new).faults spot.device) }
     ensures unchanged { Unchanged (B.disk bank.old) (B.disk bank.new) }

@@ -1,6 +1,6 @@
 // A column that is written.
-ghost use Rattle.core_client.specs.Outs.{point_of};
-ghost use Rattle.core_client.specs.Writing.{IsInside, IsPassedOrMade};
+ghost use Rattle.core_state.specs.Committing.{point_of};
+ghost use Rattle.core_client.specs.Writing.{IsOnBank, IsPassedOrMade};
 
 use bank_trait::Bank;
 use reconstruct::Rows;
@@ -9,7 +9,7 @@ use uberblock_ring::DeviceSet;
 
 /// Makes one write of a plan. A device that is out is passed over; one whose write fails is out.
 pub fn write_column<B: Bank>(bank: &mut B, rows: &Rows, write: &Write, out: &mut DeviceSet)
-    requires inside { IsInside rows.now out.old (B.disk bank.old) write.now }
+    requires inside { IsOnBank rows.now out.old (B.disk bank.old) write.now }
     ensures { IsPassedOrMade rows.now write.now (point_of out.old (B.disk bank.old))
         (point_of out.new (B.disk bank.new)) }
 {

@@ -24,13 +24,13 @@ use Rattle.core_state.proofs.Moving.{knows_widen}
 use Rattle.core_state.proofs.Touched.{touched_frames}
 use Rattle.core_commit.specs.declared.commit_run.Stage.{Stage}
 use Rattle.core_commit.specs.declared.commit_run.Stage.TheVariants.{Lays, Signs}
-use Rattle.core_commit.specs.CommitTurns.{CommitRun, HasCome, IsCommitting, IsBeside, shown_at, shown_by}
+use Rattle.core_commit.specs.CommitTurns.{CommitRun, CommitsSoFar, IsCommitting, IsBeside, shown_at, shown_by}
 use Rattle.core_commit.proofs.Going.{in_use_before}
 use Rattle.core_commit.proofs.Halves.{sound_paged}
 
 module _ (setting : Setting) (first next : Kept) where
   come_knows : (stage : Stage) (uber : Uber) (calls : List CommitCall) (point : Point)
-      → HasCome setting first next stage uber calls point
+      → CommitsSoFar setting first next stage uber calls point
       → Knows setting first (shown_at next stage) point.disk
   come_knows Lays uber calls point come = come.unsigned.knows
   come_knows Signs uber calls point come = come.signed.knows
@@ -87,7 +87,7 @@ module _ (setting : Setting) (first next : Kept) where
 
     asked : (kept : Kept) → (kept ≡ first) ⊎ (kept ≡ next) → (d x : ℕ) (bytes : List ℕ) → here d x
         → Asks kept d x bytes
-        → Contains setting.odd (d, x)
+        → Contains setting.excepted (d, x)
     asked kept (inl is) d x bytes h asks =
         beside.not_first d x bytes h (subst (λ (k : Kept). Asks k d x bytes) is asks)
     asked kept (inr is) d x bytes h asks =
@@ -111,8 +111,8 @@ module _ (setting : Setting) (first next : Kept) where
 
     come_frame : (stage : Stage) (uber : Uber) (calls : List CommitCall) (before after : Point)
         → IsSigner setting first next uber → Moves here before after
-        → HasCome setting first next stage uber calls before
-        → HasCome setting first next stage uber calls after
+        → CommitsSoFar setting first next stage uber calls before
+        → CommitsSoFar setting first next stage uber calls after
     come_frame Lays uber calls before after signer moves come = record {
       unsigned = unsigned_frame setting first [] next (sound_paged setting first sound_first) paged_beside here
           calls before after moves (spare Lays) (λ d x bytes h asks. beside.not_next d x bytes h asks)

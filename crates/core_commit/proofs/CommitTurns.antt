@@ -13,7 +13,7 @@ use Rattle.commit_job.specs.declared.call.CommitCall.{CommitCall}
 use Rattle.commit_job.specs.declared.call.CommitCall.TheVariants.{IndexWrite, BaseSync, UberWrite, UberSync}
 use Rattle.commit_job.specs.Stages.{plan_of, calls_left, after_next}
 use Rattle.core_state.specs.Keeps.{Kept, Setting}
-use Rattle.core_state.specs.Certain.{IsRow, IsSound, Knows}
+use Rattle.core_state.specs.Certain.{IsSuccession, IsSound, Knows}
 use Rattle.core_state.specs.Committing.{Point}
 use Rattle.core_state.specs.Moment.{IsRowOf, KeepsSince}
 use Rattle.core_state.proofs.Listed.{contains_head, contains_tail, contains_cases, contains_none}
@@ -29,7 +29,7 @@ use Rattle.core_commit.specs.declared.commit_run.CommitStep.TheVariants.{Called,
 use Rattle.core_commit.specs.Ran.{HasMade, MadeOne, IsLaying}
 use Rattle.core_commit.specs.Ordered.{Ordered}
 use Rattle.core_commit.specs.Commits.{MayCommit}
-use Rattle.core_commit.specs.CommitTurns.{CommitRun, signing_run, IsLaidDown, IsReady, HasCalled, HasEnded, Steps, LaysSoFar, SignsSoFar, HasCome, IsCommitting, shown_at, shown_by}
+use Rattle.core_commit.specs.CommitTurns.{CommitRun, signing_run, IsLaidDown, IsMadeReady, HasCalled, HasEnded, CommitSteps, LaysSoFar, SignsSoFar, CommitsSoFar, IsCommitting, shown_at, shown_by}
 use Rattle.core_commit.proofs.Order.{plan_ordered, plan_lays, plan_settles, plan_signs}
 use Rattle.core_commit.proofs.Running.{some_same}
 use Rattle.core_commit.proofs.Stepping.{ready_keeps}
@@ -63,7 +63,7 @@ made_laying uber other entries same (UberWrite device) before after laying alike
 made_laying uber other entries same (UberSync device) before after laying alike is made = absurd (laying tt)
 
 -- In the first half the next call is one of it.
-ready_lays : (out : ℕ) (run ready : CommitRun) (call : CommitCall) → IsReady out run ready
+ready_lays : (out : ℕ) (run ready : CommitRun) (call : CommitCall) → IsMadeReady out run ready
     → ready.stage ≡ Lays → slice_get (calls_left out run.calls) 0 ≡ Some call
     → IsLaying call
 ready_lays out run ready call (inl (inl signs, same)) lays is =
@@ -75,14 +75,14 @@ ready_lays out run ready call (inr (laid, same)) lays is =
 
 -- Where no call is left, the second half has come.
 ended_signs : (out : ℕ) (run stepped : CommitRun) → calls_left out run.calls ≡ []
-    → IsReady out run stepped
+    → IsMadeReady out run stepped
     → stepped.stage ≡ Signs
 ended_signs out run stepped none (inl (inl signs, same)) = ap (λ (r : CommitRun). r.stage) same ∙ signs
 ended_signs out run stepped none (inl (inr (other, next, laying), same)) = absurd (nothing
     (subst (λ (calls : List CommitCall). slice_get calls 0 ≡ Some other) none next))
 ended_signs out run stepped none (inr (laid, same)) = ap (λ (r : CommitRun). r.stage) same
 
-ready_calls : (out : ℕ) (run ready : CommitRun) → IsReady out run ready → ready.calls ≡ run.calls
+ready_calls : (out : ℕ) (run ready : CommitRun) → IsMadeReady out run ready → ready.calls ≡ run.calls
 ready_calls out run ready is = (ready_keeps out run ready is).calls
 
 module _ (setting : Setting) (first next : Kept) where
@@ -96,7 +96,7 @@ module _ (setting : Setting) (first next : Kept) where
       → IsCommitting setting first next (signing_run point.out run) point
   signing_begins run point laid right within is =
       let come : LaysSoFar setting first next run.calls point =
-      subst (λ (stage : Stage). HasCome setting first next stage run.uber run.calls point) laid.0 is.so_far in
+      subst (λ (stage : Stage). CommitsSoFar setting first next stage run.uber run.calls point) laid.0 is.so_far in
       let spent = laying_spent next.uber.reflow.to (page_sectors next.uber.count) point.out run.calls laid.1 is.ordered in
       record {
         row = is.row;
@@ -142,7 +142,7 @@ module _ (setting : Setting) (first next : Kept) where
         within = within;
       }
 
-  ready_committing : (run ready : CommitRun) (point : Point) → IsReady point.out run ready
+  ready_committing : (run ready : CommitRun) (point : Point) → IsMadeReady point.out run ready
       → IsRightUber ready.uber → IsWithin point.out setting.failed
       → IsCommitting setting first next run point
       → IsCommitting setting first next ready point
@@ -165,9 +165,9 @@ module _ (setting : Setting) (first next : Kept) where
     alone later = record { before = []; after = []; row = sym (append-nil (first ∷ later)) }
 
     come_on : (stage : Stage) → (stage ≡ Lays → IsLaying call)
-        → HasCome setting first next stage uber calls before
+        → CommitsSoFar setting first next stage uber calls before
         → Ordered next.uber.reflow.to (page_sectors next.uber.count) (after_next before.out calls)
-        × HasCome setting first next stage uber (after_next before.out calls) after
+        × CommitsSoFar setting first next stage uber (after_next before.out calls) after
     come_on Lays laying come =
         let laid : HasLaid setting (first ∷ []) before.disk.clock first [] next (paged_of first sound_first)
         (paged_of next sound) area (alone []) (after_next before.out calls) after =
@@ -235,7 +235,7 @@ module _ (setting : Setting) (first next : Kept) where
 
   -- A step of the commit.
   pub committing_steps : (result : CommitStep) (run stepped : CommitRun) (before after : Point)
-      → IsWithin before.out setting.failed → Steps run before stepped after result
+      → IsWithin before.out setting.failed → CommitSteps run before stepped after result
       → IsCommitting setting first next run before
       → IsCommitting setting first next stepped after
   committing_steps Called run stepped before after within did is =
@@ -258,7 +258,7 @@ module _ (setting : Setting) (first next : Kept) where
   pub committing_since : (result : CommitStep) (run stepped : CommitRun) (before after : Point)
       (groups : List Kept) (time : ℕ)
       → IsRowOf groups first (next ∷ []) → IsWithin before.out setting.failed
-      → Steps run before stepped after result → IsCommitting setting first next run before
+      → CommitSteps run before stepped after result → IsCommitting setting first next run before
       → KeepsSince setting groups time before.disk
       → KeepsSince setting groups time after.disk
   committing_since Called run stepped before after groups time row within did is since =
@@ -278,7 +278,7 @@ module _ (setting : Setting) (first next : Kept) where
   committing_done run stepped before after within did was =
       let is = ready_committing run stepped before did.is_ready did.right within was in
       let come : SignsSoFar setting first next stepped.uber stepped.calls before =
-      subst (λ (stage : Stage). HasCome setting first next stage stepped.uber stepped.calls before)
+      subst (λ (stage : Stage). CommitsSoFar setting first next stage stepped.uber stepped.calls before)
       (ended_signs before.out run stepped did.none did.is_ready) is.so_far in
       subst (λ (p : Point). Knows setting next [] p.disk) (sym did.same)
       (commit_ends setting first (next ∷ []) next [] stepped.uber before (row_kept is.row is.to_is is.parity_is)
@@ -295,9 +295,9 @@ module _ (setting : Setting) (first next : Kept) where
           → first.uber.group ≤ next.uber.group
       above near = ⊎_elim (λ one. omega (arith, one)) (λ two. omega (arith, two)) near
 
-      row_kept : IsRow setting first (next ∷ []) → next.uber.reflow.to ≡ first.uber.reflow.to
+      row_kept : IsSuccession setting first (next ∷ []) → next.uber.reflow.to ≡ first.uber.reflow.to
           → next.uber.parity ≡ first.uber.parity
-          → IsRow setting next []
+          → IsSuccession setting next []
       row_kept row to_is parity_is = record {
         few = (let few = row.few in omega (arith, few, parity_is));
         ascending = λ one two default less low. absurd (omega (arith, less, low));

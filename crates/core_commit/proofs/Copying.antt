@@ -20,9 +20,9 @@ use Rattle.core_state.proofs.Laying.{IsPaged}
 use Rattle.core_state.proofs.Signing.{IsSigner, signed_passed, signed_laid, signed_signed, signed_sealed}
 use Rattle.core_state.proofs.Since.{since_more, since_now}
 use Rattle.core_commit.specs.declared.committing.TooManyOut.{TooManyOut}
-use Rattle.core_commit.specs.Ran.{MadeOne, Step, Ran, RanBy, IsInside}
+use Rattle.core_commit.specs.Ran.{MadeOne, Step, Ran, RanBy, IsCallInPool}
 use Rattle.core_commit.specs.Copies.{Copied, group_copied, IsInUse, HasCopy, StaysKnown, MayCopy, CopyKeeps}
-use Rattle.core_commit.specs.Spared.{Spares, HaveGoneOut}
+use Rattle.core_commit.specs.Spared.{SparesData, HaveGoneOut}
 use Rattle.core_commit.proofs.Plans.{by_next, by_none}
 use Rattle.core_commit.proofs.Halves.{goes_on, stays_out, sound_paged}
 use Rattle.core_commit.proofs.Going.{Went, AreInside, went_all, all_inside, in_use_before}
@@ -68,12 +68,12 @@ copies_inside : (uber : Uber) (lack_page lack_uber : ℕ) (plan : List CommitCal
     → AreInside uber plan
 copies_inside uber lack_page lack_uber [] ordered other among = absurd among
 copies_inside uber lack_page lack_uber (call ∷ plan) ordered other among = ⊎_elim
-    (λ same. subst (IsInside uber) (sym same) (inside call plan ordered.0))
+    (λ same. subst (IsCallInPool uber) (sym same) (inside call plan ordered.0))
     (λ later. copies_inside uber lack_page lack_uber plan ordered.1 other later) among
   where
     inside : (call : CommitCall) (rest : List CommitCall)
         → CopyDue uber.reflow.to (page_sectors uber.count) lack_page lack_uber call rest
-        → IsInside uber call
+        → IsCallInPool uber call
     inside (IndexWrite device part) rest due = (due.0, due.1)
     inside (BaseSync device) rest due = absurd due
     inside (UberWrite device) rest due = due.0
@@ -81,8 +81,8 @@ copies_inside uber lack_page lack_uber (call ∷ plan) ordered other among = ⊎
 
 pub copies_all_inside : (uber : Uber) (lack_page lack_uber : ℕ) (plan : List CommitCall)
     → plan ≡ copies_of uber.reflow.to uber.count lack_page lack_uber
-    → All (IsInside uber) plan
-copies_all_inside uber lack_page lack_uber plan is = subst (All (IsInside uber)) (sym is)
+    → All (IsCallInPool uber) plan
+copies_all_inside uber lack_page lack_uber plan is = subst (All (IsCallInPool uber)) (sym is)
     (all_inside uber (copies_of uber.reflow.to uber.count lack_page lack_uber)
     (copies_inside uber lack_page lack_uber (copies_of uber.reflow.to uber.count lack_page lack_uber)
     (copies_ordered uber.reflow.to uber.count lack_page lack_uber)))
@@ -242,7 +242,7 @@ module _ (uber : Uber) (entries : List IndexEntry) (lack_page lack_uber : ℕ) (
     pub copy_gone : HaveGoneOut before before.out after
     copy_gone = record { earlier = λ device out. out; stay = went.stay; each = went.each }
 
-    pub copy_spares : Spares before after
+    pub copy_spares : SparesData before after
     copy_spares = went.spares
 
     own_row : (copied : Copied) → IsRowOf (copied.first ∷ copied.later) copied.first copied.later

@@ -4,7 +4,7 @@ use Rattle.std.specs.Prelude.{◌||◌, ◌&&◌, ◌==◌, All, OnErr}
 use Rattle.std.proofs.lemmas.Bool.{cases_eq}
 use Rattle.std.proofs.lemmas.Bool.Decides.{nat_tests}
 use Rattle.bank_trait.specs.declared.Failed.{Failed}
-use Rattle.bank_trait.specs.Causes.{Rose}
+use Rattle.bank_trait.specs.Causes.{FaultCounted}
 use Rattle.bank_trait.specs.Disk.{Wrote, Synced}
 use Rattle.bank_trait.proofs.Moments.{later_refl, later_trans}
 use Rattle.block_record.specs.declared.entry.IndexEntry.{IndexEntry}
@@ -16,21 +16,21 @@ use Rattle.commit_job.specs.declared.call.CommitCall.TheVariants.{IndexWrite, Ba
 use Rattle.commit_job.specs.Stages.{device_of}
 use Rattle.core_state.specs.Committing.{Among, Point, Called}
 use Rattle.core_state.proofs.Calls.{true_false}
-use Rattle.core_commit.specs.Ran.{MadeOne, Step, RanBy, IsInside}
-use Rattle.core_commit.specs.Spared.{Spares}
+use Rattle.core_commit.specs.Ran.{MadeOne, Step, RanBy, IsCallInPool}
+use Rattle.core_commit.specs.Spared.{SparesData}
 use Rattle.core_commit.specs.Ordered.{Due, Ordered}
 use Rattle.core_commit.proofs.Plans.{next_among, rest_among}
 use Rattle.core_commit.proofs.Halves.{stays_out}
 
 -- Devices go out, each for a call that failed on it, and what is no ring or index area is left alone.
 pub record Went (before after : Point) : Type 0 where
-  pub spares : Spares before after
+  pub spares : SparesData before after
   pub stay : IsWithin before.out after.out
   pub each : (device : ℕ) → has_device after.out device ≡ true
       → (has_device before.out device ≡ true)
-      ⊎ Rose (before.disk.faults device) (after.disk.faults device)
+      ⊎ FaultCounted (before.disk.faults device) (after.disk.faults device)
 
-pub rose_wider : (one two three four : ℕ) → one ≤ two → Rose two three → three ≤ four → Rose one four
+pub rose_wider : (one two three four : ℕ) → one ≤ two → FaultCounted two three → three ≤ four → FaultCounted one four
 rose_wider one two three four low rose high = omega (arith, low, rose, high)
 
 pub went_none : (point : Point) → Went point point
@@ -70,9 +70,9 @@ went_on before mid after one two = record {
 -- A device that a call put out failed in it.
 lost_rose : (device : ℕ) (result : Result (Unit {0}) Failed) (before after : Point)
     → Called device result before after
-    → OnErr result (Rose (before.disk.faults device) (after.disk.faults device))
+    → OnErr result (FaultCounted (before.disk.faults device) (after.disk.faults device))
     → (other : ℕ) → has_device after.out other ≡ true
-    → (has_device before.out other ≡ true) ⊎ Rose (before.disk.faults other) (after.disk.faults other)
+    → (has_device before.out other ≡ true) ⊎ FaultCounted (before.disk.faults other) (after.disk.faults other)
 lost_rose device (Ok value) before after called failed other out =
     inl (by (has_device before.out other) (other == device) (sym (called.out other) ∙ out))
   where
@@ -81,7 +81,7 @@ lost_rose device (Ok value) before after called failed other out =
     by false true is = absurd (true_false (sym is))
     by false false is = absurd (true_false (sym is))
 lost_rose device (Err fault) before after called failed other out = ⊎_elim
-    (λ same. inr (subst (λ (d : ℕ). Rose (before.disk.faults d) (after.disk.faults d)) (sym same) failed))
+    (λ same. inr (subst (λ (d : ℕ). FaultCounted (before.disk.faults d) (after.disk.faults d)) (sym same) failed))
     (λ apart. inl (by (has_device before.out other) (other == device) (elsewhere apart)
     (sym (called.out other) ∙ out)))
     (cases_eq other device)
@@ -158,12 +158,12 @@ went_sync device result before after called synced = record {
 
 -- Each call of the plan is to a device and a sector that are there.
 abbrev pub AreInside : Uber → List CommitCall → Type 0
-AreInside uber plan = (call : CommitCall) → Among plan call → IsInside uber call
+AreInside uber plan = (call : CommitCall) → Among plan call → IsCallInPool uber call
 
 module _ (uber : Uber) (entries : List IndexEntry) (area : uber.area ≤ 1) (count : uber.count ≤ 512)
   where
     pub went_one : (call : CommitCall) (before after : Point)
-        → IsInside uber call → MadeOne uber entries call before after
+        → IsCallInPool uber call → MadeOne uber entries call before after
         → Went before after
     went_one (IndexWrite device part) before after inside made =
         went_write device (area_sector uber.area + part) _ made.result before after
@@ -199,25 +199,25 @@ pub ordered_inside : (uber : Uber) (plan : List CommitCall)
     → AreInside uber plan
 ordered_inside uber [] ordered other among = absurd among
 ordered_inside uber (call ∷ plan) ordered other among = ⊎_elim
-    (λ same. subst (IsInside uber) (sym same) (due_inside uber call plan ordered.0))
+    (λ same. subst (IsCallInPool uber) (sym same) (due_inside uber call plan ordered.0))
     (λ later. ordered_inside uber plan ordered.1 other later) among
   where
     due_inside : (uber : Uber) (call : CommitCall) (rest : List CommitCall)
         → Due uber.reflow.to (page_sectors uber.count) call rest
-        → IsInside uber call
+        → IsCallInPool uber call
     due_inside uber (IndexWrite device part) rest due = (due.0, due.1)
     due_inside uber (BaseSync device) rest due = due.0
     due_inside uber (UberWrite device) rest due = due.0
     due_inside uber (UberSync device) rest due = due.0
 
 -- as the functions ask for it
-pub all_inside : (uber : Uber) (plan : List CommitCall) → AreInside uber plan → All (IsInside uber) plan
+pub all_inside : (uber : Uber) (plan : List CommitCall) → AreInside uber plan → All (IsCallInPool uber) plan
 all_inside uber [] inside k default low = absurd (omega (arith, low))
 all_inside uber (call ∷ plan) inside zero default low = inside call (inl refl)
 all_inside uber (call ∷ plan) inside (suc k) default low =
     all_inside uber plan (λ other among. inside other (inr among)) k default (omega (arith, low))
 
-pub inside_device : (uber : Uber) (call : CommitCall) → IsInside uber call → device_of call < uber.reflow.to
+pub inside_device : (uber : Uber) (call : CommitCall) → IsCallInPool uber call → device_of call < uber.reflow.to
 inside_device uber (IndexWrite device part) inside = inside.0
 inside_device uber (BaseSync device) inside = inside
 inside_device uber (UberWrite device) inside = inside

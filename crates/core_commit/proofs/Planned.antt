@@ -6,13 +6,13 @@ use Rattle.uberblock_ring.specs.Uberblock.{Uber}
 use Rattle.uberblock_ring.specs.Valid.{IsRightUber}
 use Rattle.commit_job.specs.declared.call.CommitCall.{CommitCall}
 use Rattle.commit_job.specs.Stages.{plan_of}
-use Rattle.core_commit.specs.Ran.{IsInside}
+use Rattle.core_commit.specs.Ran.{IsCallInPool}
 use Rattle.core_commit.proofs.Order.{plan_ordered}
 use Rattle.core_commit.proofs.Going.{ordered_inside, all_inside}
 
 pub plan_inside : (uber : Uber) (plan : List CommitCall) → plan ≡ plan_of uber.reflow.to uber.count
-    → All (IsInside uber) plan
-plan_inside uber plan is = subst (All (IsInside uber)) (sym is)
+    → All (IsCallInPool uber) plan
+plan_inside uber plan is = subst (All (IsCallInPool uber)) (sym is)
     (all_inside uber (plan_of uber.reflow.to uber.count)
     (ordered_inside uber (plan_of uber.reflow.to uber.count) (plan_ordered uber.reflow.to uber.count)))
 

@@ -11,16 +11,16 @@ use Rattle.core_state.specs.Committing.{Point}
 use Rattle.core_commit.specs.declared.commit_run.Stage.TheVariants.{Signs}
 use Rattle.core_commit.specs.declared.commit_run.CommitStep.{CommitStep}
 use Rattle.core_commit.specs.declared.commit_run.CommitStep.TheVariants.{Called, Ended}
-use Rattle.core_commit.specs.Ran.{MadeOne, IsInside}
+use Rattle.core_commit.specs.Ran.{MadeOne, IsCallInPool}
 use Rattle.core_commit.specs.Spared.{HaveGoneOut}
-use Rattle.core_commit.specs.CommitTurns.{CommitRun, IsCommitRun, IsReady, HasCalled, Steps}
+use Rattle.core_commit.specs.CommitTurns.{CommitRun, IsCommitRun, IsMadeReady, HasCalled, CommitSteps}
 use Rattle.core_commit.proofs.Running.{next_is}
 use Rattle.core_commit.proofs.Going.{Went, went_none, went_one}
 use Rattle.core_commit.proofs.Planned.{right_listing}
 
 -- A call of a group is one of the same group that lists other devices as out.
-pub inside_listing : (uber : Uber) (out : ℕ) (call : CommitCall) → IsInside uber call
-    → IsInside (record uber { out = out }) call
+pub inside_listing : (uber : Uber) (out : ℕ) (call : CommitCall) → IsCallInPool uber call
+    → IsCallInPool (record uber { out = out }) call
 inside_listing uber out (IndexWrite device part) inside = inside
 inside_listing uber out (BaseSync device) inside = inside
 inside_listing uber out (UberWrite device) inside = inside
@@ -45,7 +45,7 @@ signing_right run out signing is right below few = record {
       (let wide = right.right.widths in omega (arith, wide.1)) few);
   index = right.index;
   counted = right.counted ∙ sym (ap (λ (u : Uber). u.count) is);
-  inside = λ k default low. subst (λ (u : Uber). IsInside u (slice_index_or run.calls k default)) (sym is)
+  inside = λ k default low. subst (λ (u : Uber). IsCallInPool u (slice_index_or run.calls k default)) (sym is)
       (inside_listing run.uber out (slice_index_or run.calls k default) (right.inside k default low));
 }
 
@@ -55,7 +55,7 @@ pub record ReadyKeeps (run ready : CommitRun) : Type 0 where
   pub entries : ready.entries ≡ run.entries
   pub uber : ready.uber ≡ record run.uber { out = ready.uber.out }
 
-pub ready_keeps : (out : ℕ) (run ready : CommitRun) → IsReady out run ready → ReadyKeeps run ready
+pub ready_keeps : (out : ℕ) (run ready : CommitRun) → IsMadeReady out run ready → ReadyKeeps run ready
 ready_keeps out run ready (inl (goes, same)) = record {
   calls = ap (λ (r : CommitRun). r.calls) same;
   entries = ap (λ (r : CommitRun). r.entries) same;
@@ -67,7 +67,7 @@ ready_keeps out run ready (inr (laid, same)) = record {
   uber = subst (λ (r : CommitRun). r.uber ≡ record run.uber { out = r.uber.out }) (sym same) refl;
 }
 
-module _ (run ready : CommitRun) (out : ℕ) (is_ready : IsReady out run ready) (right : IsCommitRun ready)
+module _ (run ready : CommitRun) (out : ℕ) (is_ready : IsMadeReady out run ready) (right : IsCommitRun ready)
     (call : CommitCall) (is_next : slice_get (calls_left out run.calls) 0 ≡ Some call) where
   calls_same : ready.calls ≡ run.calls
   calls_same = (ready_keeps out run ready is_ready).calls
@@ -76,11 +76,11 @@ module _ (run ready : CommitRun) (out : ℕ) (is_ready : IsReady out run ready) 
   ready_next = ap (λ (calls : List CommitCall). slice_get (calls_left out calls) 0) calls_same ∙ is_next
 
   -- The next call of a right run is to a device in use, and a device and sector that are there.
-  pub next_inside : IsInside ready.uber call
-  next_inside = (next_is (IsInside ready.uber) out ready.calls call right.inside ready_next).fits
+  pub next_inside : IsCallInPool ready.uber call
+  next_inside = (next_is (IsCallInPool ready.uber) out ready.calls call right.inside ready_next).fits
 
   pub next_used : has_device out (device_of call) ≡ false
-  next_used = (next_is (IsInside ready.uber) out ready.calls call right.inside ready_next).in_use
+  next_used = (next_is (IsCallInPool ready.uber) out ready.calls call right.inside ready_next).in_use
 
   module _ (left : List CommitCall) (left_is : left ≡ after_next out ready.calls) where
     pub called_right : IsCommitRun
@@ -89,8 +89,8 @@ module _ (run ready : CommitRun) (out : ℕ) (is_ready : IsReady out run ready) 
       right = right.right;
       index = right.index;
       counted = right.counted;
-      inside = subst (All (IsInside ready.uber)) (sym left_is)
-          (next_is (IsInside ready.uber) out ready.calls call right.inside ready_next).rest;
+      inside = subst (All (IsCallInPool ready.uber)) (sym left_is)
+          (next_is (IsCallInPool ready.uber) out ready.calls call right.inside ready_next).rest;
     }
 
     pub has_called : (before after : Point) → before.out ≡ out
@@ -100,7 +100,7 @@ module _ (run ready : CommitRun) (out : ℕ) (is_ready : IsReady out run ready) 
     has_called before after out_is made = record {
       ready = ready;
       call = call;
-      is_ready = subst (λ (o : ℕ). IsReady o run ready) (sym out_is) is_ready;
+      is_ready = subst (λ (o : ℕ). IsMadeReady o run ready) (sym out_is) is_ready;
       right = right.right;
       is_next = ap (λ (o : ℕ). slice_get (calls_left o run.calls) 0) out_is ∙ is_next;
       inside = next_inside;
@@ -115,14 +115,14 @@ module _ (run ready : CommitRun) (out : ℕ) (is_ready : IsReady out run ready) 
 
 -- What a step leaves alone, and which devices go out in it.
 pub steps_went : (result : CommitStep) (run stepped : CommitRun) (before after : Point)
-    → Steps run before stepped after result
+    → CommitSteps run before stepped after result
     → Went before after
 steps_went Called run stepped before after did = went_one did.ready.uber did.ready.entries did.right.area
     did.right.count did.call before after did.inside did.made
 steps_went Ended run stepped before after did = subst (Went before) (sym did.same) (went_none before)
 
 pub steps_gone : (result : CommitStep) (run stepped : CommitRun) (before after : Point)
-    → Steps run before stepped after result
+    → CommitSteps run before stepped after result
     → HaveGoneOut before before.out after
 steps_gone result run stepped before after did =
     let went = steps_went result run stepped before after did in
@@ -130,7 +130,7 @@ steps_gone result run stepped before after did =
 
 -- The group is the same but for what it lists as out, and its index is the same.
 pub steps_same : (result : CommitStep) (run stepped : CommitRun) (before after : Point)
-    → Steps run before stepped after result
+    → CommitSteps run before stepped after result
     → (stepped.uber ≡ record run.uber { out = stepped.uber.out }) × (stepped.entries ≡ run.entries)
 steps_same Called run stepped before after did =
     let keeps = ready_keeps before.out run did.ready did.is_ready in (

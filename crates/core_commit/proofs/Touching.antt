@@ -8,7 +8,7 @@ use Rattle.uberblock_ring.specs.Uberblock.{Uber, slot_of, area_sector}
 use Rattle.commit_job.specs.declared.call.CommitCall.{CommitCall}
 use Rattle.commit_job.specs.declared.call.CommitCall.TheVariants.{IndexWrite, BaseSync, UberWrite, UberSync}
 use Rattle.core_state.specs.Committing.{Point, Called}
-use Rattle.core_commit.specs.Ran.{MadeOne, IsInside}
+use Rattle.core_commit.specs.Ran.{MadeOne, IsCallInPool}
 use Rattle.core_commit.specs.Spared.{IsOnInUse, IsElsewhere, TouchesGroup}
 use Rattle.core_commit.proofs.Halves.{stays_out}
 use Rattle.core_commit.proofs.Going.{in_use_before, synced_reads}
@@ -57,7 +57,7 @@ touched_sync uber device result before after lawful below called synced = record
 }
 
 touched_one : (uber : Uber) (entries : List IndexEntry) (call : CommitCall) (before after : Point)
-    → Lawful before.disk → IsInside uber call → MadeOne uber entries call before after
+    → Lawful before.disk → IsCallInPool uber call → MadeOne uber entries call before after
     → TouchesGroup uber before after
 touched_one uber entries (IndexWrite device part) before after lawful inside made =
     touched_write uber device (area_sector uber.area + part) _ made.result before after inside.0
@@ -72,7 +72,7 @@ touched_one uber entries (UberSync device) before after lawful inside made =
 
 -- One call more.
 pub touched_more : (uber : Uber) (entries : List IndexEntry) (call : CommitCall)
-    (before now after : Point) → Lawful now.disk → IsInside uber call → TouchesGroup uber before now
+    (before now after : Point) → Lawful now.disk → IsCallInPool uber call → TouchesGroup uber before now
     → MadeOne uber entries call now after
     → TouchesGroup uber before after
 touched_more uber entries call before now after lawful inside so_far made =

@@ -5,7 +5,7 @@ use Rattle.uberblock_ring.specs.Devices.{has_device}
 use Rattle.uberblock_ring.specs.Uberblock.{Uber}
 use Rattle.core_state.specs.Map.{Map}
 use Rattle.core_state.specs.Keeps.{Kept, Setting, SameGroup}
-use Rattle.core_state.specs.Certain.{CellsOn, IsSound, IsRow, Knows}
+use Rattle.core_state.specs.Certain.{CellsOn, IsSound, IsSuccession, Knows}
 use Rattle.core_state.specs.Committing.{Point, TellsHead}
 
 -- what a commit begins with: the groups that images may show, in a row from the first that they show
@@ -33,7 +33,7 @@ group_made begun uber entries = record { uber = uber; entries = entries; map = b
 pub record MayCommit (begun : Begun) (uber : Uber) (entries : List IndexEntry) (point : Point) : Type 0
   where
     pub knows : Knows begun.setting begun.first begun.later point.disk
-    pub row : IsRow begun.setting begun.first (row_of begun)
+    pub row : IsSuccession begun.setting begun.first (row_of begun)
     pub same : SameGroup begun.kept (group_made begun uber entries)
     pub sound : IsSound begun.setting begun.kept
     pub front : List Kept
@@ -44,4 +44,4 @@ pub record MayCommit (begun : Begun) (uber : Uber) (entries : List IndexEntry) (
     pub near : (uber.group ≡ begun.first.uber.group + 1) ⊎ (uber.group ≡ begun.first.uber.group + 2)
     pub told : TellsHead (group_made begun uber entries) point
     pub cells : (device : ℕ) → device < uber.reflow.to → has_device point.out device ≡ false
-        → CellsOn begun.setting.odd point.disk.reads (group_made begun uber entries) device
+        → CellsOn begun.setting.excepted point.disk.reads (group_made begun uber entries) device

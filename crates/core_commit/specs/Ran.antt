@@ -63,15 +63,11 @@ abbrev pub Ran : Uber → List IndexEntry → List CommitCall → Point → List
 Ran uber entries plan point left now =
     (steps : List Step) × RanBy uber entries steps plan point left now
 
--- the devices out, and the disk
-abbrev pub point_of : ℕ → Disk → Point
-point_of out disk = record { out = out; disk = disk }
-
 -- A call is to a device and sector that are there.
-abbrev pub IsInside : Uber → CommitCall → Type 0
-IsInside uber (IndexWrite device part) =
+abbrev pub IsCallInPool : Uber → CommitCall → Type 0
+IsCallInPool uber (IndexWrite device part) =
     (device < uber.reflow.to) × (part < page_sectors uber.count)
-IsInside uber call = device_of call < uber.reflow.to
+IsCallInPool uber call = device_of call < uber.reflow.to
 
 -- The uberblock and its index can be written on this bank: it has each device that isn't out.
 pub record FitsBank (uber : Uber) (entries : List IndexEntry) (out : ℕ) (disk : Disk) : Type 0 where

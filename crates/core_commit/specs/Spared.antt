@@ -1,6 +1,6 @@
 -- What a commit leaves alone, and which devices go out in it.
 use Rattle.std.specs.Prelude.{◌≡◌, ◌≢◌, ◌⊎◌, ℕ, ◌+◌, ◌<◌, ◌≤◌, true, false}
-use Rattle.bank_trait.specs.Causes.{Rose}
+use Rattle.bank_trait.specs.Causes.{FaultCounted}
 use Rattle.bank_trait.specs.Disk.{Later}
 use Rattle.bank_trait.specs.Regions.{TouchesOnly}
 use Rattle.block_record.specs.Page.{page_sectors}
@@ -15,11 +15,11 @@ pub record HaveGoneOut (before : Point) (listed : ℕ) (after : Point) : Type 0 
   pub stay : IsWithin listed after.out
   pub each : (device : ℕ) → has_device after.out device ≡ true
       → (has_device before.out device ≡ true)
-      ⊎ Rose (before.disk.faults device) (after.disk.faults device)
+      ⊎ FaultCounted (before.disk.faults device) (after.disk.faults device)
 
 -- Outside the rings and the index areas each device still in use reads what it read, and nothing is
 -- forgotten of earlier moments.
-pub record Spares (before after : Point) : Type 0 where
+pub record SparesData (before after : Point) : Type 0 where
   pub later : Later before.disk after.disk
   pub reads : (device device_sector : ℕ) → has_device after.out device ≡ false
       → ((32 ≤ device_sector) × (device_sector < 64)) ⊎ (192 ≤ device_sector)

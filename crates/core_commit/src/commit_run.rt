@@ -6,9 +6,10 @@ ghost use Rattle.uberblock_ring.specs.Valid.{IsRightUber};
 ghost use Rattle.commit_job.specs.declared.call.CommitCall.{CommitCall as CallOf};
 ghost use Rattle.commit_job.specs.Stages.{calls_left, plan_of};
 ghost use Rattle.core_commit.specs.declared.commit_run.Stage.TheVariants.{Lays};
-ghost use Rattle.core_commit.specs.CommitTurns.{IsReady, Steps};
-ghost use Rattle.core_commit.specs.Ran.{FitsBank, IsLaying, IsSigning, point_of};
-ghost use Rattle.core_commit.specs.Spared.{HaveGoneOut, Spares};
+ghost use Rattle.core_commit.specs.CommitTurns.{IsMadeReady, CommitSteps};
+ghost use Rattle.core_commit.specs.Ran.{FitsBank, IsLaying, IsSigning};
+ghost use Rattle.core_state.specs.Committing.{point_of};
+ghost use Rattle.core_commit.specs.Spared.{HaveGoneOut, SparesData};
 
 use crate::committing::{is_signing, make};
 use bank_trait::Bank;
@@ -113,7 +114,7 @@ impl CommitRun {
         requires few { count_of out ≤ self.old.uber.parity }
         requires below { out < 2 ^ self.old.uber.reflow.to }
         ensures value { result ≡ slice_get (calls_left out self.old.calls) 0 }
-        ensures ready { IsReady out self.old self.new }
+        ensures ready { IsMadeReady out self.old self.new }
         ensures right { IsRightUber self.new.uber }
     {
         let next = self.calls.next(out);
@@ -130,11 +131,11 @@ impl CommitRun {
         requires fits { FitsBank self.old.uber self.old.entries out.old (B.disk bank.old) }
         requires few { count_of out.old ≤ self.old.uber.parity }
         requires below { out.old < 2 ^ self.old.uber.reflow.to }
-        ensures steps { Steps self.old (point_of out.old (B.disk bank.old)) self.new
+        ensures steps { CommitSteps self.old (point_of out.old (B.disk bank.old)) self.new
             (point_of out.new (B.disk bank.new)) result }
         ensures gone { HaveGoneOut (point_of out.old (B.disk bank.old)) out.old
             (point_of out.new (B.disk bank.new)) }
-        ensures spares { Spares (point_of out.old (B.disk bank.old))
+        ensures spares { SparesData (point_of out.old (B.disk bank.old))
             (point_of out.new (B.disk bank.new)) }
         ensures fits { FitsBank self.new.uber self.new.entries out.new (B.disk bank.new) }
         ensures below { out.new < 2 ^ self.new.uber.reflow.to }

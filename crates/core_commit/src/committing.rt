@@ -6,8 +6,9 @@ ghost use Rattle.uberblock_ring.specs.Valid.{IsRightUber};
 ghost use Rattle.commit_job.specs.declared.call.CommitCall.{CommitCall as CallOf};
 ghost use Rattle.commit_job.specs.Stages.{device_of, calls_left};
 ghost use Rattle.core_commit.specs.Copies.{CopyKeeps};
-ghost use Rattle.core_commit.specs.Ran.{HasMade, MadeOne, Ran, IsInside, FitsBank, IsSigning, point_of};
-ghost use Rattle.core_commit.specs.Spared.{Spares, HaveGoneOut, TouchesGroup, StopsInTime};
+ghost use Rattle.core_commit.specs.Ran.{HasMade, MadeOne, Ran, IsCallInPool, FitsBank, IsSigning};
+ghost use Rattle.core_state.specs.Committing.{point_of};
+ghost use Rattle.core_commit.specs.Spared.{SparesData, HaveGoneOut, TouchesGroup, StopsInTime};
 ghost use Rattle.core_commit.specs.Writing.{IsCopyOf, WritesOnly};
 
 use bank_trait::{Bank, Failed};
@@ -27,7 +28,7 @@ fn call_bank<B: Bank>(
     requires counted { length entries.now ≡ uber.now.count }
     requires sectors { 192 ≤ (B.disk bank.old).sectors }
     requires device { device_of call < (B.disk bank.old).devices }
-    requires inside { IsInside uber.now call }
+    requires inside { IsCallInPool uber.now call }
     ensures { HasMade uber.now entries.now call (B.disk bank.old) (B.disk bank.new) result }
 {
     match call {
@@ -57,7 +58,7 @@ pub(crate) fn make<B: Bank>(
     requires right { IsRightUber uber.now }
     requires index { IsIndex entries.now }
     requires fits { FitsBank uber.now entries.now out.old (B.disk bank.old) }
-    requires inside { IsInside uber.now call }
+    requires inside { IsCallInPool uber.now call }
     requires in_use { has_device out.old (device_of call) ≡ false }
     requires below { out.old < 2 ^ uber.now.reflow.to }
     ensures made { MadeOne uber.now entries.now call (point_of out.old (B.disk bank.old))
@@ -105,7 +106,7 @@ fn make_all<B: Bank>(
     requires right { IsRightUber uber.now }
     requires index { IsIndex entries.now }
     requires fits { FitsBank uber.now entries.now out.old (B.disk bank.old) }
-    requires inside { All (IsInside uber.now) calls.old }
+    requires inside { All (IsCallInPool uber.now) calls.old }
     requires below { out.old < 2 ^ uber.now.reflow.to }
     ensures ran { Ran uber.now entries.now calls.old (point_of out.old (B.disk bank.old))
         calls.new (point_of out.new (B.disk bank.new)) }
@@ -146,7 +147,7 @@ pub fn copy<B: Bank>(
     ensures err { OnErr result (uber.now.parity < count_of out.new) }
     ensures gone { HaveGoneOut (point_of out.old (B.disk bank.old)) out.old
         (point_of out.new (B.disk bank.new)) }
-    ensures spares { Spares (point_of out.old (B.disk bank.old))
+    ensures spares { SparesData (point_of out.old (B.disk bank.old))
         (point_of out.new (B.disk bank.new)) }
     ensures touches { TouchesGroup uber.now (point_of out.old (B.disk bank.old))
         (point_of out.new (B.disk bank.new)) }

@@ -14,7 +14,7 @@ use Rattle.uberblock_ring.specs.Uberblock.{Uber}
 use Rattle.uberblock_ring.specs.Valid.{IsBirthsOf, IsRightUber}
 use Rattle.core_state.specs.Index.{IsFitting}
 use Rattle.core_open.specs.declared.fitting.Span.{Span}
-use Rattle.core_open.specs.Spans.{AreClear, FitsAlone, IsFilled, span_of}
+use Rattle.core_open.specs.Spans.{AreDisjoint, FitsAlone, IsFilled, span_of}
 
 -- The width at a birth is that of one of the entries, or the width so far.
 width_between : (low high width birth : ℕ) (before : Birth) (births : List Birth)
@@ -72,25 +72,25 @@ module _ {X Y : Type 0} (R : Y → Y → Type 0) (f : X → Y) where
 
 -- An index fits where each block alone does, and the spans are clear.
 fits_iff_clear : (uber : Uber) (entries : List IndexEntry) → All (FitsAlone uber) entries
-    → AllPairs AreClear (map (span_of uber) entries) ↔ IsFitting uber entries
+    → AllPairs AreDisjoint (map (span_of uber) entries) ↔ IsFitting uber entries
 fits_iff_clear uber entries alone = (
   λ clear. record {
     births = λ k d within. (alone k d within).birth;
     below = λ k d within. (alone k d within).below;
-    apart = pairs_unmapped AreClear (span_of uber) entries clear;
+    apart = pairs_unmapped AreDisjoint (span_of uber) entries clear;
   },
-  λ fits. pairs_mapped AreClear (span_of uber) entries fits.apart,
+  λ fits. pairs_mapped AreDisjoint (span_of uber) entries fits.apart,
 )
 
 -- What tells whether the spans are clear tells whether the index fits.
 pub fits_by : (uber : Uber) (entries : List IndexEntry) (spans : List Span) (fits : Bool)
     → spans ≡ map (span_of uber) entries → All (FitsAlone uber) entries
-    → IsTrue fits ↔ AllPairs AreClear spans
+    → IsTrue fits ↔ AllPairs AreDisjoint spans
     → IsTrue fits ↔ IsFitting uber entries
 fits_by uber entries spans fits are alone test =
     let iff = fits_iff_clear uber entries alone in (
-      λ yes. iff.0 (subst (AllPairs AreClear) are (test.0 yes)),
-      λ fitting. test.1 (subst (AllPairs AreClear) (sym are) (iff.1 fitting)),
+      λ yes. iff.0 (subst (AllPairs AreDisjoint) are (test.0 yes)),
+      λ fitting. test.1 (subst (AllPairs AreDisjoint) (sym are) (iff.1 fitting)),
     )
 
 -- The blocks up to an index each fit alone, and these are their spans.

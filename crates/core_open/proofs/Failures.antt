@@ -1,7 +1,7 @@
 -- Which devices failed so far, as reads go on.
 use Rattle.std.proofs.Common.{◌≡◌, ⊎_elim, inl, inr, ℕ, ◌<◌, sym, ◌∙◌, subst, arith}
 use Rattle.std.proofs.lemmas.Bool.{cases_eq, true≢false}
-use Rattle.bank_trait.specs.Causes.{Rose}
+use Rattle.bank_trait.specs.Causes.{FaultCounted}
 use Rattle.bank_trait.specs.Disk.{Disk, Unchanged}
 use Rattle.uberblock_ring.specs.Devices.{with_device}
 use Rattle.uberblock_ring.proofs.DeviceSets.{none_in, others_with}
@@ -22,12 +22,12 @@ failed_on old mid new devices failed same device has =
 
 -- and one more.
 pub failed_with : (old mid new : Disk) (devices device : ℕ) → HaveFailed old mid devices → Unchanged old mid
-    → Unchanged mid new → device < read_devices (shape_of old) → Rose (mid.faults device) (new.faults device)
+    → Unchanged mid new → device < read_devices (shape_of old) → FaultCounted (mid.faults device) (new.faults device)
     → HaveFailed old new (with_device devices device)
 failed_with old mid new devices device failed first next low rose other has = ⊎_elim
     (λ (same : other ≡ device). (
       omega (arith, low, same),
-      subst (λ d. Rose (old.faults d) (new.faults d)) (sym same) (then_rose new device first rose),
+      subst (λ d. FaultCounted (old.faults d) (new.faults d)) (sym same) (then_rose new device first rose),
     ))
     (λ apart. failed_on old mid new devices failed next other (sym (others_with devices device other apart) ∙ has))
     (cases_eq other device)
@@ -50,18 +50,18 @@ pub since_on : (old mid new : Disk) (before after : ℕ) → HaveFailedSince old
     → HaveFailedSince old new before after
 since_on old mid new before after failed same device has = ⊎_elim
     (λ was. inl was)
-    (λ (rose : (device < read_devices (shape_of old)) × Rose (old.faults device) (mid.faults device)).
+    (λ (rose : (device < read_devices (shape_of old)) × FaultCounted (old.faults device) (mid.faults device)).
     inr (rose.0, rose_then old device rose.1 same))
     (failed device has)
 
 -- after one more failed,
 pub since_with : (old mid new : Disk) (before after device : ℕ) → HaveFailedSince old mid before after → Unchanged old mid
-    → Unchanged mid new → device < read_devices (shape_of mid) → Rose (mid.faults device) (new.faults device)
+    → Unchanged mid new → device < read_devices (shape_of mid) → FaultCounted (mid.faults device) (new.faults device)
     → HaveFailedSince old new before (with_device after device)
 since_with old mid new before after device failed first next low rose other has = ⊎_elim
     (λ (same : other ≡ device). inr (
       omega (arith, low, same, first.goes_on.later.devices),
-      subst (λ d. Rose (old.faults d) (new.faults d)) (sym same) (then_rose new device first rose),
+      subst (λ d. FaultCounted (old.faults d) (new.faults d)) (sym same) (then_rose new device first rose),
     ))
     (λ apart. since_on old mid new before after failed next other (sym (others_with after device other apart) ∙ has))
     (cases_eq other device)
@@ -72,6 +72,6 @@ pub failed_since : (old mid new : Disk) (before after : ℕ) → HaveFailed old 
     → HaveFailed old new after
 failed_since old mid new before after failed first next since device has = ⊎_elim
     (λ was. failed_on old mid new before failed next device was)
-    (λ (rose : (device < read_devices (shape_of mid)) × Rose (mid.faults device) (new.faults device)).
+    (λ (rose : (device < read_devices (shape_of mid)) × FaultCounted (mid.faults device) (new.faults device)).
     (omega (arith, rose.0, first.goes_on.later.devices), then_rose new device first rose.1))
     (since device has)

@@ -10,9 +10,8 @@ use Rattle.uberblock_ring.specs.Devices.{has_device, count_of, IsWithin}
 use Rattle.uberblock_ring.specs.Uberblock.{Uber}
 use Rattle.uberblock_ring.specs.Valid.{IsRightUber}
 use Rattle.core_state.proofs.Calls.{true_false}
-use Rattle.core_state.specs.Committing.{Point}
-use Rattle.core_commit.specs.Ran.{point_of}
-use Rattle.core_commit.specs.Spared.{Spares}
+use Rattle.core_state.specs.Committing.{Point, point_of}
+use Rattle.core_commit.specs.Spared.{SparesData}
 use Rattle.core_commit.proofs.Going.{in_use_before}
 use Rattle.core_open.specs.declared.finding.Found.{Found}
 use Rattle.core_open.specs.declared.opening.Opened.{Opened}
@@ -62,7 +61,7 @@ pub record IsOpen (old new : Disk) (opened : Opened) : Type 0 where
   pub missed : IsWithinBelow opened.uber.reflow.to opened.silent opened.uber.out
   pub renews : (image : Image) → HoldsImage old image
       → RenewsChoice (shape_of old) opened.silent image opened.uber opened.entries.items
-  pub spares : Spares (point_of opened.out old) (point_of opened.out new)
+  pub spares : SparesData (point_of opened.out old) (point_of opened.out new)
   pub kept : IsOpenedWith opened.uber opened.entries.items opened.silent opened.out old new
   pub since : OpeningKeeps opened.uber.reflow.to opened.uber.out old new
   pub only : TouchesOnly (IsOnBelow opened.uber.reflow.to) old new

@@ -6,12 +6,11 @@ use Rattle.uberblock_ring.specs.Devices.{IsWithin}
 use Rattle.uberblock_ring.specs.Uberblock.{Uber}
 use Rattle.core_state.specs.Map.{no_blocks}
 use Rattle.core_state.specs.Shown.{Shape, Gives}
-use Rattle.core_state.specs.Committing.{Point}
+use Rattle.core_state.specs.Committing.{Point, point_of}
 use Rattle.core_state.proofs.Calls.{true_false}
 use Rattle.core_state.proofs.Frames.{Nowhere}
 use Rattle.core_state.proofs.Fresh.{none_in}
 use Rattle.core_commit.specs.declared.committing.TooManyOut.{TooManyOut}
-use Rattle.core_commit.specs.Ran.{point_of}
 use Rattle.core_commit.specs.Writing.{IsCopyOf, WritesOnly}
 use Rattle.core_commit.proofs.Writing.{writes_then, writes_more, was_uber, was_copy}
 use Rattle.core_open.specs.declared.finding.Found.{Found}

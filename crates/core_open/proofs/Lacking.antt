@@ -2,7 +2,7 @@
 use Rattle.std.proofs.Common.{◌≡◌, ◌≢◌, ⊎_elim, ℕ, ◌+◌, ◌^◌, ◌<◌, ◌≤◌, List, true, false, refl, sym, ◌∙◌, subst, arith}
 use Rattle.std.proofs.lemmas.Bool.{cases_Bool, cases_eq, cases_lt, false≢true, true≢false}
 use Rattle.std.specs.Prelude.{Bool, IsTrue, ◌↔◌}
-use Rattle.bank_trait.specs.Causes.{Rose}
+use Rattle.bank_trait.specs.Causes.{FaultCounted}
 use Rattle.bank_trait.specs.Disk.{Disk, Unchanged}
 use Rattle.block_record.specs.declared.entry.IndexEntry.{IndexEntry}
 use Rattle.uberblock_ring.specs.Devices.{has_device, with_device, IsWithin}
@@ -12,15 +12,15 @@ use Rattle.core_state.specs.Shown.{Shape, Gives, read_devices}
 use Rattle.core_open.specs.Failing.{HaveFailedSince}
 use Rattle.core_open.specs.Holds.{shape_of}
 use Rattle.core_open.specs.Lacking.{AreLacking, GivesOrLacks, HasAllBut, LacksPage}
-use Rattle.core_open.specs.Pages.{IsGiven, IsNotGiven}
+use Rattle.core_open.specs.Pages.{IsGivenPage, IsNotGiven}
 use Rattle.core_open.proofs.Asking.{given_once}
 use Rattle.core_open.proofs.Failures.{since_none, since_on, since_with}
 use Rattle.core_open.proofs.Unchanged.{holds_then, shape_then, unchanged_none, unchanged_then}
 
 -- What a device gives after some reads it gave before them,
 pub given_before : (old mid : Disk) (uber : Uber) (device : ℕ) (entries : List IndexEntry)
-    → Unchanged old mid → IsGiven mid uber device entries
-    → IsGiven old uber device entries
+    → Unchanged old mid → IsGivenPage mid uber device entries
+    → IsGivenPage old uber device entries
 given_before old mid uber device entries same given = record {
   index = given.index;
   counted = given.counted;
@@ -47,7 +47,7 @@ none_lacks disk uber device entries nothing =
 
 -- and so does one that gives another.
 pub other_lacks : (disk : Disk) (uber : Uber) (device : ℕ) (listed entries : List IndexEntry)
-    → IsGiven disk uber device listed → listed ≢ entries → LacksPage disk uber device entries
+    → IsGivenPage disk uber device listed → listed ≢ entries → LacksPage disk uber device entries
 other_lacks disk uber device listed entries given apart = record {
   none = λ image holds gives. apart
       (given_once (shape_of disk) image uber device listed entries (given.each image holds) gives);
@@ -55,10 +55,10 @@ other_lacks disk uber device listed entries given apart = record {
 
 -- A comparison of what it gives tells which of the two.
 pub given_same : (disk : Disk) (uber : Uber) (device : ℕ) (listed entries : List IndexEntry)
-    (same : Bool) → (IsTrue same ↔ (listed ≡ entries)) → IsGiven disk uber device listed
+    (same : Bool) → (IsTrue same ↔ (listed ≡ entries)) → IsGivenPage disk uber device listed
     → GivesOrLacks disk uber device entries same
 given_same disk uber device listed entries true tells given =
-    subst (IsGiven disk uber device) (tells.0 refl) given
+    subst (IsGivenPage disk uber device) (tells.0 refl) given
 given_same disk uber device listed entries false tells given =
     other_lacks disk uber device listed entries given (λ is. false≢true (tells.1 is))
 
@@ -92,7 +92,7 @@ module _ (disk : Disk) (uber : Uber) (entries : List IndexEntry) (width out lack
     lack = so_far.lack;
     give = at_or_before
         (λ device. has_device out device ≡ false → has_device lacking device ≡ false
-        → IsGiven disk uber device entries)
+        → IsGivenPage disk uber device entries)
         (λ used. absurd (true≢false (sym gone ∙ used)))
         so_far.give;
   }
@@ -109,7 +109,7 @@ module _ (disk : Disk) (uber : Uber) (entries : List IndexEntry) (width out lack
     lack = so_far.lack;
     give = at_or_before
         (λ device. has_device (with_device out width) device ≡ false
-        → has_device lacking device ≡ false → IsGiven disk uber device entries)
+        → has_device lacking device ≡ false → IsGivenPage disk uber device entries)
         (λ used. absurd (true≢false (sym (has_with out width) ∙ used)))
         (λ device less used. so_far.give device less
         (sym (others_with out width device (λ (same : device ≡ width). omega (arith, less, same)))
@@ -117,7 +117,7 @@ module _ (disk : Disk) (uber : Uber) (entries : List IndexEntry) (width out lack
   }
 
   -- or gives the page,
-  pub lacking_given : IsGiven disk uber width entries
+  pub lacking_given : IsGivenPage disk uber width entries
       → AreLacking disk uber entries (width + 1) out lacking
   lacking_given given = record {
     in_use = λ device has. let used = so_far.in_use device has in
@@ -125,7 +125,7 @@ module _ (disk : Disk) (uber : Uber) (entries : List IndexEntry) (width out lack
     lack = so_far.lack;
     give = at_or_before
         (λ device. has_device out device ≡ false → has_device lacking device ≡ false
-        → IsGiven disk uber device entries)
+        → IsGivenPage disk uber device entries)
         (λ used has. given)
         so_far.give;
   }
@@ -141,7 +141,7 @@ module _ (disk : Disk) (uber : Uber) (entries : List IndexEntry) (width out lack
     lack = λ device. this_or_other (λ k. LacksPage disk uber k entries) lacks so_far.lack device;
     give = at_or_before
         (λ device. has_device out device ≡ false
-        → has_device (with_device lacking width) device ≡ false → IsGiven disk uber device entries)
+        → has_device (with_device lacking width) device ≡ false → IsGivenPage disk uber device entries)
         (λ here has. absurd (true≢false (sym (has_with lacking width) ∙ has)))
         (λ device less here has. so_far.give device less here
         (sym (others_with lacking width device
@@ -210,7 +210,7 @@ module _ (old mid : Disk) (uber : Uber) (entries : List IndexEntry) (before devi
     -- or it fails,
     pub asked_failed : HasAllBut old uber.reflow.to before → uber.reflow.to ≤ 16
         → has_device out device ≡ false → device < uber.reflow.to
-        → Rose (mid.faults device) (new.faults device)
+        → FaultCounted (mid.faults device) (new.faults device)
         → AreAskedTo old uber entries before (device + 1) new (with_device out device) lacking
     asked_failed others narrow used low rose = record {
       unchanged = unchanged_then so_far.unchanged same;

@@ -9,7 +9,7 @@ use Rattle.block_record.specs.declared.entry.IndexEntry.{IndexEntry}
 use Rattle.block_record.specs.Page.{IsPageOf, page_sectors}
 use Rattle.uberblock_ring.specs.Uberblock.{Uber, area_sector}
 use Rattle.core_state.specs.Shown.{page_on, sectors_from}
-use Rattle.core_open.specs.Pages.{part_of, AreSectors, IsGiven, IsNotGiven, IsRecordedPage}
+use Rattle.core_open.specs.Pages.{page_piece, AreDeviceSectors, IsGivenPage, IsNotGiven, IsRecordedPage}
 use Rattle.core_open.proofs.Unchanged.{unchanged_then}
 
 -- One sector more stands at the end.
@@ -31,11 +31,11 @@ sectors_and_next image device first (suc more) =
 pub record IsReadTo (old : Disk) (device first count : ℕ) (new : Disk) (bytes : List ℕ) : Type 0
   where
     pub same : Unchanged old new
-    pub are : AreSectors old device first count bytes
+    pub are : AreDeviceSectors old device first count bytes
 
 -- What was read before stays where it is, and the next sector stands behind it.
 part_before : (bytes sector : List ℕ) (count part : ℕ) → length bytes ≡ 512 * count → part < count
-    → part_of (bytes ++ sector) part ≡ part_of bytes part
+    → page_piece (bytes ++ sector) part ≡ page_piece bytes part
 part_before bytes sector count part wide low =
     ap (λ (rest : List ℕ). take 512 rest)
     (drop-append-le (512 * part) bytes sector (omega (arith, wide, low)))
@@ -43,7 +43,7 @@ part_before bytes sector count part wide low =
     (omega (arith, length-drop (512 * part) bytes, wide, low))
 
 part_next : (bytes sector : List ℕ) (count : ℕ) → length bytes ≡ 512 * count → length sector ≡ 512
-    → part_of (bytes ++ sector) count ≡ sector
+    → page_piece (bytes ++ sector) count ≡ sector
 part_next bytes sector count wide full =
     ap (λ (rest : List ℕ). take 512 rest) (drop_at bytes sector (512 * count) wide)
     ∙ take_all 512 sector (omega (arith, full))
@@ -65,7 +65,7 @@ read_more old mid new device first count bytes sector in_bank on_device so_far s
             sym (told there (so_far.same.reads device (first + count)
             ∙ subst (λ (k : ℕ). old.reads device (first + k) ≡ Some there) last is))
             ∙ sym (part_next bytes sector count so_far.are.wide wide)
-            ∙ ap (part_of (bytes ++ sector)) (sym last))
+            ∙ ap (page_piece (bytes ++ sector)) (sym last))
             (cases_lt part count);
         each = λ image holds.
             let place = first + count in
@@ -81,25 +81,25 @@ read_more old mid new device first count bytes sector in_bank on_device so_far s
 -- The sectors of a page are those of its area.
 pub page_sectors_are : (uber : Uber) (disk : Disk) (device first count : ℕ) (read bytes : List ℕ)
     → first ≡ area_sector uber.area → count ≡ page_sectors uber.count → bytes ≡ read
-    → AreSectors disk device first count read
-    → AreSectors disk device (area_sector uber.area) (page_sectors uber.count) bytes
+    → AreDeviceSectors disk device first count read
+    → AreDeviceSectors disk device (area_sector uber.area) (page_sectors uber.count) bytes
 page_sectors_are uber disk device first count read bytes area long is are =
-    subst (AreSectors disk device (area_sector uber.area) (page_sectors uber.count)) (sym is)
-    (subst (λ (count : ℕ). AreSectors disk device (area_sector uber.area) count read) long
-    (subst (λ (first : ℕ). AreSectors disk device first count read) area are))
+    subst (AreDeviceSectors disk device (area_sector uber.area) (page_sectors uber.count)) (sym is)
+    (subst (λ (count : ℕ). AreDeviceSectors disk device (area_sector uber.area) count read) long
+    (subst (λ (first : ℕ). AreDeviceSectors disk device first count read) area are))
 
 -- The bytes that were read are the page in each image that the bank holds.
 pub page_given : (uber : Uber) (disk : Disk) (device : ℕ) (bytes : List ℕ)
     (entries : List IndexEntry) → device < min disk.devices 16
-    → AreSectors disk device (area_sector uber.area) (page_sectors uber.count) bytes
+    → AreDeviceSectors disk device (area_sector uber.area) (page_sectors uber.count) bytes
     → IsRecordedPage uber bytes entries
-    → IsGiven disk uber device entries
+    → IsGivenPage disk uber device entries
 unfolding page_on
 page_given uber disk device bytes entries below are recorded = record {
   index = recorded.page.index;
   counted = recorded.page.counted;
   parts = λ part told low is. are.told part told low is
-      ∙ ap (λ (page : List ℕ). part_of page part) recorded.page.page;
+      ∙ ap (λ (page : List ℕ). page_piece page part) recorded.page.page;
   each = λ image holds. record {
     device_in = below;
     digest = subst (λ (page : List ℕ). sha256 page ≡ uber.digest) (are.each image holds)
@@ -110,7 +110,7 @@ page_given uber disk device bytes entries below are recorded = record {
 }
 
 pub page_not_given : (uber : Uber) (disk : Disk) (device : ℕ) (bytes : List ℕ)
-    → AreSectors disk device (area_sector uber.area) (page_sectors uber.count) bytes
+    → AreDeviceSectors disk device (area_sector uber.area) (page_sectors uber.count) bytes
     → ((entries : List IndexEntry) → IsRecordedPage uber bytes entries → ⊥)
     → IsNotGiven disk uber device
 unfolding page_on

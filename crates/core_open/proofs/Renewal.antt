@@ -10,7 +10,7 @@ use Rattle.core_state.specs.Committing.{Point}
 use Rattle.core_commit.specs.declared.committing.TooManyOut.{TooManyOut}
 use Rattle.core_commit.specs.Copies.{CopyKeeps}
 use Rattle.core_commit.specs.Writing.{IsCopyOf, WritesOnly}
-use Rattle.core_commit.specs.Spared.{HaveGoneOut, Spares, StopsInTime, TouchesGroup}
+use Rattle.core_commit.specs.Spared.{HaveGoneOut, SparesData, StopsInTime, TouchesGroup}
 use Rattle.core_open.specs.declared.why.OpenWhy.TheVariants as reason
 use Rattle.core_open.specs.Opens.{HasSpread, HasRenewed, EndsRenewal, renewed_by, every_device}
 use Rattle.core_open.proofs.Renewing.{none_above_more}
@@ -74,7 +74,7 @@ few_of result out most few went = subst (λ (r : Copying). OnOk r (count_of out 
 -- A run of copies with these masks.
 pub spread_of : (uber : Uber) (entries : List IndexEntry) (none all : ℕ) (before after : Point) (result : Copying)
     → none ≡ 0 → all ≡ every_device → CopyKeeps uber entries none all before after result
-    → HaveGoneOut before before.out after → Spares before after → TouchesGroup uber before after
+    → HaveGoneOut before before.out after → SparesData before after → TouchesGroup uber before after
     → StopsInTime uber.parity before after
     → WritesOnly (IsCopyOf uber entries none all before.out) before.disk after.disk
     → HasSpread uber entries 0 every_device before after result

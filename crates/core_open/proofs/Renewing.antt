@@ -13,7 +13,7 @@ use Rattle.uberblock_ring.specs.Uberblock.{Uber}
 use Rattle.uberblock_ring.specs.Valid.{IsRightUber}
 use Rattle.core_state.specs.Index.{IsFitting, IsIndexOf}
 use Rattle.core_state.specs.Keeps.{Kept, Setting, IsNextOf, Renews, SameGroup}
-use Rattle.core_state.specs.Certain.{Asks, IsSound, IsCertain, IsRow, Knows}
+use Rattle.core_state.specs.Certain.{Asks, IsSound, IsCertain, IsSuccession, Knows}
 use Rattle.core_state.specs.Committing.{Point}
 use Rattle.core_state.specs.Moment.{IsRowOf}
 use Rattle.core_state.proofs.Calls.{true_false}
@@ -264,7 +264,7 @@ module _ (setting : Setting) (first : Kept) (later : List Kept) (kept : Kept) (u
   -- Such a row begins with the chosen group.
   row_from : (more : List Kept) → AllPairs IsBefore (kept ∷ more)
       → ((other : Kept) → Contains more other → IsNextOf kept other)
-      → IsRow setting kept more
+      → IsSuccession setting kept more
   row_from more pairs next = record {
     few = (let few = knows.row.few in let parity = is.parity_is in omega (arith, few, parity));
     ascending = pairs;
@@ -308,7 +308,7 @@ module _ (setting : Setting) (first : Kept) (later : List Kept) (kept : Kept) (u
   -- The group that is written: it renews the chosen one, joins the row or is in it already, and is its last.
   pub record Joins (next : Kept) (joined front : List Kept) : Type 0 where
     pub renews : Renews kept next
-    pub row : IsRow setting kept (back ++ joined)
+    pub row : IsSuccession setting kept (back ++ joined)
     pub last : kept ∷ (back ++ joined) ≡ front ++ next ∷ []
 
   -- It joins the row where no group of its number is in it,
@@ -345,7 +345,7 @@ module _ (setting : Setting) (first : Kept) (later : List Kept) (kept : Kept) (u
     kept ∷ (split_at back next has).0,
     record {
       renews = renewing (next_of next has);
-      row = subst (λ (g : List Kept). IsRow setting kept g) (sym (append-nil back)) (row_from back from_kept next_of);
+      row = subst (λ (g : List Kept). IsSuccession setting kept g) (sym (append-nil back)) (row_from back from_kept next_of);
       last = ap (λ (g : List Kept). kept ∷ g) (append-nil back ∙ (split_at back next has).2
           ∙ ap (λ (g : List Kept). (split_at back next has).0 ++ next ∷ g) (none_behind (split_at back next has).1 refl));
     },

@@ -10,7 +10,7 @@ use Rattle.std.proofs.lemmas.List.Elements.{All-head, All-tail, All-cons}
 use Rattle.std.proofs.lemmas.List.Kept.{AllPairs-cons}
 use Rattle.std.proofs.lemmas.List.Sorted.{IsPermutation-keeps, IsPermutation-sym}
 use Rattle.core_open.specs.declared.fitting.Span.{Span}
-use Rattle.core_open.specs.Spans.{AreClear, AreInOrder, IsFilled}
+use Rattle.core_open.specs.Spans.{AreDisjoint, AreInOrder, IsFilled}
 
 -- The first begins at this sector or after it, and each next one where the one before ends, or
 -- after it.
@@ -30,17 +30,17 @@ all_after end (span ∷ spans) filled follow =
 
 -- so none of them reaches into another.
 clear_from_follow : (end : ℕ) (spans : List Span) → All IsFilled spans → FollowFrom end spans
-    → AllPairs AreClear spans
+    → AllPairs AreDisjoint spans
 clear_from_follow end [] filled follow = λ i j d before within. absurd (omega (arith, within))
 clear_from_follow end (span ∷ spans) filled follow =
     let rest = All-tail IsFilled span spans filled in
     let after = all_after span.end spans rest follow.1 in
-    AllPairs-cons AreClear span spans (λ k d within. inl (after k d within))
+    AllPairs-cons AreDisjoint span spans (λ k d within. inl (after k d within))
     (clear_from_follow span.end spans rest follow.1)
 
 -- Of two that are clear, the one that begins later begins where the other ends, or after it.
 follow_next : (first : Span) (spans : List Span) → All IsFilled (first ∷ spans)
-    → AreInOrder (first ∷ spans) → AllPairs AreClear (first ∷ spans) → FollowFrom first.end spans
+    → AreInOrder (first ∷ spans) → AllPairs AreDisjoint (first ∷ spans) → FollowFrom first.end spans
 follow_next first [] filled sorted clear = tt
 follow_next first (next ∷ spans) filled sorted clear =
     let two : 1 < length (first ∷ next ∷ spans) = omega arith in
@@ -57,7 +57,7 @@ follow_next first (next ∷ spans) filled sorted clear =
     )
 
 follow_from_clear : (spans : List Span) → All IsFilled spans → AreInOrder spans
-    → AllPairs AreClear spans
+    → AllPairs AreDisjoint spans
     → FollowFrom 0 spans
 follow_from_clear [] filled sorted clear = tt
 follow_from_clear (first ∷ spans) filled sorted clear =
@@ -65,7 +65,7 @@ follow_from_clear (first ∷ spans) filled sorted clear =
 
 -- So one walk in the order of their starts tells whether all are clear.
 pub follow_iff_clear : (spans : List Span) → All IsFilled spans → AreInOrder spans
-    → FollowFrom 0 spans ↔ AllPairs AreClear spans
+    → FollowFrom 0 spans ↔ AllPairs AreDisjoint spans
 follow_iff_clear spans filled sorted =
     (clear_from_follow 0 spans filled, follow_from_clear spans filled sorted)
 
@@ -155,16 +155,16 @@ module _ {X : Type 0} (R : X → X → Type 0) (both : (one other : X) → R one
     pairs_permuted xs ys moves pairs = IsPermutation-keeps xs (AllPairs R) pairs
         (λ l a b a_in b_in so_far. pairs_swapped l a b a_in b_in so_far) ys moves
 
-clear_both : (one other : Span) → AreClear one other → AreClear other one
+clear_both : (one other : Span) → AreDisjoint one other → AreDisjoint other one
 clear_both one other (inl before) = inr before
 clear_both one other (inr behind) = inl behind
 
 -- What the walk through the sorted spans tells holds of the spans in their own order.
 pub clear_by : (spans sorted : List Span) (clear : Bool) → IsPermutation spans sorted
-    → IsTrue clear ↔ AllPairs AreClear sorted
-    → IsTrue clear ↔ AllPairs AreClear spans
+    → IsTrue clear ↔ AllPairs AreDisjoint sorted
+    → IsTrue clear ↔ AllPairs AreDisjoint spans
 clear_by spans sorted clear moves test = (
-  λ yes. pairs_permuted AreClear clear_both sorted spans (IsPermutation-sym spans sorted moves)
+  λ yes. pairs_permuted AreDisjoint clear_both sorted spans (IsPermutation-sym spans sorted moves)
       (test.0 yes),
-  λ pairs. test.1 (pairs_permuted AreClear clear_both spans sorted moves pairs),
+  λ pairs. test.1 (pairs_permuted AreDisjoint clear_both spans sorted moves pairs),
 )

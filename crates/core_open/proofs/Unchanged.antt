@@ -1,6 +1,6 @@
 -- Runs of reads, which change nothing but counts of faults.
 use Rattle.std.proofs.Common.{◌≡◌, ℕ, ◌≤◌, List, [], ◌∷◌, ◌++◌, refl, ◌∙◌, ap, subst, arith}
-use Rattle.bank_trait.specs.Causes.{Rose}
+use Rattle.bank_trait.specs.Causes.{FaultCounted}
 use Rattle.bank_trait.specs.Disk.{Image, Disk, Unchanged}
 use Rattle.bank_trait.proofs.Moments.{later_refl, later_trans}
 use Rattle.core_state.specs.Keeps.{Kept, Setting}
@@ -43,14 +43,14 @@ holds_then same holds = record {
 }
 
 -- A count that rose before some reads, or in the middle of them, has risen.
-pub rose_then : (old : Disk) {mid new : Disk} (device : ℕ) → Rose (old.faults device) (mid.faults device)
+pub rose_then : (old : Disk) {mid new : Disk} (device : ℕ) → FaultCounted (old.faults device) (mid.faults device)
     → Unchanged mid new
-    → Rose (old.faults device) (new.faults device)
+    → FaultCounted (old.faults device) (new.faults device)
 rose_then old device rose same = omega (arith, rose, same.goes_on.later.faults device)
 
 pub then_rose : {old mid : Disk} (new : Disk) (device : ℕ) → Unchanged old mid
-    → Rose (mid.faults device) (new.faults device)
-    → Rose (old.faults device) (new.faults device)
+    → FaultCounted (mid.faults device) (new.faults device)
+    → FaultCounted (old.faults device) (new.faults device)
 then_rose new device same rose = omega (arith, rose, same.goes_on.later.faults device)
 
 -- The bank keeps its shape.

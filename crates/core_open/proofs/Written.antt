@@ -1,7 +1,7 @@
 -- What the writes of an opening keep, and who is out after them.
 use Rattle.std.proofs.Common.{◌≡◌, ◌⊎◌, inl, inr, ⊎_elim, ℕ, ◌+◌, ◌^◌, ◌<◌, ◌≤◌, List, Bool, true, false, Result, Ok, refl, sym, ◌∙◌, ap, subst, arith}
 use Rattle.std.proofs.lemmas.Bool.{cases_lt}
-use Rattle.bank_trait.specs.Causes.{Rose}
+use Rattle.bank_trait.specs.Causes.{FaultCounted}
 use Rattle.bank_trait.specs.Disk.{Image, Disk, Lawful, Later, Unchanged}
 use Rattle.bank_trait.specs.Regions.{Tells}
 use Rattle.bank_trait.proofs.Moments.{later_trans}
@@ -13,11 +13,10 @@ use Rattle.core_state.specs.Map.{no_blocks}
 use Rattle.core_state.specs.Shown.{Shape, Gives}
 use Rattle.core_state.specs.Choosing.{IsOutAtOpening}
 use Rattle.core_state.specs.Keeps.{Kept, Setting}
-use Rattle.core_state.specs.Committing.{Point}
+use Rattle.core_state.specs.Committing.{Point, point_of}
 use Rattle.core_state.proofs.Calls.{true_false}
 use Rattle.core_state.proofs.Knowing.{present}
 use Rattle.core_commit.specs.declared.committing.TooManyOut.{TooManyOut}
-use Rattle.core_commit.specs.Ran.{point_of}
 use Rattle.core_commit.proofs.Going.{rose_wider}
 use Rattle.core_open.specs.declared.finding.Found.{Found}
 use Rattle.core_open.specs.declared.why.OpenWhy.{OpenWhy}
@@ -45,8 +44,8 @@ module _ (found : Found) (old mid new : Disk) (lawful : Lawful old) (same_found 
     (found_in : (image : Image) → HoldsImage old image → IsFoundIn (shape_of old) image found)
     (right : IsRightUber found.uber) (silent_failed : HaveFailed old mid found.silent)
     (fits : FitsOpening mid found) (later_all : Later mid new) where
-  rose_on : (device : ℕ) → Rose (old.faults device) (mid.faults device)
-      → Rose (old.faults device) (new.faults device)
+  rose_on : (device : ℕ) → FaultCounted (old.faults device) (mid.faults device)
+      → FaultCounted (old.faults device) (new.faults device)
   rose_on device rose = rose_wider (old.faults device) (old.faults device) (mid.faults device) (new.faults device)
       (omega arith) rose (later_all.faults device)
 
@@ -150,7 +149,7 @@ module _ (found : Found) (old mid new : Disk) (lawful : Lawful old) (same_found 
       pub later : Later writes.asked to
       pub each : (device : ℕ) → has_device out_to device ≡ true
           → (has_device writes.asked_out device ≡ true)
-          ⊎ Rose (writes.asked.faults device) (to.faults device)
+          ⊎ FaultCounted (writes.asked.faults device) (to.faults device)
 
     pub went_spread : (after : Point) (ended : Result (Unit {0}) TooManyOut)
         → HasSpread found.uber found.entries.items writes.lack_page found.lacks_uber before after ended
@@ -179,7 +178,7 @@ module _ (found : Found) (old mid new : Disk) (lawful : Lawful old) (same_found 
     pub out_caused : Went new out → (image : Image) → HoldsImage old image → (device : ℕ)
         → has_device out device ≡ true
         → IsOutAtOpening (shape_of old) found.silent image found.uber device
-        ⊎ Rose (old.faults device) (new.faults device)
+        ⊎ FaultCounted (old.faults device) (new.faults device)
     out_caused went image holds device has = ⊎_elim
         (λ asked. ⊎_elim (λ was. inl (out_found image holds device was))
         (λ failed. inr (rose_wider (old.faults device) (mid.faults device) (writes.asked.faults device)

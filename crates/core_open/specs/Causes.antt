@@ -1,6 +1,6 @@
 -- Why a pool is not opened.
 use Rattle.std.specs.Prelude.{◌≡◌, ◌⊎◌, ℕ, ◌+◌, ◌<◌, List, true, ⊤}
-use Rattle.bank_trait.specs.Causes.{Rose}
+use Rattle.bank_trait.specs.Causes.{FaultCounted}
 use Rattle.bank_trait.specs.Disk.{Image, Disk}
 use Rattle.block_record.specs.declared.entry.IndexEntry.{IndexEntry}
 use Rattle.uberblock_ring.specs.Devices.{has_device, count_of, IsWithin}
@@ -31,7 +31,7 @@ abbrev pub IsOutFor : (old new : Disk) → {silent : ℕ} → {image : Image}
     → IsChoiceWithout (shape_of old) silent image → ℕ → Type 0
 IsOutFor old new {silent = silent} {image = image} choice device =
     IsOutAtOpening (shape_of old) silent image choice.uber device
-    ⊎ Rose (old.faults device) (new.faults device)
+    ⊎ FaultCounted (old.faults device) (new.faults device)
 
 -- Each of these devices was.
 abbrev pub AreOutFor : (old new : Disk) → {silent : ℕ} → {image : Image}

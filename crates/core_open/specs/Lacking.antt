@@ -6,7 +6,7 @@ use Rattle.uberblock_ring.specs.Devices.{has_device}
 use Rattle.uberblock_ring.specs.Uberblock.{Uber}
 use Rattle.core_state.specs.Shown.{Gives}
 use Rattle.core_open.specs.Holds.{HoldsImage, shape_of}
-use Rattle.core_open.specs.Pages.{IsGiven}
+use Rattle.core_open.specs.Pages.{IsGivenPage}
 
 -- The bank has each device below the width but those in the set.
 abbrev pub HasAllBut : Disk → ℕ → ℕ → Type 0
@@ -21,7 +21,7 @@ pub record LacksPage (disk : Disk) (uber : Uber) (device : ℕ) (entries : List 
 
 -- The device gives the page of these entries, or it lacks it.
 abbrev pub GivesOrLacks : Disk → Uber → ℕ → List IndexEntry → Bool → Type 0
-GivesOrLacks disk uber device entries true = IsGiven disk uber device entries
+GivesOrLacks disk uber device entries true = IsGivenPage disk uber device entries
 GivesOrLacks disk uber device entries false = LacksPage disk uber device entries
 
 -- Of the devices below the width that aren't out, the set has those that lack the page of these
@@ -32,4 +32,4 @@ pub record AreLacking (disk : Disk) (uber : Uber) (entries : List IndexEntry)
       → (device < width) × (has_device out device ≡ false)
   pub lack : (device : ℕ) → has_device devices device ≡ true → LacksPage disk uber device entries
   pub give : (device : ℕ) → device < width → has_device out device ≡ false
-      → has_device devices device ≡ false → IsGiven disk uber device entries
+      → has_device devices device ≡ false → IsGivenPage disk uber device entries

@@ -1,6 +1,6 @@
 -- What an opening keeps of what images kept when it began, and the group with which it ends.
 use Rattle.std.specs.Prelude.{◌≡◌, ◌⊎◌, ℕ, ◌^◌, ◌+◌, ◌<◌, ◌≤◌, true, List, [], ◌∷◌, ◌++◌, length, Contains, Result, Ok, Err}
-use Rattle.bank_trait.specs.Causes.{Rose}
+use Rattle.bank_trait.specs.Causes.{FaultCounted}
 use Rattle.bank_trait.specs.Disk.{Image, Disk, Unchanged}
 use Rattle.bank_trait.specs.Regions.{Tells, TouchesOnly}
 use Rattle.block_record.specs.declared.entry.IndexEntry.{IndexEntry}
@@ -17,7 +17,7 @@ use Rattle.core_state.specs.Moment.{KeepsSince}
 use Rattle.core_commit.specs.declared.committing.TooManyOut.{TooManyOut}
 use Rattle.core_commit.specs.Copies.{CopyKeeps}
 use Rattle.core_commit.specs.Writing.{IsCopyOf, WritesOnly}
-use Rattle.core_commit.specs.Spared.{HaveGoneOut, Spares, StopsInTime, TouchesGroup}
+use Rattle.core_commit.specs.Spared.{HaveGoneOut, SparesData, StopsInTime, TouchesGroup}
 use Rattle.core_open.specs.declared.why.OpenWhy.{OpenWhy}
 use Rattle.core_open.specs.declared.why.OpenWhy.TheVariants as reason
 use Rattle.core_open.specs.Causes.{AreOutIn, IsChoiceWithout, IsShownChoice}
@@ -143,7 +143,7 @@ pub record RenewsChoice (shape : Shape) (silent : ℕ) (image : Image) (uber : U
 
 -- No device fails in a call.
 abbrev pub NoneFails : Disk → Disk → Type 0
-NoneFails old new = (device : ℕ) → Rose (old.faults device) (new.faults device) → ⊥
+NoneFails old new = (device : ℕ) → FaultCounted (old.faults device) (new.faults device) → ⊥
 
 -- No device is out where all answer, whatever they choose.
 abbrev pub NoneIsOut : Disk → Type 0
@@ -177,7 +177,7 @@ pub record HasSpread (uber : Uber) (entries : List IndexEntry) (lack_page lack_u
   pub keeps : CopyKeeps uber entries lack_page lack_uber before after result
   pub writes : WritesOnly (IsCopyOf uber entries lack_page lack_uber before.out) before.disk after.disk
   pub gone : HaveGoneOut before before.out after
-  pub spares : Spares before after
+  pub spares : SparesData before after
   pub touches : TouchesGroup uber before after
   pub stops : StopsInTime uber.parity before after
 

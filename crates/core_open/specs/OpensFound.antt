@@ -2,7 +2,7 @@
 use Rattle.std.specs.Prelude.{◌≡◌, ◌⊎◌, ℕ, ◌+◌, ◌^◌, ◌<◌, ◌≤◌, Result, Ok, Err}
 use Rattle.bank_trait.specs.Disk.{Disk, Unchanged}
 use Rattle.uberblock_ring.specs.Devices.{count_of, IsWithin}
-use Rattle.core_commit.specs.Ran.{point_of}
+use Rattle.core_state.specs.Committing.{point_of}
 use Rattle.uberblock_ring.specs.Uberblock.{Uber, max_group}
 use Rattle.core_open.specs.declared.finding.Found.{Found}
 use Rattle.core_open.specs.declared.opening.Opened.{Opened}

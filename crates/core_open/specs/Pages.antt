@@ -9,15 +9,15 @@ use Rattle.core_state.specs.Shown.{Gives, sectors_from}
 use Rattle.core_open.specs.Holds.{HoldsImage, shape_of}
 
 -- the 512 bytes of one sector of a page
-abbrev pub part_of : List ℕ → ℕ → List ℕ
-part_of page part = take 512 (drop (512 * part) page)
+abbrev pub page_piece : List ℕ → ℕ → List ℕ
+page_piece page part = take 512 (drop (512 * part) page)
 
 -- These are so many whole sectors of a device, from one on: each that the bank tells, and all of
 -- them as each image has them that the bank holds.
-pub record AreSectors (disk : Disk) (device first count : ℕ) (bytes : List ℕ) : Type 0 where
+pub record AreDeviceSectors (disk : Disk) (device first count : ℕ) (bytes : List ℕ) : Type 0 where
   pub wide : length bytes ≡ 512 * count
   pub told : (part : ℕ) (sector : List ℕ) → part < count
-      → disk.reads device (first + part) ≡ Some sector → sector ≡ part_of bytes part
+      → disk.reads device (first + part) ≡ Some sector → sector ≡ page_piece bytes part
   pub each : (image : Image) → HoldsImage disk image
       → bytes ≡ sectors_from image device first count
 
@@ -29,13 +29,13 @@ pub record IsRecordedPage (uber : Uber) (bytes : List ℕ) (entries : List Index
 -- As many entries as the uberblock counts, an index whatever the bank tells; on the device, each
 -- sector of the page that the bank tells is that of their page, and each image that the bank holds
 -- gives the page with them.
-pub record IsGiven (disk : Disk) (uber : Uber) (device : ℕ) (entries : List IndexEntry) :
+pub record IsGivenPage (disk : Disk) (uber : Uber) (device : ℕ) (entries : List IndexEntry) :
     Type 0 where
   pub index : IsIndex entries
   pub counted : length entries ≡ uber.count
   pub parts : (part : ℕ) (bytes : List ℕ) → part < page_sectors uber.count
       → disk.reads device (area_sector uber.area + part) ≡ Some bytes
-      → bytes ≡ part_of (index_page entries) part
+      → bytes ≡ page_piece (index_page entries) part
   pub each : (image : Image) → HoldsImage disk image
       → Gives (shape_of disk) image uber entries device
 

@@ -21,8 +21,8 @@ abbrev pub AreInOrder : List Span → Type 0
 AreInOrder spans = IsNonDecreasingBy (λ (span : Span). span.start) spans
 
 -- One of them ends where the other begins, or before.
-abbrev pub AreClear : Span → Span → Type 0
-AreClear one other = (one.end ≤ other.start) ⊎ (other.end ≤ one.start)
+abbrev pub AreDisjoint : Span → Span → Type 0
+AreDisjoint one other = (one.end ≤ other.start) ⊎ (other.end ≤ one.start)
 
 -- The block alone fits the uberblock: it wasn't born after its group, and doesn't end past its
 -- sectors.

@@ -1,6 +1,6 @@
 // Creating a pool.
 ghost use Rattle.std.specs.Prelude.{◌≡◌, ◌+◌, ◌<◌, ◌≤◌, ℕ, Some, OnOk, OnErr, IfErr};
-ghost use Rattle.bank_trait.specs.Causes.{Rose};
+ghost use Rattle.bank_trait.specs.Causes.{FaultCounted};
 ghost use Rattle.bank_trait.specs.Disk.{Later};
 ghost use Rattle.bank_trait.specs.Regions.{zero_sector, Tells, TouchesOnly};
 ghost use Rattle.uberblock_ring.specs.Uberblock.{first_uber};
@@ -32,7 +32,7 @@ fn clear_ring<B: Bank>(bank: &mut B, device: u32) -> Result<(), Failed>
     ensures zeros { OnOk result (Tells (B.disk bank.old) → (slot : ℕ) → slot < 32
         → (B.disk bank.new).reads device slot ≡ Some zero_sector) }
     ensures failed { OnErr result
-        (Rose ((B.disk bank.old).faults device) ((B.disk bank.new).faults device)) }
+        (FaultCounted ((B.disk bank.old).faults device) ((B.disk bank.new).faults device)) }
 {
     for slot in 0..u64::from(RING_SLOTS) {
         bank.write(device, slot, &ZEROS)?;
@@ -52,7 +52,7 @@ fn create_on<B: Bank>(bank: &mut B, uber: &Uber, device: u32) -> Result<(), Fail
         → (B.disk bank.new).leaves (B.disk bank.new).clock device slot
         ≡ Some (new_ring uber.now device slot)) }
     ensures failed { OnErr result
-        (Rose ((B.disk bank.old).faults device) ((B.disk bank.new).faults device)) }
+        (FaultCounted ((B.disk bank.old).faults device) ((B.disk bank.new).faults device)) }
 {
     clear_ring(bank, device)?;
     bank.sync(device)?;

@@ -3,7 +3,7 @@ ghost use Rattle.std.specs.Prelude.{◌≡◌, ◌↔◌, ◌<◌, ◌≤◌, �
 ghost use Rattle.block_record.specs.Page.{IsIndex, IsRightEntry};
 ghost use Rattle.uberblock_ring.specs.Valid.{IsRightUber};
 ghost use Rattle.core_state.specs.Index.{IsFitting};
-ghost use Rattle.core_open.specs.Spans.{AreClear, AreInOrder, FitsAlone, IsFilled, span_of};
+ghost use Rattle.core_open.specs.Spans.{AreDisjoint, AreInOrder, FitsAlone, IsFilled, span_of};
 
 use block_record::IndexEntry;
 use row_layout::Layout;
@@ -86,7 +86,7 @@ fn span_of(uber: &Uber, entry: &IndexEntry) -> Option<Span>
 /// Whether no span reaches into another. Sorted by their starts, each has to end before the next.
 fn are_clear(mut spans: Vec<Span>) -> bool
     requires filled { All IsFilled spans.items }
-    ensures value { IsTrue result ↔ AllPairs AreClear spans.items }
+    ensures value { IsTrue result ↔ AllPairs AreDisjoint spans.items }
 {
     spans.sort_unstable_by_key(|span| span.start);
     follow_each_other(&spans)
@@ -96,7 +96,7 @@ fn are_clear(mut spans: Vec<Span>) -> bool
 fn follow_each_other(spans: &[Span]) -> bool
     requires filled { All IsFilled spans.now }
     requires sorted { AreInOrder spans.now }
-    ensures value { IsTrue result ↔ AllPairs AreClear spans.now }
+    ensures value { IsTrue result ↔ AllPairs AreDisjoint spans.now }
 {
     let mut end = 0;
     for span in spans {

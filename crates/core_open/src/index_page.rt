@@ -1,12 +1,12 @@
 // An uberblock's index page, read from a device.
 ghost use Rattle.std.specs.Prelude.{◌≡◌, ◌+◌, ◌*◌, ◌<◌, ◌≤◌, ℕ, List, length, min, IfOk, IfNone, IfSome, IsErrOf};
-ghost use Rattle.bank_trait.specs.Causes.{Rose};
+ghost use Rattle.bank_trait.specs.Causes.{FaultCounted};
 ghost use Rattle.bank_trait.specs.Disk.{Unchanged};
 ghost use Rattle.block_record.specs.declared.entry.IndexEntry.{IndexEntry as EntryOf};
 ghost use Rattle.block_record.specs.Page.{page_sectors as sectors_of_page};
 ghost use Rattle.uberblock_ring.specs.Valid.{IsRightUber};
 ghost use Rattle.core_open.specs.declared.index_page.PageFault.TheVariants as fault;
-ghost use Rattle.core_open.specs.Pages.{AreSectors, IsGiven, IsNotGiven, IsRecordedPage};
+ghost use Rattle.core_open.specs.Pages.{AreDeviceSectors, IsGivenPage, IsNotGiven, IsRecordedPage};
 
 use bank_trait::{Bank, Failed};
 use block_record::{IndexEntry, IndexRefused, page_sectors, read_index};
@@ -51,11 +51,11 @@ pub(crate) fn read_page<B: Bank>(
     requires device { device < min (B.disk bank.old).devices 16 }
     requires sectors { 192 ≤ (B.disk bank.old).sectors }
     ensures some { IfOk result (λ page. IfSome page (λ entries.
-        IsGiven (B.disk bank.old) uber.now device entries.items)) }
+        IsGivenPage (B.disk bank.old) uber.now device entries.items)) }
     ensures none { IfOk result (λ page. IfNone page
         (IsNotGiven (B.disk bank.old) uber.now device)) }
     ensures failed { IsErrOf result PageFault.Failed
-        → Rose ((B.disk bank.old).faults device) ((B.disk bank.new).faults device) }
+        → FaultCounted ((B.disk bank.old).faults device) ((B.disk bank.new).faults device) }
     ensures unchanged { Unchanged (B.disk bank.old) (B.disk bank.new) }
 {
     let first = area_sector(uber.area());
@@ -77,9 +77,9 @@ fn read_sectors<B: Bank>(
     requires before_data { first + count ≤ 192 }
     requires sectors { 192 ≤ (B.disk bank.old).sectors }
     ensures ok { IfOk result (λ bytes.
-        AreSectors (B.disk bank.old) device first count bytes.items) }
+        AreDeviceSectors (B.disk bank.old) device first count bytes.items) }
     ensures failed { IsErrOf result PageFault.Failed
-        → Rose ((B.disk bank.old).faults device) ((B.disk bank.new).faults device) }
+        → FaultCounted ((B.disk bank.old).faults device) ((B.disk bank.new).faults device) }
     ensures unchanged { Unchanged (B.disk bank.old) (B.disk bank.new) }
 {
     let mut bytes = Vec::with_capacity(alloc, 512 * count as usize)?;

@@ -6,8 +6,9 @@ ghost use Rattle.block_record.specs.Page.{IsIndex};
 ghost use Rattle.uberblock_ring.specs.Devices.{count_of};
 ghost use Rattle.uberblock_ring.specs.Uberblock.{max_group};
 ghost use Rattle.uberblock_ring.specs.Valid.{IsRightUber};
-ghost use Rattle.core_commit.specs.Ran.{FitsBank, point_of};
-ghost use Rattle.core_commit.specs.Spared.{Spares};
+ghost use Rattle.core_commit.specs.Ran.{FitsBank};
+ghost use Rattle.core_state.specs.Committing.{point_of};
+ghost use Rattle.core_commit.specs.Spared.{SparesData};
 ghost use Rattle.core_open.specs.Candidates.{IsIndexFor};
 ghost use Rattle.core_open.specs.Causes.{AreOutOf, IsOpenCause};
 ghost use Rattle.core_open.specs.Failing.{HaveFailed};
@@ -115,7 +116,7 @@ pub fn open<B: Bank>(alloc: Global, bank: &mut B) -> Result<Opened, OpenWhy>
         opened.uber opened.entries.items) }
     ensures out { IfOk result (λ opened. AreOutOf (B.disk bank.old) (B.disk bank.new)
         opened.silent opened.uber opened.out) }
-    ensures spares { IfOk result (λ opened. Spares (point_of opened.out (B.disk bank.old))
+    ensures spares { IfOk result (λ opened. SparesData (point_of opened.out (B.disk bank.old))
         (point_of opened.out (B.disk bank.new))) }
     ensures few { IfOk result (λ opened. count_of opened.out ≤ opened.uber.parity) }
     ensures below { IfOk result (λ opened. opened.out < 2 ^ opened.uber.reflow.to) }

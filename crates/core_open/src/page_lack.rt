@@ -1,6 +1,6 @@
 // Which devices in use lack an index page.
 ghost use Rattle.std.specs.Prelude.{◌≡◌, ◌<◌, ◌≤◌, ◌^◌, ◌↔◌, min, IfOk, IsErrOf, IsTrue};
-ghost use Rattle.bank_trait.specs.Causes.{Rose};
+ghost use Rattle.bank_trait.specs.Causes.{FaultCounted};
 ghost use Rattle.bank_trait.specs.Disk.{Unchanged};
 ghost use Rattle.uberblock_ring.specs.Devices.{IsWithin};
 ghost use Rattle.uberblock_ring.specs.Valid.{IsRightUber};
@@ -61,7 +61,7 @@ fn gives_page<B: Bank>(
     requires sectors { 192 ≤ (B.disk bank.old).sectors }
     ensures gives { IfOk result (GivesOrLacks (B.disk bank.old) uber.now device entries.now) }
     ensures failed { IsErrOf result PageFault.Failed
-        → Rose ((B.disk bank.old).faults device) ((B.disk bank.new).faults device) }
+        → FaultCounted ((B.disk bank.old).faults device) ((B.disk bank.new).faults device) }
     ensures unchanged { Unchanged (B.disk bank.old) (B.disk bank.new) }
 {
     match read_page(alloc, bank, uber, device)? {

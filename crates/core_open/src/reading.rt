@@ -1,7 +1,7 @@
 // Reading the rings of a bank's devices.
 ghost use Rattle.std.specs.Prelude.{◌≡◌, ◌<◌, ◌≤◌, ◌+◌, OnOk, OnErr, IfOk, IfSome};
 ghost use Rattle.std.specs.List.Sorted.{IsPermutation};
-ghost use Rattle.bank_trait.specs.Causes.{Rose};
+ghost use Rattle.bank_trait.specs.Causes.{FaultCounted};
 ghost use Rattle.bank_trait.specs.Disk.{Image, Unchanged};
 ghost use Rattle.uberblock_ring.specs.Valid.{IsRightUber};
 ghost use Rattle.core_state.specs.Shown.{read_devices};
@@ -93,7 +93,7 @@ fn read_slot<B: Bank>(bank: &mut B, device: u32, slot: u32) -> Result<Option<Ube
     requires ring { slot < 32 }
     ensures unchanged { Unchanged (B.disk bank.old) (B.disk bank.new) }
     ensures failed { OnErr result
-        (Rose ((B.disk bank.old).faults device) ((B.disk bank.new).faults device)) }
+        (FaultCounted ((B.disk bank.old).faults device) ((B.disk bank.new).faults device)) }
     ensures right { IfOk result (λ found. IfSome found IsRightUber) }
     ensures shown { IfOk result (λ found. (image : Image) → HoldsImage (B.disk bank.old) image
         → ShowsIn (shape_of (B.disk bank.old)) image device slot found) }

@@ -17,7 +17,7 @@ pub created_keeps : (setting : Setting) (parity width : ℕ) (disk : Disk)
     → MightStand setting.shape disk disk.clock image → Shows setting.shape image device uber → ⊥)
     → BankKeeps setting (first_kept setting.pool parity width setting.shape.sectors) [] disk
 created_keeps setting parity width disk sized few created others image might =
-    fresh_keeps setting.shape setting.pool parity width setting.failed setting.odd image sized few
+    fresh_keeps setting.shape setting.pool parity width setting.failed setting.excepted image sized few
     (record {
       ring = λ device slot below low.
           might.fits.at device slot (new_ring uber device slot) (created.ring device slot below low);

@@ -342,7 +342,7 @@ module _ (setting : Setting) (first : Kept) (later : List Kept) (disk : Disk)
       right_in : (image : Image) (held : IsKept setting image (first ∷ later) uber) (kept : Kept)
           → kept ≡ held.kept → AreAlike uber kept.uber → (e x : ℕ) (bytes : List ℕ)
           → e < setting.shape.devices → has_device uber.out e ≡ false → Asks kept e x bytes
-          → (Contains setting.odd (e, x) → ⊥)
+          → (Contains setting.excepted (e, x) → ⊥)
           → image e x ≡ bytes
       right_in image held kept same alike e x bytes inside in_use asks not_odd =
           let own = asks_of kept uber e x bytes alike asks in
@@ -355,7 +355,7 @@ module _ (setting : Setting) (first : Kept) (later : List Kept) (disk : Disk)
           → Shows setting.shape (showing d uber) d uber
           → (e x : ℕ) (bytes : List ℕ) → e < setting.shape.devices
           → has_device uber.out e ≡ false → Asks held.kept e x bytes
-          → (Contains setting.odd (e, x) → ⊥) → (o : Option (List ℕ)) → certain disk e x ≡ o
+          → (Contains setting.excepted (e, x) → ⊥) → (o : Option (List ℕ)) → certain disk e x ≡ o
           → certain disk e x ≡ Some bytes
       by held might shows e x bytes inside in_use asks not_odd (Some b) known =
           known ∙ ap (λ (k : List ℕ). Some k) (sym (might.fits.at e x b known)

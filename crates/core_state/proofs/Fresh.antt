@@ -16,7 +16,7 @@ use Rattle.core_state.specs.Map.{no_blocks}
 use Rattle.core_state.specs.Index.{IsFitting}
 use Rattle.core_state.specs.Shown.{Shape, Shows, Gives, page_on}
 use Rattle.core_state.specs.Choosing.{Names}
-use Rattle.core_state.specs.Whole.{Odd, IsWhole}
+use Rattle.core_state.specs.Whole.{Excepted, IsWhole}
 use Rattle.core_state.specs.Keeps.{Setting, Keeps, IsKept, ShowsOnly, StandsThere, ShowsCandidate, IsNotOutvoted}
 use Rattle.core_state.specs.Create.{IsNew, new_ring, rows_for, first_kept}
 
@@ -89,13 +89,13 @@ pub record IsSized (shape : Shape) (pool parity width : ℕ) : Type 0 where
   pub devices : width ≤ shape.devices
   pub sectors : 256 ≤ shape.sectors
 
-module _ (shape : Shape) (pool parity width failed : ℕ) (odd : Odd) (image : Image) (sized : IsSized shape pool parity width)
+module _ (shape : Shape) (pool parity width failed : ℕ) (excepted : Excepted) (image : Image) (sized : IsSized shape pool parity width)
     (few : count_below failed 16 ≤ parity) (new : IsNew shape (first_uber pool parity width (rows_for shape.sectors)) image) where
   abbrev uber_0 : Uber
   uber_0 = first_uber pool parity width (rows_for shape.sectors)
 
   abbrev setting_0 : Setting
-  setting_0 = record { shape = shape; pool = pool; failed = failed; odd = odd }
+  setting_0 = record { shape = shape; pool = pool; failed = failed; excepted = excepted }
 
   right_0 : IsRightUber uber_0
   right_0 = record {
@@ -171,7 +171,7 @@ module _ (shape : Shape) (pool parity width failed : ℕ) (odd : Odd) (image : I
     fitting = fits_0;
   }
 
-  whole_0 : IsWhole shape.devices odd image uber_0 [] no_blocks
+  whole_0 : IsWhole shape.devices excepted image uber_0 [] no_blocks
   whole_0 = record {
     index = record { listed = λ entry listed. absurd (omega (arith, listed.1)); every = λ id bytes held. absurd (none_some bytes held) };
     right = λ cell device of. absurd (omega (arith, of.listed.1));

@@ -13,7 +13,7 @@ use Rattle.uberblock_ring.specs.Valid.{IsRightUber}
 use Rattle.uberblock_ring.proofs.OneSpelling.{encoded_tells}
 use Rattle.core_state.specs.Shown.{Shape, Shows}
 use Rattle.core_state.specs.Choosing.{Names}
-use Rattle.core_state.specs.Whole.{Odd}
+use Rattle.core_state.specs.Whole.{Excepted}
 use Rattle.core_state.specs.Keeps.{Kept, Setting, IsNotOutvoted}
 use Rattle.core_state.specs.Collision.{MightStand}
 use Rattle.core_state.specs.Certain.{Asks, CellsOn, PageOn, SlotOn, IsAble, IsCertain, Knows, certain, able}
@@ -166,24 +166,24 @@ page_frame here lost old new kept device frames away page = record {
   page = page.page;
 }
 
-pub cells_frame : (here : ℕ → ℕ → Type 0) (lost : ℕ → Bool) (odd : Odd) (old new : Disk)
+pub cells_frame : (here : ℕ → ℕ → Type 0) (lost : ℕ → Bool) (excepted : Excepted) (old new : Disk)
     (kept : Kept) (device : ℕ) → Frames here lost old new
     → ((x : ℕ) (bytes : List ℕ) → Asks kept device x bytes → here device x
-    → Contains odd (device, x))
-    → CellsOn odd (certain old) kept device
-    → CellsOn odd (certain new) kept device
-cells_frame here lost odd old new kept device frames away cells = record {
+    → Contains excepted (device, x))
+    → CellsOn excepted (certain old) kept device
+    → CellsOn excepted (certain new) kept device
+cells_frame here lost excepted old new kept device frames away cells = record {
   at = λ x bytes asks not_odd. frames.stays device x bytes
       (λ h. not_odd (away x bytes asks h)) (cells.at x bytes asks not_odd);
 }
 
-pub cells_read : (here : ℕ → ℕ → Type 0) (lost : ℕ → Bool) (odd : Odd) (old new : Disk)
+pub cells_read : (here : ℕ → ℕ → Type 0) (lost : ℕ → Bool) (excepted : Excepted) (old new : Disk)
     (kept : Kept) (device : ℕ) → Frames here lost old new → lost device ≡ false
     → ((x : ℕ) (bytes : List ℕ) → Asks kept device x bytes → here device x
-    → Contains odd (device, x))
-    → CellsOn odd old.reads kept device
-    → CellsOn odd new.reads kept device
-cells_read here lost odd old new kept device frames works away cells = record {
+    → Contains excepted (device, x))
+    → CellsOn excepted old.reads kept device
+    → CellsOn excepted new.reads kept device
+cells_read here lost excepted old new kept device frames works away cells = record {
   at = λ x bytes asks not_odd. frames.reads device x bytes
       (λ h. not_odd (away x bytes asks h)) works (cells.at x bytes asks not_odd);
 }
@@ -204,7 +204,7 @@ slot_frame here lost old new kept device frames away slot = record {
 pub certain_frame : (here : ℕ → ℕ → Type 0) (lost : ℕ → Bool) (setting : Setting) (old new : Disk)
     (groups : List Kept) (uber : Uber) → Frames here lost old new
     → ((kept : Kept) (d x : ℕ) (bytes : List ℕ) → Contains groups kept → Asks kept d x bytes
-    → here d x → Contains setting.odd (d, x))
+    → here d x → Contains setting.excepted (d, x))
     → IsCertain setting old groups uber
     → IsCertain setting new groups uber
 certain_frame here lost setting old new groups uber frames away is = record {
@@ -213,7 +213,7 @@ certain_frame here lost setting old new groups uber frames away is = record {
   alike = is.alike;
   listing = is.listing;
   indexes = is.indexes;
-  cells = λ device inside in_use. cells_frame here lost setting.odd old new is.kept device frames
+  cells = λ device inside in_use. cells_frame here lost setting.excepted old new is.kept device frames
       (λ x bytes asks h. away is.kept device x bytes is.listed asks h)
       (is.cells device inside in_use);
   out = is.out;

@@ -14,7 +14,7 @@ use Rattle.commit_job.specs.declared.call.CommitCall.TheVariants.{IndexWrite, Ba
 use Rattle.core_state.specs.Index.{IsIndexOf, IsListing}
 use Rattle.core_state.specs.Whole.{Cell, IsCellOf}
 use Rattle.core_state.specs.Keeps.{Kept, Setting, SameGroup, count_left}
-use Rattle.core_state.specs.Certain.{Asks, IsSound, IsCertain, IsRow, Knows, certain}
+use Rattle.core_state.specs.Certain.{Asks, IsSound, IsCertain, IsSuccession, Knows, certain}
 use Rattle.core_state.specs.Committing.{Among, Point, HasBase, IsSealed, Unsigned, Signed}
 use Rattle.core_state.proofs.Places.{asks_device}
 use Rattle.core_state.proofs.Calls.{true_false}
@@ -35,7 +35,7 @@ certain_widen setting disk groups more uber wider is = record {
 }
 
 pub knows_widen : (setting : Setting) (first : Kept) (later more : List Kept) (disk : Disk)
-    → IsRow setting first more
+    → IsSuccession setting first more
     → ((kept : Kept) → Contains (first ∷ later) kept → Contains (first ∷ more) kept)
     → Knows setting first later disk
     → Knows setting first more disk
@@ -53,7 +53,7 @@ knows_widen setting first later more disk row wider knows = record {
 
 -- The row begins at a later group, whose slots and pages are certain.
 pub knows_move : (setting : Setting) (first : Kept) (later : List Kept) (next : Kept)
-    (more : List Kept) (disk : Disk) → IsRow setting next more → IsSound setting next
+    (more : List Kept) (disk : Disk) → IsSuccession setting next more → IsSound setting next
     → next.uber.reflow.to ≡ first.uber.reflow.to → first.uber.group ≤ next.uber.group
     → ((device : ℕ) → device < next.uber.reflow.to → has_device setting.failed device ≡ false
     → IsSealed (certain disk) next device)
@@ -127,7 +127,7 @@ asks_same one other device device_sector bytes same asks =
 -- that is being committed, and lists exactly the devices that are out.
 pub record MaySign (setting : Setting) (first : Kept) (more : List Kept) (next : Kept) (uber : Uber)
     (out : ℕ) : Type 0 where
-  pub row : IsRow setting first more
+  pub row : IsSuccession setting first more
   pub kept : Kept
   pub listed : Contains (first ∷ more) kept
   pub same : SameGroup kept next
@@ -194,7 +194,7 @@ signs_begin setting first later more next uber plan late point may wider no_lay 
 -- A commit is done: nothing is left to be called, and only devices that may fail are out. Then the row
 -- begins with its group.
 pub commit_ends : (setting : Setting) (first : Kept) (later : List Kept) (next : Kept)
-    (more : List Kept) (uber : Uber) (point : Point) → IsRow setting next more
+    (more : List Kept) (uber : Uber) (point : Point) → IsSuccession setting next more
     → IsSound setting next → next.uber.reflow.to ≡ first.uber.reflow.to
     → first.uber.group ≤ next.uber.group
     → ((kept : Kept) → Contains (first ∷ later) kept → next.uber.group ≤ kept.uber.group

@@ -9,7 +9,7 @@ use Rattle.uberblock_ring.specs.Uberblock.{Uber, encoded, slot_of, area_sector}
 use Rattle.uberblock_ring.specs.Valid.{IsRightUber, AreAlike}
 use Rattle.core_state.specs.Index.{IsFitting, IsIndexOf, IsListing}
 use Rattle.core_state.specs.Shown.{Shape, read_devices}
-use Rattle.core_state.specs.Whole.{Odd, Cell, IsCellOf}
+use Rattle.core_state.specs.Whole.{Excepted, Cell, IsCellOf}
 use Rattle.core_state.specs.Keeps.{Kept, Setting, IsNextOf, IsNotOutvoted}
 use Rattle.core_state.specs.Collision.{MightStand}
 
@@ -29,9 +29,9 @@ pub record Asks (kept : Kept) (device device_sector : ℕ) (bytes : List ℕ) : 
   pub bytes_are : cell.bytes ≡ bytes
 
 -- What a group asks for on a device is known.
-pub record CellsOn (odd : Odd) (known : Known) (kept : Kept) (device : ℕ) : Type 0 where
+pub record CellsOn (excepted : Excepted) (known : Known) (kept : Kept) (device : ℕ) : Type 0 where
   pub at : (device_sector : ℕ) (bytes : List ℕ) → Asks kept device device_sector bytes
-      → (Contains odd (device, device_sector) → ⊥)
+      → (Contains excepted (device, device_sector) → ⊥)
       → known device device_sector ≡ Some bytes
 
 -- pieces end to end
@@ -84,11 +84,11 @@ pub record IsCertain (setting : Setting) (disk : Disk) (groups : List Kept) (ube
     pub listing : IsListing kept.entries uber.count
     pub indexes : IsIndexOf kept.entries kept.map
     pub cells : (device : ℕ) → device < setting.shape.devices → has_device uber.out device ≡ false
-        → CellsOn setting.odd (certain disk) kept device
+        → CellsOn setting.excepted (certain disk) kept device
     pub out : IsWithin uber.out setting.failed
 
 -- The groups are a row that an image may keep, and a device of the first has not failed.
-pub record IsRow (setting : Setting) (first : Kept) (later : List Kept) : Type 0 where
+pub record IsSuccession (setting : Setting) (first : Kept) (later : List Kept) : Type 0 where
   pub few : count_below setting.failed 16 ≤ first.uber.parity
   pub ascending : AllPairs (λ one other. one.uber.group < other.uber.group) (first ∷ later)
   pub further : All (IsNextOf first) later
@@ -102,7 +102,7 @@ pub record IsRow (setting : Setting) (first : Kept) (later : List Kept) : Type 0
 -- All that is certain between two turns: slots and index page of the first group on each of its
 -- devices that hasn't failed, and what each uberblock asks for that a slot may come to show.
 pub record Knows (setting : Setting) (first : Kept) (later : List Kept) (disk : Disk) : Type 0 where
-  pub row : IsRow setting first later
+  pub row : IsSuccession setting first later
   pub sound : IsSound setting first
   pub slots : (device : ℕ) → device < first.uber.reflow.to
       → has_device setting.failed device ≡ false

@@ -20,6 +20,9 @@ pub record Point : Type 0 where
   pub out : ℕ
   pub disk : Disk
 
+abbrev pub point_of : ℕ → Disk → Point
+point_of out disk = record { out = out; disk = disk }
+
 -- the device that a call lost, where it failed
 abbrev pub lost_by : ℕ → Result (Unit {0}) Failed → ℕ → Bool
 lost_by device result other = (other == device) && not (is_ok result)
@@ -51,7 +54,7 @@ IsLaid next plan point = (device part : ℕ) → device < next.uber.reflow.to
 
 -- Page and blocks of the group are known on a device.
 abbrev pub HasBase : Setting → Known → Kept → ℕ → Type 0
-HasBase setting known next device = PageOn known next device × CellsOn setting.odd known next device
+HasBase setting known next device = PageOn known next device × CellsOn setting.excepted known next device
 
 -- Before an uberblock is made up: the index is written and then the device synced, one by one.
 pub record Unsigned (setting : Setting) (first : Kept) (later : List Kept) (next : Kept)
@@ -60,7 +63,7 @@ pub record Unsigned (setting : Setting) (first : Kept) (later : List Kept) (next
   pub lawful : Lawful point.disk
   pub told : TellsHead next point
   pub cells : (device : ℕ) → device < next.uber.reflow.to → has_device point.out device ≡ false
-      → CellsOn setting.odd point.disk.reads next device
+      → CellsOn setting.excepted point.disk.reads next device
   pub laid : IsLaid next plan point
   pub settled : (device : ℕ) → device < next.uber.reflow.to → has_device point.out device ≡ false
       → Among plan (BaseSync device) ⊎ HasBase setting (certain point.disk) next device

@@ -15,4 +15,4 @@ pub record IsSpare (setting : Setting) (first : Kept) (later : List Kept)
       → device_sector ≢ area_sector first.uber.area + part
   pub cells : (kept : Kept) (bytes : List ℕ) → Contains (first ∷ later) kept
       → Asks kept device device_sector bytes
-      → Contains setting.odd (device, device_sector)
+      → Contains setting.excepted (device, device_sector)

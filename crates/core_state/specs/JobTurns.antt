@@ -9,7 +9,7 @@ use Rattle.reflow_copier.specs.declared.job.Job.{Job}
 use Rattle.reflow_copier.specs.declared.job.Job.TheVariants.{Fill, Drain, Chunk}
 use Rattle.reflow_copier.specs.Jobs.{Spot}
 use Rattle.uberblock_ring.specs.Devices.{has_device}
-use Rattle.core_state.specs.Whole.{Odd, Cell}
+use Rattle.core_state.specs.Whole.{Excepted, Cell}
 
 -- A job begins only where it may.
 abbrev pub MayRun : Reflow → ℕ → Job → Type 0
@@ -19,7 +19,7 @@ MayRun reflow done (Chunk lo hi) = (reflow.state ≡ Moved) × (lo ≡ done) × 
     × (hi ≤ limit_of reflow.from reflow.mark) × (hi ≤ sectors_of reflow)
 
 -- A cell is right at the place to which a job copies it.
-pub record IsCopied (odd : Odd) (disk : Disk) (out : ℕ) (spot : Spot) (cell : Cell) : Type 0 where
+pub record IsCopied (excepted : Excepted) (disk : Disk) (out : ℕ) (spot : Spot) (cell : Cell) : Type 0 where
   pub there : has_device out spot.1.device ≡ false
-      → (Contains odd (spot.1.device, spot.0 + spot.1.row) → ⊥)
+      → (Contains excepted (spot.1.device, spot.0 + spot.1.row) → ⊥)
       → disk.reads spot.1.device (spot.0 + spot.1.row) ≡ Some cell.bytes

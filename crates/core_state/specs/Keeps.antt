@@ -10,7 +10,7 @@ use Rattle.core_state.specs.Index.{IsListing}
 use Rattle.core_state.specs.Map.{Map, SameMap}
 use Rattle.core_state.specs.Shown.{Shape, Shows, Gives, IsCandidate}
 use Rattle.core_state.specs.Choosing.{Names}
-use Rattle.core_state.specs.Whole.{Odd, IsWhole}
+use Rattle.core_state.specs.Whole.{Excepted, IsWhole}
 
 -- a group: its uberblock but for the out set, its index, and its map
 pub record Kept : Type 0 where
@@ -23,7 +23,7 @@ pub record Setting : Type 0 where
   pub shape : Shape
   pub pool : ℕ
   pub failed : ℕ
-  pub odd : Odd
+  pub excepted : Excepted
 
 -- A device shows a candidate of the pool, with a page that some device gives.
 abbrev pub ShowsCandidate : Setting → Image → ℕ → Uber → List IndexEntry → Type 0
@@ -38,7 +38,7 @@ pub record IsKept (setting : Setting) (image : Image) (groups : List Kept) (uber
     pub listed : Contains groups kept
     pub alike : AreAlike uber kept.uber
     pub listing : IsListing kept.entries uber.count
-    pub whole : IsWhole setting.shape.devices setting.odd image uber kept.entries kept.map
+    pub whole : IsWhole setting.shape.devices setting.excepted image uber kept.entries kept.map
     pub out : IsWithin uber.out setting.failed
 
 -- Each valid uberblock of the pool from the first group on, on any device, is of these groups,

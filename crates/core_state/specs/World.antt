@@ -1,6 +1,6 @@
 -- What an opening began with.
 use Rattle.std.specs.Prelude.{List}
-use Rattle.core_state.specs.Map.{Map, Handed}
+use Rattle.core_state.specs.Map.{Map, PutBytes}
 use Rattle.core_state.specs.Keeps.{Kept, Setting}
 
 -- the bank and who may fail, the groups that its images may show, the
@@ -9,4 +9,4 @@ pub record World : Type 0 where
   pub setting : Setting
   pub known : List Kept
   pub opening : Map
-  pub handed : Handed
+  pub handed : PutBytes

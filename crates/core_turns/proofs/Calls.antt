@@ -11,51 +11,51 @@ use Rattle.core_blocks.proofs.Lists.{gains_old, gains_cases, pairs_gain, pairs_l
 use Rattle.core_turns.specs.declared.getting.GetRun.{GetRun}
 use Rattle.core_turns.specs.declared.putting.PutRun.{PutRun}
 use Rattle.core_turns.specs.Core.{Core}
-use Rattle.core_turns.specs.UnderWay.{Call, Putting, Reading, hold_of_call, range_in, ranges_of, IsCallOf, HaveNoneInCommon, AreBeside, AreCallsOf}
+use Rattle.core_turns.specs.UnderWay.{HoldingCall, Putting, Reading, hold_of_call, range_in, ranges_of, IsCallOfCore, HaveNoneInCommon, AreBeside, AreCallsOf}
 use Rattle.core_turns.proofs.Frames.{KeepsWidths, call_of_stays, hold_listed, ends_other}
 
 -- Beside each other are calls in either order.
-none_in_common_turn : (one other : Call) → HaveNoneInCommon one other → HaveNoneInCommon other one
+none_in_common_turn : (one other : HoldingCall) → HaveNoneInCommon one other → HaveNoneInCommon other one
 none_in_common_turn (Putting run content) (Putting other held) clear = λ sector there here. clear sector here there
 none_in_common_turn (Putting run content) (Reading other held) clear = λ sector there here. clear sector here there
 none_in_common_turn (Reading run content) (Putting other held) clear = λ sector there here. clear sector here there
 none_in_common_turn (Reading run content) (Reading other held) clear = clear
 
-pub beside_turn : (one other : Call) → AreBeside one other → AreBeside other one
+pub beside_turn : (one other : HoldingCall) → AreBeside one other → AreBeside other one
 beside_turn one other beside = record {
   actors = λ same. beside.actors (sym same);
   apart = none_in_common_turn one other beside.apart;
 }
 
 -- The range of a put is one of the ranges,
-pub range_listed : (calls : List Call) (run : PutRun) (content : List ℕ) → Contains calls (Putting run content)
+pub range_listed : (calls : List HoldingCall) (run : PutRun) (content : List ℕ) → Contains calls (Putting run content)
     → Contains (ranges_of calls) run.range
 range_listed [] run content listed = absurd (contains_none (Putting run content) listed)
 range_listed (call ∷ calls) run content listed = ⊎_elim
-    (λ (same : Putting run content ≡ call). subst (λ (c : Call). Contains (ranges_of (c ∷ calls)) run.range) same
+    (λ (same : Putting run content ≡ call). subst (λ (c : HoldingCall). Contains (ranges_of (c ∷ calls)) run.range) same
     (contains_head run.range (ranges_of calls)))
     (λ rest. behind call (range_listed calls run content rest))
     (contains_cases call calls (Putting run content) listed)
   where
-    behind : (call : Call) → Contains (ranges_of calls) run.range → Contains (ranges_of (call ∷ calls)) run.range
+    behind : (call : HoldingCall) → Contains (ranges_of calls) run.range → Contains (ranges_of (call ∷ calls)) run.range
     behind (Putting other held) there = contains_tail other.range (ranges_of calls) run.range there
     behind (Reading other held) there = there
 
 -- and a read has none.
-pub ranges_read : (left calls : List Call) (run : GetRun) (content : List ℕ) → Gains left calls (Reading run content)
+pub ranges_read : (left calls : List HoldingCall) (run : GetRun) (content : List ℕ) → Gains left calls (Reading run content)
     → ranges_of calls ≡ ranges_of left
 ranges_read left calls run content gains = ap ranges_of gains.is
     ∙ filter_map-append range_in gains.before (Reading run content ∷ gains.after)
     ∙ sym (filter_map-append range_in gains.before gains.after) ∙ ap ranges_of (sym gains.was)
 
 -- A call comes.
-pub calls_gain : (old new : Core) (left calls : List Call) (call : Call) → Gains left calls call → KeepsWidths old new
+pub calls_gain : (old new : Core) (left calls : List HoldingCall) (call : HoldingCall) → Gains left calls call → KeepsWidths old new
     → ((hold : Hold) → Contains old.holds hold → Contains new.holds hold)
-    → AreUnderWay new.pool.blocks (ranges_of calls) → IsCallOf new call
-    → ((other : Call) → Contains left other → AreBeside call other) → AreCallsOf old left → AreCallsOf new calls
+    → AreUnderWay new.pool.blocks (ranges_of calls) → IsCallOfCore new call
+    → ((other : HoldingCall) → Contains left other → AreBeside call other) → AreCallsOf old left → AreCallsOf new calls
 calls_gain old new left calls call gains widths kept under of beside are = record {
   each = λ other listed. ⊎_elim
-      (λ (same : call ≡ other). subst (IsCallOf new) same of)
+      (λ (same : call ≡ other). subst (IsCallOfCore new) same of)
       (λ was. let old_of = are.each other was in
       call_of_stays old new other widths (kept (hold_of_call other) (hold_listed old other old_of)) old_of)
       (gains_cases left calls call other gains listed);
@@ -64,7 +64,7 @@ calls_gain old new left calls call gains widths kept under of beside are = recor
 }
 
 -- A call ends, and its hold with it.
-pub calls_lose : (old new : Core) (left calls : List Call) (call : Call) → Gains left calls call → KeepsWidths old new
+pub calls_lose : (old new : Core) (left calls : List HoldingCall) (call : HoldingCall) → Gains left calls call → KeepsWidths old new
     → EndsHold old.holds new.holds (hold_of_call call) → AreUnderWay new.pool.blocks (ranges_of left)
     → AreCallsOf old calls → AreCallsOf new left
 calls_lose old new left calls call gains widths ends under are = record {
@@ -78,13 +78,13 @@ calls_lose old new left calls call gains widths ends under are = record {
 }
 
 -- A call goes on: another stands in its place, of the same hold and apart from whatever it was apart from.
-pub calls_swap : (core : Core) (left calls nexts : List Call) (call next : Call) → Gains left calls call
+pub calls_swap : (core : Core) (left calls nexts : List HoldingCall) (call next : HoldingCall) → Gains left calls call
     → Gains left nexts next → hold_of_call next ≡ hold_of_call call
-    → ((other : Call) → HaveNoneInCommon call other → HaveNoneInCommon next other) → IsCallOf core next
+    → ((other : HoldingCall) → HaveNoneInCommon call other → HaveNoneInCommon next other) → IsCallOfCore core next
     → AreUnderWay core.pool.blocks (ranges_of nexts) → AreCallsOf core calls → AreCallsOf core nexts
 calls_swap core left calls nexts call next gains again hold apart of under are = record {
   each = λ other listed. ⊎_elim
-      (λ (same : next ≡ other). subst (IsCallOf core) same of)
+      (λ (same : next ≡ other). subst (IsCallOfCore core) same of)
       (λ was. are.each other (gains_old left calls call other gains was))
       (gains_cases left nexts next other again listed);
   under = under;

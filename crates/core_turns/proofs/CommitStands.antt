@@ -16,7 +16,7 @@ use Rattle.core_state.specs.Map.{Map}
 use Rattle.core_state.specs.Index.{layout_of}
 use Rattle.core_state.specs.Keeps.{Kept, Setting}
 use Rattle.core_state.specs.Certain.{Knows}
-use Rattle.core_state.specs.Committing.{Point}
+use Rattle.core_state.specs.Committing.{Point, point_of}
 use Rattle.core_state.specs.Moment.{IsRowOf, KeepsSince}
 use Rattle.core_state.proofs.Frames.{Nowhere}
 use Rattle.core_state.proofs.Listed.{contains_head, contains_tail, contains_cases, contains_none}
@@ -26,7 +26,6 @@ use Rattle.core_blocks.proofs.Fitting.{fits}
 use Rattle.core_blocks.proofs.Keeping.{kept_where, in_use_after, blocks_kept}
 use Rattle.core_blocks.proofs.Listed.{among_listed}
 use Rattle.core_blocks.proofs.UnderWay.{answered_under}
-use Rattle.core_client.specs.Outs.{point_of}
 use Rattle.core_commit.specs.declared.commit_run.CommitStep.TheVariants.{Called, Ended}
 use Rattle.core_commit.specs.CommitTurns.{CommitRun, HasEnded, IsCommitting}
 use Rattle.core_commit.proofs.CommitTurns.{committing_begins, committing_steps, committing_since, committing_done}
@@ -42,26 +41,26 @@ use Rattle.core_turns.specs.declared.turn.Turn.TheVariants.{More, Busy, Done}
 use Rattle.core_turns.specs.Core.{Core, IsCore, CoreState, at_disk, pool_at}
 use Rattle.core_turns.specs.Getting.{HasTooManyOut, IsGetOf}
 use Rattle.core_turns.specs.Committing.{IsCommitOf, commit_of, uber_for, BeginsCommit, StepsCommit, AnswersGroup, answered_by}
-use Rattle.core_turns.specs.UnderWay.{Call, Putting, Reading, layout_of_call, ranges_of, PutsSpare, Stands, AreCallsOf}
+use Rattle.core_turns.specs.UnderWay.{HoldingCall, Putting, Reading, layout_of_call, ranges_of, PutsSpare, Stands, AreCallsOf}
 use Rattle.core_turns.proofs.Commits.{few_out, rests, rests_pool, begun_commit, step_uber}
 use Rattle.core_turns.proofs.Frames.{Leaves, KeepsWidths, widths_out, get_of_stays, off_nowhere, leaves_spared, call_stays, calls_keep, calls_stay, map_stays, stands_frame}
 
 -- The range of a put that is under way is one of those of all.
-put_listed : (calls : List Call) (run : PutRun) (content : List ℕ) → Contains calls (Putting run content)
+put_listed : (calls : List HoldingCall) (run : PutRun) (content : List ℕ) → Contains calls (Putting run content)
     → Contains (ranges_of calls) run.range
 put_listed [] run content has = absurd (contains_none (Putting run content) has)
 put_listed (call ∷ calls) run content has = ⊎_elim
-    (λ same. subst (λ (c : Call). Contains (ranges_of (c ∷ calls)) run.range) same
+    (λ same. subst (λ (c : HoldingCall). Contains (ranges_of (c ∷ calls)) run.range) same
     (contains_head run.range (ranges_of calls)))
     (λ later. more call (put_listed calls run content later))
     (contains_cases call calls (Putting run content) has)
   where
-    more : (call : Call) → Contains (ranges_of calls) run.range → Contains (ranges_of (call ∷ calls)) run.range
+    more : (call : HoldingCall) → Contains (ranges_of calls) run.range → Contains (ranges_of (call ∷ calls)) run.range
     more (Putting other held) there = contains_tail other.range (ranges_of calls) run.range there
     more (Reading other held) there = there
 
 -- No put has a sector of a block that stands in the table.
-spare_table : (core : Core) (calls : List Call) (run : PutRun) (content : List ℕ) → AreCallsOf core calls
+spare_table : (core : Core) (calls : List HoldingCall) (run : PutRun) (content : List ℕ) → AreCallsOf core calls
     → IsIndex core.pool.blocks.table.entries → Contains calls (Putting run content)
     → SparesAll core.pool.blocks.parity core.pool.blocks.births core.pool.blocks.table.entries (put_run run.range)
 spare_table core calls run content are index has entry listed =
@@ -74,7 +73,7 @@ spare_table core calls run content are index has entry listed =
 abbrev begun_by : Core → ℕ → Core
 begun_by core actor = record core { begun = core.begun + 1; committing = Some actor }
 
-pub commit_begins_calls : (old new : Core) (calls : List Call) (actor : ℕ) (run : CommitRun)
+pub commit_begins_calls : (old new : Core) (calls : List HoldingCall) (actor : ℕ) (run : CommitRun)
     → BeginsCommit old new actor (More run) → AreCallsOf old calls → AreCallsOf new calls
 commit_begins_calls old new calls actor run begins are = subst (λ (core : Core). AreCallsOf core calls) (sym begins.4)
     (calls_keep old (begun_by old actor) calls (record {
@@ -86,7 +85,7 @@ commit_begins_calls old new calls actor run begins are = subst (λ (core : Core)
       begun = omega arith;
     }) (λ hold has. has) are.under are)
 
-module _ (setting : Setting) (last : Kept) (map : Map) (calls : List Call) (old : Core) (disk : Disk) (actor : ℕ)
+module _ (setting : Setting) (last : Kept) (map : Map) (calls : List HoldingCall) (old : Core) (disk : Disk) (actor : ℕ)
     (lawful : Lawful disk) (is : IsCore old) (table : IsTable old.pool.blocks.table) (step : AreInStep old.pool.blocks)
     (few : HasTooManyOut old → ⊥) (none : old.committing ≡ None) (limit : old.begun + 1 ≤ 2 ^ 62)
     (stands : Stands setting last [] map calls None (at_disk old disk)) where
@@ -102,7 +101,7 @@ module _ (setting : Setting) (last : Kept) (map : Map) (calls : List Call) (old 
     knows = stands.groups.knows;
     alike = stands.alike;
     kept = stands.kept;
-    odd = stands.odd;
+    excepted = stands.excepted;
     shape = stands.shape;
     tells = stands.tells;
   }
@@ -132,7 +131,7 @@ module _ (setting : Setting) (last : Kept) (map : Map) (calls : List Call) (old 
     alike = stands.alike;
     kept = stands.kept;
     spared = stands.spared;
-    odd = stands.odd;
+    excepted = stands.excepted;
     shape = stands.shape;
     tells = stands.tells;
     bank = stands.bank;
@@ -148,7 +147,7 @@ module _ (setting : Setting) (last : Kept) (map : Map) (calls : List Call) (old 
   }
 
 -- A commit begins: it makes the group of the map as it is.
-pub commit_begins_stands : (setting : Setting) (last : Kept) (begun : List Kept) (map : Map) (calls : List Call)
+pub commit_begins_stands : (setting : Setting) (last : Kept) (begun : List Kept) (map : Map) (calls : List HoldingCall)
     (old new : Core) (disk : Disk) (actor : ℕ) (run : CommitRun)
     → Lawful disk → IsCore old → IsTable old.pool.blocks.table → AreInStep old.pool.blocks
     → BeginsCommit old new actor (More run)
@@ -186,12 +185,12 @@ commit_begins_stands setting last begun map calls old new disk actor run lawful 
 
 -- ---- a step of it
 
-pub commit_steps_calls : (before after : CoreState) (calls : List Call) (run next : CommitRun)
+pub commit_steps_calls : (before after : CoreState) (calls : List HoldingCall) (run next : CommitRun)
     → StepsCommit before run after (More next) → AreCallsOf before.core calls → AreCallsOf after.core calls
 commit_steps_calls before after calls run next steps are = calls_stay before.core after.core calls steps.2 are
 
 -- A step of a commit leaves the rest as it stands.
-pub commit_steps_stands : (setting : Setting) (last : Kept) (begun : List Kept) (map : Map) (calls : List Call)
+pub commit_steps_stands : (setting : Setting) (last : Kept) (begun : List Kept) (map : Map) (calls : List HoldingCall)
     (before after : CoreState) (run next : CommitRun)
     → StepsCommit before run after (More next) → IsWithin before.core.pool.out setting.failed
     → Stands setting last begun map calls (Some run) before
@@ -219,7 +218,7 @@ commit_steps_stands setting last begun map calls before after run next steps wit
     stands
 
 -- What images keep since a moment they keep over a step.
-pub commit_steps_since : (setting : Setting) (last : Kept) (begun : List Kept) (map : Map) (calls : List Call)
+pub commit_steps_since : (setting : Setting) (last : Kept) (begun : List Kept) (map : Map) (calls : List HoldingCall)
     (before after : CoreState) (run next : CommitRun) (groups : List Kept) (time : ℕ)
     → IsRowOf groups last begun → StepsCommit before run after (More next)
     → IsWithin before.core.pool.out setting.failed
@@ -275,7 +274,7 @@ module _ (core : Core) (run ended : CommitRun) (out : ℕ) (old new : Disk) (of 
     reads = λ device device_sector used in_data away. refl;
   }
 
-  answered_calls : (calls : List Call) → AreCallsOf core calls → AreCallsOf answered calls
+  answered_calls : (calls : List HoldingCall) → AreCallsOf core calls → AreCallsOf answered calls
   answered_calls calls are = calls_keep core answered calls answered_widths (λ hold has. has)
       (answered_under core.pool.blocks.parity core.pool.blocks.births core.pool.blocks.table core.pool.blocks.space
       ended.uber.group (ranges_of calls) are.under) are
@@ -285,7 +284,7 @@ module _ (core : Core) (run ended : CommitRun) (out : ℕ) (old new : Disk) (of 
       (steps_same Ended run ended (point_of core.pool.out old) (point_of out new) did).0 ∙ of.number
 
   -- The group is the last one, and no commit is under way.
-  ended_stands : (setting : Setting) (last next : Kept) (map : Map) (calls : List Call)
+  ended_stands : (setting : Setting) (last next : Kept) (map : Map) (calls : List HoldingCall)
       → IsWithin core.pool.out setting.failed → IsCommitting setting last next run (point_of core.pool.out old)
       → NoneFree core.pool.blocks core.begun next.entries → PutsSpare (at_disk core old) calls next
       → Stands setting last (next ∷ []) map calls (Some run) (at_disk core old)
@@ -301,7 +300,7 @@ module _ (core : Core) (run ended : CommitRun) (out : ℕ) (old new : Disk) (of 
     kept = answered_kept core.pool.blocks ended.uber.group ended.uber.group next.entries (omega arith)
         (subst (λ (group : ℕ). NoneFree core.pool.blocks group next.entries) (sym answered_number) kept);
     spared = spared;
-    odd = stands.odd;
+    excepted = stands.excepted;
     shape = stands.shape;
     tells = stands.tells;
     bank = record {
@@ -318,7 +317,7 @@ module _ (core : Core) (run ended : CommitRun) (out : ℕ) (old new : Disk) (of 
         (off_nowhere core.pool.uber.reflow (layout_of_call call)) (stands.each call listed);
   }
 
-pub commit_ends_calls : (before after : CoreState) (calls : List Call) (run : CommitRun) (group : ℕ)
+pub commit_ends_calls : (before after : CoreState) (calls : List HoldingCall) (run : CommitRun) (group : ℕ)
     → IsCommitOf before.core run → AnswersGroup before run after group → AreCallsOf before.core calls
     → AreCallsOf after.core calls
 commit_ends_calls before after calls run group of answers are = subst (λ (core : Core). AreCallsOf core calls)
@@ -326,7 +325,7 @@ commit_ends_calls before after calls run group of answers are = subst (λ (core 
     (answered_calls before.core run answers.ended after.core.pool.out before.disk after.disk of answers.ends calls are)
 
 -- A commit ends: its group is the last one.
-pub commit_ends_stands : (setting : Setting) (last next : Kept) (map : Map) (calls : List Call)
+pub commit_ends_stands : (setting : Setting) (last next : Kept) (map : Map) (calls : List HoldingCall)
     (before after : CoreState) (run : CommitRun) (group : ℕ)
     → AnswersGroup before run after group → IsWithin before.core.pool.out setting.failed
     → Stands setting last (next ∷ []) map calls (Some run) before
@@ -355,7 +354,7 @@ commit_ends_since setting before after run group groups time answers kept =
     subst (λ (p : Point). KeepsSince setting groups time p.disk) (sym answers.ends.same) kept
 
 -- A commit that is cut short, since too many devices are out.
-pub commit_is_cut : (setting : Setting) (last : Kept) (begun : List Kept) (map : Map) (calls : List Call)
+pub commit_is_cut : (setting : Setting) (last : Kept) (begun : List Kept) (map : Map) (calls : List HoldingCall)
     (state : CoreState) (run : CommitRun) → HasTooManyOut state.core
     → Stands setting last begun map calls (Some run) state
     → Stands setting last begun map calls None state
@@ -369,7 +368,7 @@ commit_is_cut setting last begun map calls state run many stands = record {
   alike = stands.alike;
   kept = stands.kept;
   spared = stands.spared;
-  odd = stands.odd;
+  excepted = stands.excepted;
   shape = stands.shape;
   tells = stands.tells;
   bank = stands.bank;

@@ -18,13 +18,13 @@ use Rattle.uberblock_ring.proofs.Digest.{sha256_is_digest}
 use Rattle.core_state.specs.declared.answer.Answer.{Answer}
 use Rattle.core_state.specs.declared.answer.Answer.TheVariants as answer
 use Rattle.core_state.specs.declared.answer.Kind.{Kind}
-use Rattle.core_state.specs.Committing.{Point}
+use Rattle.core_state.specs.Committing.{Point, point_of}
 use Rattle.core_blocks.specs.Blocks.{Blocks, AreInStep}
-use Rattle.core_client.specs.Outs.{point_of, OnlyFailedGoOut}
+use Rattle.core_client.specs.Outs.{OnlyFailedGoOut}
 use Rattle.core_client.proofs.Outs.{outs_none}
 use Rattle.core_commit.specs.declared.commit_run.CommitStep.{CommitStep}
 use Rattle.core_commit.specs.declared.commit_run.CommitStep.TheVariants.{Called, Ended}
-use Rattle.core_commit.specs.CommitTurns.{CommitRun, IsReady, HasEnded, Steps}
+use Rattle.core_commit.specs.CommitTurns.{CommitRun, IsMadeReady, HasEnded, CommitSteps}
 use Rattle.core_commit.specs.Spared.{IsOnInUse}
 use Rattle.core_commit.proofs.Stepping.{ready_keeps, steps_same, steps_went}
 use Rattle.core_commit.proofs.Touching.{touched_none, touched_more}
@@ -85,7 +85,7 @@ begun_commit core actor is none = record {
 
 -- The devices that go out in a step failed.
 pub step_outs : (before after : Point) (run stepped : CommitRun) (result : CommitStep)
-    → Steps run before stepped after result
+    → CommitSteps run before stepped after result
     → OnlyFailedGoOut before after
 step_outs before after run stepped result did = let went = steps_went result run stepped before after did in record {
   still = went.stay;
@@ -95,7 +95,7 @@ step_outs before after run stepped result did = let went = steps_went result run
 
 -- What the uberblock lists as out is out still: it lists what was listed, or what is out by now.
 listed_still : (core : Core) (run ready : CommitRun) → IsWithin run.uber.out core.pool.out
-    → IsReady core.pool.out run ready → IsWithin ready.uber.out core.pool.out
+    → IsMadeReady core.pool.out run ready → IsWithin ready.uber.out core.pool.out
 listed_still core run ready lists (inl (goes, same)) =
     subst (λ (r : CommitRun). IsWithin r.uber.out core.pool.out) (sym same) lists
 listed_still core run ready lists (inr (laid, same)) =
@@ -103,7 +103,7 @@ listed_still core run ready lists (inr (laid, same)) =
 
 step_lists : (core : Core) (run stepped : CommitRun) (out : ℕ) (old new : Disk) (result : CommitStep)
     → IsWithin run.uber.out core.pool.out → IsWithin core.pool.out out
-    → Steps run (point_of core.pool.out old) stepped (point_of out new) result → IsWithin stepped.uber.out out
+    → CommitSteps run (point_of core.pool.out old) stepped (point_of out new) result → IsWithin stepped.uber.out out
 step_lists core run stepped out old new Called lists still did =
     subst (λ (r : CommitRun). IsWithin r.uber.out out) (sym did.left)
     (λ device has. still device (listed_still core run did.ready lists did.is_ready device has))
@@ -131,7 +131,7 @@ step_uber core run stepped of same = same ∙ ap (λ (u : Uber). record u { out 
 
 -- The devices that are out stay those of the pool over a call.
 pub step_core : (core : Core) (run stepped : CommitRun) (old new : Disk) (out : ℕ) (result : CommitStep) → IsCore core
-    → IsCommitOf core run → Steps run (point_of core.pool.out old) stepped (point_of out new) result
+    → IsCommitOf core run → CommitSteps run (point_of core.pool.out old) stepped (point_of out new) result
     → out < 2 ^ stepped.uber.reflow.to
     → IsCore (record core { pool = record core.pool { out = out } })
 step_core core run stepped old new out result is of did below =
@@ -142,7 +142,7 @@ step_core core run stepped old new out result is of did below =
 
 -- A commit stays one of the core over a call.
 pub commit_stays : (core : Core) (run stepped : CommitRun) (out : ℕ) (old new : Disk) → IsCommitOf core run
-    → Steps run (point_of core.pool.out old) stepped (point_of out new) Called → IsWithin core.pool.out out
+    → CommitSteps run (point_of core.pool.out old) stepped (point_of out new) Called → IsWithin core.pool.out out
     → IsCommitOf (record core { pool = record core.pool { out = out } }) stepped
 commit_stays core run stepped out old new of did still =
     let same = (steps_same Called run stepped (point_of core.pool.out old) (point_of out new) did).0 in record {
@@ -208,7 +208,7 @@ answered_is core ended uber blocks out group uber_is group_is blocks_are out_is 
 
 -- The devices that a step touches are in use.
 pub step_touches : (core : Core) (run stepped : CommitRun) (out : ℕ) (old new : Disk) (result : CommitStep) → Lawful old
-    → IsCommitOf core run → Steps run (point_of core.pool.out old) stepped (point_of out new) result
+    → IsCommitOf core run → CommitSteps run (point_of core.pool.out old) stepped (point_of out new) result
     → TouchesOnly (IsOnInUse core.pool.uber.reflow.to core.pool.out) old new
 step_touches core run stepped out old new Called lawful of did =
     let widths : did.ready.uber.reflow ≡ core.pool.uber.reflow =
@@ -235,7 +235,7 @@ turn_nowhere state = record {
 -- What a turn of a commit does, whether its group is answered or not.
 pub turn_steps : (before after : CoreState) (run stepped : CommitRun) (result : CommitStep) → Lawful before.disk
     → IsCommitOf before.core run
-    → Steps run (point_of before.core.pool.out before.disk) stepped (point_of after.core.pool.out after.disk) result
+    → CommitSteps run (point_of before.core.pool.out before.disk) stepped (point_of after.core.pool.out after.disk) result
     → (after.core.pool.uber ≡ before.core.pool.uber) ⊎ (after.core.pool.uber ≡ stepped.uber)
     → TurnGoesOn before after
 turn_steps before after run stepped result lawful of did uber = record {
@@ -267,7 +267,7 @@ turn_steps before after run stepped result lawful of did uber = record {
 pub record IsStepped (before : CoreState) (run : CommitRun) (after : CoreState) : Type 0 where
   pub stepped : CommitRun
   pub kind : CommitStep
-  pub did : Steps run (point_of before.core.pool.out before.disk) stepped (point_of after.core.pool.out after.disk) kind
+  pub did : CommitSteps run (point_of before.core.pool.out before.disk) stepped (point_of after.core.pool.out after.disk) kind
   pub uber : (after.core.pool.uber ≡ before.core.pool.uber) ⊎ (after.core.pool.uber ≡ stepped.uber)
 
 pub commit_turn : (before after : CoreState) (run : CommitRun) (result : Turn CommitRun)

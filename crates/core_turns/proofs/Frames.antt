@@ -28,13 +28,14 @@ use Rattle.core_blocks.specs.Kept.{NoneFree, SparesAll}
 use Rattle.core_blocks.specs.Puts.{layout_at}
 use Rattle.core_blocks.specs.Runs.{AreClear}
 use Rattle.core_blocks.proofs.Lists.{gains_cases}
-use Rattle.core_client.specs.Outs.{point_of, OnlyFailedGoOut}
+use Rattle.core_client.specs.Outs.{OnlyFailedGoOut}
+use Rattle.core_state.specs.Committing.{point_of}
 use Rattle.core_client.specs.Pool.{IsInPool, IsRightBlock}
 use Rattle.core_client.specs.Writing.{IsPlanOf}
 use Rattle.core_client.specs.BlockTurns.{IsWrittenSoFar}
 use Rattle.core_client.proofs.BlockTurns.{written_stays}
 use Rattle.core_commit.specs.CommitTurns.{CommitRun}
-use Rattle.core_commit.specs.Spared.{Spares}
+use Rattle.core_commit.specs.Spared.{SparesData}
 use Rattle.core_commit.proofs.Beside.{committing_unchanged}
 use Rattle.open_pool.specs.Pool.{HasBank, HoldsMap, IsTableOf}
 use Rattle.open_pool.proofs.Banks.{bank_later, count_grows}
@@ -45,7 +46,7 @@ use Rattle.core_turns.specs.Core.{Core, CoreState, pool_at}
 use Rattle.core_turns.specs.Getting.{IsGetOf, HoldsGet}
 use Rattle.core_turns.specs.Putting.{IsPutOf, HoldsPut}
 use Rattle.core_turns.specs.Committing.{IsCommitOf}
-use Rattle.core_turns.specs.UnderWay.{Call, Putting, Reading, hold_of_call, layout_of_call, ranges_of, IsCallOf, HoldsCall, AreCallsOf, PutsSpare, GroupsStand, Stands}
+use Rattle.core_turns.specs.UnderWay.{HoldingCall, Putting, Reading, hold_of_call, layout_of_call, ranges_of, IsCallOfCore, HoldsCall, AreCallsOf, PutsSpare, GroupsStand, Stands}
 use Rattle.core_turns.proofs.Beside.{IsWrittenTo, never_both, written_cell}
 use Rattle.core_turns.proofs.GetLaws.{get_stays}
 
@@ -111,7 +112,7 @@ leaves_touched P before after core within touched = record {
 -- and a step of a commit leaves all data sectors.
 pub leaves_spared : (before after : CoreState) → OnlyOut before.core after.core
     → IsWithin before.core.pool.out after.core.pool.out
-    → Spares (point_of before.core.pool.out before.disk) (point_of after.core.pool.out after.disk)
+    → SparesData (point_of before.core.pool.out before.disk) (point_of after.core.pool.out after.disk)
     → Leaves Nowhere before after
 leaves_spared before after core within spares = record {
   parity = ap (λ (c : Core). c.pool.uber.parity) core;
@@ -163,7 +164,7 @@ get_block_stays P content before after run leaves off holds = get_stays content 
     (off content cell device device_sector is place) ∙ read)
     holds
 
-pub call_stays : (P : ℕ → ℕ → Type 0) (before after : CoreState) (call : Call) → Leaves P before after
+pub call_stays : (P : ℕ → ℕ → Type 0) (before after : CoreState) (call : HoldingCall) → Leaves P before after
     → IsOff P before.core.pool.uber.reflow (layout_of_call call) → HoldsCall before call → HoldsCall after call
 call_stays P before after (Putting run content) leaves off holds = put_stays P content before after run leaves off holds
 call_stays P before after (Reading run content) leaves off holds = get_block_stays P content before after run leaves
@@ -237,13 +238,13 @@ get_of_stays old new run widths listed of = record {
   });
 }
 
-pub call_of_stays : (old new : Core) (call : Call) → KeepsWidths old new → Contains new.holds (hold_of_call call)
-    → IsCallOf old call → IsCallOf new call
+pub call_of_stays : (old new : Core) (call : HoldingCall) → KeepsWidths old new → Contains new.holds (hold_of_call call)
+    → IsCallOfCore old call → IsCallOfCore new call
 call_of_stays old new (Putting run content) widths listed of = put_of_stays old new run widths listed of
 call_of_stays old new (Reading run content) widths listed of = (of.0, get_of_stays old new run widths listed of.1)
 
 -- The hold of a call is there,
-pub hold_listed : (core : Core) (call : Call) → IsCallOf core call → Contains core.holds (hold_of_call call)
+pub hold_listed : (core : Core) (call : HoldingCall) → IsCallOfCore core call → Contains core.holds (hold_of_call call)
 hold_listed core (Putting run content) of = of.holds
 hold_listed core (Reading run content) of = of.1.holds
 
@@ -257,7 +258,7 @@ ends_other old new gone hold ends listed apart = ⊎_elim
     (record { before = ends.before; after = ends.after; was = ends.is; is = ends.was }) listed)
 
 -- The calls under way stay so while the widths, their holds and the puts' ranges do,
-pub calls_keep : (old new : Core) (calls : List Call) → KeepsWidths old new
+pub calls_keep : (old new : Core) (calls : List HoldingCall) → KeepsWidths old new
     → ((hold : Hold) → Contains old.holds hold → Contains new.holds hold)
     → AreUnderWay new.pool.blocks (ranges_of calls) → AreCallsOf old calls → AreCallsOf new calls
 calls_keep old new calls widths kept under are = record {
@@ -268,7 +269,7 @@ calls_keep old new calls widths kept under are = record {
 }
 
 -- and so where only devices went out.
-pub calls_stay : (old new : Core) (calls : List Call) → OnlyOut old new → AreCallsOf old calls → AreCallsOf new calls
+pub calls_stay : (old new : Core) (calls : List HoldingCall) → OnlyOut old new → AreCallsOf old calls → AreCallsOf new calls
 calls_stay old new calls core are = calls_keep old new calls (widths_out old new core)
     (λ hold listed. subst (λ (c : Core). Contains c.holds hold) (sym core) listed)
     (subst (λ (c : Core). AreUnderWay c.pool.blocks (ranges_of calls)) (sym core) are.under) are
@@ -335,7 +336,7 @@ lawful_before {old = old} {new = new} same lawful = record {
     could d x = ap (λ (t : ℕ). new.could t d x) same.clock ∙ (same.goes_on.later.past old.clock (omega arith) d x).1
 
 -- The groups stand still where devices were read,
-pub groups_read : (setting : Setting) (last : Kept) (begun : List Kept) (calls : List Call) (commit : Option CommitRun)
+pub groups_read : (setting : Setting) (last : Kept) (begun : List Kept) (calls : List HoldingCall) (commit : Option CommitRun)
     (before after : CoreState) → OnlyOut before.core after.core → Unchanged before.disk after.disk
     → OnlyFailedGoOut (point_of before.core.pool.out before.disk) (point_of after.core.pool.out after.disk)
     → Lawful after.disk → GroupsStand setting last begun calls commit before
@@ -376,11 +377,11 @@ since_read setting groups time old new same since = record {
 
 -- What stands, where uberblock and blocks are as they were: the groups and the calls are told anew.
 pub stands_still : (P : ℕ → ℕ → Type 0) (setting : Setting) (last : Kept) (begun : List Kept) (map : Map)
-    (calls nexts : List Call) (commit next : Option CommitRun) (before after : CoreState)
+    (calls nexts : List HoldingCall) (commit next : Option CommitRun) (before after : CoreState)
     → Leaves P before after → AreOff P before.core → after.core.pool.uber ≡ before.core.pool.uber
     → after.core.pool.blocks ≡ before.core.pool.blocks → Later before.disk after.disk
     → GroupsStand setting last begun nexts next after → PutsSpare after nexts last → AreCallsOf after.core nexts
-    → ((call : Call) → Contains nexts call → HoldsCall after call)
+    → ((call : HoldingCall) → Contains nexts call → HoldsCall after call)
     → Stands setting last begun map calls commit before → Stands setting last begun map nexts next after
 stands_still P setting last begun map calls nexts commit next before after leaves off uber blocks later groups spared
     are each stands = record {
@@ -389,7 +390,7 @@ stands_still P setting last begun map calls nexts commit next before after leave
       kept = subst (λ (u : Uber). NoneFree after.core.pool.blocks u.group last.entries) (sym uber)
           (subst (λ (b : Blocks). NoneFree b before.core.pool.uber.group last.entries) (sym blocks) stands.kept);
       spared = spared;
-      odd = stands.odd;
+      excepted = stands.excepted;
       shape = stands.shape ∙ (λ i. record { devices = sym later.devices i; sectors = sym later.sectors i });
       tells = tells_later later stands.tells;
       bank = subst (λ (u : Uber). HasBank u after.core.pool.out after.disk) (sym uber)
@@ -402,10 +403,10 @@ stands_still P setting last begun map calls nexts commit next before after leave
 
 -- So it is where only devices went out.
 pub stands_anew : (P : ℕ → ℕ → Type 0) (setting : Setting) (last : Kept) (begun : List Kept) (map : Map)
-    (calls nexts : List Call) (commit next : Option CommitRun) (before after : CoreState)
+    (calls nexts : List HoldingCall) (commit next : Option CommitRun) (before after : CoreState)
     → Leaves P before after → AreOff P before.core → OnlyOut before.core after.core → Later before.disk after.disk
     → GroupsStand setting last begun nexts next after → PutsSpare after nexts last → AreCallsOf after.core nexts
-    → ((call : Call) → Contains nexts call → HoldsCall after call)
+    → ((call : HoldingCall) → Contains nexts call → HoldsCall after call)
     → Stands setting last begun map calls commit before → Stands setting last begun map nexts next after
 stands_anew P setting last begun map calls nexts commit next before after leaves off core = stands_still P setting last
     begun map calls nexts commit next before after leaves off (ap (λ (c : Core). c.pool.uber) core)
@@ -413,8 +414,8 @@ stands_anew P setting last begun map calls nexts commit next before after leaves
 
 -- What stands, over a turn that is none of these calls', as a step of a commit.
 pub stands_frame : (P : ℕ → ℕ → Type 0) (setting : Setting) (last : Kept) (begun : List Kept) (map : Map)
-    (calls : List Call) (commit next : Option CommitRun) (before after : CoreState) → Leaves P before after
-    → ((call : Call) → Contains calls call → IsOff P before.core.pool.uber.reflow (layout_of_call call))
+    (calls : List HoldingCall) (commit next : Option CommitRun) (before after : CoreState) → Leaves P before after
+    → ((call : HoldingCall) → Contains calls call → IsOff P before.core.pool.uber.reflow (layout_of_call call))
     → AreOff P before.core → OnlyOut before.core after.core → Later before.disk after.disk
     → GroupsStand setting last begun calls next after
     → Stands setting last begun map calls commit before → Stands setting last begun map calls next after

@@ -17,9 +17,10 @@ use Rattle.core_state.specs.Map.{Map}
 use Rattle.core_state.specs.Whole.{Cell, IsCell}
 use Rattle.core_blocks.proofs.Listed.{found_id, found_listed}
 use Rattle.core_client.specs.Got.{HasLostFew}
-use Rattle.core_client.specs.Outs.{point_of, OnlyFailedGoOut}
+use Rattle.core_client.specs.Outs.{OnlyFailedGoOut}
+use Rattle.core_state.specs.Committing.{point_of}
 use Rattle.core_client.specs.Pool.{IsRightBlock}
-use Rattle.core_client.specs.BlockTurns.{IsPlace, IsReadSoFar}
+use Rattle.core_client.specs.BlockTurns.{IsAtColumn, IsReadSoFar}
 use Rattle.core_client.proofs.BlockTurns.{read_begun, read_stays, read_more, read_left_over, read_lost_few}
 use Rattle.core_turns.specs.Getting.{IsReadRight}
 use Rattle.open_pool.specs.Pool.{HoldsMap}
@@ -32,7 +33,7 @@ use Rattle.core_turns.specs.declared.getting.Solved.TheVariants.{NotYet, Bytes, 
 use Rattle.core_turns.specs.declared.turn.Turn.{Turn}
 use Rattle.core_turns.specs.declared.turn.Turn.TheVariants.{More, Busy, Done}
 use Rattle.core_turns.specs.Core.{Core, CoreState, at_disk, pool_at}
-use Rattle.core_turns.specs.Getting.{IsRead, HasTooManyOut, IsGetOf, BeginsGet, ReadsTurn, IsSolved, IsLeftOf, SolvesGet, AnswersSolved, EndsGet, IsSolvedAs, HoldsGet, FindsGet, KeepsGet, TellsGet, answer_of}
+use Rattle.core_turns.specs.Getting.{IsReadKind, HasTooManyOut, IsGetOf, BeginsGet, ReadsTurn, IsSolved, SolvesWhatIsLeft, SolvesGet, AnswersSolved, EndsGet, IsSolvedAs, HoldsGet, FindsGet, KeepsGet, TellsGet, answer_of}
 
 -- A read that begins holds the block that the map has at its id.
 pub get_finds : (map : Map) (old new : Core) (disk : Disk) (actor id : ℕ) (asked : Kind) (result : Turn GetRun)
@@ -69,7 +70,7 @@ get_finds map old new disk actor id asked (Done given) holds begins = λ absent.
 
 -- A read that has one column more is of its block still.
 pub get_reads : (content : List ℕ) (before after : CoreState) (run : GetRun) (result : Turn GetRun)
-    → IsGetOf before.core run → IsPlace run.read → run.read.row < rows_of run.read.layout
+    → IsGetOf before.core run → IsAtColumn run.read → run.read.row < rows_of run.read.layout
     → Unchanged before.disk after.disk
     → OnlyFailedGoOut (point_of before.core.pool.out before.disk) (point_of after.core.pool.out after.disk)
     → HoldsGet content before run → ReadsTurn before run after result → KeepsGet content after result
@@ -116,13 +117,13 @@ get_solves content state run next whole of holds solves = subst (HoldsGet conten
         ⊎_elim (λ many. absurd (few many)) (λ low. omega (arith, low, parity))
         (cases_lt state.core.pool.uber.parity (count_of state.core.pool.out)))
 
-    by : (HasTooManyOut state.core → ⊥) → (solved : Solved) → IsSolved run solved → IsLeftOf run solved → IsSolvedAs content solved
+    by : (HasTooManyOut state.core → ⊥) → (solved : Solved) → IsSolved run solved → SolvesWhatIsLeft run solved → IsSolvedAs content solved
     by few NotYet is left = tt
     by few (Bytes bytes) is left = left content left_over holds.len_is holds.are_bytes holds.digest_is (lost_few few)
     by few Damaged is left = is content left_over holds.len_is holds.are_bytes holds.digest_is (lost_few few)
 
 -- A read is answered by its block, or was cut short.
-pub get_tells : (content : List ℕ) (old new : Core) (disk : Disk) (run : GetRun) (result : Turn GetRun) → IsRead run.kind
+pub get_tells : (content : List ℕ) (old new : Core) (disk : Disk) (run : GetRun) (result : Turn GetRun) → IsReadKind run.kind
     → HoldsGet content (at_disk old disk) run → EndsGet old run new result → TellsGet content run result
 get_tells content old new disk run (More next) asked holds ends = absurd ends
 get_tells content old new disk run (Busy by) asked holds ends = absurd ends
@@ -132,7 +133,7 @@ get_tells content old new disk run (Done given) asked holds ends = ⊎_elim
     by run.solved (holds.solved few) (ends.solved few))
     (cases_lt old.pool.uber.parity (count_of old.pool.out))
   where
-    told : (bytes : List ℕ) (asked : Kind) → IsRead asked → bytes ≡ content
+    told : (bytes : List ℕ) (asked : Kind) → IsReadKind asked → bytes ≡ content
         → IsReadRight (Some content) asked (answer_of asked run.entry bytes)
     told bytes kind.Get is same = same
     told bytes kind.Sum is same = (sym holds.len_is, sym holds.digest_is)

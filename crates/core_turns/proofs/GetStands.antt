@@ -24,8 +24,9 @@ use Rattle.core_blocks.specs.Kept.{NoneFree, SparesAll}
 use Rattle.core_blocks.specs.Runs.{AreClear}
 use Rattle.core_blocks.proofs.Listed.{found_listed}
 use Rattle.core_blocks.proofs.Lists.{gains_old, gains_item, gains_cases}
-use Rattle.core_client.specs.Outs.{point_of, OnlyFailedGoOut}
-use Rattle.core_client.specs.BlockTurns.{IsPlace}
+use Rattle.core_client.specs.Outs.{OnlyFailedGoOut}
+use Rattle.core_state.specs.Committing.{point_of}
+use Rattle.core_client.specs.BlockTurns.{IsAtColumn}
 use Rattle.core_commit.specs.CommitTurns.{CommitRun, IsCommitting}
 use Rattle.core_turns.specs.Freeing.{map_after_free}
 use Rattle.open_pool.specs.Pool.{HasBank, HoldsMap}
@@ -35,9 +36,9 @@ use Rattle.core_turns.specs.declared.putting.PutRun.{PutRun}
 use Rattle.core_turns.specs.declared.turn.Turn.TheVariants.{More, Done}
 use Rattle.core_turns.specs.Core.{Core, IsCore, CoreState, at_disk, pool_at}
 use Rattle.core_turns.specs.Freeing.{FreesBlock}
-use Rattle.core_turns.specs.Getting.{IsRead, BeginsGet, ReadsTurn, SolvesGet, EndsGet, TellsGet}
+use Rattle.core_turns.specs.Getting.{IsReadKind, BeginsGet, ReadsTurn, SolvesGet, EndsGet, TellsGet}
 use Rattle.core_turns.specs.Committing.{IsCommitOf}
-use Rattle.core_turns.specs.UnderWay.{Call, Putting, Reading, hold_of_call, layout_of_call, ranges_of, HoldsCall, HaveNoneInCommon, AreCallsOf, PutsSpare, CommitStands, NoCommitStands, GroupsStand, Stands}
+use Rattle.core_turns.specs.UnderWay.{HoldingCall, Putting, Reading, hold_of_call, layout_of_call, ranges_of, HoldsCall, HaveNoneInCommon, AreCallsOf, PutsSpare, CommitStands, NoCommitStands, GroupsStand, Stands}
 use Rattle.core_turns.proofs.Calls.{range_listed, ranges_read, calls_gain, calls_lose, calls_swap}
 use Rattle.core_turns.proofs.Frames.{Leaves, KeepsWidths, off_nowhere, leaves_read, call_stays, calls_keep, calls_stay, groups_read, stands_still, stands_anew}
 use Rattle.core_turns.proofs.GetLaws.{get_finds, get_reads, get_solves, get_tells}
@@ -64,7 +65,7 @@ widths_held old new core = record {
 }
 
 -- The ranges of the puts beside a read are those of all.
-under_read : (old new : Core) (left calls : List Call) (run : GetRun) (content : List ℕ)
+under_read : (old new : Core) (left calls : List HoldingCall) (run : GetRun) (content : List ℕ)
     → new.pool.blocks ≡ old.pool.blocks → Gains left calls (Reading run content)
     → (AreUnderWay old.pool.blocks (ranges_of left) → AreUnderWay new.pool.blocks (ranges_of calls))
     × (AreUnderWay old.pool.blocks (ranges_of calls) → AreUnderWay new.pool.blocks (ranges_of left))
@@ -78,14 +79,14 @@ under_read old new left calls run content blocks gains =
 
 -- A read begins: no put has a sector of its block, which stands in the table.
 pub get_begins_calls : (old new : Core) (actor id : ℕ) (asked : Kind) (run : GetRun) (content : List ℕ)
-    (left calls : List Call) → IsRead asked → IsCore old → BeginsGet old new actor asked id (More run)
-    → ((call : Call) → Contains left call → (hold_of_call call).actor ≢ actor) → Gains left calls (Reading run content)
+    (left calls : List HoldingCall) → IsReadKind asked → IsCore old → BeginsGet old new actor asked id (More run)
+    → ((call : HoldingCall) → Contains left call → (hold_of_call call).actor ≢ actor) → Gains left calls (Reading run content)
     → AreCallsOf old left → AreCallsOf new calls
 get_begins_calls old new actor id asked run content left calls reads is begins apart gains are =
     calls_gain old new left calls (Reading run content) gains (widths_held old new (begins_held old new _ begins.6))
     (λ hold listed. begins_holds old new actor id asked (More run) hold begins listed)
     ((under_read old new left calls run content (ap (λ (c : Core). c.pool.blocks) begins.6) gains).0 are.under)
-    (subst IsRead (sym begins.2) reads, begins.7)
+    (subst IsReadKind (sym begins.2) reads, begins.7)
     (λ other listed. record {
       actors = λ same. apart other listed (sym same ∙ ap (λ (h : Hold). h.actor) begins.4);
       apart = none_in_common other listed;
@@ -95,7 +96,7 @@ get_begins_calls old new actor id asked run content left calls reads is begins a
     its_layout : layout_of old.pool.blocks.parity old.pool.blocks.births run.entry ≡ run.read.layout
     its_layout = (λ i. layout_of (is.is.parity i) (is.is.births i) run.entry) ∙ sym begins.5.layout_is
 
-    none_in_common : (other : Call) → Contains left other → HaveNoneInCommon (Reading run content) other
+    none_in_common : (other : HoldingCall) → Contains left other → HaveNoneInCommon (Reading run content) other
     none_in_common (Reading other held) listed = tt
     none_in_common (Putting put held) listed =
         subst (λ (l : Layout). AreClear (layout_run l) (put_run put.range)) its_layout
@@ -103,14 +104,14 @@ get_begins_calls old new actor id asked run content left calls reads is begins a
         (found_listed old.pool.blocks.table.entries id run.entry begins.1) sector there here)
 
 -- One that goes on with its block has no more in common with others than before.
-read_apart : (run next : GetRun) (content : List ℕ) (other : Call) → next.read.layout ≡ run.read.layout
+read_apart : (run next : GetRun) (content : List ℕ) (other : HoldingCall) → next.read.layout ≡ run.read.layout
     → HaveNoneInCommon (Reading run content) other → HaveNoneInCommon (Reading next content) other
 read_apart run next content (Reading other held) same apart = tt
 read_apart run next content (Putting put held) same apart =
     subst (λ (l : Layout). AreClear (layout_run l) (layout_run put.range.layout)) (sym same) apart
 
 -- A column more is read.
-pub get_reads_calls : (before after : CoreState) (run next : GetRun) (content : List ℕ) (left calls nexts : List Call)
+pub get_reads_calls : (before after : CoreState) (run next : GetRun) (content : List ℕ) (left calls nexts : List HoldingCall)
     → ReadsTurn before run after (More next) → Gains left calls (Reading run content)
     → Gains left nexts (Reading next content) → AreCallsOf before.core calls → AreCallsOf after.core nexts
 get_reads_calls before after run next content left calls nexts reads gains again are =
@@ -119,13 +120,13 @@ get_reads_calls before after run next content left calls nexts reads gains again
     calls_swap after.core left calls nexts (Reading run content) (Reading next content) gains again
     (ap (λ (r : GetRun). r.hold) reads.1)
     (λ other apart. read_apart run next content other reads.3.on.layout_is apart)
-    (subst IsRead (sym (ap (λ (r : GetRun). r.kind) reads.1)) of.0, get_of_more before after run (More next) of.1 reads)
+    (subst IsReadKind (sym (ap (λ (r : GetRun). r.kind) reads.1)) of.0, get_of_more before after run (More next) of.1 reads)
     ((under_read after.core after.core left nexts next content refl again).0
     ((under_read after.core after.core left calls run content refl gains).1 stay.under))
     stay
 
 -- The block is solved.
-pub get_solves_calls : (core : Core) (run next : GetRun) (content : List ℕ) (left calls nexts : List Call)
+pub get_solves_calls : (core : Core) (run next : GetRun) (content : List ℕ) (left calls nexts : List HoldingCall)
     → SolvesGet run next → Gains left calls (Reading run content) → Gains left nexts (Reading next content)
     → AreCallsOf core calls → AreCallsOf core nexts
 get_solves_calls core run next content left calls nexts solves gains again are =
@@ -133,13 +134,13 @@ get_solves_calls core run next content left calls nexts solves gains again are =
     calls_swap core left calls nexts (Reading run content) (Reading next content) gains again
     (ap (λ (r : GetRun). r.hold) solves.rest)
     (λ other apart. read_apart run next content other (ap (λ (r : GetRun). r.read.layout) solves.rest) apart)
-    (subst IsRead (sym (ap (λ (r : GetRun). r.kind) solves.rest)) of.0, solved_of core run next solves of.1)
+    (subst IsReadKind (sym (ap (λ (r : GetRun). r.kind) solves.rest)) of.0, solved_of core run next solves of.1)
     ((under_read core core left nexts next content refl again).0
     ((under_read core core left calls run content refl gains).1 are.under))
     are
 
 -- A read's hold ends, and the read with it:
-read_lost_calls : (old new : Core) (run : GetRun) (content : List ℕ) (left calls : List Call) → OnlyHolds old new
+read_lost_calls : (old new : Core) (run : GetRun) (content : List ℕ) (left calls : List HoldingCall) → OnlyHolds old new
     → EndsHold old.holds new.holds run.hold → Gains left calls (Reading run content) → AreCallsOf old calls
     → AreCallsOf new left
 read_lost_calls old new run content left calls core ends gains are =
@@ -148,14 +149,14 @@ read_lost_calls old new run content left calls core ends gains are =
 
 -- too many devices are out,
 pub get_stops_calls : (before after : CoreState) (run : GetRun) (content : List ℕ) (given : Answer)
-    (left calls : List Call)
+    (left calls : List HoldingCall)
     → ReadsTurn before run after (Done given) → Gains left calls (Reading run content) → AreCallsOf before.core calls
     → AreCallsOf after.core left
 get_stops_calls before after run content given left calls stops gains are =
     read_lost_calls before.core after.core run content left calls stops.0.rest stops.0.ends gains are
 
 -- or it is answered.
-pub get_ends_calls : (old new : Core) (run : GetRun) (content : List ℕ) (given : Answer) (left calls : List Call)
+pub get_ends_calls : (old new : Core) (run : GetRun) (content : List ℕ) (given : Answer) (left calls : List HoldingCall)
     → EndsGet old run new (Done given) → Gains left calls (Reading run content) → AreCallsOf old calls
     → AreCallsOf new left
 get_ends_calls old new run content given left calls ends gains are =
@@ -211,7 +212,7 @@ freed old new id (answer.Limit reached) frees = absurd frees
 freed old new id answer.NoMemory frees = absurd frees
 
 -- A free leaves all calls under way, reads of its block too.
-pub frees_calls : (old new : Core) (id : ℕ) (given : Answer) (calls : List Call) → FreesBlock old new id given
+pub frees_calls : (old new : Core) (id : ℕ) (given : Answer) (calls : List HoldingCall) → FreesBlock old new id given
     → ((ranges : List PutRange) → AreUnderWay old.pool.blocks ranges → AreUnderWay new.pool.blocks ranges)
     → AreCallsOf old calls → AreCallsOf new calls
 frees_calls old new id given calls frees under are =
@@ -230,7 +231,7 @@ frees_calls old new id given calls frees under are =
 -- ---- all that stands
 
 -- No put is among these calls that was not among those.
-abbrev AddsNoPut : List Call → List Call → Type 0
+abbrev AddsNoPut : List HoldingCall → List HoldingCall → Type 0
 AddsNoPut calls nexts =
     (run : PutRun) (content : List ℕ) → Contains nexts (Putting run content) → Contains calls (Putting run content)
 
@@ -238,7 +239,7 @@ reading_putting : {read : GetRun} {put : PutRun} {content held : List ℕ} → R
 reading_putting same = cc
 
 -- A read that comes adds none,
-read_adds : (left calls : List Call) (run : GetRun) (content : List ℕ) → Gains left calls (Reading run content)
+read_adds : (left calls : List HoldingCall) (run : GetRun) (content : List ℕ) → Gains left calls (Reading run content)
     → AddsNoPut left calls
 read_adds left calls run content gains put held listed = ⊎_elim
     (λ (same : Reading run content ≡ Putting put held). absurd (reading_putting same))
@@ -246,13 +247,13 @@ read_adds left calls run content gains put held listed = ⊎_elim
     (gains_cases left calls (Reading run content) (Putting put held) gains listed)
 
 -- one that ends too.
-read_loses : (left calls : List Call) (run : GetRun) (content : List ℕ) → Gains left calls (Reading run content)
+read_loses : (left calls : List HoldingCall) (run : GetRun) (content : List ℕ) → Gains left calls (Reading run content)
     → AddsNoPut calls left
 read_loses left calls run content gains put held listed =
     gains_old left calls (Reading run content) (Putting put held) gains listed
 
 -- The groups stand beside other calls where no put is added and only holds came or went.
-groups_held : (setting : Setting) (last : Kept) (begun : List Kept) (calls nexts : List Call)
+groups_held : (setting : Setting) (last : Kept) (begun : List Kept) (calls nexts : List HoldingCall)
     (commit : Option CommitRun) (old new : Core) (disk : Disk) → OnlyHolds old new → AddsNoPut calls nexts
     → GroupsStand setting last begun calls commit (at_disk old disk)
     → GroupsStand setting last begun nexts commit (at_disk new disk)
@@ -277,9 +278,9 @@ groups_held setting last begun calls nexts (Some run) old new disk core adds gro
 
 module _ (setting : Setting) (last : Kept) (begun : List Kept) (map : Map) (commit : Option CommitRun) where
   -- What stands, where only holds came or went and reads are told anew.
-  stands_held : (calls nexts : List Call) (old new : Core) (disk : Disk) → OnlyHolds old new → AddsNoPut calls nexts
+  stands_held : (calls nexts : List HoldingCall) (old new : Core) (disk : Disk) → OnlyHolds old new → AddsNoPut calls nexts
       → AreCallsOf new nexts
-      → ((call : Call) → Contains nexts call → HoldsCall (at_disk new disk) call ⊎ Contains calls call)
+      → ((call : HoldingCall) → Contains nexts call → HoldsCall (at_disk new disk) call ⊎ Contains calls call)
       → Stands setting last begun map calls commit (at_disk old disk)
       → Stands setting last begun map nexts commit (at_disk new disk)
   stands_held calls nexts old new disk core adds are each stands =
@@ -304,12 +305,12 @@ module _ (setting : Setting) (last : Kept) (begun : List Kept) (map : Map) (comm
       stands
 
   -- A read that begins is of the block that the map has at its id.
-  pub get_begins_stands : (old new : Core) (disk : Disk) (actor id : ℕ) (asked : Kind) (run : GetRun) (left : List Call)
-      → IsRead asked → IsCore old → BeginsGet old new actor asked id (More run)
-      → ((call : Call) → Contains left call → (hold_of_call call).actor ≢ actor)
+  pub get_begins_stands : (old new : Core) (disk : Disk) (actor id : ℕ) (asked : Kind) (run : GetRun) (left : List HoldingCall)
+      → IsReadKind asked → IsCore old → BeginsGet old new actor asked id (More run)
+      → ((call : HoldingCall) → Contains left call → (hold_of_call call).actor ≢ actor)
       → Stands setting last begun map left commit (at_disk old disk)
       → (content : List ℕ) × (map id ≡ Some content)
-      × ((calls : List Call) → Gains left calls (Reading run content)
+      × ((calls : List HoldingCall) → Gains left calls (Reading run content)
       → Stands setting last begun map calls commit (at_disk new disk))
   get_begins_stands old new disk actor id asked run left reads is begins apart stands =
       let found = get_finds map old new disk actor id asked (More run) stands.holds begins in (
@@ -327,7 +328,7 @@ module _ (setting : Setting) (last : Kept) (begun : List Kept) (map : Map) (comm
 
   -- It reads a column more,
   pub get_reads_stands : (before after : CoreState) (run next : GetRun) (content : List ℕ)
-      (left calls nexts : List Call) → IsPlace run.read → run.read.row < rows_of run.read.layout
+      (left calls nexts : List HoldingCall) → IsAtColumn run.read → run.read.row < rows_of run.read.layout
       → ReadsTurn before run after (More next) → Unchanged before.disk after.disk
       → OnlyFailedGoOut (point_of before.core.pool.out before.disk) (point_of after.core.pool.out after.disk)
       → Lawful after.disk → Gains left calls (Reading run content) → Gains left nexts (Reading next content)
@@ -360,7 +361,7 @@ module _ (setting : Setting) (last : Kept) (begun : List Kept) (map : Map) (comm
           (read_adds left nexts next content again put held has)
 
   -- and is solved.
-  pub get_solves_stands : (state : CoreState) (run next : GetRun) (content : List ℕ) (left calls nexts : List Call)
+  pub get_solves_stands : (state : CoreState) (run next : GetRun) (content : List ℕ) (left calls nexts : List HoldingCall)
       → SolvesGet run next → run.read.row ≡ rows_of run.read.layout → Gains left calls (Reading run content)
       → Gains left nexts (Reading next content) → Stands setting last begun map calls commit state
       → Stands setting last begun map nexts commit state
@@ -379,7 +380,7 @@ module _ (setting : Setting) (last : Kept) (begun : List Kept) (map : Map) (comm
       stands
 
   -- A read is gone, and its hold with it:
-  read_lost_stands : (old new : Core) (disk : Disk) (run : GetRun) (content : List ℕ) (left calls : List Call)
+  read_lost_stands : (old new : Core) (disk : Disk) (run : GetRun) (content : List ℕ) (left calls : List HoldingCall)
       → OnlyHolds old new → EndsHold old.holds new.holds run.hold → Gains left calls (Reading run content)
       → Stands setting last begun map calls commit (at_disk old disk)
       → Stands setting last begun map left commit (at_disk new disk)
@@ -391,7 +392,7 @@ module _ (setting : Setting) (last : Kept) (begun : List Kept) (map : Map) (comm
 
   -- too many devices are out,
   pub get_stops_stands : (before after : CoreState) (run : GetRun) (content : List ℕ) (given : Answer)
-      (left calls : List Call) → ReadsTurn before run after (Done given) → Gains left calls (Reading run content)
+      (left calls : List HoldingCall) → ReadsTurn before run after (Done given) → Gains left calls (Reading run content)
       → Stands setting last begun map calls commit before → Stands setting last begun map left commit after
   get_stops_stands before after run content given left calls stops gains stands =
       subst (λ (d : Disk). Stands setting last begun map left commit (at_disk after.core d)) (sym stops.1)
@@ -400,7 +401,7 @@ module _ (setting : Setting) (last : Kept) (begun : List Kept) (map : Map) (comm
 
   -- or it is answered by its block.
   pub get_ends_stands : (old new : Core) (disk : Disk) (run : GetRun) (content : List ℕ) (given : Answer)
-      (left calls : List Call) → EndsGet old run new (Done given) → Gains left calls (Reading run content)
+      (left calls : List HoldingCall) → EndsGet old run new (Done given) → Gains left calls (Reading run content)
       → Stands setting last begun map calls commit (at_disk old disk)
       → Stands setting last begun map left commit (at_disk new disk) × TellsGet content run (Done given)
   get_ends_stands old new disk run content given left calls ends gains stands =
@@ -413,7 +414,7 @@ module _ (setting : Setting) (last : Kept) (begun : List Kept) (map : Map) (comm
 -- ---- frees
 
 -- No put has a sector of these blocks, while the widths stay.
-spared_still : (old new : Core) (disk : Disk) (calls : List Call) (kept : Kept)
+spared_still : (old new : Core) (disk : Disk) (calls : List HoldingCall) (kept : Kept)
     → new.pool.blocks.parity ≡ old.pool.blocks.parity → new.pool.blocks.births ≡ old.pool.blocks.births
     → PutsSpare (at_disk old disk) calls kept → PutsSpare (at_disk new disk) calls kept
 spared_still old new disk calls kept parity births spared = λ put held listed.
@@ -422,7 +423,7 @@ spared_still old new disk calls kept parity births spared = λ put held listed.
     (spared put held listed))
 
 -- A free leaves the groups.
-frees_groups : (setting : Setting) (last : Kept) (begun : List Kept) (calls : List Call) (commit : Option CommitRun)
+frees_groups : (setting : Setting) (last : Kept) (begun : List Kept) (calls : List HoldingCall) (commit : Option CommitRun)
     (old new : Core) (disk : Disk) (id : ℕ) (given : Answer) → Freed old new id given
     → ((past : ℕ) (kept : List IndexEntry) → past < old.begun + 1 → NoneFree old.pool.blocks past kept
     → NoneFree new.pool.blocks past kept)
@@ -449,7 +450,7 @@ frees_groups setting last begun calls (Some run) old new disk id given left kept
 }
 
 -- A free leaves what stands, and the map without its block.
-pub frees_stands : (setting : Setting) (last : Kept) (begun : List Kept) (map : Map) (calls : List Call)
+pub frees_stands : (setting : Setting) (last : Kept) (begun : List Kept) (map : Map) (calls : List HoldingCall)
     (commit : Option CommitRun) (old new : Core) (disk : Disk) (id : ℕ) (given : Answer) → IsCore old
     → FreesBlock old new id given
     → ((ranges : List PutRange) → AreUnderWay old.pool.blocks ranges → AreUnderWay new.pool.blocks ranges)
@@ -467,7 +468,7 @@ frees_stands setting last begun map calls commit old new disk id given is frees 
       kept = subst (λ (u : Uber). NoneFree new.pool.blocks u.group last.entries) (sym uber)
           (kept old.pool.uber.group last.entries (let begun = is.begun in omega (arith, begun)) stands.kept);
       spared = spared_still old new disk calls last left.parity left.births stands.spared;
-      odd = stands.odd;
+      excepted = stands.excepted;
       shape = stands.shape;
       tells = stands.tells;
       bank = subst (λ (c : Core). HasBank c.pool.uber c.pool.out disk) (sym left.rest) stands.bank;

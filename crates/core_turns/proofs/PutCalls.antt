@@ -19,18 +19,18 @@ use Rattle.core_turns.specs.declared.putting.Filled.{Filled}
 use Rattle.core_turns.specs.declared.putting.PutRun.{PutRun}
 use Rattle.core_turns.specs.Core.{Core, CoreState}
 use Rattle.core_turns.specs.Putting.{BeginsPutSo, FillsPut, GivesUp, IsFilledWith, IsPutOf, LeavesBlocks, StoresBlock, WritesOne}
-use Rattle.core_turns.specs.UnderWay.{Call, Putting, Reading, AreBeside, AreCallsOf, HaveNoneInCommon, IsCallOf, hold_of_call, ranges_of}
+use Rattle.core_turns.specs.UnderWay.{HoldingCall, Putting, Reading, AreBeside, AreCallsOf, HaveNoneInCommon, IsCallOfCore, hold_of_call, ranges_of}
 use Rattle.core_turns.proofs.Frames.{KeepsWidths, call_of_stays, calls_keep, calls_stay, ends_other, hold_listed}
 use Rattle.core_turns.proofs.PutRanges.{at_end, range_listed, ranges_gain, under_moved}
 
 -- Calls are beside each other in either order.
-pub beside_turned : (one other : Call) → AreBeside one other → AreBeside other one
+pub beside_turned : (one other : HoldingCall) → AreBeside one other → AreBeside other one
 beside_turned one other beside = record {
   actors = λ same. beside.actors (sym same);
   apart = apart_turned one other beside.apart;
 }
   where
-    apart_turned : (one other : Call) → HaveNoneInCommon one other → HaveNoneInCommon other one
+    apart_turned : (one other : HoldingCall) → HaveNoneInCommon one other → HaveNoneInCommon other one
     apart_turned (Reading run content) (Reading other held) apart = tt
     apart_turned (Reading run content) (Putting other held) apart =
         clear_turned (layout_run run.read.layout) (put_run other.range) apart
@@ -76,9 +76,9 @@ begins_rearranges old new actor id len run begins = record {
 }
 
 -- It takes sectors that no call under way has.
-begins_beside : (old new : Core) (left : List Call) (actor id len : ℕ) (run : PutRun) (content : List ℕ)
-    → BeginsPutSo old new actor id len run → AreUnderWay old.pool.blocks (ranges_of left) → (other : Call)
-    → Contains left other → (hold_of_call other).actor ≢ actor → IsCallOf old other
+begins_beside : (old new : Core) (left : List HoldingCall) (actor id len : ℕ) (run : PutRun) (content : List ℕ)
+    → BeginsPutSo old new actor id len run → AreUnderWay old.pool.blocks (ranges_of left) → (other : HoldingCall)
+    → Contains left other → (hold_of_call other).actor ≢ actor → IsCallOfCore old other
     → AreBeside (Putting run content) other
 begins_beside old new left actor id len run content begins under (Putting other bytes) listed differs of = record {
   actors = λ same. differs (sym same ∙ ap (λ (hold : Hold). hold.actor) begins.hold_is);
@@ -96,12 +96,12 @@ begins_beside old new left actor id len run content begins under (Reading other 
 }
 
 -- So it is under way beside them.
-pub put_begins_calls : (left calls : List Call) (old new : Core) (actor id len : ℕ) (run : PutRun) (content : List ℕ)
+pub put_begins_calls : (left calls : List HoldingCall) (old new : Core) (actor id len : ℕ) (run : PutRun) (content : List ℕ)
     → AreCallsOf old left → BeginsPutSo old new actor id len run
-    → ((call : Call) → Contains left call → (hold_of_call call).actor ≢ actor)
+    → ((call : HoldingCall) → Contains left call → (hold_of_call call).actor ≢ actor)
     → Gains left calls (Putting run content) → AreCallsOf new calls
 put_begins_calls left calls old new actor id len run content are begins differs gains = record {
-  each = λ call listed. ⊎_elim (λ same. subst (IsCallOf new) same begins.of)
+  each = λ call listed. ⊎_elim (λ same. subst (IsCallOfCore new) same begins.of)
       (λ there. call_of_stays old new call
       (rearranged_widths old new (begins_rearranges old new actor id len run begins))
       (subst (λ (holds : List Hold). Contains holds (hold_of_call call))
@@ -130,7 +130,7 @@ leaves_rearranges old new leaves = record {
 }
 
 -- and leaves all calls.
-pub put_refused_calls : (calls : List Call) (old new : Core) → LeavesBlocks old new → AreCallsOf old calls
+pub put_refused_calls : (calls : List HoldingCall) (old new : Core) → LeavesBlocks old new → AreCallsOf old calls
     → AreCallsOf new calls
 put_refused_calls calls old new leaves are = calls_keep old new calls
     (rearranged_widths old new (leaves_rearranges old new leaves))
@@ -141,7 +141,7 @@ put_refused_calls calls old new leaves are = calls_keep old new calls
 -- ---- a put ends
 
 -- The calls that are left where the hold of a put ends are under way still.
-left_calls : (left calls : List Call) (old new : Core) (run : PutRun) (content : List ℕ) → Rearranges old new
+left_calls : (left calls : List HoldingCall) (old new : Core) (run : PutRun) (content : List ℕ) → Rearranges old new
     → EndsHold old.holds new.holds run.hold → Gains left calls (Putting run content)
     → AreUnderWay new.pool.blocks (ranges_of left) → AreCallsOf old calls → AreCallsOf new left
 left_calls left calls old new run content change ends gains under are = record {
@@ -161,7 +161,7 @@ pub ends_rearranges : (old new : Core) (run : PutRun) → StoresBlock old new ru
 ends_rearranges old new run ends = record { rest = ends.rest; parity = ends.parity; births = ends.births }
 
 -- and leaves the others under way;
-pub put_ends_calls : (left calls : List Call) (old new : Core) (run : PutRun) (content : List ℕ)
+pub put_ends_calls : (left calls : List HoldingCall) (old new : Core) (run : PutRun) (content : List ℕ)
     → StoresBlock old new run → AreCallsOf old calls → Gains left calls (Putting run content) → AreCallsOf new left
 put_ends_calls left calls old new run content ends are gains =
     left_calls left calls old new run content (ends_rearranges old new run ends) ends.ends gains
@@ -172,7 +172,7 @@ pub gives_up_rearranges : (old new : Core) (run : PutRun) → GivesUp old new ru
 gives_up_rearranges old new run gives_up =
     record { rest = gives_up.rest; parity = gives_up.parity; births = gives_up.births }
 
-pub put_gives_up_calls : (left calls : List Call) (old new : Core) (run : PutRun) (content : List ℕ)
+pub put_gives_up_calls : (left calls : List HoldingCall) (old new : Core) (run : PutRun) (content : List ℕ)
     → GivesUp old new run → AreCallsOf old calls → Gains left calls (Putting run content) → AreCallsOf new left
 put_gives_up_calls left calls old new run content gives_up are gains =
     left_calls left calls old new run content (gives_up_rearranges old new run gives_up) gives_up.ends gains
@@ -181,11 +181,11 @@ put_gives_up_calls left calls old new run content gives_up are gains =
 -- ---- a put goes on
 
 -- A put of which more is filled in or written has the sectors and the hold that it had.
-next_calls : (left calls nexts : List Call) (core : Core) (run : PutRun) (filled : Option Filled) (content : List ℕ)
+next_calls : (left calls nexts : List HoldingCall) (core : Core) (run : PutRun) (filled : Option Filled) (content : List ℕ)
     → Gains left calls (Putting run content) → Gains left nexts (Putting (record run { filled = filled }) content)
     → IsPutOf core (record run { filled = filled }) → AreCallsOf core calls → AreCallsOf core nexts
 next_calls left calls nexts core run filled content gains gains_next of are = record {
-  each = λ call listed. ⊎_elim (λ same. subst (IsCallOf core) same of)
+  each = λ call listed. ⊎_elim (λ same. subst (IsCallOfCore core) same of)
       (λ there. are.each call (gains_old left calls (Putting run content) call gains there))
       (gains_cases left nexts (Putting (record run { filled = filled }) content) call gains_next listed);
   under = under_moved core.pool.blocks (ranges_of left) (ranges_of calls) (ranges_of nexts) run.range
@@ -197,7 +197,7 @@ next_calls left calls nexts core run filled content gains gains_next of are = re
       (pairs_lose AreBeside beside_turned calls left (Putting run content) gains are.beside);
 }
   where
-    same_beside : (other : Call) → AreBeside (Putting run content) other
+    same_beside : (other : HoldingCall) → AreBeside (Putting run content) other
         → AreBeside (Putting (record run { filled = filled }) content) other
     same_beside (Putting other bytes) beside = record { actors = beside.actors; apart = beside.apart }
     same_beside (Reading other bytes) beside = record { actors = beside.actors; apart = beside.apart }
@@ -225,7 +225,7 @@ filled_of core run filled content with of = record {
     same_filled other same = cc
 
 -- Bytes are filled in.
-pub put_fills_calls : (left calls nexts : List Call) (core : Core) (run next : PutRun) (bytes content : List ℕ)
+pub put_fills_calls : (left calls nexts : List HoldingCall) (core : Core) (run next : PutRun) (bytes content : List ℕ)
     → FillsPut run next bytes → length bytes ≡ run.len → AreCallsOf core calls → Gains left calls (Putting run content)
     → Gains left nexts (Putting next content) → AreCallsOf core nexts
 put_fills_calls left calls nexts core run next bytes content fills len_is are gains gains_next =
@@ -244,7 +244,7 @@ put_fills_calls left calls nexts core run next bytes content fills len_is are ga
     are
 
 -- One write more is made or passed over.
-pub put_writes_calls : (left calls nexts : List Call) (before after : CoreState) (run next : PutRun) (content : List ℕ)
+pub put_writes_calls : (left calls nexts : List HoldingCall) (before after : CoreState) (run next : PutRun) (content : List ℕ)
     → WritesOne before run after next → AreCallsOf before.core calls → Gains left calls (Putting run content)
     → Gains left nexts (Putting next content) → AreCallsOf after.core nexts
 put_writes_calls left calls nexts before after run next content writes are gains gains_next =

@@ -10,7 +10,7 @@ use Rattle.core_blocks.specs.Runs.{AreClear}
 use Rattle.core_blocks.proofs.Lists.{first_listed, rest_listed, listed_cases, none_listed, gains_item, gains_old, gains_cases, pairs_gain, pairs_lose, pairs_beside}
 use Rattle.core_blocks.proofs.Runs.{clear_turned}
 use Rattle.core_turns.specs.declared.putting.PutRun.{PutRun}
-use Rattle.core_turns.specs.UnderWay.{Call, Putting, Reading, range_in, ranges_of}
+use Rattle.core_turns.specs.UnderWay.{HoldingCall, Putting, Reading, range_in, ranges_of}
 
 module _ {T : Type 0} (left one other : List T) (x : T) (there : Gains left one x) (here : Gains left other x) where
   -- Two lists that gained the same item contain the same,
@@ -67,7 +67,7 @@ pub at_end : {T : Type 0} (left : List T) (x : T) → Gains left (left ++ x ∷ 
 at_end left x = record { before = left; after = []; was = sym (append-nil left); is = refl }
 
 -- A list of calls that gains a put gains its range.
-pub ranges_gain : (left calls : List Call) (run : PutRun) (content : List ℕ) → Gains left calls (Putting run content)
+pub ranges_gain : (left calls : List HoldingCall) (run : PutRun) (content : List ℕ) → Gains left calls (Putting run content)
     → Gains (ranges_of left) (ranges_of calls) run.range
 ranges_gain left calls run content gains = record {
   before = ranges_of gains.before;
@@ -81,7 +81,7 @@ pub same_put : (one other : PutRun) (bytes content : List ℕ) → Putting one b
 same_put one other bytes content same = cc
 
 -- Each put under way has its range there.
-pub range_listed : (calls : List Call) (run : PutRun) (content : List ℕ) → Contains calls (Putting run content)
+pub range_listed : (calls : List HoldingCall) (run : PutRun) (content : List ℕ) → Contains calls (Putting run content)
     → Contains (ranges_of calls) run.range
 range_listed [] run content listed = absurd (none_listed (Putting run content) listed)
 range_listed (Putting first bytes ∷ calls) run content listed = ⊎_elim

@@ -24,14 +24,14 @@ use Rattle.core_client.specs.Writing.{IsPlanOf}
 use Rattle.core_client.specs.BlockTurns.{IsWrittenSoFar}
 use Rattle.core_client.proofs.BlockTurns.{written_all, written_none}
 use Rattle.core_commit.specs.CommitTurns.{CommitRun}
-use Rattle.open_pool.specs.Pool.{HoldsMap, IsTableOf, IsRead, state_of}
+use Rattle.open_pool.specs.Pool.{HoldsMap, IsTableOf, ReadsAs, state_of}
 use Rattle.open_pool.proofs.Holding.{put_holds}
 use Rattle.open_pool.proofs.PutRanges.{entry_layout}
 use Rattle.core_turns.specs.declared.putting.Filled.{Filled}
 use Rattle.core_turns.specs.declared.putting.PutRun.{PutRun}
 use Rattle.core_turns.specs.Core.{Core, CoreState, IsCore, as_begun, at_disk, pool_at}
-use Rattle.core_turns.specs.Putting.{BeginsPutSo, FillsPut, GivesUp, HoldsPut, IsPutOf, LeavesBlocks, StoresBlock, entry_for}
-use Rattle.core_turns.specs.UnderWay.{Call, Putting, Reading, AreCallsOf, GroupsStand, HoldsCall, PutsSpare, Stands, hold_of_call}
+use Rattle.core_turns.specs.Putting.{BeginsPutSo, FillsPut, GivesUp, HoldsPut, IsPutOf, LeavesBlocks, StoresBlock, filled_entry}
+use Rattle.core_turns.specs.UnderWay.{HoldingCall, Putting, Reading, AreCallsOf, GroupsStand, HoldsCall, PutsSpare, Stands, hold_of_call}
 use Rattle.core_turns.proofs.Beside.{IsWrittenTo}
 use Rattle.core_turns.proofs.PutRanges.{range_listed, same_put}
 use Rattle.core_turns.proofs.PutCalls.{Rearranges, begins_rearranges, ends_rearranges, gives_up_rearranges, leaves_rearranges, put_begins_calls, put_ends_calls, put_fills_calls, put_gives_up_calls, put_refused_calls}
@@ -58,7 +58,7 @@ map_on map old new disk change entries held =
     })
 
 -- Blocks and holds are others, and no device was called.
-module _ (setting : Setting) (last : Kept) (begun : List Kept) (calls nexts : List Call) (old new : Core)
+module _ (setting : Setting) (last : Kept) (begun : List Kept) (calls nexts : List HoldingCall) (old new : Core)
     (disk : Disk) (change : Rearranges old new)
     (kept : (past : ℕ) (group : Kept) → IsKeptPast old past → PutsSpare (at_disk old disk) calls group
     → NoneFree old.pool.blocks past group.entries → NoneFree new.pool.blocks past group.entries)
@@ -76,7 +76,7 @@ module _ (setting : Setting) (last : Kept) (begun : List Kept) (calls nexts : Li
       (sym change.births) (spared past group none spares run content listed))
 
   -- what a call has written or read is its block's,
-  holds_on : (call : Call) → HoldsCall (at_disk old disk) call → HoldsCall (at_disk on disk) call
+  holds_on : (call : HoldingCall) → HoldsCall (at_disk old disk) call → HoldsCall (at_disk on disk) call
   holds_on (Putting run content) held = record {
     len_is = held.len_is;
     are_bytes = held.are_bytes;
@@ -112,7 +112,7 @@ module _ (setting : Setting) (last : Kept) (begun : List Kept) (calls nexts : Li
 
   -- and so all does that stood.
   stands_on : (commit : Option CommitRun) (map other : Map) → HoldsMap other (pool_at (at_disk new disk))
-      → AreCallsOf new nexts → ((call : Call) → Contains nexts call → HoldsCall (at_disk old disk) call)
+      → AreCallsOf new nexts → ((call : HoldingCall) → Contains nexts call → HoldsCall (at_disk old disk) call)
       → Stands setting last begun map calls commit (at_disk old disk)
       → Stands setting last begun other nexts commit (at_disk new disk)
   stands_on commit map other held are each stands =
@@ -123,7 +123,7 @@ module _ (setting : Setting) (last : Kept) (begun : List Kept) (calls nexts : Li
         alike = stands.alike;
         kept = kept old.pool.uber.group last (inl refl) stands.spared stands.kept;
         spared = spares_on old.pool.uber.group last stands.kept stands.spared;
-        odd = stands.odd;
+        excepted = stands.excepted;
         shape = stands.shape;
         tells = stands.tells;
         bank = stands.bank;
@@ -134,11 +134,11 @@ module _ (setting : Setting) (last : Kept) (begun : List Kept) (calls nexts : Li
       held are
 
 -- A put begins, beside all others, with its bytes.
-pub put_begins_stands : (setting : Setting) (last : Kept) (begun : List Kept) (map : Map) (left calls : List Call)
+pub put_begins_stands : (setting : Setting) (last : Kept) (begun : List Kept) (map : Map) (left calls : List HoldingCall)
     (commit : Option CommitRun) (old new : Core) (disk : Disk) (actor id len : ℕ) (run : PutRun) (content : List ℕ)
     → Stands setting last begun map left commit (at_disk old disk) → BeginsPutSo old new actor id len run
     → length content ≡ len → AreBytes content
-    → ((call : Call) → Contains left call → (hold_of_call call).actor ≢ actor)
+    → ((call : HoldingCall) → Contains left call → (hold_of_call call).actor ≢ actor)
     → Gains left calls (Putting run content)
     → Stands setting last begun map calls commit (at_disk new disk)
 put_begins_stands setting last begun map left calls commit old new disk actor id len run content stands begins len_is
@@ -168,7 +168,7 @@ put_begins_stands setting last begun map left calls commit old new disk actor id
     unfilled filled same = cc
 
 -- A refusal leaves all calls.
-pub put_refused_stands : (setting : Setting) (last : Kept) (begun : List Kept) (map : Map) (calls : List Call)
+pub put_refused_stands : (setting : Setting) (last : Kept) (begun : List Kept) (map : Map) (calls : List HoldingCall)
     (commit : Option CommitRun) (old new : Core) (disk : Disk) → LeavesBlocks old new
     → Stands setting last begun map calls commit (at_disk old disk)
     → Stands setting last begun map calls commit (at_disk new disk)
@@ -181,7 +181,7 @@ put_refused_stands setting last begun map calls commit old new disk leaves stand
     (put_refused_calls calls old new leaves stands.are) stands.each stands
 
 -- A put that is given up leaves the others.
-pub put_gives_up_stands : (setting : Setting) (last : Kept) (begun : List Kept) (map : Map) (left calls : List Call)
+pub put_gives_up_stands : (setting : Setting) (last : Kept) (begun : List Kept) (map : Map) (left calls : List HoldingCall)
     (commit : Option CommitRun) (old new : Core) (disk : Disk) (run : PutRun) (content : List ℕ)
     → GivesUp old new run → Stands setting last begun map calls commit (at_disk old disk)
     → Gains left calls (Putting run content)
@@ -208,7 +208,7 @@ listed_clear core range entry is under listed =
     (under.clear entry listed))
 
 -- A put that ends brings its block into the map; a read of the block that it replaces goes on.
-pub put_ends_stands : (setting : Setting) (last : Kept) (begun : List Kept) (map : Map) (left calls : List Call)
+pub put_ends_stands : (setting : Setting) (last : Kept) (begun : List Kept) (map : Map) (left calls : List HoldingCall)
     (commit : Option CommitRun) (old new : Core) (disk : Disk) (run : PutRun) (content : List ℕ) → IsCore old
     → AreInStep old.pool.blocks → StoresBlock old new run
     → (filled : Filled) × (run.filled ≡ Some filled) × (filled.write.next ≡ length filled.write.writes)
@@ -245,13 +245,13 @@ put_ends_stands setting last begun map left calls commit old new disk run conten
         same_filled : {one other : Filled} → Some one ≡ Some other → one ≡ other
         same_filled same = cc
 
-    read : IsRead (as_begun old).uber (entry_for run ends.filled) content disk.reads old.pool.out
+    read : ReadsAs (as_begun old).uber (filled_entry run ends.filled) content disk.reads old.pool.out
     read =
         let reflow = old.pool.uber.reflow in
         let done = front_after_stop reflow in
         subst (λ (l : Layout). IsRightBlock l content reflow done disk.reads old.pool.out)
         (sym (entry_layout old.pool.uber.parity old.pool.uber.births old.pool.blocks run.range
-        (entry_for run ends.filled) run.len run.range.birth is.is.parity is.is.births of.range refl refl refl))
+        (filled_entry run ends.filled) run.len run.range.birth is.is.parity is.is.births of.range refl refl refl))
         (written_all run.range.layout content reflow done disk.reads old.pool.out ends.filled.write all_written
         so_far.1)
 
@@ -268,14 +268,14 @@ put_ends_stands setting last begun map left calls commit old new disk run conten
         (λ other listed. listed_clear old run.range other is
         (stands.are.under.each run.range (range_listed calls run content its_calls)) listed)
         (touches_none (IsWrittenTo run.range.layout old.pool.uber.reflow old.pool.out) disk) map
-        (entry_for run ends.filled) content ends.change (record { len = sym holds.len_is; digest = so_far.0 })
+        (filled_entry run ends.filled) content ends.change (record { len = sym holds.len_is; digest = so_far.0 })
         holds.are_bytes read was in
         subst (λ (core : Core). HoldsMap (with_block map (Some run.range.id) (Some content))
         (pool_at (at_disk core disk))) (sym ends.rest)
         (record { table = now.table; bytes = now.bytes; right = now.right })
 
 -- A put of which more is filled in or written has no more sectors of blocks.
-pub next_spares : (left calls nexts : List Call) (run : PutRun) (filled : Option Filled) (content : List ℕ)
+pub next_spares : (left calls nexts : List HoldingCall) (run : PutRun) (filled : Option Filled) (content : List ℕ)
     (state : CoreState) (group : Kept) → Gains left calls (Putting run content)
     → Gains left nexts (Putting (record run { filled = filled }) content)
     → PutsSpare state calls group → PutsSpare state nexts group
@@ -287,7 +287,7 @@ next_spares left calls nexts run filled content state group gains gains_next spa
     (gains_cases left nexts (Putting (record run { filled = filled }) content) (Putting one bytes) gains_next listed)
 
 -- A group that stands stands with other calls where their puts have no more sectors of its blocks.
-pub groups_with : (setting : Setting) (last : Kept) (begun : List Kept) (calls nexts : List Call)
+pub groups_with : (setting : Setting) (last : Kept) (begun : List Kept) (calls nexts : List HoldingCall)
     (commit : Option CommitRun) (state : CoreState)
     → ((group : Kept) → PutsSpare state calls group → PutsSpare state nexts group)
     → GroupsStand setting last begun calls commit state → GroupsStand setting last begun nexts commit state
@@ -302,7 +302,7 @@ groups_with setting last begun calls nexts (Some commit) state spared groups = r
 }
 
 -- A put whose bytes are filled in holds them, none of them written yet.
-pub put_fills_stands : (setting : Setting) (last : Kept) (begun : List Kept) (map : Map) (left calls nexts : List Call)
+pub put_fills_stands : (setting : Setting) (last : Kept) (begun : List Kept) (map : Map) (left calls nexts : List HoldingCall)
     (commit : Option CommitRun) (state : CoreState) (run next : PutRun) (content : List ℕ) → FillsPut run next content
     → Stands setting last begun map calls commit state → Gains left calls (Putting run content)
     → Gains left nexts (Putting next content)
@@ -313,7 +313,7 @@ put_fills_stands setting last begun map left calls nexts commit state run next c
       alike = stands.alike;
       kept = stands.kept;
       spared = spared last stands.spared;
-      odd = stands.odd;
+      excepted = stands.excepted;
       shape = stands.shape;
       tells = stands.tells;
       bank = stands.bank;

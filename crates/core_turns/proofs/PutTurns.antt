@@ -15,7 +15,7 @@ use Rattle.reflow_mark.specs.declared.reflow.Reflow.{Reflow}
 use Rattle.shadow_write.specs.declared.write.Write.{Write}
 use Rattle.shadow_write.specs.Required.{front_after_stop}
 use Rattle.shadow_write.specs.Writes.{writes_of}
-use Rattle.space_alloc.specs.Space.{Space, Gains, IsDropping, IsBusySpace, IsFull as HasNoRun}
+use Rattle.space_alloc.specs.Space.{Space, Gains, IsDropping, IsBusySpace, HasNoFreeRun}
 use Rattle.reconstruct.specs.Rows.{sectors_for}
 use Rattle.block_record.specs.Bytes.{IsDigest}
 use Rattle.block_record.specs.declared.entry.IndexEntry.{IndexEntry}
@@ -23,7 +23,7 @@ use Rattle.block_table.specs.Table.{ChangesOnly, entry_of, without_one}
 use Rattle.uberblock_ring.specs.Devices.{has_device, IsWithin}
 use Rattle.uberblock_ring.specs.Uberblock.{Uber}
 use Rattle.uberblock_ring.proofs.Digest.{sha256_is_digest}
-use Rattle.core_state.specs.Committing.{Point}
+use Rattle.core_state.specs.Committing.{Point, point_of}
 use Rattle.core_state.proofs.Listed.{contains_head}
 use Rattle.core_blocks.specs.declared.range.PutRange.{PutRange}
 use Rattle.core_blocks.specs.declared.refused.PutRefused.{PutRefused}
@@ -33,10 +33,10 @@ use Rattle.core_blocks.specs.Kept.{NoneFree, SparesAll}
 use Rattle.core_blocks.specs.Puts.{BeginsPut, HoldsBack, IsAsBefore, IsPutCause, IsRangeFor, layout_at, sectors_taken}
 use Rattle.core_blocks.proofs.Listed.{put_cases}
 use Rattle.core_blocks.proofs.Usage.{adds_held_back, adds_none, adds_taken_back}
-use Rattle.core_client.specs.Outs.{point_of, OnlyFailedGoOut}
+use Rattle.core_client.specs.Outs.{OnlyFailedGoOut}
 use Rattle.core_client.specs.Pool.{IsInPool}
 use Rattle.core_client.specs.BlockTurns.{BlockWrite}
-use Rattle.core_client.specs.Writing.{IsInside, IsMade, IsPassedOrMade, IsPlanOf}
+use Rattle.core_client.specs.Writing.{IsOnBank, IsMade, IsPassedOrMade, IsPlanOf}
 use Rattle.core_client.proofs.BlockTurns.{listed_at, numbered}
 use Rattle.core_client.proofs.Below.{below_by_write}
 use Rattle.core_client.proofs.Outs.{outs_none, outs_called}
@@ -53,7 +53,7 @@ use Rattle.core_turns.specs.declared.turn.Turn.{Turn}
 use Rattle.core_turns.specs.declared.turn.Turn.TheVariants.{More, Busy, Done}
 use Rattle.core_turns.specs.Core.{Core, CoreState, IsCore, as_begun, at_disk}
 use Rattle.core_turns.specs.Getting.{HasTooManyOut, IsGetOf}
-use Rattle.core_turns.specs.Putting.{BeginsPutSo, BeginsPutTurn, FillsPut, IsFilledWith, IsMorePut, IsPutOf, LeavesBlocks, StoresBlock, WritesOne, WritesTurn, entry_for, hold_on, refused_turn}
+use Rattle.core_turns.specs.Putting.{BeginsPutSo, BeginsPutTurn, FillsPut, IsFilledWith, IsMorePut, IsPutOf, LeavesBlocks, StoresBlock, WritesOne, WritesTurn, filled_entry, hold_on, refused_turn}
 use Rattle.core_turns.specs.UnderWay.{TurnGoesOn}
 use Rattle.core_turns.proofs.Cores.{bank_has, core_blocks}
 use Rattle.core_turns.proofs.GetTurns.{get_of}
@@ -161,7 +161,7 @@ put_refused core actor id len after why turn is few same under kept cause turn_i
     by (refused.NoSpace sectors) cause = (
       few,
       cause.1 ∙ size,
-      subst (λ (n : ℕ). HasNoRun core.pool.blocks.space core.holds n) (sym cause.1) cause.0,
+      subst (λ (n : ℕ). HasNoFreeRun core.pool.blocks.space core.holds n) (sym cause.1) cause.0,
       leaves core after same under kept,
     )
     by (refused.Busy by_actor) cause = (
@@ -246,7 +246,7 @@ went_filled old new content (Err why) fills same len core of = subst (IsPutOf co
 -- The writes of a put can be made,
 pub put_inside : (core : Core) (run : PutRun) (filled : Filled) (disk : Disk) → IsPutOf core run
     → run.filled ≡ Some filled → HasBank core.pool.uber core.pool.out disk
-    → All (IsInside filled.write.rows core.pool.out disk) filled.write.writes
+    → All (IsOnBank filled.write.rows core.pool.out disk) filled.write.writes
 put_inside core run filled disk of is bank =
     let plan = (of.filled filled is).1.plan in
     plan_inside run.range.layout core.pool.uber.reflow (front_after_stop core.pool.uber.reflow) filled.write.rows
@@ -445,7 +445,7 @@ put_digest core run filled of is =
 -- The block of a put that ends stands in the table.
 pub put_stores : (core : Core) (run : PutRun) (filled : Filled) (entry : IndexEntry) (after : Blocks)
     (holds : List Hold) → IsPutOf core run → (HasTooManyOut core → ⊥) → run.filled ≡ Some filled
-    → entry ≡ entry_for run filled → EndsHold core.holds holds run.hold
+    → entry ≡ filled_entry run filled → EndsHold core.holds holds run.hold
     → ChangesOnly core.pool.blocks.table.entries after.table.entries entry.id (Some entry)
     → after.table.reserved ≡ without_one entry.id core.pool.blocks.table.reserved
     → HoldsBack core.pool.blocks.parity core.pool.blocks.births core.pool.blocks.space after.space (core.begun + 1)

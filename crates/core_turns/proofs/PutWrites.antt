@@ -26,7 +26,7 @@ use Rattle.core_state.specs.Map.{Map}
 use Rattle.core_state.specs.Index.{layout_of, block_end}
 use Rattle.core_state.specs.Keeps.{Kept, Setting}
 use Rattle.core_state.specs.Certain.{IsSound}
-use Rattle.core_state.specs.Committing.{Point}
+use Rattle.core_state.specs.Committing.{Point, point_of}
 use Rattle.core_state.specs.Free.{IsSpare}
 use Rattle.core_state.specs.Moment.{IsRowOf, KeepsSince}
 use Rattle.core_state.proofs.Listed.{contains_cases, contains_none}
@@ -35,7 +35,7 @@ use Rattle.core_state.proofs.Touched.{touched_knows, touched_since}
 use Rattle.core_blocks.specs.Blocks.{AreInStep, IsUnderWay, layout_run, put_run}
 use Rattle.core_blocks.specs.Kept.{SparesAll}
 use Rattle.core_blocks.proofs.Lists.{gains_item, gains_old, gains_cases, pairs_beside}
-use Rattle.core_client.specs.Outs.{point_of, OnlyFailedGoOut}
+use Rattle.core_client.specs.Outs.{OnlyFailedGoOut}
 use Rattle.core_client.specs.Pool.{IsInPool}
 use Rattle.core_client.specs.Writing.{IsMade, IsPassedOrMade, IsPlaceOf}
 use Rattle.core_client.specs.BlockTurns.{IsWrittenSoFar}
@@ -55,7 +55,7 @@ use Rattle.core_turns.specs.declared.putting.PutRun.{PutRun}
 use Rattle.core_turns.specs.Core.{Core, CoreState, IsCore, as_begun, at_disk}
 use Rattle.core_turns.specs.Putting.{IsPutOf, HoldsPut, WritesOne}
 use Rattle.core_turns.specs.Committing.{IsCommitOf}
-use Rattle.core_turns.specs.UnderWay.{Call, Putting, Reading, AreBeside, AreCallsOf, CommitStands, GroupsStand, HoldsCall, IsCallOf, NoCommitStands, PutsSpare, Stands, layout_of_call}
+use Rattle.core_turns.specs.UnderWay.{HoldingCall, Putting, Reading, AreBeside, AreCallsOf, CommitStands, GroupsStand, HoldsCall, IsCallOfCore, NoCommitStands, PutsSpare, Stands, layout_of_call}
 use Rattle.core_turns.proofs.Beside.{IsWrittenTo, AreInPool, never_asked, put_beside_commit}
 use Rattle.core_turns.proofs.Frames.{AreOff, IsOff, Leaves, call_stays, leaves_touched, off_written, stands_anew}
 use Rattle.core_turns.proofs.PutRanges.{range_listed}
@@ -157,7 +157,7 @@ row_shown groups last next Lays row = record {
 
 -- ---- one write
 
-module _ (setting : Setting) (last : Kept) (begun : List Kept) (map : Map) (left calls : List Call)
+module _ (setting : Setting) (last : Kept) (begun : List Kept) (map : Map) (left calls : List HoldingCall)
     (before after : CoreState) (run next : PutRun) (content : List ℕ) (is : IsCore before.core)
     (lawful : Lawful before.disk) (writes : WritesOne before run after next)
     (gains : Gains left calls (Putting run content)) where
@@ -209,7 +209,7 @@ module _ (setting : Setting) (last : Kept) (begun : List Kept) (map : Map) (left
     leaves = leaves_touched places before written refl outs.still touched
 
     -- Blocks that have no sector of the put are off it: those of other calls,
-    calls_off : (call : Call) → AreBeside (Putting run content) call → IsCallOf before.core call
+    calls_off : (call : HoldingCall) → AreBeside (Putting run content) call → IsCallOfCore before.core call
         → IsOff places reflow (layout_of_call call)
     calls_off (Putting other bytes) beside other_of =
         off_written reflow layout other.range.layout before.core.pool.out of.pool other_of.pool beside.apart
@@ -352,7 +352,7 @@ module _ (setting : Setting) (last : Kept) (begun : List Kept) (map : Map) (left
     its_of = stands.are.each (Putting run content) its_calls
 
     -- A write of a put leaves what stands, and is one more of its block.
-    pub put_writes_stands : (nexts : List Call) → AreInStep before.core.pool.blocks → Lawful after.disk
+    pub put_writes_stands : (nexts : List HoldingCall) → AreInStep before.core.pool.blocks → Lawful after.disk
         → Gains left nexts (Putting next content)
         → Stands setting last begun map nexts commit after
     put_writes_stands nexts step still_lawful gains_next =

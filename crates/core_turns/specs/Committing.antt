@@ -10,10 +10,10 @@ use Rattle.uberblock_ring.specs.Uberblock.{Uber}
 use Rattle.commit_job.specs.Stages.{plan_of}
 use Rattle.core_state.specs.declared.answer.Answer.{Answer}
 use Rattle.core_state.specs.declared.answer.Answer.TheVariants as answer
-use Rattle.core_client.specs.Outs.{point_of}
+use Rattle.core_state.specs.Committing.{point_of}
 use Rattle.core_commit.specs.declared.commit_run.Stage.TheVariants.{Lays}
 use Rattle.core_commit.specs.declared.commit_run.CommitStep.TheVariants.{Called}
-use Rattle.core_commit.specs.CommitTurns.{CommitRun, HasEnded, Steps}
+use Rattle.core_commit.specs.CommitTurns.{CommitRun, HasEnded, CommitSteps}
 use Rattle.uberblock_ring.specs.Uberblock.{max_group}
 use Rattle.open_pool.specs.Pool.{Pool}
 use Rattle.open_pool.specs.NextGroup.{next_uber}
@@ -93,7 +93,7 @@ pub record AnswersGroup (before : CoreState) (run : CommitRun) (after : CoreStat
 -- what a turn of a commit comes to
 abbrev pub StepsCommit : CoreState → CommitRun → CoreState → Turn CommitRun → Type 0
 StepsCommit before run after (More next) = (HasTooManyOut before.core → ⊥)
-    × Steps run (point_of before.core.pool.out before.disk) next (point_of after.core.pool.out after.disk)
+    × CommitSteps run (point_of before.core.pool.out before.disk) next (point_of after.core.pool.out after.disk)
     Called
     × (after.core ≡ record before.core { pool = record before.core.pool { out = after.core.pool.out } })
     × IsCommitOf after.core next

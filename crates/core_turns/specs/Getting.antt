@@ -20,7 +20,7 @@ use Rattle.core_state.specs.declared.answer.Kind.TheVariants as kind
 use Rattle.core_state.specs.Map.{Map}
 use Rattle.core_state.specs.Index.{layout_of}
 use Rattle.core_state.specs.Legal.{IsReadOf}
-use Rattle.core_client.specs.Outs.{point_of}
+use Rattle.core_state.specs.Committing.{point_of}
 use Rattle.core_client.specs.Pool.{IsInPool, IsRightBlock}
 use Rattle.core_client.specs.Got.{HasLostFew}
 use Rattle.core_client.specs.BlockTurns.{IsReadBegun, ReadsColumn, IsReadSoFar}
@@ -32,10 +32,10 @@ use Rattle.core_turns.specs.declared.turn.Turn.TheVariants.{More, Busy, Done}
 use Rattle.core_turns.specs.Core.{Core, CoreState}
 
 -- the calls that read a block
-abbrev pub IsRead : Kind → Type 0
-IsRead kind.Get = ⊤
-IsRead kind.Sum = ⊤
-IsRead other = ⊥
+abbrev pub IsReadKind : Kind → Type 0
+IsReadKind kind.Get = ⊤
+IsReadKind kind.Sum = ⊤
+IsReadKind other = ⊥
 
 -- A layout can be made of the entry's block.
 pub record HasLayout (uber : Uber) (entry : IndexEntry) : Type 0 where
@@ -117,18 +117,18 @@ IsSolved run Damaged = (wanted : List ℕ)
     → length wanted ≡ run.entry.len → AreBytes wanted → sha256 wanted ≡ run.entry.digest
     → HasLostFew run.read.layout run.read.read → ⊥
 
-abbrev pub IsLeftOf : GetRun → Solved → Type 0
-IsLeftOf run (Bytes bytes) = (wanted : List ℕ)
+abbrev pub SolvesWhatIsLeft : GetRun → Solved → Type 0
+SolvesWhatIsLeft run (Bytes bytes) = (wanted : List ℕ)
     → IsLeftOver run.read.layout wanted run.read.read.rows run.read.read.lost.items
     → length wanted ≡ run.entry.len → AreBytes wanted → sha256 wanted ≡ run.entry.digest
     → HasLostFew run.read.layout run.read.read → bytes ≡ wanted
-IsLeftOf run other = ⊤
+SolvesWhatIsLeft run other = ⊤
 
 -- The block was solved from what was read.
 pub record SolvesGet (old new : GetRun) : Type 0 where
   pub rest : new ≡ record old { solved = new.solved }
   pub solved : IsSolved old new.solved
-  pub left : IsLeftOf old new.solved
+  pub left : SolvesWhatIsLeft old new.solved
 
 -- a get answers the bytes, a sum their length and digest
 abbrev pub answer_of : Kind → IndexEntry → List ℕ → Answer

@@ -8,7 +8,7 @@ use Rattle.row_layout.specs.Layout.{allocated_of}
 use Rattle.shadow_write.specs.declared.write.Write.{Write}
 use Rattle.shadow_write.specs.Required.{front_after_stop}
 use Rattle.shadow_write.specs.Writes.{writes_of}
-use Rattle.space_alloc.specs.Space.{Run, Gains, IsDropping, IsBusySpace, IsFull as HasNoRun}
+use Rattle.space_alloc.specs.Space.{Run, Gains, IsDropping, IsBusySpace, HasNoFreeRun}
 use Rattle.block_record.specs.declared.entry.IndexEntry.{IndexEntry}
 use Rattle.block_table.specs.Table.{ChangesOnly, IsFull, entry_of, without_one}
 use Rattle.reconstruct.specs.Lost.{AreBytes}
@@ -21,7 +21,7 @@ use Rattle.core_blocks.specs.Blocks.{AreUnderWay, IsUnderWay, put_run}
 use Rattle.core_blocks.specs.Kept.{NoneFree, SparesAll}
 use Rattle.core_blocks.specs.Puts.{BeginsPut, HoldsBack, IsRangeFor, sectors_taken}
 use Rattle.core_blocks.specs.Usage.{AddsAtMost}
-use Rattle.core_client.specs.Outs.{point_of}
+use Rattle.core_state.specs.Committing.{point_of}
 use Rattle.core_client.specs.Pool.{IsInPool}
 use Rattle.core_client.specs.Writing.{IsPassedOrMade, IsPlanOf}
 use Rattle.core_client.specs.BlockTurns.{IsWrittenSoFar}
@@ -121,7 +121,7 @@ IsPutRefused old new id len answer.Full =
     (HasTooManyOut old → ⊥) × IsFull old.pool.blocks.table id × LeavesBlocks old new
 IsPutRefused old new id len (answer.NoSpace sectors) = (HasTooManyOut old → ⊥)
     × (sectors ≡ sectors_taken old.pool.uber.parity old.pool.uber.births len (old.begun + 1))
-    × HasNoRun old.pool.blocks.space old.holds sectors × LeavesBlocks old new
+    × HasNoFreeRun old.pool.blocks.space old.holds sectors × LeavesBlocks old new
 IsPutRefused old new id len answer.NoMemory = (HasTooManyOut old → ⊥) × LeavesBlocks old new
 IsPutRefused old new id len other = ⊥
 
@@ -192,8 +192,8 @@ IsMorePut core (More run) = IsPutOf core run × IsUnderWay core.pool.blocks run.
 IsMorePut core other = ⊤
 
 -- the entry of a put's block
-abbrev pub entry_for : PutRun → Filled → IndexEntry
-entry_for run filled = record {
+abbrev pub filled_entry : PutRun → Filled → IndexEntry
+filled_entry run filled = record {
   id = run.range.id;
   start = run.range.layout.start;
   len = run.len;
@@ -212,7 +212,7 @@ pub record StoresBlock (old new : Core) (run : PutRun) : Type 0 where
   pub parity : new.pool.blocks.parity ≡ old.pool.blocks.parity
   pub births : new.pool.blocks.births ≡ old.pool.blocks.births
   pub change : ChangesOnly old.pool.blocks.table.entries new.pool.blocks.table.entries run.range.id
-      (Some (entry_for run filled))
+      (Some (filled_entry run filled))
   pub reserved : new.pool.blocks.table.reserved ≡ without_one run.range.id old.pool.blocks.table.reserved
   pub held : HoldsBack old.pool.blocks.parity old.pool.blocks.births old.pool.blocks.space
       new.pool.blocks.space (old.begun + 1) (entry_of old.pool.blocks.table.entries run.range.id)

@@ -14,7 +14,8 @@ use Rattle.core_blocks.specs.declared.range.PutRange.{PutRange}
 use Rattle.core_blocks.specs.Blocks.{AreUnderWay, layout_run, put_run}
 use Rattle.core_blocks.specs.Kept.{NoneFree, SparesAll}
 use Rattle.core_blocks.specs.Runs.{AreClear}
-use Rattle.core_client.specs.Outs.{point_of, OnlyFailedGoOut}
+use Rattle.core_client.specs.Outs.{OnlyFailedGoOut}
+use Rattle.core_state.specs.Committing.{point_of}
 use Rattle.core_commit.specs.CommitTurns.{CommitRun, IsCommitting}
 use Rattle.core_commit.specs.Spared.{IsOnInUse}
 use Rattle.core_open.specs.Holds.{shape_of}
@@ -22,67 +23,67 @@ use Rattle.open_pool.specs.Pool.{HasBank, HoldsMap}
 use Rattle.core_turns.specs.declared.getting.GetRun.{GetRun}
 use Rattle.core_turns.specs.declared.putting.PutRun.{PutRun}
 use Rattle.core_turns.specs.Core.{Core, CoreState, pool_at}
-use Rattle.core_turns.specs.Getting.{IsRead, IsGetOf, HoldsGet}
+use Rattle.core_turns.specs.Getting.{IsReadKind, IsGetOf, HoldsGet}
 use Rattle.core_turns.specs.Putting.{IsPutOf, HoldsPut}
 use Rattle.core_turns.specs.Committing.{IsCommitOf}
 
 -- a call under way that holds sectors, and the bytes of its block: those that a put is handed, those that a read
 -- is to find
-pub data Call : Type 0 where
-  Putting : (run : PutRun) (content : List ℕ) → Call
-  Reading : (run : GetRun) (content : List ℕ) → Call
+pub data HoldingCall : Type 0 where
+  Putting : (run : PutRun) (content : List ℕ) → HoldingCall
+  Reading : (run : GetRun) (content : List ℕ) → HoldingCall
 
-abbrev pub hold_of_call : Call → Hold
+abbrev pub hold_of_call : HoldingCall → Hold
 hold_of_call (Putting run content) = run.hold
 hold_of_call (Reading run content) = run.hold
 
-abbrev pub layout_of_call : Call → Layout
+abbrev pub layout_of_call : HoldingCall → Layout
 layout_of_call (Putting run content) = run.range.layout
 layout_of_call (Reading run content) = run.read.layout
 
 -- the range of a put
-abbrev pub range_in : Call → Option PutRange
+abbrev pub range_in : HoldingCall → Option PutRange
 range_in (Putting run content) = Some run.range
 range_in (Reading run content) = None
 
-abbrev pub ranges_of : List Call → List PutRange
+abbrev pub ranges_of : List HoldingCall → List PutRange
 ranges_of calls = filter_map range_in calls
 
 -- The call is one of this core.
-abbrev pub IsCallOf : Core → Call → Type 0
-IsCallOf core (Putting run content) = IsPutOf core run
-IsCallOf core (Reading run content) = IsRead run.kind × IsGetOf core run
+abbrev pub IsCallOfCore : Core → HoldingCall → Type 0
+IsCallOfCore core (Putting run content) = IsPutOf core run
+IsCallOfCore core (Reading run content) = IsReadKind run.kind × IsGetOf core run
 
 -- What a call has written or read so far is its block's.
-abbrev pub HoldsCall : CoreState → Call → Type 0
+abbrev pub HoldsCall : CoreState → HoldingCall → Type 0
 HoldsCall state (Putting run content) = HoldsPut content state run
 HoldsCall state (Reading run content) = HoldsGet content state run
 
 -- Two reads may be of one block; a put has no sector in common with another call.
-abbrev pub HaveNoneInCommon : Call → Call → Type 0
+abbrev pub HaveNoneInCommon : HoldingCall → HoldingCall → Type 0
 HaveNoneInCommon (Reading run content) (Reading other held) = ⊤
 HaveNoneInCommon one other = AreClear (layout_run (layout_of_call one)) (layout_run (layout_of_call other))
 
 -- Two calls are of two actors.
-pub record AreBeside (one other : Call) : Type 0 where
+pub record AreBeside (one other : HoldingCall) : Type 0 where
   pub actors : (hold_of_call one).actor ≢ (hold_of_call other).actor
   pub apart : HaveNoneInCommon one other
 
 -- The calls under way that hold sectors are these, whatever their blocks' bytes: each is one of this core, the
 -- puts among them have all ranges that are taken and no block's, and they are beside each other.
-pub record AreCallsOf (core : Core) (calls : List Call) : Type 0 where
-  pub each : (call : Call) → Contains calls call → IsCallOf core call
+pub record AreCallsOf (core : Core) (calls : List HoldingCall) : Type 0 where
+  pub each : (call : HoldingCall) → Contains calls call → IsCallOfCore core call
   pub under : AreUnderWay core.pool.blocks (ranges_of calls)
   pub beside : AllPairs AreBeside calls
 
 -- No put has a sector of these blocks.
-abbrev pub PutsSpare : CoreState → List Call → Kept → Type 0
+abbrev pub PutsSpare : CoreState → List HoldingCall → Kept → Type 0
 PutsSpare state calls kept = (run : PutRun) (content : List ℕ) → Contains calls (Putting run content)
     → SparesAll state.core.pool.blocks.parity state.core.pool.blocks.births kept.entries (put_run run.range)
 
 -- The group after the last answered one is under way: it has come so far, and no sector of its blocks is free or
 -- a put's.
-pub record CommitStands (setting : Setting) (last : Kept) (begun : List Kept) (calls : List Call) (run : CommitRun)
+pub record CommitStands (setting : Setting) (last : Kept) (begun : List Kept) (calls : List HoldingCall) (run : CommitRun)
     (state : CoreState) : Type 0 where
   pub next : Kept
   pub begun_is : begun ≡ next ∷ []
@@ -98,26 +99,26 @@ pub record NoCommitStands (setting : Setting) (last : Kept) (begun : List Kept) 
   pub whole : count_of state.core.pool.out ≤ state.core.pool.uber.parity
       → (begun ≡ []) × (state.core.committing ≡ None)
 
-abbrev pub GroupsStand : Setting → Kept → List Kept → List Call → Option CommitRun → CoreState → Type 0
+abbrev pub GroupsStand : Setting → Kept → List Kept → List HoldingCall → Option CommitRun → CoreState → Type 0
 GroupsStand setting last begun calls None state = NoCommitStands setting last begun state
 GroupsStand setting last begun calls (Some run) state = CommitStands setting last begun calls run state
 
 -- Between two turns: the last answered group is certain on the devices, and what is known of one that was begun
 -- after it; the map is held; each call under way goes on as it should, and they are beside each other. No sector
 -- of the last group's blocks is free or a put's.
-pub record Stands (setting : Setting) (last : Kept) (begun : List Kept) (map : Map) (calls : List Call)
+pub record Stands (setting : Setting) (last : Kept) (begun : List Kept) (map : Map) (calls : List HoldingCall)
     (commit : Option CommitRun) (state : CoreState) : Type 0 where
   pub groups : GroupsStand setting last begun calls commit state
   pub alike : AreAlike state.core.pool.uber last.uber
   pub kept : NoneFree state.core.pool.blocks state.core.pool.uber.group last.entries
   pub spared : PutsSpare state calls last
-  pub odd : setting.odd ≡ []
+  pub excepted : setting.excepted ≡ []
   pub shape : setting.shape ≡ shape_of state.disk
   pub tells : Tells state.disk
   pub bank : HasBank state.core.pool.uber state.core.pool.out state.disk
   pub holds : HoldsMap map (pool_at state)
   pub are : AreCallsOf state.core calls
-  pub each : (call : Call) → Contains calls call → HoldsCall state call
+  pub each : (call : HoldingCall) → Contains calls call → HoldsCall state call
 
 -- What each turn does: the bank goes on, devices go out where they failed, and none is touched but those of the
 -- pool that were in use. The pool's widths stay.

@@ -1,6 +1,7 @@
 // Commits, turn by turn.
 ghost use Rattle.std.specs.Prelude.{◌≡◌};
-ghost use Rattle.core_client.specs.Outs.{point_of, OnlyFailedGoOut};
+ghost use Rattle.core_client.specs.Outs.{OnlyFailedGoOut};
+ghost use Rattle.core_state.specs.Committing.{point_of};
 ghost use Rattle.open_pool.specs.Pool.{HasBank};
 ghost use Rattle.core_turns.specs.Core.{at_disk};
 ghost use Rattle.core_turns.specs.Committing.{BeginsCommit, HasTable, IsCommitOf, StepsCommit};

@@ -6,12 +6,13 @@ ghost use Rattle.reconstruct.specs.Rows.{sectors_for};
 ghost use Rattle.uberblock_ring.specs.Devices.{count_of};
 ghost use Rattle.core_state.specs.Map.{Map};
 ghost use Rattle.core_state.specs.Index.{layout_of};
-ghost use Rattle.core_client.specs.BlockTurns.{IsPlace};
-ghost use Rattle.core_client.specs.Outs.{point_of, OnlyFailedGoOut};
+ghost use Rattle.core_client.specs.BlockTurns.{IsAtColumn};
+ghost use Rattle.core_client.specs.Outs.{OnlyFailedGoOut};
+ghost use Rattle.core_state.specs.Committing.{point_of};
 ghost use Rattle.open_pool.specs.Pool.{HasBank, HoldsMap};
 ghost use Rattle.core_turns.specs.declared.getting.GetRun.{GetRun as GetRunOf};
 ghost use Rattle.core_turns.specs.Core.{Core as CoreOf, CoreState, IsCore, at_disk, pool_at};
-ghost use Rattle.core_turns.specs.Getting.{HasLayout, HoldsGet, FindsGet, KeepsGet, TellsGet, IsGetOf, IsMoreOf, IsRead, BeginsGet, ReadsTurn, SolvesGet, EndsGet, answer_of};
+ghost use Rattle.core_turns.specs.Getting.{HasLayout, HoldsGet, FindsGet, KeepsGet, TellsGet, IsGetOf, IsMoreOf, IsReadKind, BeginsGet, ReadsTurn, SolvesGet, EndsGet, answer_of};
 
 use crate::turn::too_many;
 use crate::{Core, Turn};
@@ -106,7 +107,7 @@ impl GetRun {
 impl Core {
     /// The first turn of a get, or a sum, of an id: finds its block and holds its sectors.
     pub fn get_begin(&mut self, alloc: Global, actor: u8, kind: Kind, id: u64) -> Turn<GetRun>
-        requires kind { IsRead kind }
+        requires kind { IsReadKind kind }
         ensures begins { BeginsGet self.old self.new actor kind id result }
 
         // A block that is found is the one of the map.
@@ -142,7 +143,7 @@ impl Core {
 
     /// The last turn of a read: tells its block, once it was solved, or that memory was wanting for that.
     pub fn get_end(&mut self, run: GetRun) -> Turn<GetRun>
-        requires kind { IsRead run.kind }
+        requires kind { IsReadKind run.kind }
         requires of { IsGetOf self.old run }
         ensures ends { EndsGet self.old run self.new result }
         ensures tells { (content : List ℕ) (disk : Disk) → HoldsGet content (at_disk self.old disk) run
@@ -186,7 +187,7 @@ impl Core {
         requires bank { HasBank self.old.pool.uber self.old.pool.out (B.disk bank.old) }
         ensures reads { ReadsTurn (at_disk self.old (B.disk bank.old)) run
             (at_disk self.new (B.disk bank.new)) result }
-        ensures place { IsPlace run.read }
+        ensures place { IsAtColumn run.read }
         ensures unchanged { Unchanged (B.disk bank.old) (B.disk bank.new) }
         ensures out { OnlyFailedGoOut (point_of self.old.pool.out (B.disk bank.old))
             (point_of self.new.pool.out (B.disk bank.new)) }

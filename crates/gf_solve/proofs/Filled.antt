@@ -4,7 +4,7 @@ use Rattle.std.specs.Prelude.{bit_xor, slice_index, slice_index_or, slice_set}
 use Rattle.std.proofs.lemmas.List.{length-set, get_or-set_same, get_or-set_other}
 use Rattle.gf_parity.specs.Parity.{parity_byte, parity_column, bytes_at}
 use Rattle.gf_solve.specs.declared.gaps.Gaps.TheVariants.{One, Two, Three}
-use Rattle.gf_solve.specs.Weight.{point_of, share, two_shares, three_shares}
+use Rattle.gf_solve.specs.Weight.{column_point, share, two_shares, three_shares}
 use Rattle.gf_solve.specs.Row.{AreSectors}
 use Rattle.gf_solve.specs.Gaps.{IsGap, AgreeBut}
 use Rattle.gf_solve.proofs.Restored.{closed, emptied, no_gap_left, same_sectors, lack_of_one, lack_of_two, lack_of_three}
@@ -28,7 +28,7 @@ zero_stays content place other at zeros differ none = ap (λ (c : List ℕ). sli
 module _ (was content : List (List ℕ)) (zeros : List ℕ) (sectors : AreSectors was) (blank : (k : ℕ) → slice_index zeros k ≡ 0) where
   pub filled_one : (which first x : ℕ) (parity lack solved : List ℕ) → which < 3 → first < length content
       → AgreeBut (IsGap (One first)) was content → parity ≡ parity_column which was → IsLack which (slice_set content first zeros) parity lack
-      → x ≡ point_of (length content) first → length solved ≡ 512
+      → x ≡ column_point (length content) first → length solved ≡ 512
       → ((at byte : ℕ) → at < 512 → byte < 256 → slice_index lack at ≡ share which x byte → slice_index solved at ≡ byte)
       → slice_set (slice_set content first zeros) first solved ≡ was
   filled_one which first x parity lack solved few first_in agree parity_is lacks x_is long found =
@@ -44,8 +44,8 @@ module _ (was content : List (List ℕ)) (zeros : List ℕ) (sectors : AreSector
       empty : AgreeBut (IsGap (One first)) was (slice_set content first zeros)
       empty = emptied (IsGap (One first)) was content first zeros agree refl
 
-      point : x ≡ point_of (length was) first
-      point = x_is ∙ ap (λ (k : ℕ). point_of k first) agree.long
+      point : x ≡ column_point (length was) first
+      point = x_is ∙ ap (λ (k : ℕ). column_point k first) agree.long
 
       bytes : (at : ℕ) → at < 512 → slice_index solved at ≡ byte_of was first at
       bytes at low =
@@ -59,8 +59,8 @@ module _ (was content : List (List ℕ)) (zeros : List ℕ) (sectors : AreSector
       → AgreeBut (IsGap (Two first second)) was content → sooner_parity ≡ parity_column sooner was → later_parity ≡ parity_column later was
       → IsLack sooner (slice_set (slice_set content first zeros) second zeros) sooner_parity low
       → IsLack later (slice_set (slice_set content first zeros) second zeros) later_parity high
-      → x ≡ point_of (length content) first
-      → y ≡ point_of (length content) second
+      → x ≡ column_point (length content) first
+      → y ≡ column_point (length content) second
       → length first_found ≡ 512 → length second_found ≡ 512
       → ((at one two : ℕ) → at < 512 → one < 256 → two < 256 → slice_index low at ≡ two_shares sooner x y one two → slice_index high at ≡ two_shares later x y one two
       → (slice_index first_found at ≡ one) × (slice_index second_found at ≡ two))
@@ -102,8 +102,8 @@ module _ (was content : List (List ℕ)) (zeros : List ℕ) (sectors : AreSector
           lack_is.byte at small
           ∙ lack_of_two which at first second was (slice_set (slice_set content first zeros) second zeros) parity few small ((sectors.each first first_was).bytes at) ((sectors.each second second_was).bytes at) first_was second_was apart empty
           (none_first at) (none_second at) parity_is
-          ∙ ap (λ (k : ℕ). two_shares which k (point_of (length was) second) (byte_of was first at) (byte_of was second at)) (sym (x_is ∙ ap (λ (k : ℕ). point_of k first) agree.long))
-          ∙ ap (λ (k : ℕ). two_shares which x k (byte_of was first at) (byte_of was second at)) (sym (y_is ∙ ap (λ (k : ℕ). point_of k second) agree.long))
+          ∙ ap (λ (k : ℕ). two_shares which k (column_point (length was) second) (byte_of was first at) (byte_of was second at)) (sym (x_is ∙ ap (λ (k : ℕ). column_point k first) agree.long))
+          ∙ ap (λ (k : ℕ). two_shares which x k (byte_of was first at) (byte_of was second at)) (sym (y_is ∙ ap (λ (k : ℕ). column_point k second) agree.long))
 
       bytes : (at : ℕ) → at < 512 → (slice_index first_found at ≡ byte_of was first at) × (slice_index second_found at ≡ byte_of was second at)
       bytes at small =
@@ -117,9 +117,9 @@ module _ (was content : List (List ℕ)) (zeros : List ℕ) (sectors : AreSector
       → IsLack 0 (slice_set (slice_set (slice_set content first zeros) second zeros) third zeros) p_parity p
       → IsLack 1 (slice_set (slice_set (slice_set content first zeros) second zeros) third zeros) q_parity q
       → IsLack 2 (slice_set (slice_set (slice_set content first zeros) second zeros) third zeros) r_parity r
-      → x ≡ point_of (length content) first
-      → y ≡ point_of (length content) second
-      → z ≡ point_of (length content) third
+      → x ≡ column_point (length content) first
+      → y ≡ column_point (length content) second
+      → z ≡ column_point (length content) third
       → length first_found ≡ 512 → length second_found ≡ 512 → length third_found ≡ 512
       → ((at one two three : ℕ) → at < 512 → one < 256 → two < 256 → three < 256
       → slice_index p at ≡ three_shares 0 x y z one two three → slice_index q at ≡ three_shares 1 x y z one two three → slice_index r at ≡ three_shares 2 x y z one two three
@@ -184,11 +184,11 @@ module _ (was content : List (List ℕ)) (zeros : List ℕ) (sectors : AreSector
           lack_is.byte at small
           ∙ lack_of_three which at first second third was (slice_set (slice_set (slice_set content first zeros) second zeros) third zeros) parity few small ((sectors.each first first_was).bytes at) ((sectors.each second second_was).bytes at) ((sectors.each third third_was).bytes at)
           first_was second_was third_was second_first third_first third_second empty (none_first at) (none_second at) (none_third at) parity_is
-          ∙ ap (λ (k : ℕ). three_shares which k (point_of (length was) second) (point_of (length was) third) (byte_of was first at) (byte_of was second at) (byte_of was third at))
-          (sym (x_is ∙ ap (λ (k : ℕ). point_of k first) agree.long))
-          ∙ ap (λ (k : ℕ). three_shares which x k (point_of (length was) third) (byte_of was first at) (byte_of was second at) (byte_of was third at))
-          (sym (y_is ∙ ap (λ (k : ℕ). point_of k second) agree.long))
-          ∙ ap (λ (k : ℕ). three_shares which x y k (byte_of was first at) (byte_of was second at) (byte_of was third at)) (sym (z_is ∙ ap (λ (k : ℕ). point_of k third) agree.long))
+          ∙ ap (λ (k : ℕ). three_shares which k (column_point (length was) second) (column_point (length was) third) (byte_of was first at) (byte_of was second at) (byte_of was third at))
+          (sym (x_is ∙ ap (λ (k : ℕ). column_point k first) agree.long))
+          ∙ ap (λ (k : ℕ). three_shares which x k (column_point (length was) third) (byte_of was first at) (byte_of was second at) (byte_of was third at))
+          (sym (y_is ∙ ap (λ (k : ℕ). column_point k second) agree.long))
+          ∙ ap (λ (k : ℕ). three_shares which x y k (byte_of was first at) (byte_of was second at) (byte_of was third at)) (sym (z_is ∙ ap (λ (k : ℕ). column_point k third) agree.long))
 
       bytes : (at : ℕ) → at < 512
           → (slice_index first_found at ≡ byte_of was first at) × (slice_index second_found at ≡ byte_of was second at) × (slice_index third_found at ≡ byte_of was third at)

@@ -6,7 +6,7 @@ use Rattle.std.proofs.lemmas.List.{length-set, get_or-set_same, get_or-set_other
 use Rattle.gf_parity.specs.Parity.{parity_byte, parity_column, bytes_at}
 use Rattle.gf_parity.proofs.Horner.{length-parity_column}
 use Rattle.gf_solve.specs.declared.gaps.Gaps.TheVariants.{One, Two, Three}
-use Rattle.gf_solve.specs.Weight.{point_of, share, two_shares, three_shares}
+use Rattle.gf_solve.specs.Weight.{column_point, share, two_shares, three_shares}
 use Rattle.gf_solve.specs.Row.{IsParityOf}
 use Rattle.gf_solve.specs.Gaps.{IsGap, AgreeBut}
 use Rattle.gf_solve.proofs.Restored.{emptied, lack_of_one, lack_of_two, lack_of_three}
@@ -48,7 +48,7 @@ below_three content parities p q r (suc (suc (suc which))) low = absurd (omega (
 
 module _ (content : List (List ℕ)) (zeros : List ℕ) (blank : (k : ℕ) → slice_index zeros k ≡ 0) where
   pub fits_one : (which first x : ℕ) (parity lack solved : List ℕ) → which < 3 → first < length content → length parity ≡ 512
-      → IsLack which (slice_set content first zeros) parity lack → x ≡ point_of (length content) first
+      → IsLack which (slice_set content first zeros) parity lack → x ≡ column_point (length content) first
       → ((at : ℕ) → at < 512 → slice_index solved at < 256)
       → ((at : ℕ) → at < 512 → share which x (slice_index solved at) ≡ slice_index lack at)
       → parity ≡ parity_column which (slice_set (slice_set content first zeros) first solved)
@@ -59,7 +59,7 @@ module _ (content : List (List ℕ)) (zeros : List ℕ) (blank : (k : ℕ) → s
       (omega (arith, first_in, wide))
       (agree_back (IsGap (One first)) cleared new (emptied (IsGap (One first)) cleared cleared first solved (agree_self (IsGap (One first)) cleared) refl))
       (zero_at content first at zeros first_in blank) refl
-      ∙ ap (λ (k : ℕ). share which (point_of k first) (slice_index (slice_index_or new first []) at)) wide
+      ∙ ap (λ (k : ℕ). share which (column_point k first) (slice_index (slice_index_or new first []) at)) wide
       ∙ ap (λ (k : ℕ). share which k (slice_index (slice_index_or new first []) at)) (sym x_is)
       ∙ ap (share which x) (byte at) ∙ gives at low)
     where
@@ -77,7 +77,7 @@ module _ (content : List (List ℕ)) (zeros : List ℕ) (blank : (k : ℕ) → s
 
   pub fits_two : (which first second x y : ℕ) (parity lack first_found second_found : List ℕ) → which < 3 → first < second → second < length content → length parity ≡ 512
       → IsLack which (slice_set (slice_set content first zeros) second zeros) parity lack
-      → x ≡ point_of (length content) first → y ≡ point_of (length content) second
+      → x ≡ column_point (length content) first → y ≡ column_point (length content) second
       → ((at : ℕ) → at < 512 → (slice_index first_found at < 256) × (slice_index second_found at < 256))
       → ((at : ℕ) → at < 512 → two_shares which x y (slice_index first_found at) (slice_index second_found at) ≡ slice_index lack at)
       → parity ≡ parity_column which (slice_set (slice_set (slice_set (slice_set content first zeros) second zeros) first first_found) second second_found)
@@ -89,8 +89,8 @@ module _ (content : List (List ℕ)) (zeros : List ℕ) (blank : (k : ℕ) → s
       (parity_column which (slice_set (slice_set (slice_set (slice_set content first zeros) second zeros) first first_found) second second_found)) few low
       (rw (byte at) ((bytes at low).0)) (rw (other at) ((bytes at low).1))
       (omega (arith, ascend, second_in, wide)) (omega (arith, second_in, wide)) (λ same. apart (sym same)) agree (none_first at) (none_second at) refl
-      ∙ ap (λ (k : ℕ). two_shares which (point_of k first) (point_of k second) (slice_index (slice_index_or new first []) at) (slice_index (slice_index_or new second []) at)) wide
-      ∙ ap (λ (k : ℕ). two_shares which k (point_of (length content) second) (slice_index (slice_index_or new first []) at) (slice_index (slice_index_or new second []) at)) (sym x_is)
+      ∙ ap (λ (k : ℕ). two_shares which (column_point k first) (column_point k second) (slice_index (slice_index_or new first []) at) (slice_index (slice_index_or new second []) at)) wide
+      ∙ ap (λ (k : ℕ). two_shares which k (column_point (length content) second) (slice_index (slice_index_or new first []) at) (slice_index (slice_index_or new second []) at)) (sym x_is)
       ∙ ap (λ (k : ℕ). two_shares which x k (slice_index (slice_index_or new first []) at) (slice_index (slice_index_or new second []) at)) (sym y_is)
       ∙ ap (λ (k : ℕ). two_shares which x y k (slice_index (slice_index_or new second []) at)) (byte at)
       ∙ ap (two_shares which x y (slice_index first_found at)) (other at) ∙ gives at low)
@@ -140,7 +140,7 @@ module _ (content : List (List ℕ)) (zeros : List ℕ) (blank : (k : ℕ) → s
   pub fits_three : (which first second third x y z : ℕ) (parity lack first_found second_found third_found : List ℕ) → which < 3 → first < second → second < third
       → third < length content → length parity ≡ 512
       → IsLack which (slice_set (slice_set (slice_set content first zeros) second zeros) third zeros) parity lack
-      → x ≡ point_of (length content) first → y ≡ point_of (length content) second → z ≡ point_of (length content) third
+      → x ≡ column_point (length content) first → y ≡ column_point (length content) second → z ≡ column_point (length content) third
       → ((at : ℕ) → at < 512 → (slice_index first_found at < 256) × (slice_index second_found at < 256) × (slice_index third_found at < 256))
       → ((at : ℕ) → at < 512 → three_shares which x y z (slice_index first_found at) (slice_index second_found at) (slice_index third_found at) ≡ slice_index lack at)
       → parity ≡ parity_column which
@@ -156,9 +156,9 @@ module _ (content : List (List ℕ)) (zeros : List ℕ) (blank : (k : ℕ) → s
       (rw (byte at) ((bytes at low).0)) (rw (other at) ((bytes at low).1)) (rw (last at) ((bytes at low).2))
       (omega (arith, ascend, ascend_more, third_in, wide)) (omega (arith, ascend_more, third_in, wide)) (omega (arith, third_in, wide))
       (λ same. first_second (sym same)) (λ same. first_third (sym same)) (λ same. second_third (sym same)) agree (none_first at) (none_second at) (none_third at) refl
-      ∙ ap (λ (k : ℕ). three_shares which (point_of k first) (point_of k second) (point_of k third) (found at first) (found at second) (found at third)) wide
-      ∙ ap (λ (k : ℕ). three_shares which k (point_of (length content) second) (point_of (length content) third) (found at first) (found at second) (found at third)) (sym x_is)
-      ∙ ap (λ (k : ℕ). three_shares which x k (point_of (length content) third) (found at first) (found at second) (found at third)) (sym y_is)
+      ∙ ap (λ (k : ℕ). three_shares which (column_point k first) (column_point k second) (column_point k third) (found at first) (found at second) (found at third)) wide
+      ∙ ap (λ (k : ℕ). three_shares which k (column_point (length content) second) (column_point (length content) third) (found at first) (found at second) (found at third)) (sym x_is)
+      ∙ ap (λ (k : ℕ). three_shares which x k (column_point (length content) third) (found at first) (found at second) (found at third)) (sym y_is)
       ∙ ap (λ (k : ℕ). three_shares which x y k (found at first) (found at second) (found at third)) (sym z_is)
       ∙ ap (λ (k : ℕ). three_shares which x y z k (found at second) (found at third)) (byte at)
       ∙ ap (λ (k : ℕ). three_shares which x y z (slice_index first_found at) k (found at third)) (other at)

@@ -8,7 +8,7 @@ use Rattle.gf_parity.specs.Field.{product}
 use Rattle.gf_parity.specs.Parity.{parity_byte, parity_column, bytes_at}
 use Rattle.gf_parity.proofs.Horner.{parity_column-at}
 use Rattle.gf_solve.specs.declared.gaps.Gaps.TheVariants.{One, Two, Three}
-use Rattle.gf_solve.specs.Weight.{weight, point_of, share, two_shares, three_shares}
+use Rattle.gf_solve.specs.Weight.{weight, column_point, share, two_shares, three_shares}
 use Rattle.gf_solve.specs.Row.{IsSector, AreSectors}
 use Rattle.gf_solve.specs.Gaps.{IsGap, AgreeBut}
 use Rattle.gf_solve.proofs.Weights.{place_share, lacks_one, lacks_two, lacks_three}
@@ -92,10 +92,10 @@ lack_by_bytes which at was cleared column bytes low parity_is bytes_are =
 
 -- A place's share, by its column.
 share_is : (which at : ℕ) (was : List (List ℕ)) (place : ℕ)
-    → place_share which (bytes_at at was) place ≡ share which (point_of (length was) place) (slice_index (slice_index_or was place []) at)
+    → place_share which (bytes_at at was) place ≡ share which (column_point (length was) place) (slice_index (slice_index_or was place []) at)
 share_is which at was place =
-    ap (λ (k : ℕ). product (weight which (point_of k place)) (slice_index (bytes_at at was) place)) (length-bytes_at at was)
-    ∙ ap (product (weight which (point_of (length was) place))) (bytes_at-get at was place)
+    ap (λ (k : ℕ). product (weight which (column_point k place)) (slice_index (bytes_at at was) place)) (length-bytes_at at was)
+    ∙ ap (product (weight which (column_point (length was) place))) (bytes_at-get at was place)
 
 -- the bytes of cleared columns, one by one
 byte_there : (gap : ℕ → Type 0) (at : ℕ) (was cleared : List (List ℕ)) (k : ℕ) → AgreeBut gap was cleared → k < length was → (gap k → ⊥)
@@ -112,7 +112,7 @@ pub lack_of_one : (which at first : ℕ) (was cleared : List (List ℕ)) (column
     → slice_index (slice_index_or was first []) at < 256 → first < length was
     → AgreeBut (IsGap (One first)) was cleared → slice_index (slice_index_or cleared first []) at ≡ 0 → column ≡ parity_column which was
     → bit_xor (parity_byte which (bytes_at at cleared)) (slice_index column at)
-    ≡ share which (point_of (length was) first) (slice_index (slice_index_or was first []) at)
+    ≡ share which (column_point (length was) first) (slice_index (slice_index_or was first []) at)
 lack_of_one which at first was cleared column few low byte first_in agree none parity_is =
     lack_by_bytes which at was cleared column (slice_set (bytes_at at was) first 0) low parity_is bytes
     ∙ lacks_one which (bytes_at at was) first few (omega (arith, first_in, length-bytes_at at was)) (byte_is at was first byte) ∙ share_is which at was first
@@ -133,12 +133,12 @@ pub lack_of_two : (which at first second : ℕ) (was cleared : List (List ℕ)) 
     → AgreeBut (IsGap (Two first second)) was cleared → slice_index (slice_index_or cleared first []) at ≡ 0 → slice_index (slice_index_or cleared second []) at ≡ 0
     → column ≡ parity_column which was
     → bit_xor (parity_byte which (bytes_at at cleared)) (slice_index column at)
-    ≡ two_shares which (point_of (length was) first) (point_of (length was) second) (slice_index (slice_index_or was first []) at) (slice_index (slice_index_or was second []) at)
+    ≡ two_shares which (column_point (length was) first) (column_point (length was) second) (slice_index (slice_index_or was first []) at) (slice_index (slice_index_or was second []) at)
 lack_of_two which at first second was cleared column few low byte other first_in second_in differ agree none_first none_second parity_is =
     lack_by_bytes which at was cleared column (slice_set (slice_set (bytes_at at was) first 0) second 0) low parity_is bytes
     ∙ lacks_two which (bytes_at at was) first second few (omega (arith, first_in, length-bytes_at at was)) (omega (arith, second_in, length-bytes_at at was)) differ (byte_is at was first byte) (byte_is at was second other)
     ∙ ap (λ (k : ℕ). bit_xor k (place_share which (bytes_at at was) second)) (share_is which at was first)
-    ∙ ap (bit_xor (share which (point_of (length was) first) (slice_index (slice_index_or was first []) at))) (share_is which at was second)
+    ∙ ap (bit_xor (share which (column_point (length was) first) (slice_index (slice_index_or was first []) at))) (share_is which at was second)
   where
     bytes : bytes_at at cleared ≡ slice_set (slice_set (bytes_at at was) first 0) second 0
     bytes =
@@ -161,15 +161,15 @@ pub lack_of_three : (which at first second third : ℕ) (was cleared : List (Lis
     → slice_index (slice_index_or cleared first []) at ≡ 0 → slice_index (slice_index_or cleared second []) at ≡ 0 → slice_index (slice_index_or cleared third []) at ≡ 0
     → column ≡ parity_column which was
     → bit_xor (parity_byte which (bytes_at at cleared)) (slice_index column at)
-    ≡ three_shares which (point_of (length was) first) (point_of (length was) second) (point_of (length was) third)
+    ≡ three_shares which (column_point (length was) first) (column_point (length was) second) (column_point (length was) third)
     (slice_index (slice_index_or was first []) at) (slice_index (slice_index_or was second []) at) (slice_index (slice_index_or was third []) at)
 lack_of_three which at first second third was cleared column few low byte other last first_in second_in third_in differ differ_first differ_second agree none_first none_second none_third parity_is =
     lack_by_bytes which at was cleared column (slice_set (slice_set (slice_set (bytes_at at was) first 0) second 0) third 0) low parity_is bytes
     ∙ lacks_three which (bytes_at at was) first second third few (omega (arith, first_in, length-bytes_at at was)) (omega (arith, second_in, length-bytes_at at was))
     (omega (arith, third_in, length-bytes_at at was)) differ differ_first differ_second (byte_is at was first byte) (byte_is at was second other) (byte_is at was third last)
     ∙ ap (λ (k : ℕ). bit_xor (bit_xor k (place_share which (bytes_at at was) second)) (place_share which (bytes_at at was) third)) (share_is which at was first)
-    ∙ ap (λ (k : ℕ). bit_xor (bit_xor (share which (point_of (length was) first) (slice_index (slice_index_or was first []) at)) k) (place_share which (bytes_at at was) third)) (share_is which at was second)
-    ∙ ap (bit_xor (two_shares which (point_of (length was) first) (point_of (length was) second) (slice_index (slice_index_or was first []) at) (slice_index (slice_index_or was second []) at))) (share_is which at was third)
+    ∙ ap (λ (k : ℕ). bit_xor (bit_xor (share which (column_point (length was) first) (slice_index (slice_index_or was first []) at)) k) (place_share which (bytes_at at was) third)) (share_is which at was second)
+    ∙ ap (bit_xor (two_shares which (column_point (length was) first) (column_point (length was) second) (slice_index (slice_index_or was first []) at) (slice_index (slice_index_or was second []) at))) (share_is which at was third)
   where
     bytes : bytes_at at cleared ≡ slice_set (slice_set (slice_set (bytes_at at was) first 0) second 0) third 0
     bytes =

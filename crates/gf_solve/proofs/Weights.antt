@@ -8,7 +8,7 @@ use Rattle.gf_parity.specs.Field.{product, power_of}
 use Rattle.gf_parity.specs.Parity.{sum_of, weighted_sum, p_of, q_of, r_of, parity_byte}
 use Rattle.gf_parity.proofs.Laws.{one_product}
 use Rattle.gf_parity.proofs.Linear.{product-xor_right}
-use Rattle.gf_solve.specs.Weight.{weight, point_of}
+use Rattle.gf_solve.specs.Weight.{weight, column_point}
 use Rattle.gf_solve.proofs.Units.{power_four}
 use Rattle.gf_solve.proofs.Sums.{first_twice, shared_part}
 
@@ -40,7 +40,7 @@ weighted_sum-set by (first ∷ bytes) (suc place) byte low =
 -- So does it in each parity.
 pub parity-set : (which : ℕ) (bytes : List ℕ) (place byte : ℕ) → which < 3 → place < length bytes → bit_xor byte (slice_index bytes place) < 256
     → parity_byte which (slice_set bytes place byte)
-    ≡ bit_xor (parity_byte which bytes) (product (weight which (point_of (length bytes) place)) (bit_xor byte (slice_index bytes place)))
+    ≡ bit_xor (parity_byte which bytes) (product (weight which (column_point (length bytes) place)) (bit_xor byte (slice_index bytes place)))
 unfolding p_of q_of r_of
 parity-set zero bytes place byte few low difference =
     sum_of-set bytes place byte low ∙ ap (bit_xor (sum_of bytes)) (sym (one_product (bit_xor byte (slice_index bytes place)) difference))
@@ -52,7 +52,7 @@ parity-set (suc (suc (suc which))) bytes place byte few low difference = absurd 
 
 -- what a place gives to a parity
 abbrev pub place_share : ℕ → List ℕ → ℕ → ℕ
-place_share which bytes place = product (weight which (point_of (length bytes) place)) (slice_index bytes place)
+place_share which bytes place = product (weight which (column_point (length bytes) place)) (slice_index bytes place)
 
 -- A parity lacks the share of a place that is cleared.
 cleared_one : (which : ℕ) (bytes : List ℕ) (place : ℕ) → which < 3 → place < length bytes → slice_index bytes place < 256
@@ -60,13 +60,13 @@ cleared_one : (which : ℕ) (bytes : List ℕ) (place : ℕ) → which < 3 → p
 cleared_one which bytes place few low byte =
     let difference : bit_xor 0 (slice_index bytes place) ≡ slice_index bytes place = xor_zero_l (slice_index bytes place) in
     parity-set which bytes place 0 few low (rw difference byte)
-    ∙ ap (λ (k : ℕ). bit_xor (parity_byte which bytes) (product (weight which (point_of (length bytes) place)) k)) difference
+    ∙ ap (λ (k : ℕ). bit_xor (parity_byte which bytes) (product (weight which (column_point (length bytes) place)) k)) difference
 
 -- The share of a place is the same when another one is cleared.
 other_share : (which : ℕ) (bytes : List ℕ) (place other : ℕ) → other ≢ place → place_share which (slice_set bytes place 0) other ≡ place_share which bytes other
 other_share which bytes place other differ =
-    ap (λ (k : ℕ). product (weight which (point_of k other)) (slice_index (slice_set bytes place 0) other)) (length-set bytes place 0)
-    ∙ ap (product (weight which (point_of (length bytes) other))) (get_or-set_other bytes place other 0 0 differ)
+    ap (λ (k : ℕ). product (weight which (column_point k other)) (slice_index (slice_set bytes place 0) other)) (length-set bytes place 0)
+    ∙ ap (product (weight which (column_point (length bytes) other))) (get_or-set_other bytes place other 0 0 differ)
 
 -- Another place is as it was.
 still_byte : (bytes : List ℕ) (place other : ℕ) → other ≢ place → slice_index bytes other < 256 → slice_index (slice_set bytes place 0) other < 256

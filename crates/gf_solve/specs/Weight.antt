@@ -9,8 +9,8 @@ weight (suc zero) point = point
 weight (suc (suc more)) point = product point point
 
 -- the point of a column of so many: 2 to the power of how many follow
-abbrev pub point_of : ℕ → ℕ → ℕ
-point_of columns column = power_of 2 (columns - 1 - column)
+abbrev pub column_point : ℕ → ℕ → ℕ
+column_point columns column = power_of 2 (columns - 1 - column)
 
 -- what a column's byte gives to a parity
 abbrev pub share : ℕ → ℕ → ℕ → ℕ

@@ -3,7 +3,7 @@
 ghost use Rattle.std.specs.Prelude.{◌≡◌, ◌≢◌, ◌<◌};
 ghost use Rattle.gf_parity.specs.Field.{product, power_of};
 ghost use Rattle.gf_solve.specs.Inverse.{inverse_of};
-ghost use Rattle.gf_solve.specs.Weight.{point_of};
+ghost use Rattle.gf_solve.specs.Weight.{column_point};
 
 use gf_parity::{mul, mul2};
 
@@ -52,7 +52,7 @@ fn point(behind: usize) -> u8
 /// The point of one content column of so many.
 pub fn point_among(columns: usize, column: usize) -> u8
     requires { column < columns }
-    ensures value { result ≡ point_of columns column }
+    ensures value { result ≡ column_point columns column }
     ensures some { result ≢ 0 }
 {
     point(columns - 1 - column)

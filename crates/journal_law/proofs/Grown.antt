@@ -7,7 +7,7 @@ use Rattle.core_state.specs.declared.item.Entry.{Entry}
 use Rattle.core_state.specs.declared.item.Group.{Group as GroupItem}
 use Rattle.core_state.specs.declared.item.Item.{Item}
 use Rattle.core_state.specs.declared.item.Item.TheVariants.{Group, Call}
-use Rattle.core_state.specs.Map.{Map, Handed, map_of, map_after, map_after_answer}
+use Rattle.core_state.specs.Map.{Map, PutBytes, map_of, map_after, map_after_answer}
 use Rattle.core_state.specs.Legal.{IsPrevious, IsGroupBefore}
 
 -- What an index has, it has in the grown journal.
@@ -57,7 +57,7 @@ new_or_before (first ∷ items) last (suc index) item there =
     ]
 
 -- The map after the grown journal is made from that after the first items.
-map_of_grown : (handed : Handed) (opening : Map) (items more : List Item)
+map_of_grown : (handed : PutBytes) (opening : Map) (items more : List Item)
     → map_of handed opening (items ++ more) ≡ map_of handed (map_of handed opening items) more
 map_of_grown handed opening [] more = refl
 map_of_grown handed opening (Group group ∷ items) more = map_of_grown handed opening items more
@@ -65,23 +65,23 @@ map_of_grown handed opening (Call entry ∷ items) more =
     map_of_grown handed (map_after_answer handed opening entry entry.answer) items more
 
 -- A new answer changes the map as it says.
-pub map_grown_call : (handed : Handed) (opening : Map) (items : List Item) (entry : Entry)
+pub map_grown_call : (handed : PutBytes) (opening : Map) (items : List Item) (entry : Entry)
     → map_of handed opening (items ++ Call entry ∷ [])
     ≡ map_after_answer handed (map_of handed opening items) entry entry.answer
 map_grown_call handed opening items entry = map_of_grown handed opening items (Call entry ∷ [])
 
 -- A new group changes no map.
-pub map_grown_group : (handed : Handed) (opening : Map) (items : List Item) (group : GroupItem)
+pub map_grown_group : (handed : PutBytes) (opening : Map) (items : List Item) (group : GroupItem)
     → map_of handed opening (items ++ Group group ∷ []) ≡ map_of handed opening items
 map_grown_group handed opening items group = map_of_grown handed opening items (Group group ∷ [])
 
 -- The map after all items of a journal is that of the journal.
-pub map_at_end : (handed : Handed) (opening : Map) (items : List Item)
+pub map_at_end : (handed : PutBytes) (opening : Map) (items : List Item)
     → map_after handed opening items (length items) ≡ map_of handed opening items
 map_at_end handed opening items = ap (map_of handed opening) (take-length items)
 
 -- The map after some of the first items is the same in the grown journal.
-pub map_before : (handed : Handed) (opening : Map) (items more : List Item) (k : ℕ)
+pub map_before : (handed : PutBytes) (opening : Map) (items more : List Item) (k : ℕ)
     → k ≤ length items
     → map_after handed opening (items ++ more) k ≡ map_after handed opening items k
 map_before handed opening items more k below =

@@ -9,12 +9,12 @@ use Rattle.core_state.specs.declared.item.Entry.{Entry}
 use Rattle.core_state.specs.declared.item.Group.{Group as GroupItem}
 use Rattle.core_state.specs.declared.item.Item.{Item}
 use Rattle.core_state.specs.declared.item.Item.TheVariants.{Group, Call}
-use Rattle.core_state.specs.Map.{Map, Handed}
+use Rattle.core_state.specs.Map.{Map, PutBytes}
 use Rattle.core_state.specs.Legal.{CallAt, IsPrevious, IsAnsweredGroup, IsReadOf, IsRightRead, IsRightFree, IsRightSync, IsRightAttach, IsRightCopy, IsRightScrub, IsRightCall, IsAnswerOf, AnswersAreRight}
 use Rattle.journal_law.proofs.Grown.{grown_has, new_or_before, map_before, group_before_grown, group_before_first, previous_in_first}
 
 -- What is right of an index below the first items' number.
-module _ (handed : Handed) (opening : Map) (items more : List Item) (previous index : ℕ)
+module _ (handed : PutBytes) (opening : Map) (items more : List Item) (previous index : ℕ)
     (below : index < length items) where
   answered_grown : (number : ℕ) → IsAnsweredGroup items previous index number
       → IsAnsweredGroup (items ++ more) previous index number
@@ -91,7 +91,7 @@ module _ (handed : Handed) (opening : Map) (items more : List Item) (previous in
   call_grown entry kind.Scrub right = scrub_grown entry.answer right
 
 -- An entry of the first items has a right answer in the grown journal.
-earlier_right : (handed : Handed) (opening : Map) (items more : List Item)
+earlier_right : (handed : PutBytes) (opening : Map) (items more : List Item)
     → AnswersAreRight handed opening items → (previous index : ℕ) (entry : Entry)
     → index < length items → CallAt items index entry
     → IsPrevious (items ++ more) entry.caller index previous
@@ -104,7 +104,7 @@ earlier_right handed opening items more right previous index entry below there i
     (call_grown handed opening items more previous index below entry entry.kind first.0, first.1)
 
 -- A new answer that is right at the end, for each previous entry that its caller may have.
-pub answers_grown_call : (handed : Handed) (opening : Map) (items : List Item) (entry : Entry)
+pub answers_grown_call : (handed : PutBytes) (opening : Map) (items : List Item) (entry : Entry)
     → AnswersAreRight handed opening items
     → ((previous : ℕ) → IsPrevious (items ++ Call entry ∷ []) entry.caller (length items) previous
     → IsRightCall handed opening (items ++ Call entry ∷ []) previous (length items) entry entry.kind)
@@ -135,7 +135,7 @@ answers_grown_call handed opening items entry right last_right is_answer = recor
         × IsAnswerOf e.kind e.answer) same_entry (λ is. (last_right previous is, is_answer)))
 
 -- A new group answers nothing.
-pub answers_grown_group : (handed : Handed) (opening : Map) (items : List Item) (group : GroupItem)
+pub answers_grown_group : (handed : PutBytes) (opening : Map) (items : List Item) (group : GroupItem)
     → AnswersAreRight handed opening items
     → AnswersAreRight handed opening (items ++ Group group ∷ [])
 answers_grown_group handed opening items group right = record {
@@ -151,7 +151,7 @@ answers_grown_group handed opening items group right = record {
     no_call other is = cc
 
 -- A journal of a group alone has no answers.
-pub answers_alone : (handed : Handed) (opening : Map) (group : GroupItem)
+pub answers_alone : (handed : PutBytes) (opening : Map) (group : GroupItem)
     → AnswersAreRight handed opening (Group group ∷ [])
 answers_alone handed opening group = answers_grown_group handed opening [] group (record {
   each = λ previous index entry there is. absurd (nothing index entry there);

@@ -7,7 +7,7 @@ use Rattle.core_state.specs.declared.item.Entry.{Entry}
 use Rattle.core_state.specs.declared.item.Group.{Group as GroupItem}
 use Rattle.core_state.specs.declared.item.Item.{Item}
 use Rattle.core_state.specs.declared.item.Item.TheVariants.{Group, Call}
-use Rattle.core_state.specs.Map.{Map, Handed}
+use Rattle.core_state.specs.Map.{Map, PutBytes}
 use Rattle.core_state.specs.Legal.{GroupAt, IsGroupBefore}
 use Rattle.core_state.specs.Journal.{IsAttachOf, IsWidthStep, Follows, GroupsAreRight}
 use Rattle.core_state.specs.Keeps.{Kept}
@@ -165,7 +165,7 @@ pub latest_alone : (group : GroupItem) → IsGroupBefore (Group group ∷ []) 1 
 latest_alone group = latest_grown_group [] group
 
 -- What a journal says of a group that was begun after some of its items, it says when it has grown.
-pub group_of_grown : (handed : Handed) (opening : Map) (items : List Item) (group : GroupItem)
+pub group_of_grown : (handed : PutBytes) (opening : Map) (items : List Item) (group : GroupItem)
     (kept : Kept) (more : List Item) → group.after ≤ length items
     → IsGroupOf handed opening items group kept
     → IsGroupOf handed opening (items ++ more) group kept

@@ -8,7 +8,7 @@ use Rattle.core_state.specs.declared.item.Entry.{Entry}
 use Rattle.core_state.specs.declared.item.Group.{Group as GroupItem}
 use Rattle.core_state.specs.declared.item.Item.{Item}
 use Rattle.core_state.specs.declared.item.Item.TheVariants.{Group, Call}
-use Rattle.core_state.specs.Map.{Map, Handed}
+use Rattle.core_state.specs.Map.{Map, PutBytes}
 use Rattle.core_state.specs.Legal.{GroupAt, IsGroupBefore}
 use Rattle.core_state.specs.Journal.{GroupsAreRight}
 use Rattle.core_state.specs.Keeps.{Kept}
@@ -33,7 +33,7 @@ groups_with_group (Group other ∷ items) group =
 groups_with_group (Call entry ∷ items) group = groups_with_group items group
 
 -- What a journal says of its groups, it says when it has grown, if each was begun within it.
-each_grown : (handed : Handed) (opening : Map) (items more part : List Item) (answered : List Kept)
+each_grown : (handed : PutBytes) (opening : Map) (items more part : List Item) (answered : List Kept)
     → ((index : ℕ) (group : GroupItem) → GroupAt part index group → group.after ≤ length items)
     → AllZip (IsGroupOf handed opening items) (groups_in part) answered
     → AllZip (IsGroupOf handed opening (items ++ more)) (groups_in part) answered
@@ -61,7 +61,7 @@ all_within items right index group there =
     )
 
 -- One more group, and what is kept of it.
-each_pushed : (handed : Handed) (opening : Map) (items : List Item) (groups : List GroupItem)
+each_pushed : (handed : PutBytes) (opening : Map) (items : List Item) (groups : List GroupItem)
     (answered : List Kept) (group : GroupItem) (kept : Kept)
     → AllZip (IsGroupOf handed opening items) groups answered
     → IsGroupOf handed opening items group kept
@@ -73,7 +73,7 @@ each_pushed handed opening items (other ∷ groups) (first ∷ answered) group k
     (each.0, each_pushed handed opening items groups answered group kept each.1 is)
 
 -- A group that was begun and isn't answered stays so.
-unanswered_grown : (handed : Handed) (opening : Map) (items more : List Item) (known : List Kept)
+unanswered_grown : (handed : PutBytes) (opening : Map) (items more : List Item) (known : List Kept)
     (groups : List GroupItem) (kept : Kept) → IsUnanswered handed opening items known groups kept
     → IsUnanswered handed opening (items ++ more) known groups kept
 unanswered_grown handed opening items more known [] kept is = is
@@ -87,7 +87,7 @@ unanswered_grown handed opening items more known (group ∷ groups) kept is = re
 }
 
 -- A new answer changes no group of a run.
-pub groups_call : (handed : Handed) (opening : Map) (known : List Kept) (items : List Item)
+pub groups_call : (handed : PutBytes) (opening : Map) (known : List Kept) (items : List Item)
     (groups : Groups handed opening known items) → GroupsAreRight items → (entry : Entry)
     → (grown : Groups handed opening known (items ++ Call entry ∷ []))
     × (grown.answered ≡ groups.answered) × (grown.begun ≡ groups.begun)
@@ -110,7 +110,7 @@ groups_call handed opening known items groups right entry = (
 )
 
 -- A new group is answered behind the others.
-pub groups_end : (handed : Handed) (opening : Map) (known : List Kept) (items : List Item)
+pub groups_end : (handed : PutBytes) (opening : Map) (known : List Kept) (items : List Item)
     (groups : Groups handed opening known items) → groups.begun ≡ []
     → (group : GroupItem) (kept : Kept)
     → IsGroupOf handed opening (items ++ Group group ∷ []) group kept → GroupsAreRight items
@@ -170,7 +170,7 @@ last_in (Call entry ∷ items) (suc place) last there latest = last_in items pla
     (λ index other after at. latest (suc index) other (omega (arith, after)) at)
 
 -- A group that was begun after the last one is the one that isn't answered.
-begun_after_last : (handed : Handed) (opening : Map) (items : List Item) (known : List Kept)
+begun_after_last : (handed : PutBytes) (opening : Map) (items : List Item) (known : List Kept)
     (front : List GroupItem) (last : GroupItem) (kept : Kept)
     → IsBegunAfter handed opening items last kept
     → IsUnanswered handed opening items known (front ++ last ∷ []) kept
@@ -179,7 +179,7 @@ begun_after_last handed opening items known (first ∷ []) last kept is = is
 begun_after_last handed opening items known (first ∷ next ∷ front) last kept is =
     begun_after_last handed opening items known (next ∷ front) last kept is
 
-after_last_begun : (handed : Handed) (opening : Map) (items : List Item) (known : List Kept)
+after_last_begun : (handed : PutBytes) (opening : Map) (items : List Item) (known : List Kept)
     (front : List GroupItem) (last : GroupItem) (kept : Kept)
     → IsUnanswered handed opening items known (front ++ last ∷ []) kept
     → IsBegunAfter handed opening items last kept
@@ -189,7 +189,7 @@ after_last_begun handed opening items known (first ∷ next ∷ front) last kept
     after_last_begun handed opening items known (next ∷ front) last kept is
 
 -- The group that isn't answered was begun after the last one.
-pub groups_begun : (handed : Handed) (opening : Map) (known : List Kept) (items : List Item)
+pub groups_begun : (handed : PutBytes) (opening : Map) (known : List Kept) (items : List Item)
     (groups : Groups handed opening known items) (last : GroupItem)
     → IsGroupBefore items (length items) last → (kept : Kept) → Contains groups.begun kept
     → IsBegunAfter handed opening items last kept
@@ -204,7 +204,7 @@ groups_begun handed opening known items groups last latest kept has =
         (slice_get_within items index (Group group) there) there)
 
 -- A new group was begun after the last one, or none was.
-pub groups_cut : (handed : Handed) (opening : Map) (known : List Kept) (items : List Item)
+pub groups_cut : (handed : PutBytes) (opening : Map) (known : List Kept) (items : List Item)
     (groups : Groups handed opening known items) → groups.begun ≡ [] → (last : GroupItem)
     → IsGroupBefore items (length items) last → (begun : List Kept) → length begun ≤ 1
     → ((kept : Kept) → Contains begun kept → IsBegunAfter handed opening items last kept)
@@ -230,7 +230,7 @@ groups_cut handed opening known items groups none last latest begun one after = 
         (slice_get_within items index (Group group) there) there)
 
 -- The groups of a journal of one group.
-pub groups_one : (handed : Handed) (opening : Map) (known : List Kept) (group : GroupItem)
+pub groups_one : (handed : PutBytes) (opening : Map) (known : List Kept) (group : GroupItem)
     (kept : Kept) → IsGroupOf handed opening (Group group ∷ []) group kept
     → (groups : Groups handed opening known (Group group ∷ []))
     × (groups.answered ≡ kept ∷ []) × (groups.begun ≡ [])

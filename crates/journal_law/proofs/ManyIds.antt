@@ -12,7 +12,7 @@ use Rattle.core_state.specs.declared.answer.Kind.TheVariants as kind
 use Rattle.core_state.specs.declared.item.Entry.{Entry}
 use Rattle.core_state.specs.declared.item.Item.{Item}
 use Rattle.core_state.specs.declared.item.Item.TheVariants.{Group, Call}
-use Rattle.core_state.specs.Map.{Map, Handed, with_block, map_after_answer, map_after}
+use Rattle.core_state.specs.Map.{Map, PutBytes, with_block, map_after_answer, map_after}
 use Rattle.core_state.specs.Legal.{CallAt, IsAnswerOf, AnswersAreRight}
 use Rattle.core_state.specs.Journal.{Asked, CallsAreRight}
 use Rattle.client_script.specs.declared.call.ScriptCall.{ScriptCall}
@@ -36,7 +36,7 @@ with_step map (Some changed) value id held = by (id == changed) refl held
     by true is held = inr (held, ap (λ (n : ℕ). Some n) (sym (eqb-true id changed is)))
     by false is held = inl held
 
-answer_step : (handed : Handed) (map : Map) (entry : Entry) (given : Answer) (id : ℕ)
+answer_step : (handed : PutBytes) (map : Map) (entry : Entry) (given : Answer) (id : ℕ)
     → map_after_answer handed map entry given id ≢ None
     → (map id ≢ None) ⊎ ((given ≡ answer.Stored) × (entry.id ≡ Some id))
 answer_step handed map entry answer.Stored id held = ⊎_elim (λ before. inl before) (λ put. inr (refl, put.1))
@@ -46,7 +46,7 @@ answer_step handed map entry answer.Freed id held = ⊎_elim (λ before. inl bef
 answer_step handed map entry other id held = inl held
 
 -- An id that is there after some items was there before them, or was stored since.
-first_or_stored : (handed : Handed) (map : Map) (items : List Item) (count id : ℕ)
+first_or_stored : (handed : PutBytes) (map : Map) (items : List Item) (count id : ℕ)
     → map_after handed map items count id ≢ None → (map id ≢ None) ⊎ IsStored items id
 first_or_stored handed map items zero id held = inl held
 first_or_stored handed map [] (suc count) id held = inl held
@@ -133,7 +133,7 @@ one_too_many script opening P id others apart distinct all those put each = reco
 }
 
 -- The journal answers what the script asks, and answers it right.
-module _ (script : Script) (handed : Handed) (opening : Map) (items : List Item)
+module _ (script : Script) (handed : PutBytes) (opening : Map) (items : List Item)
     (calls_are : CallsAreRight (asked_by script) items) (answers : AnswersAreRight handed opening items) where
   -- An answered put stands in the script.
   put_placed : (index : ℕ) (entry : Entry) (id : ℕ) → CallAt items index entry

@@ -5,7 +5,7 @@ use Rattle.std.proofs.lemmas.List.Elements.{Contains-append_left, Contains-appen
 use Rattle.bank_trait.specs.Disk.{Disk}
 use Rattle.uberblock_ring.specs.Uberblock.{Uber}
 use Rattle.core_state.specs.declared.item.Item.{Item}
-use Rattle.core_state.specs.Map.{Map, Handed}
+use Rattle.core_state.specs.Map.{Map, PutBytes}
 use Rattle.core_state.specs.Keeps.{Kept, Setting}
 use Rattle.core_state.proofs.Listed.{contains_cases, contains_none}
 use Rattle.journal_law.specs.Moments.{KeepsUntil}
@@ -46,7 +46,7 @@ last_alike uber known earlier answered begun left last answered_are begun_are wi
     (sym (cut_row known earlier answered left begun last answered_are begun_are)) widths)
 
 -- What was kept between two banks, for the names that the banks and the items have now.
-pub moved : (setting : Setting) (handed : Handed) (opening : Map) (known : List Kept) (part same : List Item)
+pub moved : (setting : Setting) (handed : PutBytes) (opening : Map) (known : List Kept) (part same : List Item)
     (from now first second : Disk) → same ≡ part → first ≡ from → second ≡ now
     → KeepsUntil setting handed opening known part from now
     → KeepsUntil setting handed opening known same first second

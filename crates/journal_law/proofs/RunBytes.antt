@@ -13,7 +13,7 @@ use Rattle.core_state.specs.declared.answer.Kind.TheVariants as kind
 use Rattle.core_state.specs.declared.item.Entry.{Entry}
 use Rattle.core_state.specs.declared.item.Item.{Item}
 use Rattle.core_state.specs.declared.item.Item.TheVariants.{Group, Call}
-use Rattle.core_state.specs.Map.{Map, Handed, with_block, map_after_answer, map_after_item, map_after}
+use Rattle.core_state.specs.Map.{Map, PutBytes, with_block, map_after_answer, map_after_item, map_after}
 use Rattle.core_state.specs.Legal.{CallAt, IsPrevious, IsAnswerOf}
 use Rattle.core_state.specs.Journal.{Asked, IsLegalJournal}
 use Rattle.client_script.specs.declared.call.ScriptCall.{ScriptCall}
@@ -25,7 +25,7 @@ abbrev pub HoldsBytes : Map → Type 0
 HoldsBytes map = (id : ℕ) (content : List ℕ) → map id ≡ Some content → AreBytes content
 
 -- What each put that is stored was handed is bytes.
-pub record HandsBytes (handed : Handed) (items : List Item) : Type 0 where
+pub record HandsBytes (handed : PutBytes) (items : List Item) : Type 0 where
   pub each : (index : ℕ) (entry : Entry) → CallAt items index entry → entry.answer ≡ answer.Stored
       → AreBytes (handed entry.caller entry.call)
 
@@ -39,7 +39,7 @@ with_bytes map (Some changed) value holds are id content has = by (id == changed
     by true has = are content has
     by false has = holds id content has
 
-answer_bytes : (handed : Handed) (map : Map) (entry : Entry) (given : Answer)
+answer_bytes : (handed : PutBytes) (map : Map) (entry : Entry) (given : Answer)
     → (given ≡ answer.Stored → AreBytes (handed entry.caller entry.call)) → HoldsBytes map
     → HoldsBytes (map_after_answer handed map entry given)
 answer_bytes handed map entry answer.Stored are holds id content has =
@@ -55,14 +55,14 @@ answer_bytes handed map entry answer.Freed are holds id content has =
     nothing is = cc
 answer_bytes handed map entry other are holds id content has = holds id content has
 
-item_bytes : (handed : Handed) (map : Map) (item : Item)
+item_bytes : (handed : PutBytes) (map : Map) (item : Item)
     → ((entry : Entry) → item ≡ Call entry → entry.answer ≡ answer.Stored → AreBytes (handed entry.caller entry.call))
     → HoldsBytes map → HoldsBytes (map_after_item handed map item)
 item_bytes handed map (Group group) are holds = holds
 item_bytes handed map (Call entry) are holds = answer_bytes handed map entry entry.answer (are entry refl) holds
 
 -- A journal that begins from a map of bytes leaves one, after any number of its items.
-pub after_bytes : (handed : Handed) (map : Map) (items : List Item) (count : ℕ) → HandsBytes handed items
+pub after_bytes : (handed : PutBytes) (map : Map) (items : List Item) (count : ℕ) → HandsBytes handed items
     → HoldsBytes map → HoldsBytes (map_after handed map items count)
 after_bytes handed map items zero hands holds = holds
 after_bytes handed map [] (suc count) hands holds = holds

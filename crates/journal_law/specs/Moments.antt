@@ -3,7 +3,7 @@ use Rattle.std.specs.Prelude.{◌≤◌, List, ◌∷◌, length, Contains}
 use Rattle.bank_trait.specs.Disk.{Disk, Later}
 use Rattle.core_state.specs.declared.item.Group.{Group as GroupItem}
 use Rattle.core_state.specs.declared.item.Item.{Item}
-use Rattle.core_state.specs.Map.{Map, Handed}
+use Rattle.core_state.specs.Map.{Map, PutBytes}
 use Rattle.core_state.specs.Legal.{IsGroupBefore}
 use Rattle.core_state.specs.Keeps.{Kept, Setting}
 use Rattle.core_state.specs.Collision.{BankKeeps}
@@ -11,7 +11,7 @@ use Rattle.core_state.specs.Moment.{IsGroupOf, IsBegunAfter, KeepsSince}
 use Rattle.journal_law.specs.Widths.{HaveWidthOfEach}
 
 -- The bank keeps the journal's last group, and maybe one that was begun after it.
-pub record KeepsLast (setting : Setting) (handed : Handed) (opening : Map) (items : List Item)
+pub record KeepsLast (setting : Setting) (handed : PutBytes) (opening : Map) (items : List Item)
     (disk : Disk) : Type 0 where
   pub group : GroupItem
   pub latest : IsGroupBefore items (length items) group
@@ -26,7 +26,7 @@ pub record KeepsLast (setting : Setting) (handed : Handed) (opening : Map) (item
 -- From the moment at which the journal came to these items until it came to the next one: first the bank
 -- kept their last group, and whatever a stop left keeps that group, one that was begun after it, or both. These
 -- have the width and the parity of each of the groups known.
-pub record KeepsUntil (setting : Setting) (handed : Handed) (opening : Map) (known : List Kept)
+pub record KeepsUntil (setting : Setting) (handed : PutBytes) (opening : Map) (known : List Kept)
     (items : List Item) (now next : Disk) : Type 0 where
   pub later : Later now next
   pub kept : KeepsLast setting handed opening items now

@@ -16,7 +16,7 @@ use Rattle.uberblock_ring.specs.Valid.{IsRightUber}
 use Rattle.core_state.specs.Map.{Map}
 use Rattle.core_state.specs.Shown.{Shape}
 use Rattle.core_state.specs.Index.{IsIndexOf, AreApart}
-use Rattle.core_state.specs.Whole.{Odd}
+use Rattle.core_state.specs.Whole.{Excepted}
 use Rattle.core_state.specs.Keeps.{Kept, Setting}
 use Rattle.core_state.specs.Certain.{Asks, CellsOn, certain}
 use Rattle.core_state.proofs.Keeping.{asks_alike}
@@ -37,7 +37,7 @@ use Rattle.core_open.proofs.BlockSpans.{block_width}
 use Rattle.open_pool.specs.Pool.{IsPool, HasBank, IsTableOf, HoldsMap, State, pool_of, state_of}
 use Rattle.open_pool.specs.HoldsGroup.{HoldsGroup}
 use Rattle.open_pool.specs.declared.opening.OpenedPool.{OpenedPool}
-use Rattle.open_pool.specs.Opening.{AreLoaded, MayBegin, Begins, CutsOpening}
+use Rattle.open_pool.specs.Opening.{AreLoaded, MayBegin, OpensPool, CutsOpening}
 use Rattle.open_pool.proofs.Banks.{count_grows}
 
 -- Blocks of every birth can be laid out in a pool whose uberblock is right.
@@ -134,15 +134,15 @@ module _ (setting : Setting) (first : Kept) (later : List Kept) (uber : Uber) (e
     knows = opened.knows;
     alike = opened.alike;
     kept = kept;
-    odd = may.odd;
+    excepted = may.excepted;
     shape = may.may.shape ∙ (λ i. record { devices = sym after.devices i; sectors = sym after.sectors i });
     tells = tells_later after may.may.tells;
   }
 
   -- What the group asks for on a device in use is certain, and so it is read.
   cells : (device : ℕ) → device < setting.shape.devices → has_device uber.out device ≡ false
-      → CellsOn setting.odd (certain new) next device
-  cells device inside used = subst (λ (k : Kept). CellsOn setting.odd (certain new) k device)
+      → CellsOn setting.excepted (certain new) next device
+  cells device inside used = subst (λ (k : Kept). CellsOn setting.excepted (certain new) k device)
       (⊎_elim (λ same. same) (λ none. absurd (contains_none opened.known.kept none))
       (contains_cases next [] opened.known.kept opened.known.listed))
       (opened.known.cells device inside used)
@@ -160,7 +160,7 @@ module _ (setting : Setting) (first : Kept) (later : List Kept) (uber : Uber) (e
       let same = after.devices in
       lawful.stays_read device device_sector bytes
       ((cells device (omega (arith, below, devices, same)) (was_used uber.out out device lists used)).at device_sector bytes asks
-      (λ odd. contains_none (device, device_sector) (subst (λ (o : Odd). Contains o (device, device_sector)) may.odd odd)))
+      (λ excepted. contains_none (device, device_sector) (subst (λ (o : Excepted). Contains o (device, device_sector)) may.excepted excepted)))
 
   holds : HoldsMap next.map state
   holds = record {
@@ -169,7 +169,7 @@ module _ (setting : Setting) (first : Kept) (later : List Kept) (uber : Uber) (e
     bytes = λ id content has. may.bytes opened.chosen id content opened.listed (sym (opened.renews.map id) ∙ has);
     right = λ entry content listed has. record {
       each = λ cell cell_is. record {
-        at = λ device device_sector place used odd. read device device_sector cell.bytes
+        at = λ device device_sector place used excepted. read device device_sector cell.bytes
             (asks_alike uber next cell device device_sector opened.alike
             (record {
               entry = entry;
@@ -183,7 +183,7 @@ module _ (setting : Setting) (first : Kept) (later : List Kept) (uber : Uber) (e
     };
   }
 
-  pub begins : Begins setting first later (pool_of uber blocks out) silent old new
+  pub begins : OpensPool setting first later (pool_of uber blocks out) silent old new
   begins = record {
     opened = record {
       chosen = opened.chosen;

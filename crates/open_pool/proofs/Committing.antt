@@ -14,11 +14,11 @@ use Rattle.uberblock_ring.specs.Valid.{IsRightUber}
 use Rattle.core_state.specs.Map.{Map}
 use Rattle.core_state.specs.Index.{IsFitting, IsIndexOf}
 use Rattle.core_state.specs.Keeps.{Kept, Setting, IsNextOf}
-use Rattle.core_state.specs.Certain.{CellsOn, IsSound, IsRow}
+use Rattle.core_state.specs.Certain.{CellsOn, IsSound, IsSuccession}
 use Rattle.core_state.specs.Moment.{KeepsSince}
 use Rattle.core_blocks.proofs.Listed.{among_listed, found_among, found_id}
 use Rattle.core_commit.specs.Commits.{Begun, MayCommit}
-use Rattle.core_commit.specs.Ran.{point_of}
+use Rattle.core_state.specs.Committing.{point_of}
 use Rattle.core_open.proofs.Renewing.{none_above_more}
 use Rattle.open_pool.specs.Pool.{IsPool, State, HasBank, IsTableOf, HoldsMap}
 use Rattle.open_pool.specs.HoldsGroup.{HoldsGroup}
@@ -121,7 +121,7 @@ module _ (setting : Setting) (last : Kept) (map : Map) (before : State) (is : Is
   table = table_indexes entries map index
       (subst (λ (l : List IndexEntry). IsTableOf l map) (sym entries_are) holds.table)
 
-  row : IsRow setting last (next ∷ [])
+  row : IsSuccession setting last (next ∷ [])
   row = record {
     few = group.knows.row.few;
     ascending = AllPairs-cons (λ (one other : Kept). one.uber.group < other.uber.group) last (next ∷ [])
@@ -151,9 +151,9 @@ module _ (setting : Setting) (last : Kept) (map : Map) (before : State) (is : Is
   }
 
   cells : (device : ℕ) → device < uber.reflow.to → has_device before.pool.out device ≡ false
-      → CellsOn setting.odd before.disk.reads next device
+      → CellsOn setting.excepted before.disk.reads next device
   cells device inside used = record {
-    at = λ device_sector bytes asks odd.
+    at = λ device_sector bytes asks excepted.
         let of = asks.cell_is in
         let listed = subst (λ (l : List IndexEntry). Contains l of.entry) entries_are of.listed in
         let entry_listed = among_listed before.pool.blocks.table.entries of.entry

@@ -28,7 +28,7 @@ use Rattle.core_blocks.proofs.Listed.{put_cases, left_cases, found_id, found_lis
 use Rattle.core_client.specs.Pool.{IsInPool, IsRightBlock}
 use Rattle.core_client.specs.Writing.{IsPlaceOf}
 use Rattle.core_client.proofs.Outs.{was_used}
-use Rattle.open_pool.specs.Pool.{Pool, IsPool, State, IsRead, HoldsMap, IsTableOf}
+use Rattle.open_pool.specs.Pool.{Pool, IsPool, State, ReadsAs, HoldsMap, IsTableOf}
 use Rattle.open_pool.proofs.Layouts.{entry_in_pool, blocks_apart}
 
 -- A block that stands in the table lies in the pool.
@@ -54,8 +54,8 @@ pub block_stays : (layout : Layout) (content : List ℕ) (reflow : Reflow) (done
     → IsRightBlock layout content reflow done now still
 block_stays layout content reflow done known now out still within same right = record {
   each = λ cell is. record {
-    at = λ device device_sector place used odd. same cell device device_sector is place used
-        ((right.each cell is).at device device_sector place (was_used out still device within used) odd);
+    at = λ device device_sector place used excepted. same cell device device_sector is place used
+        ((right.each cell is).at device device_sector place (was_used out still device within used) excepted);
   };
 }
 
@@ -96,9 +96,9 @@ module _ (before after : State) (is : IsPool before.pool) (step : AreInStep befo
 
   -- So another block is read as it was.
   others_read : (other : IndexEntry) (given : List ℕ) → IsListed before.pool.blocks.table.entries other
-      → IsRead before.pool.uber other given before.disk.reads before.pool.out
-      → IsRead after.pool.uber other given after.disk.reads after.pool.out
-  others_read other given listed read = subst (λ (u : Uber). IsRead u other given after.disk.reads after.pool.out) (sym uber)
+      → ReadsAs before.pool.uber other given before.disk.reads before.pool.out
+      → ReadsAs after.pool.uber other given after.disk.reads after.pool.out
+  others_read other given listed read = subst (λ (u : Uber). ReadsAs u other given after.disk.reads after.pool.out) (sym uber)
       (block_stays (other_layout other) given reflow (front_after_stop reflow)
       before.disk.reads after.disk.reads before.pool.out after.pool.out within
       (λ cell device device_sector cell_is place used was. touched.reads device device_sector
@@ -109,7 +109,7 @@ module _ (before after : State) (is : IsPool before.pool) (step : AreInStep befo
   pub put_holds : (map : Map) (entry : IndexEntry) (content : List ℕ)
       → ChangesOnly before.pool.blocks.table.entries after.pool.blocks.table.entries entry.id (Some entry)
       → IsEntryOf entry content → AreBytes content
-      → IsRead before.pool.uber entry content after.disk.reads after.pool.out
+      → ReadsAs before.pool.uber entry content after.disk.reads after.pool.out
       → HoldsMap map before
       → HoldsMap (with_block map (Some entry.id) (Some content)) after
   put_holds map entry content change entry_is bytes right holds = record {
@@ -134,9 +134,9 @@ module _ (before after : State) (is : IsPool before.pool) (step : AreInStep befo
         (λ apart. holds.bytes id given (sym (with_other map entry.id id (Some content) apart) ∙ has))
         (cases_eq id entry.id);
     right = λ other given listed has. ⊎_elim
-        (λ same. subst (λ (u : Uber). IsRead u other given after.disk.reads after.pool.out) (sym uber)
-        (subst (λ (e : IndexEntry). IsRead before.pool.uber e given after.disk.reads after.pool.out) (sym same)
-        (subst (λ (b : List ℕ). IsRead before.pool.uber entry b after.disk.reads after.pool.out)
+        (λ same. subst (λ (u : Uber). ReadsAs u other given after.disk.reads after.pool.out) (sym uber)
+        (subst (λ (e : IndexEntry). ReadsAs before.pool.uber e given after.disk.reads after.pool.out) (sym same)
+        (subst (λ (b : List ℕ). ReadsAs before.pool.uber entry b after.disk.reads after.pool.out)
         (given_is (sym (ap (λ (e : IndexEntry). with_block map (Some entry.id) (Some content) e.id) same
         ∙ with_here map entry.id (Some content)) ∙ has)) right)))
         (λ old. others_read other given old.0
@@ -164,9 +164,9 @@ free_holds map before after id uber out disk change holds = record {
   };
   bytes = λ other given has. holds.bytes other given (sym (with_other map id other None (kept other given has)) ∙ has);
   right = λ other given listed has. let old = left other listed in
-      subst (λ (u : Uber). IsRead u other given after.disk.reads after.pool.out) (sym uber)
-      (subst (λ (d : Disk). IsRead before.pool.uber other given d.reads after.pool.out) (sym disk)
-      (subst (λ (n : ℕ). IsRead before.pool.uber other given before.disk.reads n) (sym out)
+      subst (λ (u : Uber). ReadsAs u other given after.disk.reads after.pool.out) (sym uber)
+      (subst (λ (d : Disk). ReadsAs before.pool.uber other given d.reads after.pool.out) (sym disk)
+      (subst (λ (n : ℕ). ReadsAs before.pool.uber other given before.disk.reads n) (sym out)
       (holds.right other given old.0 (sym (with_other map id other.id None old.1) ∙ has))));
 }
   where

@@ -13,7 +13,8 @@ use Rattle.block_record.specs.declared.entry.IndexEntry.{IndexEntry}
 use Rattle.block_record.specs.Page.{IsRightEntry}
 use Rattle.uberblock_ring.specs.Uberblock.{Uber}
 use Rattle.uberblock_ring.specs.Valid.{IsRightUber}
-use Rattle.core_state.specs.Index.{layout_of, block_end, sectors_for}
+use Rattle.core_state.specs.Index.{layout_of, block_end}
+use Rattle.reconstruct.specs.Rows.{sectors_for}
 use Rattle.core_state.proofs.Places.{right_widths}
 use Rattle.core_blocks.specs.Blocks.{layout_run}
 use Rattle.core_blocks.specs.Runs.{AreClear}

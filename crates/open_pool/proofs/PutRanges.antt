@@ -12,7 +12,8 @@ use Rattle.shadow_write.specs.Writes.{writes_of}
 use Rattle.reflow_mark.specs.Reflow.{sectors_of}
 use Rattle.block_record.specs.declared.entry.IndexEntry.{IndexEntry}
 use Rattle.uberblock_ring.specs.Uberblock.{Uber}
-use Rattle.core_state.specs.Index.{layout_of, sectors_for}
+use Rattle.core_state.specs.Index.{layout_of}
+use Rattle.reconstruct.specs.Rows.{sectors_for}
 use Rattle.core_blocks.specs.declared.range.PutRange.{PutRange}
 use Rattle.core_blocks.specs.Blocks.{Blocks, range_of}
 use Rattle.core_blocks.specs.Puts.{IsRangeFor, layout_at}

@@ -39,7 +39,7 @@ alone_keeps setting first later disk image shape alone only keeps left might =
 -- A bank that holds alone what a stop left, where that keeps groups of one width with bytes in their maps, may be
 -- opened again.
 pub stopped_begins : (setting : Setting) (first : Kept) (later : List Kept) (disk : Disk) (image : Image)
-    → setting.shape ≡ shape_of disk → setting.odd ≡ [] → HoldsAlone disk image → IsImageOf setting.shape image
+    → setting.shape ≡ shape_of disk → setting.excepted ≡ [] → HoldsAlone disk image → IsImageOf setting.shape image
     → Keeps setting first later image
     → HasNoOtherPage setting (first ∷ later) image
     → ((kept : Kept) → Contains (first ∷ later) kept
@@ -47,7 +47,7 @@ pub stopped_begins : (setting : Setting) (first : Kept) (later : List Kept) (dis
     → ((kept : Kept) (id : ℕ) (content : List ℕ) → Contains (first ∷ later) kept → kept.map id ≡ Some content
     → AreBytes content)
     → MayBegin setting first later disk
-stopped_begins setting first later disk image shape odd alone only keeps pages width bytes = record {
+stopped_begins setting first later disk image shape excepted alone only keeps pages width bytes = record {
   may = record {
     keeps = alone_keeps setting first later disk image shape alone only keeps;
     shape = shape;
@@ -57,6 +57,6 @@ stopped_begins setting first later disk image shape odd alone only keeps pages w
         only keeps (first ∷ later) pages;
     width = width;
   };
-  odd = odd;
+  excepted = excepted;
   bytes = bytes;
 }

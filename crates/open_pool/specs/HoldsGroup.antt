@@ -14,6 +14,6 @@ pub record HoldsGroup (setting : Setting) (last : Kept) (state : State) : Type 0
   pub knows : Knows setting last [] state.disk
   pub alike : AreAlike state.pool.uber last.uber
   pub kept : NoneFree state.pool.blocks state.pool.uber.group last.entries
-  pub odd : setting.odd ≡ []
+  pub excepted : setting.excepted ≡ []
   pub shape : setting.shape ≡ shape_of state.disk
   pub tells : Tells state.disk

@@ -27,12 +27,12 @@ pub record AreLoaded (uber : Uber) (entries : List IndexEntry) (blocks : Blocks)
 -- wrong.
 pub record MayBegin (setting : Setting) (first : Kept) (later : List Kept) (disk : Disk) : Type 0 where
   pub may : MayOpen setting first later disk
-  pub odd : setting.odd ≡ []
+  pub excepted : setting.excepted ≡ []
   pub bytes : (kept : Kept) (id : ℕ) (content : List ℕ) → Contains (first ∷ later) kept
       → kept.map id ≡ Some content → AreBytes content
 
 -- The pool was opened with a group that renews one of these, and holds its map.
-pub record Begins (setting : Setting) (first : Kept) (later : List Kept) (pool : Pool) (silent : ℕ)
+pub record OpensPool (setting : Setting) (first : Kept) (later : List Kept) (pool : Pool) (silent : ℕ)
     (old new : Disk) : Type 0 where
   pub opened : HasOpened setting first later pool.uber pool.blocks.table.entries silent old new
   pub group : HoldsGroup setting opened.next (state_of pool new)
@@ -43,7 +43,7 @@ pub record IsBegunWith (pool : Pool) (silent : ℕ) (old new : Disk) : Type 0 wh
   pub each : (setting : Setting) (first : Kept) (later : List Kept)
       → MayBegin setting first later old
       → first.uber.reflow.to ≡ pool.uber.reflow.to
-      → IsWithin pool.out setting.failed → Begins setting first later pool silent old new
+      → IsWithin pool.out setting.failed → OpensPool setting first later pool silent old new
 
 -- What is no pool, or has no more groups, is left as it was but for counts of faults.
 abbrev pub LeavesUnopened : OpenWhy → Disk → Disk → Type 0

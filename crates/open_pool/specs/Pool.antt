@@ -65,8 +65,8 @@ pub record IsTableOf (entries : List IndexEntry) (map : Map) : Type 0 where
       → (entry : IndexEntry) × (entry_of entries id ≡ Some entry)
 
 -- The block of an entry has this content, and is read so wherever it has to be right.
-abbrev pub IsRead : Uber → IndexEntry → List ℕ → Known → ℕ → Type 0
-IsRead uber entry content known out = IsRightBlock (layout_of uber.parity uber.births entry) content
+abbrev pub ReadsAs : Uber → IndexEntry → List ℕ → Known → ℕ → Type 0
+ReadsAs uber entry content known out = IsRightBlock (layout_of uber.parity uber.births entry) content
     uber.reflow (front_after_stop uber.reflow) known out
 
 -- Each block of the map is bytes, stands in the table, and is read at each place where it has to be
@@ -76,4 +76,4 @@ pub record HoldsMap (map : Map) (state : State) : Type 0 where
   pub bytes : (id : ℕ) (content : List ℕ) → map id ≡ Some content → AreBytes content
   pub right : (entry : IndexEntry) (content : List ℕ)
       → IsListed state.pool.blocks.table.entries entry → map entry.id ≡ Some content
-      → IsRead state.pool.uber entry content state.disk.reads state.pool.out
+      → ReadsAs state.pool.uber entry content state.disk.reads state.pool.out

@@ -1,7 +1,7 @@
 // The lines of a look at a pool.
 ghost use Rattle.std.specs.Prelude.{◌≡◌, ◌++◌, flat_map, decimal, OnOk, OnErr};
 ghost use Rattle.bank_trait.specs.Causes.{HasCause};
-ghost use Rattle.client_script.specs.Written.{IsAdded, IsPartAdded, Gains, Blames};
+ghost use Rattle.client_script.specs.Written.{IsAdded, IsPartAdded, GainsText, FailsOnlyWithFault};
 ghost use Rattle.pool_status.specs.StatusText.{state_word as word_of, width_text, birth_text, out_text, pool_line, text_of_status};
 
 use bank_trait::{Failed, Sink};
@@ -27,9 +27,9 @@ pub fn print_status<K: Sink>(uber: &Uber, out_devices: DeviceSet, out: &mut K) -
 }
 
 fn put_status<K: Sink>(writer: &mut TextWriter, out: &mut K, uber: &Uber, out_devices: DeviceSet)
-    ensures gains { Gains (K.held out.old) (K.held out.new) writer.old writer.new
+    ensures gains { GainsText (K.held out.old) (K.held out.new) writer.old writer.new
         (text_of_status uber.now out_devices) }
-    ensures cause { Blames (K.faults out.old) (K.faults out.new) writer.old writer.new }
+    ensures cause { FailsOnlyWithFault (K.faults out.old) (K.faults out.new) writer.old writer.new }
 {
     put_pool(writer, out, uber);
     writer.text(out, b"\n");
@@ -44,9 +44,9 @@ fn put_status<K: Sink>(writer: &mut TextWriter, out: &mut K, uber: &Uber, out_de
 }
 
 fn put_pool<K: Sink>(writer: &mut TextWriter, out: &mut K, uber: &Uber)
-    ensures gains { Gains (K.held out.old) (K.held out.new) writer.old writer.new
+    ensures gains { GainsText (K.held out.old) (K.held out.new) writer.old writer.new
         (pool_line uber.now) }
-    ensures cause { Blames (K.faults out.old) (K.faults out.new) writer.old writer.new }
+    ensures cause { FailsOnlyWithFault (K.faults out.old) (K.faults out.new) writer.old writer.new }
 {
     put_number(writer, out, b"pool ", uber.pool());
     put_number(writer, out, b" parity ", u64::from(uber.parity()));
@@ -56,9 +56,9 @@ fn put_pool<K: Sink>(writer: &mut TextWriter, out: &mut K, uber: &Uber)
 
 // At rest there is one width, and nothing to say of mark and state.
 fn put_width<K: Sink>(writer: &mut TextWriter, out: &mut K, reflow: &Reflow)
-    ensures gains { Gains (K.held out.old) (K.held out.new) writer.old writer.new
+    ensures gains { GainsText (K.held out.old) (K.held out.new) writer.old writer.new
         (width_text reflow.now) }
-    ensures cause { Blames (K.faults out.old) (K.faults out.new) writer.old writer.new }
+    ensures cause { FailsOnlyWithFault (K.faults out.old) (K.faults out.new) writer.old writer.new }
 {
     put_number(writer, out, b"width ", u64::from(reflow.from));
     if reflow.from != reflow.to {
@@ -80,9 +80,9 @@ fn state_word(state: State) -> &'static [u8]
 }
 
 fn put_births<K: Sink>(writer: &mut TextWriter, out: &mut K, births: &[Birth])
-    ensures gains { Gains (K.held out.old) (K.held out.new) writer.old writer.new
+    ensures gains { GainsText (K.held out.old) (K.held out.new) writer.old writer.new
         (flat_map birth_text births.now) }
-    ensures cause { Blames (K.faults out.old) (K.faults out.new) writer.old writer.new }
+    ensures cause { FailsOnlyWithFault (K.faults out.old) (K.faults out.new) writer.old writer.new }
 {
     for birth in births {
         put_birth(writer, out, birth);
@@ -90,18 +90,18 @@ fn put_births<K: Sink>(writer: &mut TextWriter, out: &mut K, births: &[Birth])
 }
 
 fn put_birth<K: Sink>(writer: &mut TextWriter, out: &mut K, birth: &Birth)
-    ensures gains { Gains (K.held out.old) (K.held out.new) writer.old writer.new
+    ensures gains { GainsText (K.held out.old) (K.held out.new) writer.old writer.new
         (birth_text birth.now) }
-    ensures cause { Blames (K.faults out.old) (K.faults out.new) writer.old writer.new }
+    ensures cause { FailsOnlyWithFault (K.faults out.old) (K.faults out.new) writer.old writer.new }
 {
     put_number(writer, out, b" ", birth.group);
     put_number(writer, out, b":", u64::from(birth.width));
 }
 
 fn put_out<K: Sink>(writer: &mut TextWriter, out: &mut K, out_devices: DeviceSet)
-    ensures gains { Gains (K.held out.old) (K.held out.new) writer.old writer.new
+    ensures gains { GainsText (K.held out.old) (K.held out.new) writer.old writer.new
         (out_text out_devices) }
-    ensures cause { Blames (K.faults out.old) (K.faults out.new) writer.old writer.new }
+    ensures cause { FailsOnlyWithFault (K.faults out.old) (K.faults out.new) writer.old writer.new }
 {
     if out_devices.is_empty() {
         writer.text(out, b" none");
@@ -111,9 +111,9 @@ fn put_out<K: Sink>(writer: &mut TextWriter, out: &mut K, out_devices: DeviceSet
 }
 
 fn put_number<K: Sink>(writer: &mut TextWriter, out: &mut K, name: &[u8], number: u64)
-    ensures gains { Gains (K.held out.old) (K.held out.new) writer.old writer.new
+    ensures gains { GainsText (K.held out.old) (K.held out.new) writer.old writer.new
         (name.now ++ decimal number) }
-    ensures cause { Blames (K.faults out.old) (K.faults out.new) writer.old writer.new }
+    ensures cause { FailsOnlyWithFault (K.faults out.old) (K.faults out.new) writer.old writer.new }
 {
     writer.text(out, name);
     writer.number(out, number);

@@ -86,6 +86,6 @@ may_bear setting first later disk borne failed may bears = record {
     };
     width = may.may.width;
   };
-  odd = may.odd;
+  excepted = may.excepted;
   bytes = may.bytes;
 }

@@ -3,7 +3,7 @@ use Rattle.std.proofs.Common.{◌^◌, ◌≡◌, ◌≢◌, ◌⊎◌, inl, inr
 use Rattle.std.specs.Prelude.{take, true, false}
 use Rattle.std.proofs.lemmas.Bool.{cases_lt, cases_eq}
 use Rattle.std.proofs.lemmas.List.{append-nil}
-use Rattle.bank_trait.specs.Causes.{Rose}
+use Rattle.bank_trait.specs.Causes.{FaultCounted}
 use Rattle.bank_trait.specs.Disk.{Image, Disk, Later}
 use Rattle.bank_trait.specs.Regions.{Tells, TouchesOnly}
 use Rattle.bank_trait.proofs.Touches.{touches_none}
@@ -27,9 +27,9 @@ use Rattle.raidzx_top.specs.declared.words.ServedCommand.{ServedCommand}
 use Rattle.raidzx_top.specs.declared.words.ServedCommand.TheVariants as served
 use Rattle.raidzx_top.specs.Words.{Command, Create}
 use Rattle.raidzx_top.specs.Spelled.{SpellsCreate, IsServedAs, command_of}
-use Rattle.raidzx_top.specs.Call.{ReadsScript, Call}
+use Rattle.raidzx_top.specs.Call.{ReadsScript, TopCall}
 use Rattle.raidzx_top.specs.Order.{served_by}
-use Rattle.raidzx_top.specs.Causes.{NoneRose, IsCaused, IsCause, HaveRisen, IsTooSmall, IsFoundImage, ComesWhere, IsOrNoMemory}
+use Rattle.raidzx_top.specs.Causes.{NoneRose, IsCaused, IsCause, HaveFailedInCall, IsTooSmall, IsFoundImage, ComesWhere, IsOrNoMemory}
 use Rattle.raidzx_top.specs.RunText.{IsLineFor, TextIsRight, create_text, status_line}
 use Rattle.raidzx_top.specs.Promises.{CreatePromises, IsNewSetting, NoneShowsFrom, IsQuiet, RunIsKept, RunCompletes, CallPromises, IsCarriedOut}
 use Rattle.raidzx_top.specs.Making.{IsSmallFor, HasFailedOn, Makes, IsSaid, EndsCreate}
@@ -53,17 +53,17 @@ some_has device none = clash (sym (has_with 0 device) ∙ ap (λ (n : ℕ). has_
     clash same = cc
 
 -- The device that stopped a `create` is listed, and has failed.
-risen : (call : Call) (out : ℕ) → HasFailedOn out call.old call.new → HaveRisen call out
+risen : (call : TopCall) (out : ℕ) → HasFailedOn out call.old call.new → HaveFailedInCall call out
 risen call out is = record {
   some = λ none. some_has is.device (sym is.named ∙ none);
   each = λ device has.
       let it : device ≡ is.device = only_one is.device device
       (subst (λ (n : ℕ). has_device n device ≡ true) is.named has) in
-      subst (λ (d : ℕ). Rose (call.old.faults d) (call.new.faults d)) (sym it) is.rose;
+      subst (λ (d : ℕ). FaultCounted (call.old.faults d) (call.new.faults d)) (sym it) is.rose;
 }
 
 -- The texts of a created pool have no status line.
-created_right : (call : Call) (text : List ℕ) → call.status ≡ status.Done
+created_right : (call : TopCall) (text : List ℕ) → call.status ≡ status.Done
     → IsAdded call.sink.bytes call.sink_after.bytes text
     → TextIsRight call text
 created_right call text done added = record {
@@ -74,8 +74,8 @@ created_right call text done added = record {
   );
 }
 
-part_right : (call : Call) (text : List ℕ) → call.status ≡ status.SinkFault
-    → Rose call.sink.faults call.sink_after.faults
+part_right : (call : TopCall) (text : List ℕ) → call.status ≡ status.SinkFault
+    → FaultCounted call.sink.faults call.sink_after.faults
     → IsPartAdded call.sink.bytes call.sink_after.bytes text
     → TextIsRight call text
 part_right call text fault rose part = record {
@@ -100,7 +100,7 @@ part_right call text fault rose part = record {
         (len, is ∙ ap (λ (t : List ℕ). Some (held ++ take len t)) (sym (append-nil text)))
 
 -- How a call that made a pool, or tried to, is kept by its promises.
-module _ (call : Call) (made : NewPool) (served_as : IsServedAs call.words (served.Create made))
+module _ (call : TopCall) (made : NewPool) (served_as : IsServedAs call.words (served.Create made))
     (quiet_call : IsQuiet call) where
   -- what the words ask for is this pool
   same : (given : NewPool) → IsServedAs call.words (served.Create given) → made ≡ given
@@ -235,13 +235,13 @@ module _ (call : Call) (made : NewPool) (served_as : IsServedAs call.words (serv
   kept fits created later tells = record {
     made = created;
     keeps = bank_keeps fits created;
-    begins = λ setting new odd others. new_begins call made.parity made.width made.id later tells setting new odd
+    begins = λ setting new excepted others. new_begins call made.parity made.width made.id later tells setting new excepted
         (bank_keeps fits created setting new others);
   }
 
   -- A pool that was made: its line was written, or a front of it.
   carried_out : (given : Status) → call.status ≡ given
-      → (given ≡ status.Done) ⊎ ((given ≡ status.SinkFault) × Rose call.sink.faults call.sink_after.faults)
+      → (given ≡ status.Done) ⊎ ((given ≡ status.SinkFault) × FaultCounted call.sink.faults call.sink_after.faults)
       → Makes made call.old call.new status.Done
       → TextIsRight call (create_text made.parity made.width made.id (rows_for call.old.sectors))
       → CallPromises call
@@ -272,7 +272,7 @@ module _ (call : Call) (made : NewPool) (served_as : IsServedAs call.words (serv
   }
     where
       neither : given ≡ status.Usage
-          → (given ≡ status.Done) ⊎ ((given ≡ status.SinkFault) × Rose call.sink.faults call.sink_after.faults)
+          → (given ≡ status.Done) ⊎ ((given ≡ status.SinkFault) × FaultCounted call.sink.faults call.sink_after.faults)
           → ⊥
       neither usage (inl d) = clash (sym usage ∙ d)
         where
@@ -284,7 +284,7 @@ module _ (call : Call) (made : NewPool) (served_as : IsServedAs call.words (serv
           clash equal = cc
 
       neither_small : given ≡ status.TooSmall
-          → (given ≡ status.Done) ⊎ ((given ≡ status.SinkFault) × Rose call.sink.faults call.sink_after.faults)
+          → (given ≡ status.Done) ⊎ ((given ≡ status.SinkFault) × FaultCounted call.sink.faults call.sink_after.faults)
           → ⊥
       neither_small small (inl d) = clash (sym small ∙ d)
         where
@@ -295,7 +295,7 @@ module _ (call : Call) (made : NewPool) (served_as : IsServedAs call.words (serv
           clash : status.TooSmall ≡ status.SinkFault → ⊥
           clash equal = cc
 
-      cause : (given ≡ status.Done) ⊎ ((given ≡ status.SinkFault) × Rose call.sink.faults call.sink_after.faults)
+      cause : (given ≡ status.Done) ⊎ ((given ≡ status.SinkFault) × FaultCounted call.sink.faults call.sink_after.faults)
           → IsCause call (Create made.parity made.width made.id) given
       cause (inl d) = subst (λ (s : Status). IsCause call (Create made.parity made.width made.id) s) (sym d) tt
       cause (inr f) = subst (λ (s : Status). IsCause call (Create made.parity made.width made.id) s) (sym f.0) f.1

@@ -6,7 +6,7 @@ use Rattle.raidzx_top.specs.declared.order.Order.TheVariants.{OfLines, AsListed}
 use Rattle.raidzx_top.specs.declared.status.Status.{Status}
 use Rattle.raidzx_top.specs.declared.status.Status.TheVariants as status
 use Rattle.raidzx_top.specs.declared.words.ServedCommand.TheVariants as served
-use Rattle.raidzx_top.specs.Call.{Call}
+use Rattle.raidzx_top.specs.Call.{TopCall}
 use Rattle.raidzx_top.specs.Order.{served_by}
 use Rattle.raidzx_top.specs.Ending.{EndsUsage, Ends, AsUsage, AsCreate, AsRun}
 use Rattle.raidzx_top.specs.Promises.{CallPromises, RunIsKept}
@@ -16,7 +16,7 @@ use Rattle.raidzx_top.proofs.Refusing.{said_right}
 use Rattle.raidzx_top.proofs.RunEnding.{run_promises}
 
 -- Words that are no command.
-refused_words : (call : Call) → EndsUsage call → CallPromises call
+refused_words : (call : TopCall) → EndsUsage call → CallPromises call
 refused_words call ends = record {
   cause = record { usage = λ usage. ends.none; others = λ given served_as. absurd (ends.none (given, served_as)) };
   comes = record {
@@ -55,7 +55,7 @@ refused_words call ends = record {
     }
 
 -- However a call ends, its promises hold.
-pub ends_promise : (call : Call) → Lawful call.old → Ends call → CallPromises call
+pub ends_promise : (call : TopCall) → Lawful call.old → Ends call → CallPromises call
 ends_promise call lawful ends = elim ends [
   | AsUsage usage ↦ refused_words call usage
   | AsCreate create ↦ created call create.made create.served_as create.quiet call.status refl create.ends

@@ -8,13 +8,13 @@ use Rattle.core_state.specs.Create.{first_kept}
 use Rattle.core_state.specs.Keeps.{Kept, Setting}
 use Rattle.open_pool.specs.Opening.{MayBegin}
 use Rattle.journal_law.proofs.Moments.{contains_one}
-use Rattle.raidzx_top.specs.Call.{Call, HoldsImage, shape_of}
+use Rattle.raidzx_top.specs.Call.{TopCall, HoldsImage, shape_of}
 use Rattle.raidzx_top.specs.Promises.{IsNewSetting}
 
 -- The bank meets what a run asks for: it keeps the pool's first group, of one width, without blocks. As for each
 -- opening, no page on the bank may be another's by chance.
-module _ (call : Call) (parity width id : ℕ) (later : Later call.old call.new) (tells : Tells call.old)
-    (setting : Setting) (new : IsNewSetting call parity id setting) (odd : setting.odd ≡ []) where
+module _ (call : TopCall) (parity width id : ℕ) (later : Later call.old call.new) (tells : Tells call.old)
+    (setting : Setting) (new : IsNewSetting call parity id setting) (excepted : setting.excepted ≡ []) where
   abbrev first : Kept
   first = first_kept id parity width call.old.sectors
 
@@ -34,7 +34,7 @@ module _ (call : Call) (parity width id : ℕ) (later : Later call.old call.new)
       width = λ kept listed. subst (λ (k : Kept). (k.uber.reflow.to ≡ first.uber.reflow.to) × (k.uber.parity ≡ first.uber.parity))
           (sym (contains_one first kept listed)) (refl, refl);
     };
-    odd = odd;
+    excepted = excepted;
     bytes = λ kept id content listed has. absurd (no_block id content
         (subst (λ (k : Kept). k.map id ≡ Some content) (contains_one first kept listed) has));
   }

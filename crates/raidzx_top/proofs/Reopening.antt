@@ -10,7 +10,7 @@ use Rattle.core_state.specs.declared.item.Entry.{Entry}
 use Rattle.core_state.specs.declared.item.Group.{Group as GroupItem}
 use Rattle.core_state.specs.declared.item.Item.{Item}
 use Rattle.core_state.specs.declared.item.Item.TheVariants.{Call}
-use Rattle.core_state.specs.Map.{Map, Handed, SameMap, map_after}
+use Rattle.core_state.specs.Map.{Map, PutBytes, SameMap, map_after}
 use Rattle.core_state.specs.Legal.{CallAt}
 use Rattle.core_state.specs.Keeps.{Kept, Setting, Keeps}
 use Rattle.core_state.specs.Moment.{IsGroupOf, IsBegunAfter, IsUnanswered, KeepsSince, groups_in}
@@ -33,7 +33,7 @@ abbrev HaveBytes : List Kept → Type 0
 HaveBytes groups = (kept : Kept) → Contains groups kept → HoldsBytes kept.map
 
 -- Each group that was answered is one of the journal's.
-answered_is : (handed : Handed) (opening : Map) (items : List Item) (groups : List GroupItem) (answered : List Kept)
+answered_is : (handed : PutBytes) (opening : Map) (items : List Item) (groups : List GroupItem) (answered : List Kept)
     (kept : Kept) → AllZip (IsGroupOf handed opening items) groups answered → Contains answered kept
     → (group : GroupItem) × IsGroupOf handed opening items group kept
 answered_is handed opening items [] [] kept each has = absurd (contains_none kept has)
@@ -54,11 +54,11 @@ taken_there (item ∷ items) (suc count) (suc index) entry there = taken_there i
 
 -- An image that keeps some of the groups in a row is read back as one of them.
 read_back : (setting : Setting) (groups : List Kept) (opened first : Kept) (later : List Kept) (image : Image)
-    → setting.odd ≡ [] → IsImageOf setting.shape image → Keeps setting first later image
+    → setting.excepted ≡ [] → IsImageOf setting.shape image → Keeps setting first later image
     → ((kept : Kept) → Contains (first ∷ later) kept → Contains groups kept)
     → HaveWidthOf opened.uber groups → HaveBytes groups
     → IsReadBack setting opened.uber.reflow.to groups image
-read_back setting groups opened first later image odd only keeps among width bytes = record {
+read_back setting groups opened first later image excepted only keeps among width bytes = record {
   opened = λ disk left. record {
     first = first;
     later = later;
@@ -73,7 +73,7 @@ read_back setting groups opened first later image odd only keeps among width byt
     here = among first (0, omega arith, refl)
 
     may : (disk : Disk) → IsLeftOn setting groups image disk → MayBegin setting first later disk
-    may disk left = stopped_begins setting first later disk image left.shape odd left.alone only keeps
+    may disk left = stopped_begins setting first later disk image left.shape excepted left.alone only keeps
         (record { page = λ one shower giver uber listed. left.pages.page one shower giver uber (among one listed) })
         (λ one listed. let its = width.each one (among one listed) in let firsts = width.each first here in
         (its.0 ∙ sym firsts.0, its.1 ∙ sym firsts.1))
@@ -151,7 +151,7 @@ module _ (script : Script) (old new : Disk) (items : List Item) (out : ℕ) (run
       → IsReadBack setting first.uber.reflow.to run_groups image
   any_moment moment image since until left =
       let some = keeps.any_moment.since.each moment image since until left.might in
-      read_back setting run_groups first some.first some.later image may.odd left.only some.keeps
+      read_back setting run_groups first some.first some.later image may.excepted left.only some.keeps
       (row_among (record { before = some.before; after = some.after; row = some.row })) keeps.widths all_bytes
 
   by_then : (count : ℕ) (some : 1 ≤ count) (all : count ≤ length items) (moment : ℕ) (image : Image)
@@ -164,7 +164,7 @@ module _ (script : Script) (old new : Disk) (items : List Item) (out : ℕ) (run
       let part_hands : HandsBytes (handed_by script) (take count items) = record {
         each = λ index entry there. hands.each index entry (taken_there items count index entry there);
       } in
-      read_back setting (last_groups until) first found.first found.later image may.odd left.only found.keeps
+      read_back setting (last_groups until) first found.first found.later image may.excepted left.only found.keeps
       (row_among (record { before = found.before; after = found.after; row = found.row }))
       (until.alike first (0, omega arith, refl))
       (last_bytes (take count items) part_hands until.kept.group until.kept.last until.onward until.kept.last_is
@@ -173,7 +173,7 @@ module _ (script : Script) (old new : Disk) (items : List Item) (out : ℕ) (run
   at_end : (image : Image) → IsLeft setting new new.clock image
       → IsReadBack setting first.uber.reflow.to (keeps.kept.last ∷ keeps.kept.begun) image
   at_end image left = read_back setting (keeps.kept.last ∷ keeps.kept.begun) first keeps.kept.last keeps.kept.begun
-      image may.odd left.only (keeps.kept.keeps image left.might) (λ kept listed. listed)
+      image may.excepted left.only (keeps.kept.keeps image left.might) (λ kept listed. listed)
       (record { each = λ kept has. keeps.widths.each kept (keeps.kept_among kept has) })
       (last_bytes items hands keeps.kept.group keeps.kept.last keeps.kept.begun keeps.kept.last_is
       keeps.kept.begun_is)
@@ -220,7 +220,7 @@ module _ (setting : Setting) (first : Kept) (later : List Kept) (old : Disk) (ma
         adds = adds;
         any_moment = λ moment image from until left.
             let some = since.each moment image from until left.might in
-            read_back setting ((first ∷ later) ++ joined) first some.first some.later image may.odd left.only some.keeps
+            read_back setting ((first ∷ later) ++ joined) first some.first some.later image may.excepted left.only some.keeps
             (row_among (record { before = some.before; after = some.after; row = some.row })) joined_widths joined_bytes;
       }
 

@@ -11,7 +11,7 @@ use Rattle.core_state.specs.declared.item.Item.{Item}
 use Rattle.core_state.specs.declared.item.Item.TheVariants.{Group, Call}
 use Rattle.core_state.specs.Journal.{Asked, IsLegalJournal}
 use Rattle.core_state.specs.Legal.{CallAt, IsPrevious, IsAnswerOf}
-use Rattle.core_state.specs.Map.{Map, Handed}
+use Rattle.core_state.specs.Map.{Map, PutBytes}
 use Rattle.client_script.specs.declared.call.ScriptCall.{ScriptCall}
 use Rattle.client_script.specs.Lines.{fill_bytes}
 use Rattle.client_script.specs.Script.{Placed, Script, MayHave, IsAllowed, calls_of, asked_by}
@@ -100,7 +100,7 @@ previous_there items caller (suc index) =
     previous_after items caller index (previous_there items caller index) (slice_get items index) refl
 
 -- Each answer in a legal journal is one for its call, which is a client's.
-pub answers_client : (script : Script) (handed : Handed) (opening : Map) (items : List Item)
+pub answers_client : (script : Script) (handed : PutBytes) (opening : Map) (items : List Item)
     → All (λ placed. IsAllowed placed.call) script.calls
     → IsLegalJournal (asked_by script) handed opening items
     → (index : ℕ) (entry : Entry) → CallAt items index entry

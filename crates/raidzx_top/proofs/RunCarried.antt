@@ -1,7 +1,7 @@
 -- What a run or a replay promises that opened its pool.
 use Rattle.std.proofs.Common.{◌≡◌, ◌≢◌, ◌⊎◌, inl, inr, ⊎_elim, ℕ, ◌≤◌, List, [], Some, true, refl, sym, ◌∙◌, subst, arith}
 use Rattle.std.specs.Prelude.{slice_get}
-use Rattle.bank_trait.specs.Causes.{Rose}
+use Rattle.bank_trait.specs.Causes.{FaultCounted}
 use Rattle.bank_trait.specs.Disk.{Image, Lawful}
 use Rattle.uberblock_ring.specs.Devices.{has_device}
 use Rattle.core_state.specs.declared.answer.Answer.{Answer}
@@ -30,9 +30,9 @@ use Rattle.schedule.specs.WholeRun.{HasRun, RunKeeps, banks_of}
 use Rattle.schedule.specs.declared.whole_run.Ran.{Ran}
 use Rattle.raidzx_top.specs.declared.order.Order.{Order}
 use Rattle.raidzx_top.specs.Bearing.{setting_with}
-use Rattle.raidzx_top.specs.Call.{Call}
+use Rattle.raidzx_top.specs.Call.{TopCall}
 use Rattle.raidzx_top.specs.Causes.{IsCause, FindsNoPool, MeetsLimit, most_turns}
-use Rattle.raidzx_top.specs.Promises.{RunPromises, IsSmooth, IsSmoothAnswer, CompletesAll}
+use Rattle.raidzx_top.specs.Promises.{RunPromises, RunsUnhindered, IsSmoothAnswer, CompletesAll}
 use Rattle.raidzx_top.specs.Running.{IsStatusOf, HasMet, StoppedFor, after_fault, EndsTelling, WasCarriedOut}
 use Rattle.raidzx_top.specs.RunText.{IsLineFor, TextIsRight}
 use Rattle.raidzx_top.proofs.Bearing.{may_bear}
@@ -67,7 +67,7 @@ part_end ran items status.Done is =
     (record { no_usage = λ same. cc; no_small = λ same. cc; for = inl refl }, λ same. cc)
 part_end ran items other is = absurd is
 
-module _ (order : Order) (call : Call) (lawful : Lawful call.old)
+module _ (order : Order) (call : TopCall) (lawful : Lawful call.old)
     (was : WasCarriedOut order call.source call.source_after call.sink call.sink_after call.old call.new call.journal
     call.status call.turns) where
   abbrev out : ℕ
@@ -86,7 +86,7 @@ module _ (order : Order) (call : Call) (lawful : Lawful call.old)
 
   -- What holds of the line's status and of the one after a fault holds of the status.
   by_line : (P : Status → Type 0) → P was.line
-      → (Rose call.sink.faults call.sink_after.faults → P (after_fault was.line))
+      → (FaultCounted call.sink.faults call.sink_after.faults → P (after_fault was.line))
       → P call.status
   by_line P whole part = ⊎_elim
       (λ told. subst P (sym told.0) whole)
@@ -146,7 +146,7 @@ module _ (order : Order) (call : Call) (lawful : Lawful call.old)
   caused_line other is = absurd is
 
   caused_fault : (line : Status) → IsStatusOf was.ran call.journal line
-      → Rose call.sink.faults call.sink_after.faults → IsCause call (command_in order) (after_fault line)
+      → FaultCounted call.sink.faults call.sink_after.faults → IsCause call (command_in order) (after_fault line)
   caused_fault status.NoMemory is rose = opens order
   caused_fault status.Limit is rose = caused_line status.Limit is
   caused_fault (status.TooManyFailed listed) is rose = rose
@@ -231,7 +231,7 @@ module _ (order : Order) (call : Call) (lawful : Lawful call.old)
       apart : {item : Item} → slice_get [] 0 ≡ Some item → ⊥
       apart same = cc
 
-  module _ (smooth : IsSmooth order call) where
+  module _ (smooth : RunsUnhindered order call) where
     -- No call tells of too many failed devices.
     few : (listed : ℕ) → ((image : Image) → HoldsImage call.old image → AreTooMany call.old call.new image listed) → ⊥
     few listed many = apart (caused call.old call.new (reason.TooManyFailed listed) lawful (inr many)
@@ -240,7 +240,7 @@ module _ (order : Order) (call : Call) (lawful : Lawful call.old)
         apart : reason.TooManyFailed listed ≡ reason.NoMemory → ⊥
         apart same = cc
 
-    none_rose : (device : ℕ) → Rose (call.old.faults device) (call.new.faults device) → ⊥
+    none_rose : (device : ℕ) → FaultCounted (call.old.faults device) (call.new.faults device) → ⊥
     none_rose = smooth.unhindered.works
 
     -- No device is out in the end.

@@ -1,6 +1,6 @@
 -- What a call of `run` or `replay` promises, put together from its parts.
 use Rattle.std.proofs.Common.{◌≡◌, ◌≢◌, ⊎_elim, ℕ, List, [], Some, None, refl, sym, subst}
-use Rattle.bank_trait.specs.Causes.{Rose}
+use Rattle.bank_trait.specs.Causes.{FaultCounted}
 use Rattle.bank_trait.specs.Disk.{Image, Disk}
 use Rattle.core_open.specs.Failing.{HaveFailed}
 use Rattle.core_open.specs.Holds.{HoldsImage}
@@ -12,10 +12,10 @@ use Rattle.raidzx_top.specs.declared.status.Status.TheVariants as status
 use Rattle.raidzx_top.specs.declared.words.NewPool.{NewPool}
 use Rattle.raidzx_top.specs.declared.words.ServedCommand.{ServedCommand}
 use Rattle.raidzx_top.specs.declared.words.ServedCommand.TheVariants as served
-use Rattle.raidzx_top.specs.Call.{Call, Opens, ReadsScript}
+use Rattle.raidzx_top.specs.Call.{TopCall, Opens, ReadsScript}
 use Rattle.raidzx_top.specs.Order.{served_by}
 use Rattle.raidzx_top.specs.Causes.{IsCause, IsFoundImage, IsReadWhole, IsOrNoMemory, IsTooSmall, FindsNoPool}
-use Rattle.raidzx_top.specs.Promises.{CallPromises, IsCarriedOut, RunPromises, RunIsKept, LeavesNone, IsSmooth, CompletesAll}
+use Rattle.raidzx_top.specs.Promises.{CallPromises, IsCarriedOut, RunPromises, RunIsKept, LeavesNone, RunsUnhindered, CompletesAll}
 use Rattle.raidzx_top.specs.RunText.{TextIsRight}
 use Rattle.raidzx_top.specs.Spelled.{IsServedAs, command_of}
 use Rattle.raidzx_top.specs.Words.{Command}
@@ -36,7 +36,7 @@ opens OfLines = tt
 opens AsListed = tt
 
 -- and has no size that may be too small.
-no_size : (call : Call) (order : Order) → IsTooSmall call (command_in order) → ⊥
+no_size : (call : TopCall) (order : Order) → IsTooSmall call (command_in order) → ⊥
 no_size call OfLines less = apart less.0 less.1
   where
     apart : (size : ℕ × ℕ) → None ≡ Some size → ⊥
@@ -47,13 +47,13 @@ no_size call AsListed less = apart less.0 less.1
     apart size same = cc
 
 -- What an opening finds is what the bank holds at entry.
-pub held_at_entry : (call : Call) (order : Order) (image : Image) → IsFoundImage call (command_in order) image
+pub held_at_entry : (call : TopCall) (order : Order) (image : Image) → IsFoundImage call (command_in order) image
     → HoldsImage call.old image
 held_at_entry call OfLines image found = subst (λ (disk : Disk). HoldsImage disk image) found.is found.holds
 held_at_entry call AsListed image found = subst (λ (disk : Disk). HoldsImage disk image) found.is found.holds
 
 -- What has to be shown of a script that a call carried out, or was to carry out, however it ended.
-pub record IsRunEnd (order : Order) (call : Call) : Type 0 where
+pub record IsRunEnd (order : Order) (call : TopCall) : Type 0 where
   pub cause : IsCause call (command_in order) call.status
   pub no_usage : call.status ≢ status.Usage
   pub no_small : call.status ≢ status.TooSmall
@@ -66,11 +66,11 @@ pub record IsRunEnd (order : Order) (call : Call) : Type 0 where
   pub opened : call.journal ≢ [] → RunPromises order call
   pub unopened : call.journal ≡ [] → LeavesNone call
   pub carried_out : IsCarriedOut call → call.journal ≢ []
-  pub completes : IsSmooth order call → CompletesAll order call
+  pub completes : RunsUnhindered order call → CompletesAll order call
 
 -- Where no device failed, none was silent.
 pub none_silent : (old new : Disk) (silent : ℕ) → HaveFailed old new silent
-    → ((device : ℕ) → Rose (old.faults device) (new.faults device) → ⊥) → silent ≡ 0
+    → ((device : ℕ) → FaultCounted (old.faults device) (new.faults device) → ⊥) → silent ≡ 0
 none_silent old new silent failed quiet = none_empty silent (λ device has. quiet device (failed device has).1)
 
 -- Words are served in one manner.
@@ -81,7 +81,7 @@ one_manner words AsListed AsListed is same = refl
 one_manner words OfLines AsListed run replay = absurd (run_no_replay words run replay)
 one_manner words AsListed OfLines replay run = absurd (run_no_replay words run replay)
 
-module _ (order : Order) (call : Call) (served_as : IsServedAs call.words (served_by order)) (ends : IsRunEnd order call) where
+module _ (order : Order) (call : TopCall) (served_as : IsServedAs call.words (served_by order)) (ends : IsRunEnd order call) where
   no_create : {A : Type 0} → (made : NewPool) → IsServedAs call.words (served.Create made) → A
   no_create made is = absurd (create_no_script call.words made order is served_as)
 
@@ -103,11 +103,11 @@ module _ (order : Order) (call : Call) (served_as : IsServedAs call.words (serve
     carried_out = λ is carried. ends.carried_out carried;
   }
 
-  completing : (other : Order) → IsSmooth other call → CompletesAll other call
+  completing : (other : Order) → RunsUnhindered other call → CompletesAll other call
   completing other smooth =
       let same = one_manner call.words order other served_as smooth.served in
       subst (λ (m : Order). CompletesAll m call) same
-      (ends.completes (subst (λ (m : Order). IsSmooth m call) (sym same) smooth))
+      (ends.completes (subst (λ (m : Order). RunsUnhindered m call) (sym same) smooth))
 
   pub run_keeps_promises : CallPromises call
   run_keeps_promises = record {

@@ -15,10 +15,10 @@ use Rattle.client_script.specs.declared.refused.ReadRefused.TheVariants as read
 use Rattle.raidzx_top.specs.declared.order.Order.{Order}
 use Rattle.raidzx_top.specs.declared.status.Status.{Status}
 use Rattle.raidzx_top.specs.declared.status.Status.TheVariants as status
-use Rattle.raidzx_top.specs.Call.{Call, shape_of}
+use Rattle.raidzx_top.specs.Call.{TopCall, shape_of}
 use Rattle.raidzx_top.specs.Causes.{IsCause, IsReadWhole, IsOrNoMemory, FindsNoPool}
 use Rattle.raidzx_top.specs.Exit.{read_status, why_status}
-use Rattle.raidzx_top.specs.Promises.{LeavesNone, IsSmooth}
+use Rattle.raidzx_top.specs.Promises.{LeavesNone, RunsUnhindered}
 use Rattle.raidzx_top.specs.Running.{IsWell, IsUnread, IsUnopened, HasRead, IsRefused, Unread, Roomless, Unopened, WasRefused}
 use Rattle.raidzx_top.specs.RunText.{IsLineFor}
 use Rattle.raidzx_top.proofs.Reopening.{survives_opening}
@@ -54,7 +54,7 @@ refuses_open reason.NoMemory =
     record { no_usage = λ same. cc; no_small = λ same. cc; no_done = λ same. cc; no_fault = λ same. cc; line = refl }
 
 -- What has to be shown of a refusal beside what every one has.
-record IsOwn (order : Order) (call : Call) : Type 0 where
+record IsOwn (order : Order) (call : TopCall) : Type 0 where
   cause : IsCause call (command_in order) call.status
   refusal : IsRefusal call.status
   limit : (bytes : List ℕ) → IsWell call.source call.source_after bytes → IsOverLimit bytes
@@ -63,13 +63,13 @@ record IsOwn (order : Order) (call : Call) : Type 0 where
       → IsOrNoMemory call (status.ScriptFault line)
   no_pool : FindsNoPool call (command_in order) → IsOrNoMemory call status.NotPool
   leaves : LeavesNone call
-  smooth : IsSmooth order call → call.status ≡ status.NoMemory
+  smooth : RunsUnhindered order call → call.status ≡ status.NoMemory
 
-well_read : (order : Order) (call : Call) (bytes : List ℕ) → IsReadWhole call (command_in order) bytes
+well_read : (order : Order) (call : TopCall) (bytes : List ℕ) → IsReadWhole call (command_in order) bytes
     → IsWell call.source call.source_after bytes
 well_read order call bytes whole = record { told = whole.1; well = whole.2 }
 
-smooth_well : (order : Order) (call : Call) (smooth : IsSmooth order call)
+smooth_well : (order : Order) (call : TopCall) (smooth : RunsUnhindered order call)
     → IsWell call.source call.source_after smooth.bytes
 smooth_well order call smooth = record { told = smooth.told; well = smooth.source }
 
@@ -77,7 +77,7 @@ left_alone : (old new : Disk) → new ≡ old → Unchanged old new
 left_alone old new same = subst (λ (disk : Disk). Unchanged old disk) (sym same) (unchanged_none old)
 
 -- There was no script.
-unread : (order : Order) (call : Call) → call.turns ≡ 0 → (why : ReadRefused)
+unread : (order : Order) (call : TopCall) → call.turns ≡ 0 → (why : ReadRefused)
     → IsUnread call.source call.source_after why → call.new ≡ call.old
     → call.status ≡ read_status why → IsOwn order call
 unread order call no_turns why is same status_is = record {
@@ -121,7 +121,7 @@ unread order call no_turns why is same status_is = record {
     for_memory read.NoMemory is finds = refl
 
 -- There was no room for the journal.
-roomless : (order : Order) (call : Call) → call.turns ≡ 0 → (script : Script)
+roomless : (order : Order) (call : TopCall) → call.turns ≡ 0 → (script : Script)
     → HasRead call.source call.source_after script → call.new ≡ call.old
     → call.status ≡ status.NoMemory → IsOwn order call
 roomless order call no_turns script was_read same status_is = record {
@@ -142,7 +142,7 @@ roomless order call no_turns script was_read same status_is = record {
 }
 
 -- No pool was opened.
-unopened : (order : Order) (call : Call) → call.journal ≡ [] → call.turns ≡ 0 → (script : Script)
+unopened : (order : Order) (call : TopCall) → call.journal ≡ [] → call.turns ≡ 0 → (script : Script)
     → HasRead call.source call.source_after script → (why : OpenWhy)
     → IsUnopened call.old call.new why → call.status ≡ why_status why → IsOwn order call
 unopened order call none_yet no_turns script was_read why is status_is = record {
@@ -208,7 +208,7 @@ unopened order call none_yet no_turns script was_read why is status_is = record 
     left reason.NoMemory is memory many = absurd (memory refl)
 
 -- Each refusal has what is its own.
-own : (order : Order) (call : Call) → call.journal ≡ [] → call.turns ≡ 0
+own : (order : Order) (call : TopCall) → call.journal ≡ [] → call.turns ≡ 0
     → IsRefused call.source call.source_after call.old call.new call.status → IsOwn order call
 own order call none no_turns refused = elim refused [
   | Unread why is same status_is ↦ unread order call no_turns why is same status_is
@@ -216,7 +216,7 @@ own order call none no_turns refused = elim refused [
   | Unopened script was_read why is status_is ↦ unopened order call none no_turns script was_read why is status_is
 ]
 
-pub refused_run : (order : Order) (call : Call)
+pub refused_run : (order : Order) (call : TopCall)
     → WasRefused call.source call.source_after call.sink call.sink_after call.old call.new call.journal call.status
     call.turns
     → IsRunEnd order call

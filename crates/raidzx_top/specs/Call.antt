@@ -13,7 +13,7 @@ pub record Stream : Type 0 where
 
 -- words, bank, source and sink before and after, the status, the journal, and how many turns were
 -- made
-pub record Call : Type 0 where
+pub record TopCall : Type 0 where
   pub words : List (List ℕ)
   pub old : Disk
   pub new : Disk
@@ -28,7 +28,7 @@ pub record Call : Type 0 where
 -- a call of these parts
 abbrev pub call_of : List (List ℕ) → Disk → Disk → Stream → Stream → Stream → Stream → Status
     → List Item → ℕ
-    → Call
+    → TopCall
 call_of words old new source source_after sink sink_after status journal turns = record {
   words = words;
   old = old;

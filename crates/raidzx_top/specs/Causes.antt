@@ -1,6 +1,6 @@
 -- When each status of the top call comes.
 use Rattle.std.specs.Prelude.{◌≡◌, ◌≢◌, ◌⊎◌, ℕ, ◌+◌, ◌<◌, ◌≤◌, List, [], Some, true, ⊤}
-use Rattle.bank_trait.specs.Causes.{Rose}
+use Rattle.bank_trait.specs.Causes.{FaultCounted}
 use Rattle.bank_trait.specs.Disk.{Image, Disk, Later}
 use Rattle.uberblock_ring.specs.Devices.{has_device}
 use Rattle.uberblock_ring.specs.Uberblock.{first_uber, max_group}
@@ -17,54 +17,54 @@ use Rattle.raidzx_top.specs.declared.status.Status.TheVariants as status
 use Rattle.raidzx_top.specs.Words.{Command, Create, Load}
 use Rattle.raidzx_top.specs.declared.words.ServedCommand.{ServedCommand}
 use Rattle.raidzx_top.specs.Spelled.{IsServed, IsServedAs, command_of}
-use Rattle.raidzx_top.specs.Call.{Call, HoldsImage, Opens, ReadsScript, size_of, shape_of}
+use Rattle.raidzx_top.specs.Call.{TopCall, HoldsImage, Opens, ReadsScript, size_of, shape_of}
 
 -- A device has failed in this call, or none has.
-abbrev pub HasRisen : Call → ℕ → Type 0
-HasRisen call device = Rose (call.old.faults device) (call.new.faults device)
+abbrev pub HasRisen : TopCall → ℕ → Type 0
+HasRisen call device = FaultCounted (call.old.faults device) (call.new.faults device)
 
-abbrev pub NoneRose : Call → Type 0
+abbrev pub NoneRose : TopCall → Type 0
 NoneRose call = (device : ℕ) → HasRisen call device → ⊥
 
 -- The bank is too small for a new pool.
-abbrev pub IsTooSmall : Call → Command → Type 0
+abbrev pub IsTooSmall : TopCall → Command → Type 0
 IsTooSmall call command =
     (size : ℕ × ℕ) × (size_of command ≡ Some size)
     × ((call.old.devices < size.1) ⊎ (call.old.sectors < 256))
 
 -- the bank that an opening finds: that at entry, in `load` the one after its `create`
-abbrev pub IsFound : Call → Command → Disk → Type 0
-IsFound call (Create parity width id) found = ⊥
-IsFound call (Load seed blocks parity width) found =
+abbrev pub IsFoundBank : TopCall → Command → Disk → Type 0
+IsFoundBank call (Create parity width id) found = ⊥
+IsFoundBank call (Load seed blocks parity width) found =
     Later call.old found × Later found call.new
     × IsCreated (first_uber seed parity width (rows_for call.old.sectors)) found
-IsFound call command found = found ≡ call.old
+IsFoundBank call command found = found ≡ call.old
 
 -- an image of what an opening finds, where the bank tells it
-pub record IsFoundImage (call : Call) (command : Command) (image : Image) : Type 0 where
+pub record IsFoundImage (call : TopCall) (command : Command) (image : Image) : Type 0 where
   pub found : Disk
-  pub is : IsFound call command found
+  pub is : IsFoundBank call command found
   pub holds : HoldsImage found image
 
 -- Some device is listed, and each that is has failed in this call.
-pub record HaveRisen (call : Call) (listed : ℕ) : Type 0 where
+pub record HaveFailedInCall (call : TopCall) (listed : ℕ) : Type 0 where
   pub some : listed ≢ 0
   pub each : (device : ℕ) → has_device listed device ≡ true → HasRisen call device
 
 -- Too many devices are out; or a pool couldn't be made; or those that are left show no candidate.
-abbrev pub HaveFailed : Call → Command → ℕ → Type 0
-HaveFailed call command listed =
+abbrev pub IsTooManyFailed : TopCall → Command → ℕ → Type 0
+IsTooManyFailed call command listed =
     (Opens command
     × ((image : Image) → IsFoundImage call command image
     → AreTooMany call.old call.new image listed))
     ⊎ (((size : ℕ × ℕ) × (size_of command ≡ Some size) × (call.journal ≡ [])
-    × HaveRisen call listed)
-    ⊎ (Opens command × HaveRisen call listed
+    × HaveFailedInCall call listed)
+    ⊎ (Opens command × HaveFailedInCall call listed
     × ((image : Image) → IsFoundImage call command image
     → IsNotPool (shape_of call.old) listed image)))
 
 -- An opening finds a group too near the greatest; a call was refused for that; or the turns were used up.
-abbrev pub MeetsLimit : Call → Command → Type 0
+abbrev pub MeetsLimit : TopCall → Command → Type 0
 MeetsLimit call command =
     (Opens command × (call.journal ≡ [])
     × ((image : Image) → IsFoundImage call command image
@@ -74,44 +74,44 @@ MeetsLimit call command =
     ⊎ (most_turns ≤ call.turns))
 
 -- why a command got a status
-abbrev pub IsCause : Call → Command → Status → Type 0
+abbrev pub IsCause : TopCall → Command → Status → Type 0
 IsCause call command status.Done = ⊤
 IsCause call command status.Usage = ⊥
 IsCause call command (status.ScriptFault line) =
     ReadsScript command × ((bytes : List ℕ) → call.source.bytes ≡ Some bytes → IsFaultAt bytes line)
 IsCause call command status.NotPool = Opens command
     × ((image : Image) → IsFoundImage call command image → IsNotPool (shape_of call.old) 0 image)
-IsCause call command (status.TooManyFailed out) = HaveFailed call command out
+IsCause call command (status.TooManyFailed out) = IsTooManyFailed call command out
 IsCause call command status.TooSmall = IsTooSmall call command
 IsCause call command status.SourceFault =
-    ReadsScript command × Rose call.source.faults call.source_after.faults
-IsCause call command status.SinkFault = Rose call.sink.faults call.sink_after.faults
+    ReadsScript command × FaultCounted call.source.faults call.source_after.faults
+IsCause call command status.SinkFault = FaultCounted call.sink.faults call.sink_after.faults
 IsCause call command status.NoMemory = Opens command
 IsCause call command status.Limit =
     (ReadsScript command × ((bytes : List ℕ) → call.source.bytes ≡ Some bytes → IsOverLimit bytes))
     ⊎ MeetsLimit call command
 
 -- The words are no command that is carried out.
-abbrev pub IsNoCommand : Call → Type 0
+abbrev pub IsNoCommand : TopCall → Type 0
 IsNoCommand call = IsServed call.words → ⊥
 
 -- Each status has its cause: `usage` that the words are no command, each other one its own.
-pub record IsCaused (call : Call) : Type 0 where
+pub record IsCaused (call : TopCall) : Type 0 where
   pub usage : call.status ≡ status.Usage → IsNoCommand call
   pub others : (given : ServedCommand) → IsServedAs call.words given
       → IsCause call (command_of given) call.status
 
 -- The status is this one, or memory was wanting.
-abbrev pub IsOrNoMemory : Call → Status → Type 0
+abbrev pub IsOrNoMemory : TopCall → Status → Type 0
 IsOrNoMemory call wanted = (call.status ≡ wanted) ⊎ (call.status ≡ status.NoMemory)
 
 -- The source didn't fail, and gave these bytes.
-abbrev pub IsReadWhole : Call → Command → List ℕ → Type 0
+abbrev pub IsReadWhole : TopCall → Command → List ℕ → Type 0
 IsReadWhole call command bytes = ReadsScript command × (call.source.bytes ≡ Some bytes)
-    × (Rose call.source.faults call.source_after.faults → ⊥)
+    × (FaultCounted call.source.faults call.source_after.faults → ⊥)
 
 -- A command that opens a pool, once its script is read: it finds no candidate and no device fails.
-pub record FindsNoPool (call : Call) (command : Command) : Type 0 where
+pub record FindsNoPool (call : TopCall) (command : Command) : Type 0 where
   pub given : ServedCommand
   pub served : IsServedAs call.words given
   pub command_is : command_of given ≡ command
@@ -124,11 +124,11 @@ pub record FindsNoPool (call : Call) (command : Command) : Type 0 where
   pub quiet : NoneRose call
 
 -- Then it says so.
-abbrev pub SaysNoPool : Call → Type 0
+abbrev pub SaysNoPool : TopCall → Type 0
 SaysNoPool call = (command : Command) → FindsNoPool call command → IsOrNoMemory call status.NotPool
 
 -- Statuses that come exactly where their cause is there, in the order of checks.
-pub record ComesWhere (call : Call) : Type 0 where
+pub record ComesWhere (call : TopCall) : Type 0 where
   pub usage : IsNoCommand call → call.status ≡ status.Usage
   pub limit : (given : ServedCommand) (bytes : List ℕ) → IsServedAs call.words given
       → IsReadWhole call (command_of given) bytes

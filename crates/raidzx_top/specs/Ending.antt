@@ -4,7 +4,7 @@ use Rattle.raidzx_top.specs.declared.order.Order.{Order}
 use Rattle.raidzx_top.specs.declared.status.Status.TheVariants as status
 use Rattle.raidzx_top.specs.declared.words.NewPool.{NewPool}
 use Rattle.raidzx_top.specs.declared.words.ServedCommand.TheVariants as served
-use Rattle.raidzx_top.specs.Call.{Call}
+use Rattle.raidzx_top.specs.Call.{TopCall}
 use Rattle.raidzx_top.specs.Order.{served_by}
 use Rattle.raidzx_top.specs.Making.{EndsCreate, IsSaid}
 use Rattle.raidzx_top.specs.Promises.{IsQuiet}
@@ -13,7 +13,7 @@ use Rattle.raidzx_top.specs.RunText.{status_line}
 use Rattle.raidzx_top.specs.Spelled.{IsServed, IsServedAs}
 
 -- The words were no command.
-pub record EndsUsage (call : Call) : Type 0 where
+pub record EndsUsage (call : TopCall) : Type 0 where
   pub quiet : IsQuiet call
   pub none : IsServed call.words → ⊥
   pub status_is : call.status ≡ status.Usage
@@ -22,7 +22,7 @@ pub record EndsUsage (call : Call) : Type 0 where
       call.sink_after.faults (status_line status.Usage)
 
 -- They asked for a new pool.
-pub record EndsAsCreate (call : Call) : Type 0 where
+pub record EndsAsCreate (call : TopCall) : Type 0 where
   pub quiet : IsQuiet call
   pub made : NewPool
   pub served_as : IsServedAs call.words (served.Create made)
@@ -30,14 +30,14 @@ pub record EndsAsCreate (call : Call) : Type 0 where
       call.sink.faults call.sink_after.faults call.status
 
 -- They asked for a run or a replay.
-pub record EndsAsRun (call : Call) : Type 0 where
+pub record EndsAsRun (call : TopCall) : Type 0 where
   pub order : Order
   pub served_as : IsServedAs call.words (served_by order)
   pub ends : EndsRun order call.source call.source_after call.sink call.sink_after call.old
       call.new call.journal call.status call.turns
 
 -- how a call ends
-pub data Ends (call : Call) : Type 0 where
+pub data Ends (call : TopCall) : Type 0 where
   AsUsage : EndsUsage call → Ends call
   AsCreate : EndsAsCreate call → Ends call
   AsRun : EndsAsRun call → Ends call

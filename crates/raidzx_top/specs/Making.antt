@@ -1,6 +1,6 @@
 -- How making a pool ends.
 use Rattle.std.specs.Prelude.{◌≡◌, ◌⊎◌, ℕ, ◌<◌, List, Option}
-use Rattle.bank_trait.specs.Causes.{Rose}
+use Rattle.bank_trait.specs.Causes.{FaultCounted}
 use Rattle.bank_trait.specs.Disk.{Disk}
 use Rattle.bank_trait.specs.Regions.{Tells, TouchesOnly}
 use Rattle.core_open.specs.Regions.{IsOnBelow}
@@ -21,7 +21,7 @@ IsSmallFor made disk = (disk.devices < made.width) ⊎ (disk.sectors < 256)
 pub record HasFailedOn (out : ℕ) (old new : Disk) : Type 0 where
   pub device : ℕ
   pub named : out ≡ with_device 0 device
-  pub rose : Rose (old.faults device) (new.faults device)
+  pub rose : FaultCounted (old.faults device) (new.faults device)
 
 -- What the status says of the bank before and after.
 abbrev pub Makes : NewPool → Disk → Disk → Status → Type 0
@@ -37,7 +37,7 @@ Makes made old new other = ⊥
 -- A text was written, or, where the sink failed, a front of it.
 abbrev pub IsSaid : Option (List ℕ) → Option (List ℕ) → ℕ → ℕ → List ℕ → Type 0
 IsSaid before now faults faults_now text =
-    IsAdded before now text ⊎ (Rose faults faults_now × IsPartAdded before now text)
+    IsAdded before now text ⊎ (FaultCounted faults faults_now × IsPartAdded before now text)
 
 -- How `create` ends: what it made of the bank, and what it wrote.
 abbrev pub EndsCreate : NewPool → Disk → Disk → Option (List ℕ) → Option (List ℕ) → ℕ → ℕ → Status
@@ -46,7 +46,7 @@ EndsCreate made old new before now faults faults_now status.Done =
     Makes made old new status.Done
     × IsAdded before now (create_text made.parity made.width made.id (rows_for old.sectors))
 EndsCreate made old new before now faults faults_now status.SinkFault =
-    Makes made old new status.Done × Rose faults faults_now
+    Makes made old new status.Done × FaultCounted faults faults_now
     × IsPartAdded before now (create_text made.parity made.width made.id (rows_for old.sectors))
 EndsCreate made old new before now faults faults_now (status.TooManyFailed out) =
     Makes made old new (status.TooManyFailed out)

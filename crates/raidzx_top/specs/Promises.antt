@@ -1,7 +1,7 @@
 -- What a call promises: what a new pool is, what a run or a replay answers and keeps at each moment and in the
 -- end, and what is written.
 use Rattle.std.specs.Prelude.{◌≡◌, ◌≢◌, ◌⊎◌, ℕ, ◌≤◌, List, [], ◌∷◌, ◌++◌, Some, ⊤}
-use Rattle.bank_trait.specs.Causes.{Rose}
+use Rattle.bank_trait.specs.Causes.{FaultCounted}
 use Rattle.bank_trait.specs.Disk.{Image, Unchanged}
 use Rattle.bank_trait.specs.Regions.{Tells, TouchesOnly}
 use Rattle.core_open.specs.Regions.{IsOnBelow}
@@ -33,7 +33,7 @@ use Rattle.raidzx_top.specs.Words.{Create}
 use Rattle.raidzx_top.specs.declared.words.NewPool.{NewPool}
 use Rattle.raidzx_top.specs.declared.words.ServedCommand.TheVariants as served
 use Rattle.raidzx_top.specs.Spelled.{IsServedAs, command_of}
-use Rattle.raidzx_top.specs.Call.{Call, HoldsImage, shape_of}
+use Rattle.raidzx_top.specs.Call.{TopCall, HoldsImage, shape_of}
 use Rattle.raidzx_top.specs.Order.{listed_by, served_by}
 use Rattle.raidzx_top.specs.Causes.{NoneRose, IsTooSmall, MeetsLimit, IsNoCommand, IsCaused, ComesWhere, most_turns}
 use Rattle.raidzx_top.specs.Reopened.{BearsCut, SurvivesOpening, SurvivesStops}
@@ -42,13 +42,13 @@ use Rattle.raidzx_top.specs.RunText.{IsWritten, TextIsRight, create_text, status
 use Rattle.raidzx_top.specs.Running.{IsStatusOf, StoppedFor, after_fault}
 
 -- a setting in which a new pool stands: its devices, and failures of no more of them than its parity
-pub record IsNewSetting (call : Call) (parity id : ℕ) (setting : Setting) : Type 0 where
+pub record IsNewSetting (call : TopCall) (parity id : ℕ) (setting : Setting) : Type 0 where
   pub shape : setting.shape ≡ shape_of call.old
   pub pool : setting.pool ≡ id
   pub few : count_below setting.failed 16 ≤ parity
 
 -- Whatever a crash leaves, no device from a number on shows an uberblock.
-abbrev pub NoneShowsFrom : Call → ℕ → Type 0
+abbrev pub NoneShowsFrom : TopCall → ℕ → Type 0
 NoneShowsFrom call width = (image : Image) (device : ℕ) (uber : Uber) → width ≤ device
     → MightStand (shape_of call.old) call.new call.new.clock image
     → Shows (shape_of call.old) image device uber
@@ -57,27 +57,27 @@ NoneShowsFrom call width = (image : Image) (device : ℕ) (uber : Uber) → widt
 -- what `create` leaves where the bank tells what it holds: a pool of one group, which the bank keeps
 -- where no other device shows an uberblock, and with which a run may begin, where no page on the bank is by chance that
 -- group's
-pub record CreatePromises (call : Call) (parity width id : ℕ) : Type 0 where
+pub record CreatePromises (call : TopCall) (parity width id : ℕ) : Type 0 where
   pub made : IsCreated (first_uber id parity width (rows_for call.old.sectors)) call.new
   pub keeps : (setting : Setting) → IsNewSetting call parity id setting → NoneShowsFrom call width
       → BankKeeps setting (first_kept id parity width call.old.sectors) [] call.new
-  pub begins : (setting : Setting) → IsNewSetting call parity id setting → setting.odd ≡ [] → NoneShowsFrom call width
+  pub begins : (setting : Setting) → IsNewSetting call parity id setting → setting.excepted ≡ [] → NoneShowsFrom call width
       → ((image : Image) → HoldsImage call.new image
       → HasNoOtherPage setting (first_kept id parity width call.old.sectors ∷ []) image)
       → MayBegin setting (first_kept id parity width call.old.sectors) [] call.new
 
 -- A command was carried out, whether its text was written whole or not.
-abbrev pub IsCarriedOut : Call → Type 0
+abbrev pub IsCarriedOut : TopCall → Type 0
 IsCarriedOut call = (call.status ≡ status.Done) ⊎ (call.status ≡ status.SinkFault)
 
 -- Nothing was read from the source, nothing answered, and no turn made.
-pub record IsQuiet (call : Call) : Type 0 where
+pub record IsQuiet (call : TopCall) : Type 0 where
   pub unread : call.source_after ≡ call.source
   pub journal : call.journal ≡ []
   pub turns : call.turns ≡ 0
 
 -- what a call of `create` promises
-pub record CreateIsKept (call : Call) : Type 0 where
+pub record CreateIsKept (call : TopCall) : Type 0 where
   pub keeps : (made : NewPool) → IsServedAs call.words (served.Create made) → IsCarriedOut call
       → Tells call.old
       → CreatePromises call made.parity made.width made.id
@@ -94,16 +94,16 @@ pub record CreateIsKept (call : Call) : Type 0 where
 -- The status of a script that was carried out is the first of want of memory, a limit, a failed sink and too
 -- many failed devices that it met; else it is Done. The text ends with the line that it has where no sink
 -- fails.
-pub record StatusIsRight (call : Call) (ran : Ran) : Type 0 where
+pub record StatusIsRight (call : TopCall) (ran : Ran) : Type 0 where
   pub line : Status
   pub line_is : IsStatusOf ran call.journal line
   pub given : (call.status ≡ line)
-      ⊎ ((call.status ≡ after_fault line) × Rose call.sink.faults call.sink_after.faults)
+      ⊎ ((call.status ≡ after_fault line) × FaultCounted call.sink.faults call.sink_after.faults)
   pub written : (held : List ℕ) → call.sink.bytes ≡ Some held
       → IsWritten call held (journal_text call.journal ++ status_line line)
 
 -- what a run that opened its pool promises, or a replay
-pub record RunPromises (order : Order) (call : Call) : Type 0 where
+pub record RunPromises (order : Order) (call : TopCall) : Type 0 where
   -- The script that was read,
   pub script : Script
   pub script_is : (bytes : List ℕ) → call.source.bytes ≡ Some bytes → IsScript bytes script
@@ -140,7 +140,7 @@ pub record RunPromises (order : Order) (call : Call) : Type 0 where
 
 -- what a run or a replay that opened no pool leaves: what was there, but for counts of faults; or an opening
 -- that was cut short, for want of memory or as too many devices failed
-pub record LeavesNone (call : Call) : Type 0 where
+pub record LeavesNone (call : TopCall) : Type 0 where
   pub untouched : (call.status ≡ status.NoMemory → ⊥)
       → ((out : ℕ) → call.status ≡ status.TooManyFailed out → ⊥)
       → Unchanged call.old call.new
@@ -154,7 +154,7 @@ pub record LeavesNone (call : Call) : Type 0 where
   pub turns : call.turns ≡ 0
 
 -- what a call of `run` or of `replay` promises
-pub record RunIsKept (order : Order) (call : Call) : Type 0 where
+pub record RunIsKept (order : Order) (call : TopCall) : Type 0 where
   pub opened : IsServedAs call.words (served_by order) → call.journal ≢ []
       → RunPromises order call
   pub unopened : IsServedAs call.words (served_by order) → call.journal ≡ [] → LeavesNone call
@@ -164,7 +164,7 @@ pub record RunIsKept (order : Order) (call : Call) : Type 0 where
 
 -- Nothing was in the way of a run or a replay: the source told a script, the bank keeps groups of which none is
 -- too near the greatest number, no device is out, and nothing failed.
-pub record IsSmooth (order : Order) (call : Call) : Type 0 where
+pub record RunsUnhindered (order : Order) (call : TopCall) : Type 0 where
   pub served : IsServedAs call.words (served_by order)
   pub bytes : List ℕ
   pub told : call.source.bytes ≡ Some bytes
@@ -175,8 +175,8 @@ pub record IsSmooth (order : Order) (call : Call) : Type 0 where
   pub later : List Kept
   pub may : MayBegin setting first later call.old
   pub unhindered : IsUnhindered setting first later call.old call.new
-  pub source : Rose call.source.faults call.source_after.faults → ⊥
-  pub sink : Rose call.sink.faults call.sink_after.faults → ⊥
+  pub source : FaultCounted call.source.faults call.source_after.faults → ⊥
+  pub sink : FaultCounted call.sink.faults call.sink_after.faults → ⊥
 
 -- An answer that smooth runs have: what was asked for, or a refusal with a cause of its own.
 abbrev pub IsSmoothAnswer : Answer → Type 0
@@ -189,25 +189,25 @@ IsSmoothAnswer other = ⊤
 
 -- Then the status is Done and each answer is smooth; or memory was wanting, or a group met the greatest
 -- number, or the turns were used up.
-pub record CompletesAll (order : Order) (call : Call) : Type 0 where
+pub record CompletesAll (order : Order) (call : TopCall) : Type 0 where
   pub status_is : (call.status ≡ status.Done) ⊎ ((call.status ≡ status.NoMemory)
       ⊎ ((call.status ≡ status.Limit) × MeetsLimit call (command_of (served_by order))))
   pub answers : (index : ℕ) (entry : Entry) → CallAt call.journal index entry
       → IsSmoothAnswer entry.answer
 
 -- A `create` that has nothing in its way is carried out.
-pub record CreateCompletes (call : Call) : Type 0 where
+pub record CreateCompletes (call : TopCall) : Type 0 where
   pub done : (made : NewPool) → IsServedAs call.words (served.Create made)
       → (IsTooSmall call (Create made.parity made.width made.id) → ⊥)
-      → NoneRose call → (Rose call.sink.faults call.sink_after.faults → ⊥)
+      → NoneRose call → (FaultCounted call.sink.faults call.sink_after.faults → ⊥)
       → call.status ≡ status.Done
 
 -- A run or a replay that has nothing in its way completes.
-abbrev pub RunCompletes : Order → Call → Type 0
-RunCompletes order call = IsSmooth order call → CompletesAll order call
+abbrev pub RunCompletes : Order → TopCall → Type 0
+RunCompletes order call = RunsUnhindered order call → CompletesAll order call
 
 -- what every call promises
-pub record CallPromises (call : Call) : Type 0 where
+pub record CallPromises (call : TopCall) : Type 0 where
   -- each status has its cause,
   pub cause : IsCaused call
   -- and refusals come wherever their cause is there

@@ -6,7 +6,7 @@ use Rattle.uberblock_ring.specs.Devices.{IsWithin}
 use Rattle.core_state.specs.declared.answer.Answer.TheVariants as answer
 use Rattle.core_state.specs.declared.item.Entry.{Entry}
 use Rattle.core_state.specs.declared.item.Item.{Item}
-use Rattle.core_state.specs.Map.{Map, Handed}
+use Rattle.core_state.specs.Map.{Map, PutBytes}
 use Rattle.core_state.specs.Legal.{CallAt}
 use Rattle.core_state.specs.Journal.{IsLegalJournal}
 use Rattle.core_state.specs.Keeps.{Kept, Setting}
@@ -58,7 +58,7 @@ pub record IsReadBack (setting : Setting) (width : ℕ) (groups : List Kept) (im
       → ReadsBack groups script items
 
 -- what is kept from one item of a journal to the next: the last group listed, and at most one begun after it
-abbrev pub last_groups : {setting : Setting} → {handed : Handed} → {opening : Map} → {known : List Kept}
+abbrev pub last_groups : {setting : Setting} → {handed : PutBytes} → {opening : Map} → {known : List Kept}
     → {items : List Item} → {now next : Disk} → KeepsUntil setting handed opening known items now next → List Kept
 last_groups until = until.kept.last ∷ until.onward
 

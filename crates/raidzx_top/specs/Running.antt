@@ -1,6 +1,6 @@
 -- How a run or a replay ends: its script is read, its pool opened, its calls answered, its text written.
 use Rattle.std.specs.Prelude.{◌≡◌, ◌⊎◌, ℕ, ◌<◌, ◌≤◌, List, [], ◌++◌, Some, All, Result, Ok, Err}
-use Rattle.bank_trait.specs.Causes.{Rose}
+use Rattle.bank_trait.specs.Causes.{FaultCounted}
 use Rattle.bank_trait.specs.Disk.{Disk, Unchanged}
 use Rattle.core_state.specs.declared.answer.Answer.{Answer}
 use Rattle.core_state.specs.declared.answer.Answer.TheVariants as answer
@@ -150,7 +150,7 @@ abbrev pub EndsTelling : Stream → Stream → List Item → Status → Status �
 EndsTelling sink sink_after items line given =
     ((given ≡ line)
     × IsAdded sink.bytes sink_after.bytes (journal_text items ++ status_line line))
-    ⊎ ((given ≡ after_fault line) × Rose sink.faults sink_after.faults
+    ⊎ ((given ≡ after_fault line) × FaultCounted sink.faults sink_after.faults
     × IsPartAdded sink.bytes sink_after.bytes (journal_text items ++ status_line line))
 
 -- A run or a replay that was refused said so, and took no turn.

@@ -2,7 +2,7 @@
 ghost use Rattle.std.specs.Prelude.{◌≡◌, ◌++◌, OnOk, OnErr};
 ghost use Rattle.bank_trait.specs.Causes.{HasCause};
 ghost use Rattle.client_script.specs.Texts.{journal_text};
-ghost use Rattle.client_script.specs.Written.{IsAdded, IsPartAdded, Gains, Blames};
+ghost use Rattle.client_script.specs.Written.{IsAdded, IsPartAdded, GainsText, FailsOnlyWithFault};
 ghost use Rattle.raidzx_top.specs.Making.{IsSaid};
 ghost use Rattle.raidzx_top.specs.RunText.{create_text, status_line};
 
@@ -26,9 +26,9 @@ pub fn write_created<K: Sink>(out: &mut K, made: &NewPool, rows: u64) -> Result<
 }
 
 fn put_created<K: Sink>(writer: &mut TextWriter, out: &mut K, made: &NewPool, rows: u64)
-    ensures gains { Gains (K.held out.old) (K.held out.new) writer.old writer.new
+    ensures gains { GainsText (K.held out.old) (K.held out.new) writer.old writer.new
         (create_text made.now.parity made.now.width made.now.id rows) }
-    ensures cause { Blames (K.faults out.old) (K.faults out.new) writer.old writer.new }
+    ensures cause { FailsOnlyWithFault (K.faults out.old) (K.faults out.new) writer.old writer.new }
 {
     writer.text(out, b"pool ");
     writer.number(out, made.id);
@@ -55,9 +55,9 @@ pub fn write_run<K: Sink>(out: &mut K, journal: &Journal, status: &Status) -> Re
 }
 
 fn put_run<K: Sink>(writer: &mut TextWriter, out: &mut K, journal: &Journal, status: &Status)
-    ensures gains { Gains (K.held out.old) (K.held out.new) writer.old writer.new
+    ensures gains { GainsText (K.held out.old) (K.held out.new) writer.old writer.new
         (journal_text journal.now.items ++ status_line status.now) }
-    ensures cause { Blames (K.faults out.old) (K.faults out.new) writer.old writer.new }
+    ensures cause { FailsOnlyWithFault (K.faults out.old) (K.faults out.new) writer.old writer.new }
 {
     write_journal(writer, out, journal);
     put_status(writer, out, status);
@@ -86,9 +86,9 @@ pub fn refuse<K: Sink>(out: &mut K, status: Status) -> Status
 }
 
 fn put_status<K: Sink>(writer: &mut TextWriter, out: &mut K, status: &Status)
-    ensures gains { Gains (K.held out.old) (K.held out.new) writer.old writer.new
+    ensures gains { GainsText (K.held out.old) (K.held out.new) writer.old writer.new
         (status_line status.now) }
-    ensures cause { Blames (K.faults out.old) (K.faults out.new) writer.old writer.new }
+    ensures cause { FailsOnlyWithFault (K.faults out.old) (K.faults out.new) writer.old writer.new }
 {
     match status {
         Status::Done | Status::SinkFault => writer.text(out, b""),

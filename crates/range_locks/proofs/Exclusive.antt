@@ -6,14 +6,14 @@ use Rattle.std.proofs.lemmas.Option.{slice_get-get_or, get_or_from_slice_get, sl
 use Rattle.std.proofs.lemmas.List.Elements.{Contains-get_or, All-push, All-append, All-take, All-drop}
 use Rattle.std.proofs.lemmas.List.Quantifiers.{all_pairs_push, all_pairs_remove}
 use Rattle.range_locks.specs.declared.hold.Hold.{Hold}
-use Rattle.range_locks.specs.Holds.{Blocks, AreExclusive, HasSectors, AreHolds, IsClear}
+use Rattle.range_locks.specs.Holds.{ConflictsWith, AreExclusive, HasSectors, AreHolds, IsClear}
 
 -- One hold isn't in the way of another.
 abbrev Spares : Hold → Hold → Type 0
-Spares one other = Blocks one other.lo other.hi other.kind → ⊥
+Spares one other = ConflictsWith one other.lo other.hi other.kind → ⊥
 
 -- Of two holds each is in the way of the other, or none is.
-blocks_back : (one other : Hold) → Blocks one other.lo other.hi other.kind → Blocks other one.lo one.hi one.kind
+blocks_back : (one other : Hold) → ConflictsWith one other.lo other.hi other.kind → ConflictsWith other one.lo one.hi one.kind
 blocks_back one other is = record {
   overlaps = record { begins = is.overlaps.ends; ends = is.overlaps.begins };
   exclusive = ⊎_elim (λ first. inr first) (λ second. inl second) is.exclusive;

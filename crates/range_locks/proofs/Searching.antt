@@ -8,7 +8,7 @@ use Rattle.std.proofs.lemmas.List.Elements.{Contains-append_left, Contains-push,
 use Rattle.range_locks.specs.declared.hold.Hold.{Hold}
 use Rattle.range_locks.specs.declared.hold.HoldKind.{HoldKind}
 use Rattle.range_locks.specs.declared.hold.HoldKind.TheVariants.{Shared}
-use Rattle.range_locks.specs.Holds.{Blocks, Precedes, IsBusyBy, IsFirstIn, IsFirst, IsSharedFrom, BeginsShared, IsFirstSharedFrom, EndsHold}
+use Rattle.range_locks.specs.Holds.{ConflictsWith, Precedes, IsBusyBy, IsFirstIn, IsFirst, IsSharedFrom, BeginsShared, IsFirstSharedFrom, EndsHold}
 use Rattle.range_locks.specs.Search.{IsFirstPosition, IsEarlier, lesser_of}
 
 -- No test is both.
@@ -23,20 +23,20 @@ precedes_then one two three first second = grind (arith, first, second)
 
 -- A hold that isn't in the way changes nothing.
 pub first_passes : (seen : List Hold) (lo hi : ℕ) (kind : HoldKind) (first : Option Hold) (hold : Hold) → IsFirst seen lo hi kind first
-    → (Blocks hold lo hi kind → ⊥) → IsFirst (seen ++ hold ∷ []) lo hi kind first
+    → (ConflictsWith hold lo hi kind → ⊥) → IsFirst (seen ++ hold ∷ []) lo hi kind first
 first_passes seen lo hi kind None hold clear spares = λ other listed blocks.
     ⊎_elim (λ old. clear other old blocks)
-    (λ same. spares (subst (λ (h : Hold). Blocks h lo hi kind) (sym same) blocks)) (Contains-push_cases seen hold other listed)
+    (λ same. spares (subst (λ (h : Hold). ConflictsWith h lo hi kind) (sym same) blocks)) (Contains-push_cases seen hold other listed)
 first_passes seen lo hi kind (Some first) hold is spares = record {
   listed = Contains-append_left seen (hold ∷ []) first is.listed;
   blocks = is.blocks;
   lowest = λ other listed blocks. ⊎_elim (λ old. is.lowest other old blocks)
-      (λ same. absurd (spares (subst (λ (h : Hold). Blocks h lo hi kind) (sym same) blocks))) (Contains-push_cases seen hold other listed);
+      (λ same. absurd (spares (subst (λ (h : Hold). ConflictsWith h lo hi kind) (sym same) blocks))) (Contains-push_cases seen hold other listed);
 }
 
 -- Of one that is in the way and the first so far, the earlier is the first.
 pub first_takes : (seen : List Hold) (lo hi : ℕ) (kind : HoldKind) (first : Option Hold) (hold earlier : Hold) → IsFirst seen lo hi kind first
-    → Blocks hold lo hi kind → IsEarlier first hold earlier → IsFirst (seen ++ hold ∷ []) lo hi kind (Some earlier)
+    → ConflictsWith hold lo hi kind → IsEarlier first hold earlier → IsFirst (seen ++ hold ∷ []) lo hi kind (Some earlier)
 first_takes seen lo hi kind None hold earlier clear blocks is =
     subst (λ (h : Hold). IsFirst (seen ++ hold ∷ []) lo hi kind (Some h)) (sym is) (record {
       listed = Contains-push seen hold;
@@ -115,13 +115,13 @@ shared_takes seen from (Some first) hold found is =
 
 -- The same for the hold at an index of a list.
 pub first_passes_at : (holds : List Hold) (lo hi : ℕ) (kind : HoldKind) (first : Option Hold) (at : ℕ) (default : Hold) → at < length holds
-    → IsFirst (take at holds) lo hi kind first → (Blocks (get_or holds at default) lo hi kind → ⊥) → IsFirst (take (at + 1) holds) lo hi kind first
+    → IsFirst (take at holds) lo hi kind first → (ConflictsWith (get_or holds at default) lo hi kind → ⊥) → IsFirst (take (at + 1) holds) lo hi kind first
 first_passes_at holds lo hi kind first at default within is spares =
     subst (λ (seen : List Hold). IsFirst seen lo hi kind first) (sym (take_more holds at default within))
     (first_passes (take at holds) lo hi kind first (get_or holds at default) is spares)
 
 pub first_takes_at : (holds : List Hold) (lo hi : ℕ) (kind : HoldKind) (first : Option Hold) (at : ℕ) (default earlier : Hold) → at < length holds
-    → IsFirst (take at holds) lo hi kind first → Blocks (get_or holds at default) lo hi kind → IsEarlier first (get_or holds at default) earlier
+    → IsFirst (take at holds) lo hi kind first → ConflictsWith (get_or holds at default) lo hi kind → IsEarlier first (get_or holds at default) earlier
     → IsFirst (take (at + 1) holds) lo hi kind (Some earlier)
 first_takes_at holds lo hi kind first at default earlier within is blocks earliest =
     subst (λ (seen : List Hold). IsFirst seen lo hi kind (Some earlier)) (sym (take_more holds at default within))

@@ -12,7 +12,7 @@ pub record Overlaps (hold : Hold) (lo hi : ℕ) : Type 0 where
   pub ends : lo < hold.hi
 
 -- The hold stands in the way of one of this kind and range.
-pub record Blocks (hold : Hold) (lo hi : ℕ) (kind : HoldKind) : Type 0 where
+pub record ConflictsWith (hold : Hold) (lo hi : ℕ) (kind : HoldKind) : Type 0 where
   pub overlaps : Overlaps hold lo hi
   pub exclusive : (hold.kind ≡ Exclusive) ⊎ (kind ≡ Exclusive)
 
@@ -20,7 +20,7 @@ pub record Blocks (hold : Hold) (lo hi : ℕ) (kind : HoldKind) : Type 0 where
 pub record AreExclusive (holds : List Hold) : Type 0 where
   pub apart : (i j : ℕ) (one other : Hold) → i ≢ j → slice_get holds i ≡ Some one
       → slice_get holds j ≡ Some other
-      → Blocks one other.lo other.hi other.kind → ⊥
+      → ConflictsWith one other.lo other.hi other.kind → ⊥
 
 -- The hold has a sector.
 abbrev pub HasSectors : Hold → Type 0
@@ -33,7 +33,7 @@ pub record AreHolds (holds : List Hold) : Type 0 where
 
 -- None of the holds stands in the way.
 abbrev pub IsClear : List Hold → ℕ → ℕ → HoldKind → Type 0
-IsClear holds lo hi kind = (hold : Hold) → Contains holds hold → Blocks hold lo hi kind → ⊥
+IsClear holds lo hi kind = (hold : Hold) → Contains holds hold → ConflictsWith hold lo hi kind → ⊥
 
 -- The hold begins lower, or as low with an actor that is no higher.
 abbrev pub Precedes : Hold → Hold → Type 0
@@ -44,16 +44,16 @@ Precedes hold other =
 pub record IsBusyBy (holds : List Hold) (lo hi : ℕ) (kind : HoldKind) (by : ℕ) : Type 0 where
   pub hold : Hold
   pub listed : Contains holds hold
-  pub blocks : Blocks hold lo hi kind
+  pub blocks : ConflictsWith hold lo hi kind
   pub actor : hold.actor ≡ by
-  pub lowest : (other : Hold) → Contains holds other → Blocks other lo hi kind
+  pub lowest : (other : Hold) → Contains holds other → ConflictsWith other lo hi kind
       → Precedes hold other
 
 -- This hold is in the way, and precedes all others that are.
 pub record IsFirstIn (holds : List Hold) (lo hi : ℕ) (kind : HoldKind) (hold : Hold) : Type 0 where
   pub listed : Contains holds hold
-  pub blocks : Blocks hold lo hi kind
-  pub lowest : (other : Hold) → Contains holds other → Blocks other lo hi kind → Precedes hold other
+  pub blocks : ConflictsWith hold lo hi kind
+  pub lowest : (other : Hold) → Contains holds other → ConflictsWith other lo hi kind → Precedes hold other
 
 -- the first hold in the way, if any is
 abbrev pub IsFirst : List Hold → ℕ → ℕ → HoldKind → Option Hold → Type 0

@@ -1,6 +1,6 @@
 // A range that is held.
 ghost use Rattle.std.specs.Prelude.{◌↔◌, IsTrue};
-ghost use Rattle.range_locks.specs.Holds.{Blocks, Precedes, IsSharedFrom};
+ghost use Rattle.range_locks.specs.Holds.{ConflictsWith, Precedes, IsSharedFrom};
 
 #[derive(Clone, Copy, Debug, PartialEq, Eq)]
 pub enum HoldKind {
@@ -20,7 +20,7 @@ pub struct Hold {
 impl Hold {
     /// Whether the hold stands in the way of one of this kind and range.
     pub fn blocks(&self, lo: u64, hi: u64, kind: HoldKind) -> bool
-        ensures value { IsTrue result ↔ Blocks self.now lo hi kind }
+        ensures value { IsTrue result ↔ ConflictsWith self.now lo hi kind }
     {
         let is_exclusive = self.kind == HoldKind::Exclusive || kind == HoldKind::Exclusive;
         is_exclusive && self.lo < hi && lo < self.hi

@@ -11,7 +11,7 @@ use Rattle.row_layout.proofs.Parts.{whole_row_in, last_row_in}
 use Rattle.reconstruct.specs.declared.pair.Pair.{Pair}
 use Rattle.reconstruct.specs.Rows.{Rows}
 use Rattle.reconstruct.specs.Suspects.{Choice, AscendFrom, IsLower, is_suspect, suspects_sector}
-use Rattle.reconstruct.specs.Solved.{columns_with, lost_by, is_lost, ServesRow, Tells, Question, question_with, Told, IsDecoded, IsDamaged}
+use Rattle.reconstruct.specs.Solved.{columns_with, is_masked_lost, is_lost, ServesRow, TellsBytes, Question, question_with, Told, IsDecoded, IsDamaged}
 use Rattle.reconstruct.specs.Tried.{IsPick, IsFirstTold, NoneTold}
 
 -- ---- what is lost, told in two ways
@@ -30,7 +30,7 @@ lost_back layout lost other alike = record { at = λ row column row_in inside. s
 
 -- Columns tell the same where the same ones are lost.
 pub tells_alike : (layout : Layout) (rows : Rows) (masks more : List ℕ) (lost other : ℕ → ℕ → Bool) (len : ℕ) (sha bytes : List ℕ) → IsLayout layout
-    → AreLostAlike layout lost other → Tells layout (columns_with rows masks) lost len sha bytes → Tells layout (columns_with rows more) other len sha bytes
+    → AreLostAlike layout lost other → TellsBytes layout (columns_with rows masks) lost len sha bytes → TellsBytes layout (columns_with rows more) other len sha bytes
 tells_alike layout rows masks more lost other len sha bytes is alike told = record {
   enough = λ passed.
       told.enough (record {
@@ -98,13 +98,13 @@ StartsBelow at (place ∷ rest) = place < at
 
 module _ (layout : Layout) (rows : Rows) (masks : List ℕ) (len : ℕ) (sha : List ℕ) (suspects : List Pair) where
   -- Where no suspect is to be chosen, there is one choice.
-  pub first_of_none : (from : ℕ) (bytes : List ℕ) → IsLayout layout → Tells layout (columns_with rows masks) (lost_by masks) len sha bytes
+  pub first_of_none : (from : ℕ) (bytes : List ℕ) → IsLayout layout → TellsBytes layout (columns_with rows masks) (is_masked_lost masks) len sha bytes
       → IsFirstTold (question_with layout rows masks len sha suspects) from 0 bytes
   first_of_none from bytes is told = record {
     choice = [];
     pick = record { many = refl; ascending = tt };
     told =
-        tells_alike layout rows masks masks (lost_by masks) (is_lost layout (columns_with rows masks) suspects []) len sha bytes is
+        tells_alike layout rows masks masks (is_masked_lost masks) (is_lost layout (columns_with rows masks) suspects []) len sha bytes is
         (record { at = λ row column row_in inside. sym (or_nothing (is_masked (slice_index masks row) column)) }) told;
     first = λ other wrong pick lower told_other. none_lower other pick.many lower;
   }
@@ -113,14 +113,14 @@ module _ (layout : Layout) (rows : Rows) (masks : List ℕ) (len : ℕ) (sha : L
       none_lower [] many lower = lower
       none_lower (place ∷ rest) many lower = lower
 
-  pub none_of_none : (from : ℕ) → IsLayout layout → ((bytes : List ℕ) → Tells layout (columns_with rows masks) (lost_by masks) len sha bytes → ⊥)
+  pub none_of_none : (from : ℕ) → IsLayout layout → ((bytes : List ℕ) → TellsBytes layout (columns_with rows masks) (is_masked_lost masks) len sha bytes → ⊥)
       → NoneTold (question_with layout rows masks len sha suspects) from 0
   none_of_none from is none choice bytes pick told = of_choice choice pick.many told
     where
       of_choice : (choice : Choice) → length choice ≡ 0 → Told (question_with layout rows masks len sha suspects) choice bytes → ⊥
       of_choice [] many told =
           none bytes
-          (tells_alike layout rows masks masks (is_lost layout (columns_with rows masks) suspects []) (lost_by masks) len sha bytes is
+          (tells_alike layout rows masks masks (is_lost layout (columns_with rows masks) suspects []) (is_masked_lost masks) len sha bytes is
           (record { at = λ row column row_in inside. or_nothing (is_masked (slice_index masks row) column) }) told)
       of_choice (place ∷ rest) many told = absurd (omega (arith, many))
 

@@ -11,7 +11,7 @@ use Rattle.row_layout.specs.declared.column.Part.TheVariants.{Missing}
 use Rattle.row_layout.specs.Layout.{Layout, IsLayout, rows_of, columns_of, columns_in, part_of}
 use Rattle.row_layout.proofs.Laws.{missing_behind}
 use Rattle.reconstruct.specs.Columns.{zero_sector, part_bytes, column_bytes}
-use Rattle.reconstruct.specs.SolvedRow.{ServesBy, IsReadOf, IsSolvedRow}
+use Rattle.reconstruct.specs.SolvedRow.{ServesBy, HoldsColumnsOf, IsSolvedRow}
 use Rattle.reconstruct.proofs.Masks.{masked_low}
 use Rattle.reconstruct.proofs.RowAgain.{content_of_row, content_sectors, length-content_of_row, content_of_row-at, parity_of_row}
 
@@ -75,7 +75,7 @@ module _ (layout : Layout) (row mask low present : ℕ) (is : IsLayout layout) (
       (there : (column : ℕ) → column < present → slice_index_or cleared column [] ≡ slice_index_or read column [])
       (missing : (column : ℕ) → present ≤ column → column < columns_of layout → slice_index_or cleared column [] ≡ zero_sector) where
     -- What the columns were read of serves for the cleared ones.
-    served_by : (bytes : List ℕ) → IsReadOf layout row mask read bytes → IsServedBy (content_of_row layout bytes row) layout.parity (is_masked low) cleared
+    served_by : (bytes : List ℕ) → HoldsColumnsOf layout row mask read bytes → IsServedBy (content_of_row layout bytes row) layout.parity (is_masked low) cleared
     served_by bytes of = record {
       long = wide ∙ omega (arith, present_few, parity_few, length-content_of_row layout bytes row);
       there = λ column below kept.

@@ -16,8 +16,8 @@ use Rattle.row_layout.proofs.Parts.{columns_few, row_few, reaches, content_here}
 use Rattle.reconstruct.specs.Columns.{content_sector, column_bytes}
 use Rattle.reconstruct.specs.Rows.{Rows, AreWide, IsShaped, column_at, HoldsContent, IsContent}
 use Rattle.reconstruct.specs.Lost.{AreBytes, IsLeftOver}
-use Rattle.reconstruct.specs.SolvedRow.{columns_at, IsReadOf, AreSolved}
-use Rattle.reconstruct.specs.Solved.{columns_with, lost_by, IsSolution, BeginsSolution}
+use Rattle.reconstruct.specs.SolvedRow.{columns_at, HoldsColumnsOf, AreSolved}
+use Rattle.reconstruct.specs.Solved.{columns_with, is_masked_lost, IsSolution, BeginsSolution}
 use Rattle.reconstruct.proofs.Cutting.{length-content_sector}
 use Rattle.reconstruct.proofs.Places.{place_below}
 use Rattle.reconstruct.proofs.Readback.{one_more, byte_of_sector, column_is_sector}
@@ -42,7 +42,7 @@ parity_room layout is = grind (arith, nat_tests, is.width)
 
 -- What is left of rows solves them.
 pub left_solves : (layout : Layout) (bytes masks : List ℕ) (rows : Rows) (len : ℕ) → IsLayout layout → length bytes ≡ len
-    → IsLeftOver layout bytes rows masks → IsSolution layout (columns_with rows masks) (lost_by masks) len bytes
+    → IsLeftOver layout bytes rows masks → IsSolution layout (columns_with rows masks) (is_masked_lost masks) len bytes
 left_solves layout bytes masks rows len is long left = record {
   wide = long;
   content = λ row column within behind there.
@@ -86,7 +86,7 @@ holds_sector layout row column is within behind =
 module _ (layout : Layout) (masks : List ℕ) (rows made : Rows) (read solved : List (List ℕ)) (is : IsLayout layout) (shape : IsShaped layout rows)
     (made_shape : IsShaped layout made) (read_is : rows.columns ≡ read) (made_is : made.columns ≡ solved) (solved_rows : AreSolved layout masks read solved) where
   -- The content of whatever bytes solve is there.
-  pub holds_solution : (len : ℕ) (bytes : List ℕ) → AreBytes bytes → IsSolution layout (columns_with rows masks) (lost_by masks) len bytes
+  pub holds_solution : (len : ℕ) (bytes : List ℕ) → AreBytes bytes → IsSolution layout (columns_with rows masks) (is_masked_lost masks) len bytes
       → HoldsContent layout bytes made
   holds_solution len bytes all solution = record {
     content = λ row column within behind.
@@ -95,7 +95,7 @@ module _ (layout : Layout) (masks : List ℕ) (rows made : Rows) (read solved : 
         ∙ (solved_rows.each row within.row_in).told bytes all (read_of row within.row_in) column behind low;
   }
     where
-      read_of : (row : ℕ) → row < rows_of layout → IsReadOf layout row (slice_index masks row) (columns_at layout read row) bytes
+      read_of : (row : ℕ) → row < rows_of layout → HoldsColumnsOf layout row (slice_index masks row) (columns_at layout read row) bytes
       read_of row row_in = record {
         content = λ column behind inside there.
             row_column layout rows read row column shape read_is (omega (arith, inside, row_few layout row is))
@@ -180,7 +180,7 @@ module _ (layout : Layout) (masks : List ℕ) (rows made : Rows) (read solved : 
                 room,
               )
 
-      solution : IsSolution layout (columns_with rows masks) (lost_by masks) (512 * layout.sectors) whole
+      solution : IsSolution layout (columns_with rows masks) (is_masked_lost masks) (512 * layout.sectors) whole
       solution = record {
         wide = whole_long;
         content = λ row column within behind there.
@@ -196,7 +196,7 @@ module _ (layout : Layout) (masks : List ℕ) (rows made : Rows) (read solved : 
 
     -- Bytes that stand in the content columns begin a solution.
     pub begins_solution : (bytes : List ℕ) → length bytes ≤ 512 * layout.sectors → IsContent layout made bytes
-        → BeginsSolution layout (columns_with rows masks) (lost_by masks) bytes
+        → BeginsSolution layout (columns_with rows masks) (is_masked_lost masks) bytes
     begins_solution bytes few told =
         let all = front_of layout.sectors (omega arith) in
         record {

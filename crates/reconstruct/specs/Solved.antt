@@ -8,7 +8,7 @@ use Rattle.reconstruct.specs.declared.pair.Pair.{Pair}
 use Rattle.reconstruct.specs.Columns.{column_bytes}
 use Rattle.reconstruct.specs.Rows.{Rows, column_at}
 use Rattle.reconstruct.specs.Lost.{AreBytes}
-use Rattle.reconstruct.specs.Suspects.{Choice, IsChoice, IsTriedBefore, suspects_sector}
+use Rattle.reconstruct.specs.Suspects.{Choice, IsSuspectChoice, IsTriedBefore, suspects_sector}
 
 -- A block's columns as they were read, by row and column; `lost` has a mask of columns for each
 -- row.
@@ -21,8 +21,8 @@ abbrev pub columns_with : Rows → List ℕ → Columns
 columns_with rows masks = record { read = column_at rows; lost = slice_index masks }
 
 -- what the masks alone say is lost
-abbrev pub lost_by : List ℕ → ℕ → ℕ → Bool
-lost_by masks row column = is_masked (slice_index masks row) column
+abbrev pub is_masked_lost : List ℕ → ℕ → ℕ → Bool
+is_masked_lost masks row column = is_masked (slice_index masks row) column
 
 -- The column couldn't be read, or a pair of the choice suspects it.
 abbrev pub is_lost : Layout → Columns → List Pair → Choice → ℕ → ℕ → Bool
@@ -61,7 +61,7 @@ pub record BeginsSolution (layout : Layout) (columns : Columns) (lost : ℕ → 
   pub solves : IsSolution layout columns lost (512 * layout.sectors) whole
 
 -- The columns that aren't lost are enough to tell these bytes, which have the digest.
-pub record Tells (layout : Layout) (columns : Columns) (lost : ℕ → ℕ → Bool) (len : ℕ)
+pub record TellsBytes (layout : Layout) (columns : Columns) (lost : ℕ → ℕ → Bool) (len : ℕ)
     (sha bytes : List ℕ) : Type 0 where
   pub enough : IsPassedOver layout lost → ⊥
   pub solves : IsSolution layout columns lost len bytes
@@ -89,26 +89,26 @@ question_with layout rows masks len sha suspects = record {
 -- The columns that a choice leaves tell these bytes.
 abbrev pub Told : Question → Choice → List ℕ → Type 0
 Told question choice bytes =
-    Tells question.layout question.columns
+    TellsBytes question.layout question.columns
     (is_lost question.layout question.columns question.suspects choice) question.len question.sha
     bytes
 
 -- A choice gives these bytes, which have the digest.
-pub record IsGiven (question : Question) (choice : Choice) (bytes : List ℕ) : Type 0 where
-  pub choice_is : IsChoice question.suspects question.layout.parity choice
+pub record ChoiceGives (question : Question) (choice : Choice) (bytes : List ℕ) : Type 0 where
+  pub choice_is : IsSuspectChoice question.suspects question.layout.parity choice
   pub told : Told question choice bytes
 
 -- the answer: the bytes of the first choice that gives any
 pub record IsDecoded (question : Question) (bytes : List ℕ) : Type 0 where
   pub choice : Choice
-  pub given : IsGiven question choice bytes
+  pub given : ChoiceGives question choice bytes
   pub first : (other : Choice) (wrong : List ℕ) → IsTriedBefore other choice
-      → IsGiven question other wrong → ⊥
+      → ChoiceGives question other wrong → ⊥
 
 -- No choice gives bytes with the digest.
 abbrev pub IsDamaged : Question → Type 0
-IsDamaged question = (choice : Choice) (bytes : List ℕ) → IsGiven question choice bytes → ⊥
+IsDamaged question = (choice : Choice) (bytes : List ℕ) → ChoiceGives question choice bytes → ⊥
 
 -- No choice gives other bytes with the digest of these.
 pub record HasNoFalseChoice (question : Question) (bytes : List ℕ) : Type 0 where
-  pub none : (choice : Choice) (other : List ℕ) → IsGiven question choice other → other ≡ bytes
+  pub none : (choice : Choice) (other : List ℕ) → ChoiceGives question choice other → other ≡ bytes

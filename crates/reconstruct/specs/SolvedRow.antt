@@ -18,7 +18,7 @@ ServesBy layout row mask which =
     (count_lost (is_masked mask) layout.parity (columns_in layout row - layout.parity)) which
 
 -- The content columns that are there and the parity that serves are those of these bytes.
-pub record IsReadOf (layout : Layout) (row mask : ℕ) (read : List (List ℕ)) (bytes : List ℕ)
+pub record HoldsColumnsOf (layout : Layout) (row mask : ℕ) (read : List (List ℕ)) (bytes : List ℕ)
     : Type 0 where
   pub content : (column : ℕ) → layout.parity ≤ column → column < columns_in layout row
       → is_masked mask column ≡ false
@@ -36,7 +36,7 @@ pub record IsSolvedRow (layout : Layout) (row mask : ℕ) (read solved : List (L
       → slice_index_or solved column [] ≡ zero_sector
   pub fits : (which : ℕ) → ServesBy layout row mask which
       → slice_index_or read which [] ≡ parity_column which (drop layout.parity solved)
-  pub told : (bytes : List ℕ) → AreBytes bytes → IsReadOf layout row mask read bytes
+  pub told : (bytes : List ℕ) → AreBytes bytes → HoldsColumnsOf layout row mask read bytes
       → (column : ℕ) → layout.parity ≤ column → column < columns_of layout
       → slice_index_or solved column [] ≡ column_bytes layout bytes row column
 

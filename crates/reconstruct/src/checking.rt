@@ -6,7 +6,7 @@ ghost use Rattle.row_layout.specs.Layout.{rows_of};
 ghost use Rattle.row_layout.specs.Standing.{IsWithinLimits};
 ghost use Rattle.reconstruct.specs.Rows.{IsShaped, sectors_for};
 ghost use Rattle.reconstruct.specs.Lost.{AreBytes};
-ghost use Rattle.reconstruct.specs.Solved.{columns_with, lost_by, Tells};
+ghost use Rattle.reconstruct.specs.Solved.{columns_with, is_masked_lost, TellsBytes};
 
 use crate::{DecodeRefused, Rows, decode};
 use row_layout::Layout;
@@ -26,10 +26,10 @@ pub fn decode_matching(
     requires shape { IsShaped layout.now rows.now }
     requires masks { length lost.now ≡ rows_of layout.now }
     ensures within { IfOk result (λ _found. IsWithinLimits layout.now) }
-    ensures some { IfOk result (λ found. IfSome found (λ bytes. Tells layout.now
-        (columns_with rows.now lost.now) (lost_by lost.now) len digest.now bytes.items)) }
-    ensures none { IfOk result (λ found. IfNone found ((bytes : List ℕ) → Tells layout.now
-        (columns_with rows.now lost.now) (lost_by lost.now) len digest.now bytes → ⊥)) }
+    ensures some { IfOk result (λ found. IfSome found (λ bytes. TellsBytes layout.now
+        (columns_with rows.now lost.now) (is_masked_lost lost.now) len digest.now bytes.items)) }
+    ensures none { IfOk result (λ found. IfNone found ((bytes : List ℕ) → TellsBytes layout.now
+        (columns_with rows.now lost.now) (is_masked_lost lost.now) len digest.now bytes → ⊥)) }
 {
     let whole = 512 * layout.sectors() as usize;
     let mut bytes = match decode(alloc, layout, rows, whole, lost) {

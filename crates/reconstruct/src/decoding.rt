@@ -8,7 +8,7 @@ ghost use Rattle.reconstruct.specs.Columns.{zero_sector};
 ghost use Rattle.reconstruct.specs.Rows.{IsShaped, sectors_for};
 ghost use Rattle.reconstruct.specs.Lost.{HasTooFew, IsFirstTooFew, IsLeftOver, AreBytes};
 ghost use Rattle.reconstruct.specs.SolvedRow.{columns_at, IsSolvedRow, AreSolved};
-ghost use Rattle.reconstruct.specs.Solved.{columns_with, lost_by, IsSolution, BeginsSolution};
+ghost use Rattle.reconstruct.specs.Solved.{columns_with, is_masked_lost, IsSolution, BeginsSolution};
 ghost use Rattle.reconstruct.specs.declared.refusal.DecodeRefused.TheVariants.{TooFew};
 
 use crate::sectors::zero_sector;
@@ -44,10 +44,10 @@ pub fn decode(
     // The content that is there and the parity that serves suffice, also where other parity
     // columns contradict them. What is given fits these, whatever the columns hold.
     ensures serves { IfOk result (λ bytes. (wanted : List ℕ) → AreBytes wanted
-        → IsSolution layout.now (columns_with rows.now lost.now) (lost_by lost.now) len wanted
+        → IsSolution layout.now (columns_with rows.now lost.now) (is_masked_lost lost.now) len wanted
         → bytes.items ≡ wanted) }
     ensures solves { IfOk result (λ bytes. BeginsSolution layout.now
-        (columns_with rows.now lost.now) (lost_by lost.now) bytes.items) }
+        (columns_with rows.now lost.now) (is_masked_lost lost.now) bytes.items) }
 {
     if let Some(row) = first_too_few(layout, lost) {
         return Err(DecodeRefused::TooFew { row });

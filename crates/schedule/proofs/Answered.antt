@@ -14,7 +14,7 @@ use Rattle.client_script.specs.Script.{Script, calls_of, asked_by}
 use Rattle.journal_law.proofs.Grown.{grown_has, last_there, new_or_before}
 use Rattle.schedule.specs.declared.client.Client.{Client}
 use Rattle.schedule.specs.declared.client.UnderWay.{UnderWay}
-use Rattle.schedule.specs.Clients.{AreAnswered, Changes, answered_of}
+use Rattle.schedule.specs.Clients.{ClientsAreAnswered, Changes, answered_of}
 use Rattle.schedule.proofs.Theirs.{some_is}
 
 no_call : (group : GroupItem) (entry : Entry) → Group group ≡ Call entry → ⊥
@@ -38,7 +38,7 @@ answered_going client going = ap (answered_of client.begun) going
 
 -- A new group answers nothing more.
 pub answers_group : (script : Script) (clients : List Client) (items : List Item) (group : GroupItem)
-    → AreAnswered script clients items → AreAnswered script clients (items ++ Group group ∷ [])
+    → ClientsAreAnswered script clients items → ClientsAreAnswered script clients (items ++ Group group ∷ [])
 answers_group script clients items group are = record {
   right = record {
     each = λ index entry there. are.right.each index entry (earlier index entry there);
@@ -63,7 +63,7 @@ module _ (script : Script) (old new : List Client) (index : ℕ) (before client 
     (changes : Changes old new index client) (was : slice_get old index ≡ Some before)
     (few : client.begun ≤ length (calls_of script index))
     (some : (under : UnderWay) → client.under_way ≡ Some under → 1 ≤ client.begun)
-    (are : AreAnswered script old items) where
+    (are : ClientsAreAnswered script old items) where
   few_now : (caller : ℕ) (its : Client) → slice_get new caller ≡ Some its → its.begun ≤ length (calls_of script caller)
   few_now caller its is = ⊎_elim
       (λ (same : caller ≡ index).
@@ -83,7 +83,7 @@ module _ (script : Script) (old new : List Client) (index : ℕ) (before client 
       (cases_eq caller index)
 
   -- A client goes on, or begins a call, and the journal answers no more.
-  pub answers_same : answered client ≡ answered before → AreAnswered script new items
+  pub answers_same : answered client ≡ answered before → ClientsAreAnswered script new items
   answers_same same_count = record {
     right = are.right;
     few = few_now;
@@ -220,7 +220,7 @@ module _ (script : Script) (old new : List Client) (index : ℕ) (before client 
         (cases_eq caller index)
 
     -- With that entry the journal answers one call more.
-    pub answers_call : AreAnswered script new (items ++ Call entry ∷ [])
+    pub answers_call : ClientsAreAnswered script new (items ++ Call entry ∷ [])
     answers_call = record {
       right = record {
         each = λ place other there. each_asked place other (of_grown place other there);

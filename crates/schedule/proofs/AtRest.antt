@@ -17,7 +17,7 @@ use Rattle.open_pool.specs.Pool.{HasBank}
 use Rattle.core_turns.specs.Core.{Core, at_disk}
 use Rattle.schedule.specs.declared.client.Client.{Client}
 use Rattle.schedule.specs.declared.progress.Progress.{Progress}
-use Rattle.schedule.specs.Clients.{AreAnswered, answered_of}
+use Rattle.schedule.specs.Clients.{ClientsAreAnswered, answered_of}
 use Rattle.schedule.specs.Coming.{IsSchedule}
 use Rattle.schedule.specs.Turns.{turns_of}
 use Rattle.schedule.specs.InTurn.{Cursor, replay_at, replay_by, turns_by}
@@ -115,7 +115,7 @@ callers_few (first ∷ calls) caller clients all some = ⊎_elim
 -- Where each client has begun all its calls, and none is under way, no answer is missing.
 pub complete_at_rest : (script : Script) (items : List Item) (clients : List Client)
     → All (λ placed. placed.actor < script.clients) script.calls → length clients ≡ script.clients
-    → AreAnswered script clients items → HaveBegun script (length script.calls) clients → AreIdle clients
+    → ClientsAreAnswered script clients items → HaveBegun script (length script.calls) clients → AreIdle clients
     → IsComplete (asked_by script) items
 complete_at_rest script items clients actors counted answered begun idle = record { each = each }
   where

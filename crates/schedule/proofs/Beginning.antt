@@ -6,13 +6,13 @@ use Rattle.uberblock_ring.specs.Uberblock.{Uber}
 use Rattle.core_state.specs.declared.item.Entry.{Entry}
 use Rattle.core_state.specs.declared.item.Group.{Group as GroupItem}
 use Rattle.core_state.specs.declared.item.Item.TheVariants.{Group, Call}
-use Rattle.core_state.specs.Map.{Handed}
+use Rattle.core_state.specs.Map.{PutBytes}
 use Rattle.core_state.specs.Legal.{CallAt}
 use Rattle.core_state.specs.Keeps.{Kept, Setting}
 use Rattle.core_state.specs.Moment.{IsGroupOf, KeepsSince}
 use Rattle.core_state.proofs.Listed.{contains_none}
 use Rattle.core_open.specs.Opens.{MayOpen}
-use Rattle.open_pool.specs.Opening.{Begins}
+use Rattle.open_pool.specs.Opening.{OpensPool}
 use Rattle.open_pool.specs.Pool.{Pool}
 use Rattle.journal_law.specs.Widths.{HaveWidthOf}
 use Rattle.open_pool.specs.Pool.{first_item}
@@ -36,8 +36,8 @@ no_call group index entry there = elim (new_or_before [] (Group group) index (Ca
     apart : Group group ≡ Call entry → ⊥
     apart is = cc
 
-module _ {setting : Setting} {first : Kept} {later : List Kept} {pool : Pool} {silent : ℕ} {old mid : Disk} (handed : Handed)
-    (may : MayOpen setting first later old) (begins : Begins setting first later pool silent old mid) where
+module _ {setting : Setting} {first : Kept} {later : List Kept} {pool : Pool} {silent : ℕ} {old mid : Disk} (handed : PutBytes)
+    (may : MayOpen setting first later old) (begins : OpensPool setting first later pool silent old mid) where
   abbrev item : GroupItem
   item = first_item pool
 

@@ -9,7 +9,7 @@ use Rattle.client_script.specs.InOrder.{InOrder, IsNextCall, given_of}
 use Rattle.client_script.specs.Script.{Placed, Script, calls_of}
 use Rattle.schedule.specs.declared.client.Client.{Client}
 use Rattle.schedule.specs.Turns.{Turns}
-use Rattle.schedule.specs.InTurn.{IsCallOf}
+use Rattle.schedule.specs.InTurn.{IsCallOfScript}
 use Rattle.schedule.specs.Replaying.{AreIdle, HasTurn, BeginsOne, HaveBegun, left_at, left_in}
 use Rattle.schedule.proofs.Theirs.{some_is}
 use Rattle.schedule.proofs.RoundTaken.{busy_under}
@@ -167,7 +167,7 @@ next_taken script before after actor number call clients news is next begun begi
 -- It is a call of the script,
 pub next_is_call : (script : Script) (before after : InOrder) (actor number : ℕ) (call : ScriptCall)
     → before.script ≡ script → IsNextCall before after actor number call
-    → IsCallOf script before.given actor number
+    → IsCallOfScript script before.given actor number
 next_is_call script before after actor number call is next = record {
   placed = record { actor = actor; call = call };
   there = ap (λ (s : Script). slice_get s.calls before.given) (sym is) ∙ next.there;

@@ -8,7 +8,8 @@ use Rattle.core_state.specs.declared.answer.Answer.{Answer}
 use Rattle.core_state.specs.declared.answer.Answer.TheVariants as answer
 use Rattle.core_state.specs.declared.answer.Kind.{Kind}
 use Rattle.core_state.specs.declared.answer.Kind.TheVariants as kind
-use Rattle.core_client.specs.Outs.{point_of, OnlyFailedGoOut}
+use Rattle.core_client.specs.Outs.{OnlyFailedGoOut}
+use Rattle.core_state.specs.Committing.{point_of}
 use Rattle.core_commit.specs.Spared.{IsOnInUse}
 use Rattle.core_open.proofs.Others.{read_touches}
 use Rattle.client_script.specs.declared.call.ScriptCall.{ScriptCall}
@@ -19,14 +20,14 @@ use Rattle.core_turns.specs.declared.putting.PutRun.{PutRun}
 use Rattle.core_turns.specs.declared.turn.Turn.{Turn}
 use Rattle.core_turns.specs.declared.turn.Turn.TheVariants.{More, Busy, Done}
 use Rattle.core_turns.specs.Core.{Core, CoreState, at_disk}
-use Rattle.core_turns.specs.Getting.{IsRead, BeginsGet, ReadsTurn, SolvesGet, EndsGet}
+use Rattle.core_turns.specs.Getting.{IsReadKind, BeginsGet, ReadsTurn, SolvesGet, EndsGet}
 use Rattle.core_turns.specs.Putting.{IsPutOf, FillsPut, EndsPut, GivesUpTurn}
 use Rattle.core_turns.specs.UnderWay.{TurnGoesOn}
 use Rattle.core_turns.proofs.Commits.{turn_nowhere}
 use Rattle.core_turns.proofs.GetTurns.{reads_uber}
 use Rattle.core_turns.proofs.PutTurns.{fills_of}
 use Rattle.schedule.specs.declared.client.Work.{Work}
-use Rattle.schedule.specs.Turned.{AnswersAtOnce, Waits, Begins, BeginsCall, IsFilledIn, PutGoesOn, ReadGoesOn, read_turn}
+use Rattle.schedule.specs.Turned.{AnswersAtOnce, Waits, BeginsWork, BeginsCall, IsFilledIn, PutGoesOn, ReadGoesOn, read_turn}
 
 -- ---- first turns
 
@@ -37,11 +38,11 @@ pattern_length seed from (suc len) = omega (arith, pattern_length seed (from + 1
 
 -- what a call comes to that was of this kind and id
 abbrev BeginsAs : Core → Core → ℕ → ScriptCall → Kind → Option ℕ → Turn Work → Type 0
-BeginsAs old new actor call asked id (More does) = Begins old new actor call asked id does
+BeginsAs old new actor call asked id (More does) = BeginsWork old new actor call asked id does
 BeginsAs old new actor call asked id (Busy by) = Waits old new actor call asked id by
 BeginsAs old new actor call asked id (Done given) = AnswersAtOnce old new actor call asked id given
 
-read_begun : (old new : Core) (actor id : ℕ) (call : ScriptCall) (asked : Kind) (turn : Turn GetRun) → IsRead asked
+read_begun : (old new : Core) (actor id : ℕ) (call : ScriptCall) (asked : Kind) (turn : Turn GetRun) → IsReadKind asked
     → BeginsGet old new actor asked id turn → BeginsAs old new actor call asked (Some id) (read_turn turn)
 read_begun old new actor id call kind.Get (More run) is begins = begins
 read_begun old new actor id call kind.Get (Busy by) is begins = begins
@@ -59,7 +60,7 @@ begins_as old new actor call (Done given) begins = begins
 
 -- The first turn of a read is that of its call.
 pub read_begins : (old new : Core) (actor id : ℕ) (call : ScriptCall) (turn : Turn GetRun) (result : Turn Work)
-    → IsRead call.kind → call.id ≡ Some id → result ≡ read_turn turn → BeginsGet old new actor call.kind id turn
+    → IsReadKind call.kind → call.id ≡ Some id → result ≡ read_turn turn → BeginsGet old new actor call.kind id turn
     → BeginsCall old new actor call result
 read_begins old new actor id call turn result is id_is same begins =
     subst (BeginsCall old new actor call) (sym same) (begins_as old new actor call (read_turn turn)

@@ -12,7 +12,7 @@ use Rattle.uberblock_ring.proofs.DeviceSets.{none_in}
 use Rattle.core_state.specs.declared.item.Item.{Item}
 use Rattle.core_state.specs.Legal.{CallAt}
 use Rattle.core_state.specs.World.{World}
-use Rattle.core_client.specs.Outs.{point_of}
+use Rattle.core_state.specs.Committing.{point_of}
 use Rattle.core_client.proofs.Outs.{outs_none, outs_then}
 use Rattle.core_commit.specs.Spared.{IsOnInUse}
 use Rattle.core_commit.proofs.Going.{in_use_before}
@@ -21,7 +21,7 @@ use Rattle.open_pool.proofs.Banks.{count_grows}
 use Rattle.client_script.specs.Script.{Script, handed_by}
 use Rattle.journal_law.proofs.Grown.{grown_has}
 use Rattle.core_turns.specs.UnderWay.{TurnGoesOn}
-use Rattle.schedule.specs.Coming.{HasCome, KeepsUsing}
+use Rattle.schedule.specs.Coming.{LeadTo, KeepsUsing}
 use Rattle.schedule.specs.Turns.{Turns, TurnTaken, last_left, AreListedWith, IsListedWith, taken_by}
 use Rattle.schedule.specs.Fitting.{FitsCall}
 use Rattle.schedule.specs.Running.{Runs}
@@ -37,11 +37,11 @@ none_out device out = true≢false (sym out ∙ none_in device)
 
 -- Nothing was done, also where a turn was taken that did nothing.
 pub came_nowhere : (script : Script) (turns : Turns) (passed : List TurnTaken) → last_left turns passed ≡ turns
-    → HasCome script turns passed turns
+    → LeadTo script turns passed turns
 came_nowhere script turns passed same = by (few_or_many turns.state.core.pool.out turns.state.core.pool.uber.parity)
   where
     by : (count_of turns.state.core.pool.out ≤ turns.state.core.pool.uber.parity)
-        ⊎ (turns.state.core.pool.uber.parity < count_of turns.state.core.pool.out) → HasCome script turns passed turns
+        ⊎ (turns.state.core.pool.uber.parity < count_of turns.state.core.pool.out) → LeadTo script turns passed turns
     by (inl few) = record {
       ends = same;
       later = later_refl turns.state.disk;
@@ -92,8 +92,8 @@ listed_split banks start (turn ∷ one) two listed =
     let rest = listed_split banks turn.left one two listed.1 in ((listed.0, rest.0), rest.1)
 
 -- Turns after turns.
-module _ (script : Script) (start middle now : Turns) (one two : List TurnTaken) (first : HasCome script start one middle)
-    (second : HasCome script middle two now) where
+module _ (script : Script) (start middle now : Turns) (one two : List TurnTaken) (first : LeadTo script start one middle)
+    (second : LeadTo script middle two now) where
   -- what they left
   ends : last_left start (one ++ two) ≡ now
   ends = last_then start one two ∙ ap (λ (turns : Turns). last_left turns two) first.ends ∙ second.ends
@@ -138,7 +138,7 @@ module _ (script : Script) (start middle now : Turns) (one two : List TurnTaken)
 
   -- the devices that have to be borne in both
   by : (count_of middle.state.core.pool.out ≤ middle.state.core.pool.uber.parity)
-      ⊎ (middle.state.core.pool.uber.parity < count_of middle.state.core.pool.out) → HasCome script start (one ++ two) now
+      ⊎ (middle.state.core.pool.uber.parity < count_of middle.state.core.pool.out) → LeadTo script start (one ++ two) now
   by (inl few) = record {
     ends = ends;
     later = later_trans first.later second.later;
@@ -195,7 +195,7 @@ module _ (script : Script) (start middle now : Turns) (one two : List TurnTaken)
     space = λ uber entries used. second.space uber entries (first.space uber entries used);
   }
 
-  pub came_on : HasCome script start (one ++ two) now
+  pub came_on : LeadTo script start (one ++ two) now
   came_on = by (few_or_many middle.state.core.pool.out middle.state.core.pool.uber.parity)
 
 -- One turn, in which these items were listed.
@@ -210,7 +210,7 @@ module _ (script : Script) (actor : ℕ) (before after : Turns) (goes : TurnGoes
     → Runs world script past after.state after.items after.clients)
     (full : FullStays script before after) where
   turn : (count_of before.state.core.pool.out ≤ before.state.core.pool.uber.parity)
-      ⊎ (before.state.core.pool.uber.parity < count_of before.state.core.pool.out) → HasCome script before (taken_by actor after ∷ []) after
+      ⊎ (before.state.core.pool.uber.parity < count_of before.state.core.pool.out) → LeadTo script before (taken_by actor after ∷ []) after
   turn (inl few) = record {
     ends = refl;
     later = goes.later;
@@ -251,5 +251,5 @@ module _ (script : Script) (actor : ℕ) (before after : Turns) (goes : TurnGoes
     space = space;
   }
 
-  pub came_turn : HasCome script before (taken_by actor after ∷ []) after
+  pub came_turn : LeadTo script before (taken_by actor after ∷ []) after
   came_turn = turn (few_or_many before.state.core.pool.out before.state.core.pool.uber.parity)

@@ -13,7 +13,7 @@ use Rattle.core_state.specs.declared.item.Item.TheVariants.{Call as CallItem}
 use Rattle.core_state.specs.Legal.{CallAt, IsAnswerOf}
 use Rattle.journal_law.proofs.Grown.{new_or_before}
 use Rattle.core_turns.specs.Core.{Core}
-use Rattle.core_turns.specs.Getting.{HasTooManyOut, IsRead}
+use Rattle.core_turns.specs.Getting.{HasTooManyOut, IsReadKind}
 use Rattle.schedule.specs.Fitting.{FitsCall}
 use Rattle.schedule.specs.Turns.{Turns}
 use Rattle.schedule.proofs.RightNext.{IsPlain}
@@ -61,8 +61,8 @@ sync_no_free asked is free = apart (sym is ∙ free)
     apart : kind.Sync ≡ kind.Free → ⊥
     apart same = cc
 
-pub read_no_free : (asked : Kind) → IsRead asked → asked ≢ kind.Free
-read_no_free asked is free = subst IsRead free is
+pub read_no_free : (asked : Kind) → IsReadKind asked → asked ≢ kind.Free
+read_no_free asked is free = subst IsReadKind free is
 
 -- What is listed in a turn is what was listed before, or fits its call.
 abbrev pub FitSince : Turns → Turns → Type 0

@@ -7,7 +7,7 @@ use Rattle.core_state.specs.declared.answer.Answer.TheVariants as answer
 use Rattle.core_state.specs.declared.answer.Kind.{Kind}
 use Rattle.core_state.specs.declared.answer.Kind.TheVariants as kind
 use Rattle.core_state.specs.declared.item.Entry.{Entry}
-use Rattle.core_state.specs.Map.{Map, Handed, map_of, map_after_answer, with_block}
+use Rattle.core_state.specs.Map.{Map, PutBytes, map_of, map_after_answer, with_block}
 use Rattle.core_state.specs.Legal.{IsAnswerOf, IsRightFree}
 use Rattle.core_blocks.proofs.Listed.{found_id, found_listed}
 use Rattle.core_turns.specs.Freeing.{map_after_free}
@@ -60,7 +60,7 @@ frees_right old new disk map id (answer.TooManyFailed out) holds frees = tt
 frees_right old new disk map id other holds frees = absurd frees
 
 -- The map after it is the one that a free leaves.
-frees_map : (old new : Core) (handed : Handed) (map : Map) (entry : Entry) (id : ℕ) (given : Answer)
+frees_map : (old new : Core) (handed : PutBytes) (map : Map) (entry : Entry) (id : ℕ) (given : Answer)
     → entry.id ≡ Some id → FreesBlock old new id given
     → map_after_answer handed map entry given ≡ map_after_free map id given
 frees_map old new handed map entry id answer.Freed id_is frees = ap (λ (o : Option ℕ). with_block map o None) id_is

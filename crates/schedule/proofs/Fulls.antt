@@ -28,8 +28,8 @@ use Rattle.journal_law.proofs.Grown.{map_at_end, new_or_before}
 use Rattle.journal_law.proofs.ManyIds.{call_puts, held_or_put, one_too_many}
 use Rattle.core_turns.specs.declared.putting.PutRun.{PutRun}
 use Rattle.core_turns.specs.Core.{Core}
-use Rattle.core_turns.specs.Getting.{IsRead}
-use Rattle.core_turns.specs.UnderWay.{Call, Putting, Reading, ranges_of}
+use Rattle.core_turns.specs.Getting.{IsReadKind}
+use Rattle.core_turns.specs.UnderWay.{HoldingCall, Putting, Reading, ranges_of}
 use Rattle.schedule.specs.declared.client.Client.{Client}
 use Rattle.schedule.specs.declared.client.Work.{Work}
 use Rattle.schedule.specs.declared.client.Work.TheVariants as work
@@ -56,7 +56,7 @@ member_counted (first ∷ ids) id there =
     by false counted here rest = let more = rest here in omega (arith, counted, more)
 
 -- An id that puts under way are counted of is one of theirs.
-put_counted : (calls : List Call) (id : ℕ) → 0 < puts_of (ranges_of calls) id
+put_counted : (calls : List HoldingCall) (id : ℕ) → 0 < puts_of (ranges_of calls) id
     → (run : PutRun) × (content : List ℕ) × Contains calls (Putting run content) × (run.range.id ≡ id)
 put_counted [] id some = absurd (omega (arith, some))
 put_counted (Reading read held ∷ calls) id some =
@@ -66,7 +66,7 @@ put_counted (Putting run content ∷ calls) id some =
     by (id == run.range.id) (λ same. eqb-true id run.range.id same)
     (sum_by-cons (λ range. cond (id == range.id) 1 0) run.range (ranges_of calls)) (put_counted calls id)
   where
-    Found : List Call → Type 0
+    Found : List HoldingCall → Type 0
     Found list = (other : PutRun) × (held : List ℕ) × Contains list (Putting other held) × (other.range.id ≡ id)
 
     by : (same : Bool) → (same ≡ true → id ≡ run.range.id)
@@ -198,5 +198,5 @@ module _ (script : Script) (before after : Turns) where
 pub put_alone : (asked : Kind) (given : Answer) → asked ≢ kind.Put → IsAnswerOf asked given → given ≢ answer.Full
 put_alone asked given other of is = other (subst (IsAnswerOf asked) is of)
 
-pub read_no_put : (asked : Kind) → IsRead asked → asked ≢ kind.Put
-read_no_put asked read is = subst IsRead is read
+pub read_no_put : (asked : Kind) → IsReadKind asked → asked ≢ kind.Put
+read_no_put asked read is = subst IsReadKind is read

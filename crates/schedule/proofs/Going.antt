@@ -9,7 +9,7 @@ use Rattle.client_script.specs.Script.{Script, calls_of}
 use Rattle.core_turns.specs.Core.{Core}
 use Rattle.core_turns.specs.Getting.{HasTooManyOut}
 use Rattle.core_turns.specs.Committing.{IsCommitOf}
-use Rattle.core_turns.specs.UnderWay.{Call, AreCallsOf}
+use Rattle.core_turns.specs.UnderWay.{HoldingCall, AreCallsOf}
 use Rattle.schedule.specs.declared.client.Client.{Client}
 use Rattle.schedule.specs.declared.client.UnderWay.{UnderWay}
 use Rattle.schedule.specs.declared.client.Work.{Work}
@@ -88,7 +88,7 @@ module _ (script : Script) (core now : Core) (clients news : List Client) (index
         (going.one actor (sym same ∙ is))
 
     -- A put or a read goes on.
-    pub goes : (left nexts : List Call) (call next : Call) (under : UnderWay) (asked : ScriptCall)
+    pub goes : (left nexts : List HoldingCall) (call next : HoldingCall) (under : UnderWay) (asked : ScriptCall)
         → client.under_way ≡ Some under → slice_get (calls_of script index) (client.begun - 1) ≡ Some asked
         → IsWorkFor asked under.work → Gains left going.calls call → Gains left nexts next
         → actor_of call ≡ index → actor_of next ≡ index → IsWorkOf under.work next → AreCallsOf now nexts
@@ -108,7 +108,7 @@ module _ (script : Script) (core now : Core) (clients news : List Client) (index
     }
 
     -- One begins.
-    pub begins : (calls : List Call) (call : Call) (under : UnderWay) (asked : ScriptCall) → old.under_way ≡ None
+    pub begins : (calls : List HoldingCall) (call : HoldingCall) (under : UnderWay) (asked : ScriptCall) → old.under_way ≡ None
         → client.under_way ≡ Some under → slice_get (calls_of script index) (client.begun - 1) ≡ Some asked
         → IsWorkFor asked under.work → Gains going.calls calls call → actor_of call ≡ index
         → IsWorkOf under.work call → AreCallsOf now calls
@@ -129,7 +129,7 @@ module _ (script : Script) (core now : Core) (clients news : List Client) (index
     }
 
     -- One ends.
-    pub ends : (left : List Call) (call : Call) → client.under_way ≡ None → Gains left going.calls call
+    pub ends : (left : List HoldingCall) (call : HoldingCall) → client.under_way ≡ None → Gains left going.calls call
         → actor_of call ≡ index → AreCallsOf now left → AreGoing script now news
     ends left call ended lost its are = record {
       calls = left;

@@ -8,7 +8,7 @@ use Rattle.client_script.specs.InOrder.{given_of}
 use Rattle.client_script.specs.Script.{Script}
 use Rattle.schedule.specs.declared.client.Client.{Client}
 use Rattle.schedule.specs.declared.client.UnderWay.{UnderWay}
-use Rattle.schedule.specs.InTurn.{Goes, HasGone, InRest, InRound, IsCallOf, Replay, Steps, after_round, cursor_after, has_left, has_left_at, is_any_busy, is_busy_at, is_under_way, turn_at, turn_in_rest, HaveTaken, IsTurnOf, IsStepOf}
+use Rattle.schedule.specs.InTurn.{Goes, HasGone, InRest, InRound, IsCallOfScript, Replay, ReplaySteps, after_round, cursor_after, has_left, has_left_at, is_any_busy, is_busy_at, is_under_way, turn_at, turn_in_rest, HaveTaken, IsTurnOf, IsStepOf}
 use Rattle.schedule.specs.Left.{left_under}
 use Rattle.schedule.specs.Replaying.{AreIdle, left_at, left_in}
 use Rattle.schedule.proofs.Left.{some_left}
@@ -20,13 +20,13 @@ pub gone_none : (script : Script) (start : Replay) → HasGone script start [] s
 gone_none script start = record { steps = 0; goes = (refl, refl) }
 
 pub gone_more : (script : Script) (start middle now : Replay) (passed more : List TurnTaken)
-    → HasGone script start passed middle → Steps script middle passed more now → HasGone script start more now
+    → HasGone script start passed middle → ReplaySteps script middle passed more now → HasGone script start more now
 gone_more script start middle now passed more gone step =
     record { steps = suc gone.steps; goes = (middle, passed, gone.goes, step) }
 
 -- A step is the same after other turns.
 step_after : (script : Script) (before after : Replay) (earlier passed more : List TurnTaken)
-    → Steps script before passed more after → Steps script before (earlier ++ passed) (earlier ++ more) after
+    → ReplaySteps script before passed more after → ReplaySteps script before (earlier ++ passed) (earlier ++ more) after
 step_after script before after earlier passed more step = record {
   turn = by (turn_at script before.turns.clients before.cursor) step.turn;
   cursor = step.cursor;
@@ -195,7 +195,7 @@ rest_next clients free = ap (λ (b : Bool). if b then InRound 0 else InRest 0) f
 abbrev if_any : ℕ → Bool → Option ℕ
 if_any actor any = if any then Some actor else None
 
-in_rest : (script : Script) (clients : List Client) (given actor number : ℕ) → IsCallOf script given actor number
+in_rest : (script : Script) (clients : List Client) (given actor number : ℕ) → IsCallOfScript script given actor number
     → turn_at script clients (InRest given)
     ≡ if_any actor (is_busy_at clients actor || has_left_at clients actor number)
 in_rest script clients given actor number is = ap (turn_in_rest script clients given) is.there
@@ -203,7 +203,7 @@ in_rest script clients given actor number is = ap (turn_in_rest script clients g
     ∙ ap (λ (n : ℕ). if_any actor (is_busy_at clients actor || has_left_at clients actor n)) (sym is.counted)
 
 module _ (script : Script) (clients : List Client) (given actor number : ℕ)
-    (is : IsCallOf script given actor number) where
+    (is : IsCallOfScript script given actor number) where
   -- A call that is under way has a turn,
   pub busy_in_rest : is_busy_at clients actor ≡ true → turn_at script clients (InRest given) ≡ Some actor
   busy_in_rest busy = in_rest script clients given actor number is

@@ -6,7 +6,8 @@ use Rattle.range_locks.specs.declared.hold.Hold.{Hold}
 use Rattle.uberblock_ring.specs.Devices.{count_of, IsWithin}
 use Rattle.uberblock_ring.specs.Uberblock.{Uber}
 use Rattle.core_blocks.specs.Blocks.{Blocks}
-use Rattle.core_client.specs.Outs.{point_of, OnlyFailedGoOut}
+use Rattle.core_client.specs.Outs.{OnlyFailedGoOut}
+use Rattle.core_state.specs.Committing.{point_of}
 use Rattle.core_commit.specs.CommitTurns.{CommitRun}
 use Rattle.core_commit.specs.Spared.{IsOnInUse}
 use Rattle.core_turns.specs.Core.{Core, CoreState}

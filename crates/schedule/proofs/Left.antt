@@ -5,7 +5,7 @@ use Rattle.std.proofs.lemmas.Option.{slice_get_within}
 use Rattle.commit_job.specs.declared.call.CommitCall.{CommitCall}
 use Rattle.row_layout.specs.Layout.{Layout, rows_of, columns_of}
 use Rattle.row_layout.proofs.Parts.{row_few}
-use Rattle.core_client.specs.BlockTurns.{BlockRead, GoesOneOn, IsPlace}
+use Rattle.core_client.specs.BlockTurns.{BlockRead, GoesOneOn, IsAtColumn}
 use Rattle.core_commit.specs.CommitTurns.{CommitRun}
 use Rattle.core_commit.proofs.Running.{next_is}
 use Rattle.client_script.specs.declared.call.ScriptCall.{ScriptCall}
@@ -73,7 +73,7 @@ column_further rows row column wide next_row next_column low narrow (inr (row_is
     let same = ap (λ (n : ℕ). (rows - n) * (wide + 1)) row_is in
     omega (arith, one_more, narrow, same, column_is)
 
-columns_fewer : (before after : BlockRead) → before.row < rows_of before.layout → IsPlace before
+columns_fewer : (before after : BlockRead) → before.row < rows_of before.layout → IsAtColumn before
     → GoesOneOn before after → columns_left after < columns_left before
 columns_fewer before after low place on =
     let wide = columns_of before.layout in

@@ -8,7 +8,7 @@ use Rattle.bank_trait.specs.Disk.{Disk, Later}
 use Rattle.bank_trait.proofs.Moments.{later_refl, later_trans}
 use Rattle.core_state.specs.declared.item.Group.{Group as GroupItem}
 use Rattle.core_state.specs.declared.item.Item.{Item}
-use Rattle.core_state.specs.Map.{Map, Handed}
+use Rattle.core_state.specs.Map.{Map, PutBytes}
 use Rattle.core_state.specs.Legal.{IsGroupBefore}
 use Rattle.core_state.specs.Keeps.{Kept, Setting}
 use Rattle.core_state.specs.Certain.{Knows}
@@ -22,7 +22,7 @@ use Rattle.journal_law.proofs.Moments.{moved}
 use Rattle.schedule.specs.Moments.{KeepsTurnByTurn, KeepsOn, KeptSoFar, Past}
 
 -- The last group of a journal, and at most one that was begun after it, alike to the groups known.
-pub record AreLatest (handed : Handed) (opening : Map) (known : List Kept) (items : List Item) (item : GroupItem)
+pub record AreLatest (handed : PutBytes) (opening : Map) (known : List Kept) (items : List Item) (item : GroupItem)
     (last : Kept) (begun : List Kept) : Type 0 where
   pub latest : IsGroupBefore items (length items) item
   pub last_is : IsGroupOf handed opening items item last
@@ -34,7 +34,7 @@ pub record AreLatest (handed : Handed) (opening : Map) (known : List Kept) (item
 pub whole_row : (first : Kept) (later : List Kept) → IsRowOf (first ∷ later) first later
 whole_row first later = record { before = []; after = []; row = sym (append-nil (first ∷ later)) }
 
-module _ {setting : Setting} {handed : Handed} {opening : Map} {items : List Item} {item : GroupItem} {last : Kept}
+module _ {setting : Setting} {handed : PutBytes} {opening : Map} {items : List Item} {item : GroupItem} {last : Kept}
     {begun : List Kept} where
   -- The devices go on, and what they keep with them.
   pub on_goes : {from now next : Disk} → KeepsOn setting handed opening items item last begun from now
@@ -62,7 +62,7 @@ module _ {setting : Setting} {handed : Handed} {opening : Map} {items : List Ite
     since = since_wider setting (last ∷ begun) more from.clock now on.since;
   }
 
-module _ {setting : Setting} {handed : Handed} {opening : Map} {known : List Kept} {items : List Item}
+module _ {setting : Setting} {handed : PutBytes} {opening : Map} {known : List Kept} {items : List Item}
     {item : GroupItem} {last : Kept} {begun : List Kept} where
   -- What is certain now the bank keeps, and each image from now on.
   pub on_now : {now : Disk} → AreLatest handed opening known items item last begun → Knows setting last begun now
@@ -100,7 +100,7 @@ module _ {setting : Setting} {handed : Handed} {opening : Map} {known : List Kep
   }
 
 -- The opening's item alone.
-pub kept_first : {setting : Setting} {handed : Handed} {opening : Map} {known : List Kept} {past : Past} {now : Disk}
+pub kept_first : {setting : Setting} {handed : PutBytes} {opening : Map} {known : List Kept} {past : Past} {now : Disk}
     {item : Item} → past.banks 1 ≡ now → Later past.origin now
     → KeepsThroughout setting handed opening known (item ∷ []) past.origin now
     → KeptSoFar setting handed opening known (item ∷ []) past
@@ -112,7 +112,7 @@ kept_first {setting = setting} {handed = handed} {opening = opening} {known = kn
       each = λ count from below. absurd (omega (arith, from, below));
     }
 
-module _ {setting : Setting} {handed : Handed} {opening : Map} {known : List Kept} {items : List Item}
+module _ {setting : Setting} {handed : PutBytes} {opening : Map} {known : List Kept} {items : List Item}
     {past : Past} (by : KeptSoFar setting handed opening known items past) (some : 1 ≤ length items) {now : Disk}
     {item : GroupItem} {last : Kept} {begun : List Kept}
     (are : AreLatest handed opening known items item last begun)

@@ -3,13 +3,13 @@ use Rattle.std.proofs.Common.{◌≡◌, ℕ, zero, suc, List, [], ◌∷◌, So
 use Rattle.std.specs.Prelude.{slice_get}
 use Rattle.bank_trait.specs.Disk.{Disk, Later}
 use Rattle.core_state.specs.declared.item.Item.TheVariants.{Group}
-use Rattle.core_state.specs.Map.{Map, Handed}
+use Rattle.core_state.specs.Map.{Map, PutBytes}
 use Rattle.core_state.specs.Keeps.{Kept, Setting}
 use Rattle.core_state.specs.World.{World}
 use Rattle.core_state.proofs.Listed.{contains_none}
 use Rattle.core_blocks.specs.Blocks.{AreUnderWay}
 use Rattle.core_open.specs.Opens.{MayOpen}
-use Rattle.open_pool.specs.Opening.{Begins}
+use Rattle.open_pool.specs.Opening.{OpensPool}
 use Rattle.open_pool.specs.Pool.{Pool, HasBank, HoldsMap, state_of}
 use Rattle.client_script.specs.Script.{Script}
 use Rattle.open_pool.specs.Pool.{first_item}
@@ -47,8 +47,8 @@ pub none_of_blank : (count index : ℕ) (client : Client) (under : UnderWay)
 none_of_blank count index client under going =
     none_some (sym (ap (λ (c : Client). c.under_way) (blank_is count index client going.there)) ∙ going.under_way)
 
-module _ {setting : Setting} {first : Kept} {later : List Kept} {pool : Pool} {silent : ℕ} {old mid : Disk} (handed : Handed)
-    (may : MayOpen setting first later old) (begins : Begins setting first later pool silent old mid) where
+module _ {setting : Setting} {first : Kept} {later : List Kept} {pool : Pool} {silent : ℕ} {old mid : Disk} (handed : PutBytes)
+    (may : MayOpen setting first later old) (begins : OpensPool setting first later pool silent old mid) where
   abbrev chosen_map : Map
   chosen_map = begins.opened.chosen.map
 
@@ -72,7 +72,7 @@ module _ {setting : Setting} {first : Kept} {later : List Kept} {pool : Pool} {s
     alike = begins.group.alike;
     kept = begins.group.kept;
     spared = λ run content has. absurd (contains_none (Putting run content) has);
-    odd = begins.group.odd;
+    excepted = begins.group.excepted;
     shape = begins.group.shape;
     tells = begins.group.tells;
     bank = bank;

@@ -14,7 +14,7 @@ use Rattle.core_state.proofs.Knowing.{present, present_might}
 use Rattle.core_state.proofs.Listed.{contains_head}
 use Rattle.core_state.proofs.Reader.{shown_alike}
 use Rattle.core_blocks.proofs.Lists.{first_listed, rest_listed, listed_cases, filter_listed, filter_was}
-use Rattle.open_pool.specs.Opening.{MayBegin, Begins, IsBegunWith}
+use Rattle.open_pool.specs.Opening.{MayBegin, OpensPool, IsBegunWith}
 use Rattle.open_pool.specs.Pool.{Pool}
 
 -- No birth of the group is later than the second one after it.
@@ -119,7 +119,7 @@ module _ (setting : Setting) (first : Kept) (later : List Kept) (disk : Disk)
       };
       width = λ kept listed. may.may.width kept (fewer_listed kept listed);
     };
-    odd = may.odd;
+    excepted = may.excepted;
     bytes = λ kept id content listed. may.bytes kept id content (fewer_listed kept listed);
   }
 
@@ -143,7 +143,7 @@ module _ (setting : Setting) (first : Kept) (later : List Kept) (disk : Disk)
       subst (λ (group : ℕ). NoneAbove group pool.uber.births) (sym number)
       (subst (λ (births : List Birth). NoneAbove (chosen.uber.group + 2) births) (sym births) born)
     where
-      begins : Begins setting first fewer pool silent disk mid
+      begins : OpensPool setting first fewer pool silent disk mid
       begins = begun.each setting first fewer may_fewer width out_in
 
       chosen : Kept

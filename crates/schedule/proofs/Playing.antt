@@ -10,8 +10,8 @@ use Rattle.core_turns.specs.Core.{Core, at_disk}
 use Rattle.schedule.specs.declared.client.Client.{Client}
 use Rattle.schedule.specs.declared.progress.Progress.{Progress}
 use Rattle.schedule.specs.Turns.{Turns, TurnTaken, turns_of, taken_by}
-use Rattle.schedule.specs.InTurn.{Cursor, InOrder, InRest, InRound, IsCallOf, IsStepOf, Replay, after_round, cursor_after, has_left_at, is_any_busy, is_busy_at, replay_at, replay_by, rest_after, turn_at, turns_by}
-use Rattle.schedule.specs.Playing.{HaveHadTurns, HasPlayed, HasStopped, IsReady, most_turns}
+use Rattle.schedule.specs.InTurn.{Cursor, InOrder, InRest, InRound, IsCallOfScript, IsStepOf, Replay, after_round, cursor_after, has_left_at, is_any_busy, is_busy_at, replay_at, replay_by, rest_after, turn_at, turns_by}
+use Rattle.schedule.specs.Playing.{HaveHadTurns, HasPlayed, HasRunOutOfTurns, IsReady, most_turns}
 use Rattle.schedule.specs.Replaying.{AreIdle, HasTurn, HaveBegun}
 use Rattle.schedule.proofs.Coming.{came_nowhere, came_on}
 use Rattle.schedule.proofs.InTurn.{gone_taken, begun_none_left, busy_in_rest, gone_more, gone_none, gone_then, idle_not_busy, left_in_rest, none_in_rest, none_in_round, past_not_busy, round_ends, round_goes, round_next, turn_in_round}
@@ -40,8 +40,8 @@ played_then script start middle now before after first second = record {
 
 -- or no more can be counted.
 pub stopped_then : (script : Script) (start middle : Replay) (turns : Turns) (taken before after : ℕ)
-    → HasPlayed script start middle before → HasStopped script middle turns taken after
-    → HasStopped script start turns taken after
+    → HasPlayed script start middle before → HasRunOutOfTurns script middle turns taken after
+    → HasRunOutOfTurns script start turns taken after
 stopped_then script start middle turns taken before after first second = record {
   most = second.most;
   cursor = second.cursor;
@@ -52,11 +52,11 @@ stopped_then script start middle turns taken before after first second = record 
 pub stopped_same : (script : Script) (core : Core) (disk : Disk) (journal : Journal) (before after : Progress)
     (cursor : Cursor) (room : ℕ) → after.clients.items ≡ before.clients.items → after.turns ≡ before.turns
     → most_turns ≤ after.turns → IsReady script (turns_by core disk journal before) room
-    → HasStopped script (replay_by core disk journal before cursor) (turns_by core disk journal after) after.turns room
+    → HasRunOutOfTurns script (replay_by core disk journal before cursor) (turns_by core disk journal after) after.turns room
 stopped_same script core disk journal before after cursor room clients turns most ready =
-    subst (λ (taken : ℕ). HasStopped script (replay_by core disk journal before cursor)
+    subst (λ (taken : ℕ). HasRunOutOfTurns script (replay_by core disk journal before cursor)
     (turns_by core disk journal after) taken room) (sym turns)
-    (subst (λ (its : List Client). HasStopped script (replay_by core disk journal before cursor)
+    (subst (λ (its : List Client). HasRunOutOfTurns script (replay_by core disk journal before cursor)
     (turns_of (at_disk core disk) journal.items its) before.turns room) (sym clients) (record {
       most = subst (λ (taken : ℕ). most_turns ≤ taken) turns most;
       cursor = cursor;
@@ -202,7 +202,7 @@ round_over script start middle now taken counted room left so_far busy round =
 
 -- A call of the rest had a turn: the first,
 pub played_first : (script : Script) (before after : Turns) (taken counted room left given actor number : ℕ)
-    → IsReady script before room → IsCallOf script given actor number → is_busy_at before.clients actor ≡ false
+    → IsReady script before room → IsCallOfScript script given actor number → is_busy_at before.clients actor ≡ false
     → has_left_at before.clients actor number ≡ true
     → HasTurn script actor before after → counted ≡ taken + 1 → IsReady script after left
     → HasPlayed script (replay_at before taken (InRest given)) (replay_at after counted (InRest given)) left
@@ -214,7 +214,7 @@ played_first script before after taken counted room left given actor number was 
 
 -- or a later one.
 pub played_later : (script : Script) (start : Replay) (before after : Turns)
-    (taken counted room left given actor number : ℕ) → IsCallOf script given actor number
+    (taken counted room left given actor number : ℕ) → IsCallOfScript script given actor number
     → HasPlayed script start (replay_at before taken (InRest given)) room → is_busy_at before.clients actor ≡ true
     → HasTurn script actor before after → counted ≡ taken + 1 → IsReady script after left
     → HasPlayed script start (replay_at after counted (InRest given)) left
@@ -225,7 +225,7 @@ played_later script start before after taken counted room left given actor numbe
 
 -- A call of the rest has ended, and the next one is looked at.
 pub rest_goes : (script : Script) (start : Replay) (now : Turns) (taken room given next actor number : ℕ)
-    → next ≡ given + 1 → IsCallOf script given actor number → AreIdle now.clients → HaveBegun script next now.clients
+    → next ≡ given + 1 → IsCallOfScript script given actor number → AreIdle now.clients → HaveBegun script next now.clients
     → HasPlayed script start (replay_at now taken (InRest given)) room
     → HasPlayed script start (replay_at now taken (InRest next)) room
 rest_goes script start now taken room given next actor number one is idle begun played =

@@ -19,7 +19,7 @@ use Rattle.core_turns.specs.declared.putting.PutRun.{PutRun}
 use Rattle.core_turns.specs.declared.turn.Turn.TheVariants.{More, Busy, Done}
 use Rattle.core_turns.specs.Core.{Core, at_disk}
 use Rattle.core_turns.specs.Putting.{BeginsPutTurn, IsPutRefused, LeavesBlocks}
-use Rattle.core_turns.specs.UnderWay.{Call, Putting, Stands}
+use Rattle.core_turns.specs.UnderWay.{HoldingCall, Putting, Stands}
 use Rattle.core_turns.proofs.PutCalls.{begins_rearranges, leaves_rearranges, put_begins_calls, put_refused_calls}
 use Rattle.core_turns.proofs.PutStands.{put_begins_stands, put_refused_stands}
 use Rattle.schedule.specs.declared.client.Client.{Client}
@@ -89,7 +89,7 @@ module _ (script : Script) (actor : ℕ) (before after : Station) (clients news 
 
     begins_going : AreGoing script now news
     begins_going =
-        let calls : List Call = Putting run content ∷ going.calls in
+        let calls : List HoldingCall = Putting run content ∷ going.calls in
         going_begins script old now clients news actor before.client after.client takes.changes takes.was going
         change.committing (leaves_commit old now change) (leaves_many old now change)
         was_no_sync
@@ -107,7 +107,7 @@ module _ (script : Script) (actor : ℕ) (before after : Station) (clients news 
         (Putting run content ∷ runs.calls) runs.commit after.state
     begins_stands world past runs =
         let map = map_of world.handed world.opening before.items in
-        let calls : List Call = Putting run content ∷ runs.calls in
+        let calls : List HoldingCall = Putting run content ∷ runs.calls in
         subst (λ (d : Disk). Stands world.setting runs.last runs.begun map calls runs.commit (at_disk now d)) (sym disk)
         (put_begins_stands world.setting runs.last runs.begun map runs.calls calls runs.commit old now before.state.disk
         actor id (length content) run content runs.stands begins refl are

@@ -13,7 +13,7 @@ use Rattle.core_turns.specs.declared.putting.PutRun.{PutRun}
 use Rattle.core_turns.specs.declared.turn.Turn.TheVariants.{Done}
 use Rattle.core_turns.specs.Core.{Core, CoreState}
 use Rattle.core_turns.specs.Putting.{EndsPut, FillsPut, GivesUp, GivesUpTurn, IsStoppedPut, StoresBlock}
-use Rattle.core_turns.specs.UnderWay.{Call, Putting, AreCallsOf, Stands}
+use Rattle.core_turns.specs.UnderWay.{HoldingCall, Putting, AreCallsOf, Stands}
 use Rattle.core_turns.proofs.PutCalls.{put_fills_calls}
 use Rattle.core_turns.proofs.PutStands.{put_fills_stands}
 use Rattle.schedule.specs.Turned.{EndsPutting, IsFilledIn}
@@ -31,14 +31,14 @@ fills_same call run filled (inr (none, fills)) = fills.rest
     ∙ (λ i. record run { filled = sym (ap (λ (r : PutRun). r.filled) fills.rest) i })
 
 -- is under way like any put of so many bytes,
-pub fills_calls : (left calls : List Call) (core : Core) (call : ScriptCall) (run filled : PutRun) (content : List ℕ)
+pub fills_calls : (left calls : List HoldingCall) (core : Core) (call : ScriptCall) (run filled : PutRun) (content : List ℕ)
     → IsFilledIn call run filled → length (fill_bytes call.fill) ≡ run.len → AreCallsOf core calls
     → Gains left calls (Putting run content)
-    → (nexts : List Call) × Gains left nexts (Putting filled content) × AreCallsOf core nexts
+    → (nexts : List HoldingCall) × Gains left nexts (Putting filled content) × AreCallsOf core nexts
 fills_calls left calls core call run filled content (inl same) len_is are gains =
     (calls, subst (λ (r : PutRun). Gains left calls (Putting r content)) (sym same) gains, are)
 fills_calls left calls core call run filled content (inr (none, fills)) len_is are gains =
-    let nexts : List Call = Putting filled content ∷ left in
+    let nexts : List HoldingCall = Putting filled content ∷ left in
     let first = gains_first (Putting filled content) left in (
       nexts,
       first,
@@ -47,16 +47,16 @@ fills_calls left calls core call run filled content (inr (none, fills)) len_is a
     )
 
 -- and holds its bytes.
-pub fills_stands : (setting : Setting) (last : Kept) (begun : List Kept) (map : Map) (left calls : List Call)
+pub fills_stands : (setting : Setting) (last : Kept) (begun : List Kept) (map : Map) (left calls : List HoldingCall)
     (commit : Option CommitRun) (state : CoreState) (call : ScriptCall) (run filled : PutRun) (content : List ℕ)
     → IsFilledIn call run filled → content ≡ fill_bytes call.fill
     → Stands setting last begun map calls commit state → Gains left calls (Putting run content)
-    → (nexts : List Call) × Gains left nexts (Putting filled content) × Stands setting last begun map nexts commit state
+    → (nexts : List HoldingCall) × Gains left nexts (Putting filled content) × Stands setting last begun map nexts commit state
 fills_stands setting last begun map left calls commit state call run filled content (inl same) is stands gains =
     (calls, subst (λ (r : PutRun). Gains left calls (Putting r content)) (sym same) gains, stands)
 fills_stands setting last begun map left calls commit state call run filled content (inr (none, fills)) is stands
     gains =
-    let nexts : List Call = Putting filled content ∷ left in
+    let nexts : List HoldingCall = Putting filled content ∷ left in
     let first = gains_first (Putting filled content) left in (
       nexts,
       first,

@@ -9,7 +9,7 @@ use Rattle.core_state.specs.declared.answer.Kind.{Kind}
 use Rattle.core_state.specs.declared.answer.Kind.TheVariants as kind
 use Rattle.core_state.specs.declared.item.Entry.{Entry}
 use Rattle.core_state.specs.declared.item.Item.TheVariants.{Call as CallItem}
-use Rattle.core_state.specs.Map.{Map, Handed, map_of, map_after_answer, with_block}
+use Rattle.core_state.specs.Map.{Map, PutBytes, map_of, map_after_answer, with_block}
 use Rattle.core_state.specs.Legal.{IsAnswerOf}
 use Rattle.core_state.specs.World.{World}
 use Rattle.core_blocks.specs.declared.range.PutRange.{PutRange}
@@ -21,7 +21,7 @@ use Rattle.core_turns.specs.declared.putting.PutRun.{PutRun}
 use Rattle.core_turns.specs.declared.turn.Turn.TheVariants.{More, Done}
 use Rattle.core_turns.specs.Core.{Core, at_disk}
 use Rattle.core_turns.specs.Putting.{StoresBlock, WritesOne}
-use Rattle.core_turns.specs.UnderWay.{Call, Putting, AreCallsOf, Stands, TurnGoesOn}
+use Rattle.core_turns.specs.UnderWay.{HoldingCall, Putting, AreCallsOf, Stands, TurnGoesOn}
 use Rattle.core_turns.proofs.PutCalls.{ends_rearranges, gives_up_rearranges, put_ends_calls, put_gives_up_calls, put_writes_calls}
 use Rattle.core_turns.proofs.PutStands.{put_ends_stands, put_gives_up_stands}
 use Rattle.core_turns.proofs.PutWrites.{put_writes_stands, put_writes_since}
@@ -82,7 +82,7 @@ module _ (script : Script) (actor : ℕ) (before after : Station) (clients news 
 
   -- Filled in, it is among the calls still.
   filled_calls : (filled : PutRun) → IsFilledIn call run filled
-      → (nexts : List Call) × Gains among.left nexts (Putting filled among.content) × AreCallsOf old nexts
+      → (nexts : List HoldingCall) × Gains among.left nexts (Putting filled among.content) × AreCallsOf old nexts
   filled_calls filled fills =
       fills_calls among.left going.calls old call run filled among.content fills asked_for.2 going.are among.gains
 
@@ -96,7 +96,7 @@ module _ (script : Script) (actor : ℕ) (before after : Station) (clients news 
         (gains_item among_runs.left runs.calls (Putting run among_runs.content) among_runs.gains) among_runs.its
 
     filled_stands : (filled : PutRun) → IsFilledIn call run filled
-        → (nexts : List Call) × Gains among_runs.left nexts (Putting filled among_runs.content)
+        → (nexts : List HoldingCall) × Gains among_runs.left nexts (Putting filled among_runs.content)
         × Stands world.setting runs.last runs.begun (map_of world.handed world.opening before.items) nexts runs.commit
         before.state
     filled_stands filled fills = fills_stands world.setting runs.last runs.begun
@@ -141,7 +141,7 @@ module _ (script : Script) (actor : ℕ) (before after : Station) (clients news 
     goes_going : AreGoing script now news
     goes_going =
         let filled = filled_calls puts.filled puts.fills in
-        let nexts : List Call = Putting next among.content ∷ among.left in
+        let nexts : List HoldingCall = Putting next among.content ∷ among.left in
         let first = gains_first (Putting next among.content) among.left in
         going_goes script old now clients news actor before.client after.client takes.changes takes.was going
         (ap (λ (core : Core). core.committing) writes.rest)
@@ -163,7 +163,7 @@ module _ (script : Script) (actor : ℕ) (before after : Station) (clients news 
         let mine = among_runs world past runs in
         let filled = filled_stands world past runs puts.filled puts.fills in
         let map = map_of world.handed world.opening before.items in
-        let nexts : List Call = Putting next mine.content ∷ mine.left in
+        let nexts : List HoldingCall = Putting next mine.content ∷ mine.left in
         let first = gains_first (Putting next mine.content) mine.left in
         let since : GoesOnSince world runs.last runs.begun before.state.disk after.state.disk =
         put_writes_since world.setting runs.last runs.begun map mine.left filled.0 before.state after.state puts.filled
@@ -263,7 +263,7 @@ module _ (script : Script) (actor : ℕ) (before after : Station) (clients news 
 
         bytes_are : (world : World) → world.handed ≡ handed_by script
             → world.handed actor before.client.begun ≡ fill_bytes call.fill
-        bytes_are world handed = ap (λ (h : Handed). h actor before.client.begun) handed
+        bytes_are world handed = ap (λ (h : PutBytes). h actor before.client.begun) handed
             ∙ ap (λ (asked : Option ScriptCall). unwrap_or (option_map (λ asked. fill_bytes asked.fill) asked) []) is
 
         map_is : (world : World) → world.handed ≡ handed_by script → (map : Map) (content : List ℕ)

@@ -8,14 +8,14 @@ use Rattle.core_state.specs.declared.answer.Kind.TheVariants as kind
 use Rattle.core_state.specs.declared.item.Entry.{Entry}
 use Rattle.core_state.specs.declared.item.Item.{Item}
 use Rattle.core_state.specs.declared.item.Item.TheVariants.{Call as CallItem}
-use Rattle.core_state.specs.Map.{Map, Handed, map_after_answer}
+use Rattle.core_state.specs.Map.{Map, PutBytes, map_after_answer}
 use Rattle.core_state.specs.Legal.{IsAnswerOf}
 use Rattle.core_blocks.proofs.Usage.{adds_none}
 use Rattle.core_turns.specs.declared.putting.PutRun.{PutRun}
 use Rattle.core_turns.specs.Core.{Core}
 use Rattle.core_turns.specs.Getting.{HasTooManyOut}
 use Rattle.core_turns.specs.Putting.{IsPutRefused, LeavesBlocks}
-use Rattle.core_turns.specs.UnderWay.{Call, Putting, Reading}
+use Rattle.core_turns.specs.UnderWay.{HoldingCall, Putting, Reading}
 use Rattle.core_turns.proofs.PutCalls.{Rearranges}
 use Rattle.schedule.specs.declared.client.Client.{Client}
 use Rattle.schedule.specs.declared.client.UnderWay.{UnderWay}
@@ -36,20 +36,20 @@ pub put_no_sync : (does : Work) (run : PutRun) → does ≡ work.Put run → IsS
 put_no_sync does run is sync = subst IsSync is sync
 
 -- A client's put stands among the calls under way, with some bytes.
-pub record IsAmong (calls : List Call) (actor : ℕ) (run : PutRun) : Type 0 where
+pub record IsAmong (calls : List HoldingCall) (actor : ℕ) (run : PutRun) : Type 0 where
   pub content : List ℕ
-  pub left : List Call
+  pub left : List HoldingCall
   pub gains : Gains left calls (Putting run content)
   pub its : run.hold.actor ≡ actor
 
 -- A put's work is that of a put among the calls.
-put_is : (run : PutRun) (call : Call) → IsWorkOf (work.Put run) call
+put_is : (run : PutRun) (call : HoldingCall) → IsWorkOf (work.Put run) call
     → (content : List ℕ) × (call ≡ Putting run content)
 put_is run (Putting other content) same = (content, ap (λ (r : PutRun). Putting r content) (sym same))
 put_is run (Reading other content) of = absurd of
 
 -- Each client's put does.
-pub put_among : (clients : List Client) (calls : List Call) (actor : ℕ) (client : Client) (under : UnderWay)
+pub put_among : (clients : List Client) (calls : List HoldingCall) (actor : ℕ) (client : Client) (under : UnderWay)
     (run : PutRun) → AreTheirs clients calls → slice_get clients actor ≡ Some client → client.under_way ≡ Some under
     → under.work ≡ work.Put run → IsAmong calls actor run
 put_among clients calls actor client under run theirs was going does_is =
@@ -96,7 +96,7 @@ unstored_answers (answer.NoSpace sectors) unstored = refl
 unstored_answers other unstored = absurd unstored
 
 -- changes no map,
-pub unstored_map : (handed : Handed) (map : Map) (entry : Entry) (given : Answer) → IsUnstored given
+pub unstored_map : (handed : PutBytes) (map : Map) (entry : Entry) (given : Answer) → IsUnstored given
     → map_after_answer handed map entry given ≡ map
 unstored_map handed map entry (answer.TooManyFailed out) unstored = refl
 unstored_map handed map entry answer.NoMemory unstored = refl

@@ -13,7 +13,7 @@ use Rattle.core_state.specs.declared.answer.Kind.TheVariants as kind
 use Rattle.core_state.specs.declared.item.Entry.{Entry}
 use Rattle.core_state.specs.declared.item.Item.{Item}
 use Rattle.core_state.specs.declared.item.Item.TheVariants.{Call as CallItem}
-use Rattle.core_state.specs.Map.{Map, Handed, map_after, map_after_answer}
+use Rattle.core_state.specs.Map.{Map, PutBytes, map_after, map_after_answer}
 use Rattle.core_state.specs.Legal.{IsAnswerOf}
 use Rattle.core_state.specs.Keeps.{Kept, Setting}
 use Rattle.core_state.specs.World.{World}
@@ -26,8 +26,8 @@ use Rattle.core_turns.specs.declared.getting.Solved.{Solved}
 use Rattle.core_turns.specs.declared.getting.Solved.TheVariants.{NotYet, Bytes, Damaged}
 use Rattle.core_turns.specs.declared.turn.Turn.TheVariants.{Done}
 use Rattle.core_turns.specs.Core.{Core, CoreState, at_disk}
-use Rattle.core_turns.specs.Getting.{IsRead, HasTooManyOut, IsGetRefused, ReadsTurn, SolvesGet, AnswersSolved, EndsGet, answer_of}
-use Rattle.core_turns.specs.UnderWay.{Call, Reading, AreCallsOf, Stands}
+use Rattle.core_turns.specs.Getting.{IsReadKind, HasTooManyOut, IsGetRefused, ReadsTurn, SolvesGet, AnswersSolved, EndsGet, answer_of}
+use Rattle.core_turns.specs.UnderWay.{HoldingCall, Reading, AreCallsOf, Stands}
 use Rattle.core_turns.proofs.GetStands.{get_solves_calls, get_stops_calls, get_ends_calls, get_solves_stands, get_stops_stands, get_ends_stands}
 use Rattle.schedule.specs.Recorded.{IsRightNext, AllBelow}
 use Rattle.schedule.specs.Turned.{EndsReading, entry_for, listed_for}
@@ -39,40 +39,40 @@ use Rattle.schedule.proofs.Lists.{gains_first}
 -- ---- answers
 
 -- A read may be told that its block is absent,
-absent_of : (asked : Kind) → IsRead asked → IsAnswerOf asked answer.Absent
+absent_of : (asked : Kind) → IsReadKind asked → IsAnswerOf asked answer.Absent
 absent_of kind.Get is = inl refl
 absent_of kind.Sum is = inr (inl refl)
 absent_of other is = absurd is
 
 -- or damaged.
-damaged_of : (asked : Kind) → IsRead asked → IsAnswerOf asked answer.Damaged
+damaged_of : (asked : Kind) → IsReadKind asked → IsAnswerOf asked answer.Damaged
 damaged_of kind.Get is = inl refl
 damaged_of kind.Sum is = inr refl
 damaged_of other is = absurd is
 
 -- the point that a read's answer speaks of
-point_read : (asked : Kind) (at : ℕ) (given : Answer) → IsRead asked → point_after asked at given ≡ read_point at given
+point_read : (asked : Kind) (at : ℕ) (given : Answer) → IsReadKind asked → point_after asked at given ≡ read_point at given
 point_read kind.Get at given is = refl
 point_read kind.Sum at given is = refl
 point_read other at given is = absurd is
 
 -- An answer to a read makes no group,
 pub listed_read : (core : Core) (items : List Item) (at : ℕ) (entry : Entry) (asked : Kind) (given : Answer)
-    → IsRead asked → IsAnswerOf asked given → listed_for core items at entry given ≡ items ++ CallItem entry ∷ []
-listed_read core items at entry asked (answer.Synced group) is of = absurd (subst IsRead of is)
+    → IsReadKind asked → IsAnswerOf asked given → listed_for core items at entry given ≡ items ++ CallItem entry ∷ []
+listed_read core items at entry asked (answer.Synced group) is of = absurd (subst IsReadKind of is)
 listed_read core items at entry asked other is of = refl
 
 -- and leaves the map.
-pub map_read : (handed : Handed) (map : Map) (entry : Entry) (asked : Kind) (given : Answer) → IsRead asked
+pub map_read : (handed : PutBytes) (map : Map) (entry : Entry) (asked : Kind) (given : Answer) → IsReadKind asked
     → IsAnswerOf asked given → map_after_answer handed map entry given ≡ map
-map_read handed map entry asked answer.Stored is of = absurd (subst IsRead of is)
-map_read handed map entry asked answer.Freed is of = absurd (subst IsRead of is)
+map_read handed map entry asked answer.Stored is of = absurd (subst IsReadKind of is)
+map_read handed map entry asked answer.Freed is of = absurd (subst IsReadKind of is)
 map_read handed map entry asked other is of = refl
 
 -- An answer to a read that began after some of the items, all of its caller's among them, is right where it tells of
 -- the map of that time, or was cut short.
 pub right_read : (world : World) (items : List Item) (call : ScriptCall) (actor number at : ℕ) (given : Answer)
-    → IsRead call.kind → 1 ≤ at → at ≤ length items → AllBelow items actor at
+    → IsReadKind call.kind → 1 ≤ at → at ≤ length items → AllBelow items actor at
     → IsReadRight (option_and_then (map_after world.handed world.opening items at) call.id) call.kind given
     → IsRightNext world items (entry_for call actor number at given)
 right_read world items call actor number at (answer.TooManyFailed out) is some within below right =
@@ -87,7 +87,7 @@ right_read world items call actor number at other is some within below right =
     below right
 
 -- Why a read was refused is an answer to it,
-pub refused_of : (core : Core) (id : ℕ) (asked : Kind) (given : Answer) → IsRead asked → IsGetRefused core id given
+pub refused_of : (core : Core) (id : ℕ) (asked : Kind) (given : Answer) → IsReadKind asked → IsGetRefused core id given
     → IsAnswerOf asked given
 refused_of core id asked (answer.TooManyFailed out) is refused = tt
 refused_of core id asked answer.Absent is refused = absent_of asked is
@@ -104,14 +104,14 @@ refused_right core id held asked answer.NoMemory none refused = tt
 refused_right core id held asked other none refused = absurd refused
 
 -- What was solved is answered so, and never that too many devices are out or of a limit.
-solved_of : (run : GetRun) (solved : Solved) (given : Answer) → IsRead run.kind → AnswersSolved run solved given
+solved_of : (run : GetRun) (solved : Solved) (given : Answer) → IsReadKind run.kind → AnswersSolved run solved given
     → IsAnswerOf run.kind given × ((out : ℕ) → given ≡ answer.TooManyFailed out → ⊥) × NoLimit given
 solved_of run solved given is answers = by solved answers
   where
     Tells : Kind → Answer → Type 0
     Tells asked told = IsAnswerOf asked told × ((out : ℕ) → told ≡ answer.TooManyFailed out → ⊥) × NoLimit told
 
-    block : (asked : Kind) (bytes : List ℕ) → IsRead asked → Tells asked (answer_of asked run.entry bytes)
+    block : (asked : Kind) (bytes : List ℕ) → IsReadKind asked → Tells asked (answer_of asked run.entry bytes)
     block kind.Get bytes asked = (refl, λ out same. cc, λ reached same. cc)
     block kind.Sum bytes asked = (refl, λ out same. cc, λ reached same. cc)
     block other bytes asked = absurd asked
@@ -129,10 +129,10 @@ pub record EndsRead (before after : CoreState) (run : GetRun) (given : Answer) :
   pub answer_is : IsAnswerOf run.kind given
   pub too_many : (out : ℕ) → given ≡ answer.TooManyFailed out → HasTooManyOut before.core × (out ≡ before.core.pool.out)
   pub no_limit : NoLimit given
-  pub calls : (content : List ℕ) (left calls : List Call) → Gains left calls (Reading run content)
+  pub calls : (content : List ℕ) (left calls : List HoldingCall) → Gains left calls (Reading run content)
       → AreCallsOf before.core calls → AreCallsOf after.core left
   pub stands : (setting : Setting) (last : Kept) (begun : List Kept) (map : Map) (commit : Option CommitRun)
-      (content : List ℕ) (left calls : List Call) → Gains left calls (Reading run content)
+      (content : List ℕ) (left calls : List HoldingCall) → Gains left calls (Reading run content)
       → Stands setting last begun map calls commit before
       → Stands setting last begun map left commit after × IsReadRight (Some content) run.kind given
 
@@ -155,7 +155,7 @@ stopped_ends before after run given stops = record {
     none_told reached same = cc
 
 -- or it is answered as it was solved,
-answered_ends : (before after : CoreState) (run : GetRun) (given : Answer) → IsRead run.kind
+answered_ends : (before after : CoreState) (run : GetRun) (given : Answer) → IsReadKind run.kind
     → EndsGet before.core run after.core (Done given) → after.disk ≡ before.disk → EndsRead before after run given
 answered_ends before after run given is ends disk = record {
   leaves = leaves_pool before.core after.core before.core.pool.blocks after.core.holds ends.rest;
@@ -211,7 +211,7 @@ solved_ends before after run solved given solves whole ends = record {
     same_kind = ap (λ (r : GetRun). r.kind) solves.rest
 
 -- However it ends.
-pub read_ends_so : (before after : CoreState) (run : GetRun) (given : Answer) → IsRead run.kind
+pub read_ends_so : (before after : CoreState) (run : GetRun) (given : Answer) → IsReadKind run.kind
     → EndsReading before after run given → EndsRead before after run given
 read_ends_so before after run given is ending = elim ending.ends [
   | inl stops ↦ stopped_ends before after run given stops
@@ -220,6 +220,6 @@ read_ends_so before after run given is ending = elim ending.ends [
       (subst (λ (r : GetRun). EndsGet before.core r after.core (Done given)) same ended.3) ending.disk)
       (λ solves. solved_ends before after run ended.0 given solves ended.2
       (answered_ends before after ended.0 given
-      (subst IsRead (sym (ap (λ (r : GetRun). r.kind) solves.rest)) is) ended.3 ending.disk))
+      (subst IsReadKind (sym (ap (λ (r : GetRun). r.kind) solves.rest)) is) ended.3 ending.disk))
       ended.1
 ]

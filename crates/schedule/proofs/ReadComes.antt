@@ -21,8 +21,8 @@ use Rattle.journal_law.proofs.Grown.{map_at_end}
 use Rattle.core_turns.specs.declared.getting.GetRun.{GetRun}
 use Rattle.core_turns.specs.declared.turn.Turn.TheVariants.{More, Busy, Done}
 use Rattle.core_turns.specs.Core.{Core, at_disk}
-use Rattle.core_turns.specs.Getting.{IsRead, IsGetRefused, BeginsGet}
-use Rattle.core_turns.specs.UnderWay.{Call, Putting, Reading, AreCallsOf, Stands, TurnGoesOn}
+use Rattle.core_turns.specs.Getting.{IsReadKind, IsGetRefused, BeginsGet}
+use Rattle.core_turns.specs.UnderWay.{HoldingCall, Putting, Reading, AreCallsOf, Stands, TurnGoesOn}
 use Rattle.core_turns.proofs.Frames.{since_read}
 use Rattle.core_turns.proofs.GetLaws.{get_finds}
 use Rattle.core_turns.proofs.GetStands.{get_begins_calls, get_reads_calls, get_begins_stands, get_reads_stands}
@@ -50,14 +50,14 @@ use Rattle.schedule.proofs.Lists.{gains_first, gains_of}
 use Rattle.schedule.proofs.Syncs.{groups_know}
 
 -- The calls under way have the client's read, of some bytes.
-record HasRead (calls : List Call) (actor : ℕ) (run : GetRun) : Type 0 where
-  left : List Call
+record HasRead (calls : List HoldingCall) (actor : ℕ) (run : GetRun) : Type 0 where
+  left : List HoldingCall
   content : List ℕ
   gains : Gains left calls (Reading run content)
   its : run.hold.actor ≡ actor
 
 -- They do where that is one of them.
-read_in : (calls : List Call) (actor : ℕ) (run : GetRun) (held : Call) → Contains calls held
+read_in : (calls : List HoldingCall) (actor : ℕ) (run : GetRun) (held : HoldingCall) → Contains calls held
     → IsWorkOf (work.Read run) held → actor_of held ≡ actor → HasRead calls actor run
 read_in calls actor run (Putting put content) listed of its = absurd of
 read_in calls actor run (Reading other content) listed of its =
@@ -79,7 +79,7 @@ module _ (script : Script) (actor : ℕ) (before after : Station) (clients news 
     was_none its its_under its_going sync =
         none_going clients actor before.client takes.was idle its its_under its_going
 
-  module _ (id : ℕ) (run : GetRun) (is : IsRead call.kind) (id_is : call.id ≡ Some id)
+  module _ (id : ℕ) (run : GetRun) (is : IsReadKind call.kind) (id_is : call.id ≡ Some id)
       (idle : before.client.under_way ≡ None)
       (next : slice_get (calls_of script actor) before.client.begun ≡ Some call)
       (begins : BeginsGet before.state.core after.state.core actor call.kind id (More run))
@@ -145,7 +145,7 @@ module _ (script : Script) (actor : ℕ) (before after : Station) (clients news 
         begun = ap (λ (c : Client). c.begun) left.1
 
   -- It waits, and nothing changes.
-  pub read_waits : (id by : ℕ) → IsRead call.kind → call.id ≡ Some id → before.client.under_way ≡ None
+  pub read_waits : (id by : ℕ) → IsReadKind call.kind → call.id ≡ Some id → before.client.under_way ≡ None
       → slice_get (calls_of script actor) before.client.begun ≡ Some call
       → BeginsGet before.state.core after.state.core actor call.kind id (Busy by)
       → after.state.disk ≡ before.state.disk → LeavesBegun actor call before after (Busy by)
@@ -153,7 +153,7 @@ module _ (script : Script) (actor : ℕ) (before after : Station) (clients news 
   read_waits id by is id_is idle next begins disk left = comes_nowhere script actor before after clients news takes
       (λ i. record { state = at_disk (begins.1 i) (disk i); items = left.0 i; client = left.1 i })
 
-  module _ (id : ℕ) (given : Answer) (is : IsRead call.kind) (id_is : call.id ≡ Some id)
+  module _ (id : ℕ) (given : Answer) (is : IsReadKind call.kind) (id_is : call.id ≡ Some id)
       (idle : before.client.under_way ≡ None) (next : slice_get (calls_of script actor) before.client.begun ≡ Some call)
       (begins : BeginsGet before.state.core after.state.core actor call.kind id (Done given))
       (disk : after.state.disk ≡ before.state.disk) (left : LeavesBegun actor call before after (Done given)) where
@@ -202,7 +202,7 @@ module _ (script : Script) (actor : ℕ) (before after : Station) (clients news 
         (going_under clients actor before.client under takes.was under_is its its_under its_going) sync)
 
     -- Its read is among the calls under way.
-    among : (calls : List Call) → AreTheirs clients calls → HasRead calls actor run
+    among : (calls : List HoldingCall) → AreTheirs clients calls → HasRead calls actor run
     among calls theirs =
         let found = theirs.every actor before.client under going not_sync in
         read_in calls actor run found.0 found.1 (subst (λ (w : Work). IsWorkOf w found.0) work_is found.2) found.3
@@ -302,14 +302,14 @@ module _ (script : Script) (actor : ℕ) (before after : Station) (clients news 
     asked_is : (call.kind ≡ run.kind) × (call.id ≡ Some run.entry.id)
     asked_is = its_call under run work_is under_is is
 
-    is_read : IsRead run.kind
+    is_read : IsReadKind run.kind
     is_read =
         let was = takes.schedule.going in
         let has = among under run work_is under_is was.calls was.theirs in
         (was.are.each (Reading run has.content) (gains_item has.left was.calls (Reading run has.content) has.gains)).0
 
-    call_read : IsRead call.kind
-    call_read = subst IsRead (sym asked_is.0) is_read
+    call_read : IsReadKind call.kind
+    call_read = subst IsReadKind (sym asked_is.0) is_read
 
     ends : EndsRead before.state after.state run given
     ends = read_ends_so before.state after.state run given is_read ending

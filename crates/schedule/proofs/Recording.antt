@@ -11,7 +11,7 @@ use Rattle.core_state.specs.declared.item.Entry.{Entry}
 use Rattle.core_state.specs.declared.item.Group.{Group as GroupItem}
 use Rattle.core_state.specs.declared.item.Item.{Item}
 use Rattle.core_state.specs.declared.item.Item.TheVariants.{Group, Call}
-use Rattle.core_state.specs.Map.{Map, Handed, map_after}
+use Rattle.core_state.specs.Map.{Map, PutBytes, map_after}
 use Rattle.core_state.specs.Legal.{IsGroupBefore, IsAnswerOf}
 use Rattle.core_state.specs.Journal.{Follows}
 use Rattle.core_state.specs.Keeps.{Kept, Setting}
@@ -79,7 +79,7 @@ widths_like uber other groups to_is parity_is wide = record {
 }
 
 -- The groups with none that is begun.
-groups_none : {handed : Handed} {opening : Map} {known : List Kept} {items : List Item}
+groups_none : {handed : PutBytes} {opening : Map} {known : List Kept} {items : List Item}
     → (groups : Groups handed opening known items)
     → (none : Groups handed opening known items) × (none.answered ≡ groups.answered) × (none.begun ≡ [])
 groups_none groups = (
@@ -95,7 +95,7 @@ groups_none groups = (
 )
 
 -- The last group of a journal and those begun, as its groups tell of them.
-latest_of : {handed : Handed} {opening : Map} {known : List Kept} {items : List Item} {item : GroupItem} {last : Kept}
+latest_of : {handed : PutBytes} {opening : Map} {known : List Kept} {items : List Item} {item : GroupItem} {last : Kept}
     {begun : List Kept} → (groups : Groups handed opening known items) → groups.begun ≡ begun
     → IsGroupBefore items (length items) item → IsGroupOf handed opening items item last
     → HaveWidthOfEach known (last ∷ begun)
@@ -111,7 +111,7 @@ latest_of {handed = handed} {opening = opening} {known = known} {items = items} 
     }
 
 -- Just after an item was listed nothing else was done.
-on_listed : {setting : Setting} {handed : Handed} {opening : Map} {item : GroupItem} {last : Kept} {begun : List Kept}
+on_listed : {setting : Setting} {handed : PutBytes} {opening : Map} {item : GroupItem} {last : Kept} {begun : List Kept}
     {now : Disk} (items : List Item) (new : Item) (past : Past) → past.banks (length items + 1) ≡ now
     → KeepsOn setting handed opening (items ++ new ∷ []) item last begun now now
     → KeepsOn setting handed opening (items ++ new ∷ []) item last begun (past.banks (length (items ++ new ∷ []))) now

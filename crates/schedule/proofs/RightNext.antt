@@ -9,11 +9,11 @@ use Rattle.core_state.specs.declared.item.Entry.{Entry}
 use Rattle.core_state.specs.declared.item.Group.{Group as GroupItem}
 use Rattle.core_state.specs.declared.item.Item.{Item}
 use Rattle.core_state.specs.declared.item.Item.TheVariants.{Group, Call}
-use Rattle.core_state.specs.Map.{Map, Handed, map_of, map_after}
+use Rattle.core_state.specs.Map.{Map, PutBytes, map_of, map_after}
 use Rattle.core_state.specs.Legal.{IsPrevious, IsGroupBefore, IsReadOf, IsCutShort, IsRightRead, IsRightFree, IsRightSync, IsRightCall}
 use Rattle.core_state.specs.World.{World}
 use Rattle.uberblock_ring.specs.Uberblock.{max_group}
-use Rattle.core_turns.specs.Getting.{IsRead}
+use Rattle.core_turns.specs.Getting.{IsReadKind}
 use Rattle.journal_law.proofs.Grown.{grown_has, last_there, map_before, map_at_end}
 use Rattle.schedule.specs.Recorded.{IsRightNext, AllBelow}
 use Rattle.schedule.proofs.Below.{previous_below, below_group}
@@ -58,8 +58,8 @@ read_plain (Some bytes) kind.Sum (answer.Digest len sha) is = tt
 read_plain (Some bytes) asked given is = absurd is
 
 -- A read is right as its point says.
-read_call : (handed : Handed) (opening : Map) (items : List Item) (previous index : ℕ) (entry : Entry) (asked : Kind)
-    → IsRead asked → IsRightRead handed opening items previous index entry entry.at
+read_call : (handed : PutBytes) (opening : Map) (items : List Item) (previous index : ℕ) (entry : Entry) (asked : Kind)
+    → IsReadKind asked → IsRightRead handed opening items previous index entry entry.at
     → IsRightCall handed opening items previous index entry asked
 read_call handed opening items previous index entry kind.Get is right = right
 read_call handed opening items previous index entry kind.Sum is right = right
@@ -82,7 +82,7 @@ module _ (world : World) (items : List Item) (entry : Entry) where
   }
 
   -- A get or a sum that speaks of the map after some of the items, all of its caller's among them.
-  pub read_right : (at : ℕ) → IsRead entry.kind → entry.at ≡ Some at → 1 ≤ at → at ≤ length items
+  pub read_right : (at : ℕ) → IsReadKind entry.kind → entry.at ≡ Some at → 1 ≤ at → at ≤ length items
       → AllBelow items entry.caller at
       → IsReadOf (option_and_then (map_after world.handed world.opening items at) entry.id) entry.kind entry.answer
       → IsRightNext world items entry
@@ -98,7 +98,7 @@ module _ (world : World) (items : List Item) (entry : Entry) where
       )))
 
   -- One that was cut short.
-  pub read_cut_right : IsRead entry.kind → entry.at ≡ None → IsStopped entry.answer → IsRightNext world items entry
+  pub read_cut_right : IsReadKind entry.kind → entry.at ≡ None → IsStopped entry.answer → IsRightNext world items entry
   read_cut_right asked at_is stopped = next_plain (stopped_plain entry.answer stopped) (λ previous previous_is.
       read_call world.handed world.opening with_entry previous (length items) entry entry.kind asked
       (subst (IsRightRead world.handed world.opening with_entry previous (length items) entry) (sym at_is)

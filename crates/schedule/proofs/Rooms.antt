@@ -7,7 +7,7 @@ use Rattle.client_script.specs.Script.{Placed, Script}
 use Rattle.schedule.specs.declared.client.Client.{Client}
 use Rattle.schedule.specs.declared.client.UnderWay.{UnderWay}
 use Rattle.schedule.specs.Clients.{answered_of}
-use Rattle.schedule.specs.Playing.{HasRoom, UsesRoom, all_unanswered, calls_by, unanswered}
+use Rattle.schedule.specs.Playing.{HasRoomForAnswers, UsesRoom, all_unanswered, calls_by, unanswered}
 use Rattle.schedule.specs.Replaying.{blank_clients}
 use Rattle.schedule.proofs.Theirs.{none_some, some_is}
 
@@ -42,7 +42,7 @@ unanswered_set calls (first ∷ clients) (suc place) was now there =
 
 -- Where a client has a call that isn't answered, there is room for its items.
 pub room_left : (script : Script) (actor room : ℕ) (clients : List Client) (client : Client)
-    → HasRoom script clients room → slice_get clients actor ≡ Some client
+    → HasRoomForAnswers script clients room → slice_get clients actor ≡ Some client
     → 1 ≤ unanswered (calls_by script actor) client → 2 ≤ room
 room_left script actor room clients client has there some =
     let few = unanswered_few (calls_by script) clients actor client there in
@@ -51,11 +51,11 @@ room_left script actor room clients client has there some =
 
 -- After a turn there is room for what is left.
 pub room_after : (script : Script) (place actor before after : ℕ) (clients : List Client) (was now : Client)
-    → place ≡ actor → HasRoom script clients before → slice_get clients actor ≡ Some was
+    → place ≡ actor → HasRoomForAnswers script clients before → slice_get clients actor ≡ Some was
     → was.begun ≤ calls_by script actor → now.begun ≤ calls_by script actor → UsesRoom before after was now
-    → HasRoom script (slice_set clients place now) after
+    → HasRoomForAnswers script (slice_set clients place now) after
 room_after script place actor before after clients was now same has there few few_now uses =
-    subst (λ (n : ℕ). HasRoom script (slice_set clients n now) after) (sym same) (record {
+    subst (λ (n : ℕ). HasRoomForAnswers script (slice_set clients n now) after) (sym same) (record {
       enough =
           let enough = has.enough in
           let set = unanswered_set (calls_by script) clients actor was now there in
@@ -138,7 +138,7 @@ blank_unanswered script calls caller (suc count) each =
 
 -- and room for an answer of each call of a script is enough for them.
 pub room_at_first : (script : Script) (count room : ℕ) → 2 * length script.calls ≤ room
-    → HasRoom script (blank_clients count) room
+    → HasRoomForAnswers script (blank_clients count) room
 room_at_first script count room enough = record {
   enough =
       let all = blank_unanswered script (calls_by script) 0 count

@@ -13,7 +13,7 @@ use Rattle.core_state.specs.World.{World}
 use Rattle.client_script.specs.declared.call.ScriptCall.{ScriptCall}
 use Rattle.client_script.specs.Script.{Script}
 use Rattle.journal_law.proofs.Grown.{map_before, new_or_before}
-use Rattle.core_turns.specs.UnderWay.{Call, Putting, Reading}
+use Rattle.core_turns.specs.UnderWay.{HoldingCall, Putting, Reading}
 use Rattle.schedule.specs.declared.client.Client.{Client}
 use Rattle.schedule.specs.declared.client.UnderWay.{UnderWay}
 use Rattle.schedule.specs.declared.client.Work.{Work}
@@ -24,7 +24,7 @@ use Rattle.schedule.specs.Running.{IsGoing, IsSync, IsSyncOf, HasContent, IsClie
 use Rattle.schedule.proofs.Theirs.{actor_of, going_here, going_was}
 
 -- What a call is about stays as the journal grows.
-pub content_grown : (world : World) (items more : List Item) (call : ScriptCall) (at : ℕ) (held : Call)
+pub content_grown : (world : World) (items more : List Item) (call : ScriptCall) (at : ℕ) (held : HoldingCall)
     → at ≤ length items
     → HasContent world items call at held → HasContent world (items ++ more) call at held
 content_grown world items more call at (Putting run content) low has = has
@@ -58,8 +58,8 @@ sync_free world items item begun at (work.Read run) not_sync = tt
 
 -- Clients whose calls stay among those under way go on as the journal grows by items that are none of theirs.
 pub client_grown : (world : World) (script : Script) (items more : List Item) (item now : GroupItem)
-    (begun onward : List Kept) (calls nexts : List Call) (index : ℕ) (client : Client) (under : UnderWay)
-    → ((held : Call) → Contains nexts held → actor_of held ≡ index → Contains calls held)
+    (begun onward : List Kept) (calls nexts : List HoldingCall) (index : ℕ) (client : Client) (under : UnderWay)
+    → ((held : HoldingCall) → Contains nexts held → actor_of held ≡ index → Contains calls held)
     → (IsSyncOf world items item begun under.at under.work
     → IsSyncOf world (items ++ more) now onward under.at under.work)
     → ((place : ℕ) (entry : Entry) → CallAt (items ++ more) place entry → entry.caller ≡ index
@@ -76,8 +76,8 @@ client_grown world script items more item now begun onward calls nexts index cli
 
 -- The same where the journal stays.
 pub client_stays : (world : World) (script : Script) (items : List Item) (item : GroupItem) (begun onward : List Kept)
-    (calls nexts : List Call) (index : ℕ) (client : Client) (under : UnderWay)
-    → ((held : Call) → Contains nexts held → actor_of held ≡ index → Contains calls held)
+    (calls nexts : List HoldingCall) (index : ℕ) (client : Client) (under : UnderWay)
+    → ((held : HoldingCall) → Contains nexts held → actor_of held ≡ index → Contains calls held)
     → (IsSyncOf world items item begun under.at under.work → IsSyncOf world items item onward under.at under.work)
     → IsClient world script items item begun calls index client under
     → IsClient world script items item onward nexts index client under
@@ -90,7 +90,7 @@ client_stays world script items item begun onward calls nexts index client under
 
 -- Where one client has changed, each is right whose call is under way: that one, and the others as they were.
 pub each_client : (world : World) (script : Script) (items : List Item) (item : GroupItem) (begun : List Kept)
-    (calls : List Call) (clients news : List Client) (index : ℕ) (client : Client) → Changes clients news index client
+    (calls : List HoldingCall) (clients news : List Client) (index : ℕ) (client : Client) → Changes clients news index client
     → ((under : UnderWay) → client.under_way ≡ Some under
     → IsClient world script items item begun calls index client under)
     → ((other : ℕ) (its : Client) (under : UnderWay) → other ≢ index → IsGoing clients other its under

@@ -17,7 +17,7 @@ use Rattle.core_commit.specs.CommitTurns.{CommitRun}
 use Rattle.client_script.specs.declared.call.ScriptCall.{ScriptCall}
 use Rattle.client_script.specs.Script.{Script, calls_of}
 use Rattle.core_turns.specs.Core.{CoreState}
-use Rattle.core_turns.specs.UnderWay.{Call, Stands}
+use Rattle.core_turns.specs.UnderWay.{HoldingCall, Stands}
 use Rattle.schedule.specs.declared.client.Client.{Client}
 use Rattle.schedule.specs.declared.client.UnderWay.{UnderWay}
 use Rattle.schedule.specs.declared.client.Work.{Work}
@@ -77,7 +77,7 @@ module _ (world : World) (script : Script) (past : Past) (before after : CoreSta
     }
 
     -- A put or a read begins, which calls no device.
-    module _ (calls : List Call) (call : Call) (does : Work) (uber : after.core.pool.uber ≡ before.core.pool.uber)
+    module _ (calls : List HoldingCall) (call : HoldingCall) (does : Work) (uber : after.core.pool.uber ≡ before.core.pool.uber)
         (disk : after.disk ≡ before.disk)
         (client_is : client ≡ record {
           begun = old.begun + 1;
@@ -98,7 +98,7 @@ module _ (world : World) (script : Script) (past : Past) (before after : CoreSta
         after = λ place entry there caller. entry_below place entry there;
         sync = sync_free world items runs.item runs.begun (length items) does not_sync;
         content = λ asked held is listed its_held. ⊎_elim
-            (λ (same : call ≡ held). subst (λ (c : Call). HasContent world items asked (length items) c) same
+            (λ (same : call ≡ held). subst (λ (c : HoldingCall). HasContent world items asked (length items) c) same
             (content asked (ap (slice_get (calls_of script index)) number ∙ is)))
             (λ (had : Contains runs.calls held).
             let found = runs.theirs.of held had in
@@ -109,7 +109,7 @@ module _ (world : World) (script : Script) (past : Past) (before after : CoreSta
           number : old.begun ≡ client.begun - 1
           number = let same = ap (λ (c : Client). c.begun) client_is in omega (arith, same)
 
-      among_begun : (other : ℕ) → other ≢ index → (held : Call) → Contains calls held → actor_of held ≡ other
+      among_begun : (other : ℕ) → other ≢ index → (held : HoldingCall) → Contains calls held → actor_of held ≡ other
           → Contains runs.calls held
       among_begun other apart held listed its_held = ⊎_elim
           (λ (same : call ≡ held). absurd (apart (sym its_held ∙ ap actor_of (sym same) ∙ its)))

@@ -20,7 +20,7 @@ use Rattle.client_script.specs.Script.{Script}
 use Rattle.journal_law.proofs.Grown.{map_grown_call, map_grown_group}
 use Rattle.journal_law.proofs.GrownGroups.{latest_grown_call, latest_grown_group}
 use Rattle.core_turns.specs.Core.{CoreState}
-use Rattle.core_turns.specs.UnderWay.{Call, Stands}
+use Rattle.core_turns.specs.UnderWay.{HoldingCall, Stands}
 use Rattle.schedule.specs.declared.client.Client.{Client}
 use Rattle.schedule.specs.declared.client.UnderWay.{UnderWay}
 use Rattle.schedule.specs.declared.client.Work.TheVariants as work
@@ -59,8 +59,8 @@ module _ (world : World) (script : Script) (past : Past) (before after : CoreSta
     its_none : (its_under : UnderWay) → client.under_way ≡ Some its_under → ⊥
     its_none its_under is = none_some (sym ended ∙ is)
 
-    each_left : (calls : List Call)
-        → ((other : ℕ) → other ≢ index → (held : Call) → Contains calls held → actor_of held ≡ other
+    each_left : (calls : List HoldingCall)
+        → ((other : ℕ) → other ≢ index → (held : HoldingCall) → Contains calls held → actor_of held ≡ other
         → Contains runs.calls held)
         → (other : ℕ) (its_client : Client) (its_under : UnderWay) → IsGoing news other its_client its_under
         → IsClient world script grown runs.item runs.begun calls other its_client its_under
@@ -77,7 +77,7 @@ module _ (world : World) (script : Script) (past : Past) (before after : CoreSta
     map_is = map_grown_call world.handed world.opening items entry
 
     -- A put or a read that was under way ends.
-    pub ends : (left : List Call) (call : Call) (under : UnderWay) → old.under_way ≡ Some under
+    pub ends : (left : List HoldingCall) (call : HoldingCall) (under : UnderWay) → old.under_way ≡ Some under
         → (IsSync under.work → ⊥) → Gains left runs.calls call → actor_of call ≡ index
         → Stands world.setting runs.last runs.begun (map_after_answer world.handed map entry entry.answer) left
         runs.commit after

@@ -14,7 +14,7 @@ use Rattle.core_commit.specs.CommitTurns.{CommitRun}
 use Rattle.client_script.specs.declared.call.ScriptCall.{ScriptCall}
 use Rattle.client_script.specs.Script.{Script, calls_of}
 use Rattle.core_turns.specs.Core.{CoreState}
-use Rattle.core_turns.specs.UnderWay.{Call, AreBeside, Stands}
+use Rattle.core_turns.specs.UnderWay.{HoldingCall, AreBeside, Stands}
 use Rattle.schedule.specs.declared.client.Client.{Client}
 use Rattle.schedule.specs.declared.client.UnderWay.{UnderWay}
 use Rattle.schedule.specs.declared.client.Work.{Work}
@@ -47,7 +47,7 @@ module _ (world : World) (script : Script) (past : Past) (before after : CoreSta
         (recorded_goes runs.recorded later since)
 
     -- A put or a read goes on.
-    module _ (left nexts : List Call) (call next : Call) (under : UnderWay) (does : Work)
+    module _ (left nexts : List HoldingCall) (call next : HoldingCall) (under : UnderWay) (does : Work)
         (old_is : old.under_way ≡ Some under) (client_is : client ≡ record {
           begun = old.begun;
           under_way = Some (record { at = under.at; work = does });
@@ -70,7 +70,7 @@ module _ (world : World) (script : Script) (past : Past) (before after : CoreSta
         after = mine.after;
         sync = sync_free world items runs.item runs.begun under.at does still_not;
         content = λ asked held is listed its_held. ⊎_elim
-            (λ (same : next ≡ held). subst (λ (c : Call). HasContent world items asked under.at c) same
+            (λ (same : next ≡ held). subst (λ (c : HoldingCall). HasContent world items asked under.at c) same
             (content asked (mine.content asked call (ap (λ (n : ℕ). slice_get (calls_of script index) (n - 1))
             (sym (ap (λ (c : Client). c.begun) client_is)) ∙ is) (gains_item left runs.calls call lost) its)))
             (λ (had : Contains left held). absurd ((pairs_beside AreBeside beside_back runs.calls left call held lost
@@ -78,7 +78,7 @@ module _ (world : World) (script : Script) (past : Past) (before after : CoreSta
             (gains_cases left nexts next held gained listed);
       }
 
-      among : (other : ℕ) → other ≢ index → (held : Call) → Contains nexts held → actor_of held ≡ other
+      among : (other : ℕ) → other ≢ index → (held : HoldingCall) → Contains nexts held → actor_of held ≡ other
           → Contains runs.calls held
       among other apart held listed its_held = ⊎_elim
           (λ (same : next ≡ held). absurd (apart (sym its_held ∙ ap actor_of (sym same) ∙ still_its)))

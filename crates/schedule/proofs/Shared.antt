@@ -24,7 +24,7 @@ use Rattle.schedule.specs.declared.client.Work.{Work}
 use Rattle.schedule.specs.declared.client.Work.TheVariants as work
 use Rattle.schedule.specs.Replaying.{OnlyShared}
 use Rattle.schedule.proofs.Theirs.{none_some}
-use Rattle.schedule.specs.Turned.{AnswersAtOnce, Begins, BeginsCall, EndsPutting, EndsReading, GoesOnBy, Station, Turned, Nothing, Began, Went, Waits}
+use Rattle.schedule.specs.Turned.{AnswersAtOnce, BeginsWork, BeginsCall, EndsPutting, EndsReading, GoesOnBy, Station, Turned, Nothing, Began, Went, Waits}
 
 -- The same holds, one more that is shared, or one less.
 shared_same : (old new : Core) → new.holds ≡ old.holds → OnlyShared old.holds → OnlyShared new.holds
@@ -99,7 +99,7 @@ module _ (old new : Core) (shared : OnlyShared old.holds) where
   freed id other frees = absurd frees
 
   begins_work : (actor : ℕ) (call : ScriptCall) (asked : Kind) (id : Option ℕ) (does : Work)
-      → Begins old new actor call asked id does → OnlyShared new.holds
+      → BeginsWork old new actor call asked id does → OnlyShared new.holds
   begins_work actor call kind.Put (Some id) (work.Put run) begins = begins_put actor id _ (More run) begins
   begins_work actor call kind.Get (Some id) (work.Read run) begins = begins_get actor id kind.Get (More run) begins
   begins_work actor call kind.Sum (Some id) (work.Read run) begins = begins_get actor id kind.Sum (More run) begins

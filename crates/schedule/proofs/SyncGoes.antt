@@ -28,7 +28,7 @@ use Rattle.core_turns.proofs.CommitStands.{commit_steps_calls, commit_steps_stan
 use Rattle.schedule.specs.declared.client.Client.{Client}
 use Rattle.schedule.specs.declared.client.UnderWay.{UnderWay}
 use Rattle.schedule.specs.declared.client.Work.TheVariants as work
-use Rattle.schedule.specs.Clients.{AreAnswered}
+use Rattle.schedule.specs.Clients.{ClientsAreAnswered}
 use Rattle.schedule.specs.Running.{IsGoing, IsSync, IsWorkFor, AreGoing, Runs}
 use Rattle.schedule.specs.Turns.{turns_of}
 use Rattle.schedule.specs.Turned.{Station, LeavesGoing, entry_for, group_for}
@@ -134,8 +134,8 @@ module _ (script : Script) (actor : ℕ) (before after : Station) (clients news 
 
     -- With its entry the journal answers one call more.
     answered_end : (given : Answer) (items : List Item) → LeavesGoing actor call before after under (Done given)
-        → AreAnswered script clients items
-        → AreAnswered script news (items ++ CallItem (entry_for call actor before.client.begun under.at given) ∷ [])
+        → ClientsAreAnswered script clients items
+        → ClientsAreAnswered script news (items ++ CallItem (entry_for call actor before.client.begun under.at given) ∷ [])
     answered_end given items leaves were = answers_call script clients news actor before.client after.client items
         takes.changes takes.was
         (let few = takes.schedule.answered.few actor before.client takes.was in omega (arith, few, begun_is))
@@ -159,7 +159,7 @@ module _ (script : Script) (actor : ℕ) (before after : Station) (clients news 
           entry leaves.0 (λ full. no_full full));
       schedule = record {
         going = going;
-        answered = subst (AreAnswered script news) (sym leaves.0)
+        answered = subst (ClientsAreAnswered script news) (sym leaves.0)
             (answered_end (answer.Synced number) (before.items ++ Group group ∷ []) leaves
             (answers_group script clients before.items group takes.schedule.answered));
         bank = turn_bank before.state after.state goes takes.schedule.bank;

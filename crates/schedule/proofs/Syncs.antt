@@ -8,18 +8,18 @@ use Rattle.core_state.specs.declared.answer.Kind.TheVariants as kind
 use Rattle.core_state.specs.declared.item.Entry.{Entry}
 use Rattle.core_state.specs.declared.item.Group.{Group as GroupItem}
 use Rattle.core_state.specs.declared.item.Item.{Item}
-use Rattle.core_state.specs.Map.{Map, Handed, map_after_answer}
+use Rattle.core_state.specs.Map.{Map, PutBytes, map_after_answer}
 use Rattle.core_state.specs.Legal.{IsGroupBefore, IsAnswerOf}
 use Rattle.core_state.specs.Keeps.{Kept, Setting}
 use Rattle.core_state.specs.Certain.{Knows}
 use Rattle.core_state.specs.World.{World}
-use Rattle.core_client.specs.Outs.{point_of}
+use Rattle.core_state.specs.Committing.{point_of}
 use Rattle.core_commit.specs.CommitTurns.{CommitRun}
 use Rattle.core_commit.proofs.Beside.{committing_cut}
 use Rattle.core_turns.specs.Core.{Core, CoreState}
 use Rattle.core_turns.specs.Getting.{HasTooManyOut}
 use Rattle.core_turns.specs.Committing.{IsSyncRefused}
-use Rattle.core_turns.specs.UnderWay.{Call, GroupsStand}
+use Rattle.core_turns.specs.UnderWay.{HoldingCall, GroupsStand}
 use Rattle.schedule.specs.declared.client.Client.{Client}
 use Rattle.schedule.specs.declared.client.UnderWay.{UnderWay}
 use Rattle.schedule.specs.declared.client.Work.TheVariants as work
@@ -32,7 +32,7 @@ use Rattle.schedule.proofs.Going.{run_is}
 -- ---- the core's commit
 
 -- What is certain of the last group, whether a commit is under way or not.
-pub groups_know : (setting : Setting) (last : Kept) (begun : List Kept) (calls : List Call) (commit : Option CommitRun)
+pub groups_know : (setting : Setting) (last : Kept) (begun : List Kept) (calls : List HoldingCall) (commit : Option CommitRun)
     (state : CoreState) → GroupsStand setting last begun calls commit state → Knows setting last begun state.disk
 groups_know setting last begun calls None state groups = groups.knows
 groups_know setting last begun calls (Some run) state groups =
@@ -40,7 +40,7 @@ groups_know setting last begun calls (Some run) state groups =
     (committing_cut setting last groups.next run (point_of state.core.pool.out state.disk) groups.come)
 
 -- Where the core has no commit under way, none stands;
-pub no_commit : (setting : Setting) (last : Kept) (begun : List Kept) (calls : List Call) (commit : Option CommitRun)
+pub no_commit : (setting : Setting) (last : Kept) (begun : List Kept) (calls : List HoldingCall) (commit : Option CommitRun)
     (state : CoreState) → state.core.committing ≡ None → GroupsStand setting last begun calls commit state
     → commit ≡ None
 no_commit setting last begun calls None state none groups = refl
@@ -73,7 +73,7 @@ refused_tells core answer.NoMemory refused listed is = cc
 refused_tells core other refused listed is = absurd refused
 
 -- changes no block,
-pub refused_map : (handed : Handed) (map : Map) (entry : Entry) (core : Core) (given : Answer)
+pub refused_map : (handed : PutBytes) (map : Map) (entry : Entry) (core : Core) (given : Answer)
     → IsSyncRefused core given → map_after_answer handed map entry given ≡ map
 refused_map handed map entry core (answer.TooManyFailed out) refused = refl
 refused_map handed map entry core (answer.Limit reached) refused = refl

@@ -5,7 +5,7 @@ use Rattle.std.proofs.lemmas.Bool.{cases_eq}
 use Rattle.space_alloc.specs.Space.{Gains}
 use Rattle.core_blocks.proofs.Lists.{gains_old, gains_item, gains_cases, pairs_beside}
 use Rattle.core_commit.specs.CommitTurns.{CommitRun}
-use Rattle.core_turns.specs.UnderWay.{Call, Putting, Reading, HaveNoneInCommon, AreBeside, hold_of_call}
+use Rattle.core_turns.specs.UnderWay.{HoldingCall, Putting, Reading, HaveNoneInCommon, AreBeside, hold_of_call}
 use Rattle.schedule.specs.declared.client.Client.{Client}
 use Rattle.schedule.specs.declared.client.UnderWay.{UnderWay}
 use Rattle.schedule.specs.declared.client.Work.{Work}
@@ -20,17 +20,17 @@ pub none_some : {A : Type 0} {one : A} → None ≡ Some one → ⊥
 none_some same = cc
 
 -- the actor of a call
-abbrev pub actor_of : Call → ℕ
+abbrev pub actor_of : HoldingCall → ℕ
 actor_of call = (hold_of_call call).actor
 
 -- Being beside each other has no order.
-apart_back : (one other : Call) → HaveNoneInCommon one other → HaveNoneInCommon other one
+apart_back : (one other : HoldingCall) → HaveNoneInCommon one other → HaveNoneInCommon other one
 apart_back (Putting run content) (Putting next held) clear = λ sector first second. clear sector second first
 apart_back (Putting run content) (Reading next held) clear = λ sector first second. clear sector second first
 apart_back (Reading run content) (Putting next held) clear = λ sector first second. clear sector second first
 apart_back (Reading run content) (Reading next held) clear = tt
 
-pub beside_back : (one other : Call) → AreBeside one other → AreBeside other one
+pub beside_back : (one other : HoldingCall) → AreBeside one other → AreBeside other one
 beside_back one other are = record { actors = λ same. are.actors (sym same); apart = apart_back one other are.apart }
 
 -- A client that has no call under way goes on with none,
@@ -48,7 +48,7 @@ going_under clients index client under was is its its_under going =
 
 -- Where it has none, all calls under way are others'.
 pub calls_of_others : (clients : List Client) (index : ℕ) (client : Client) → slice_get clients index ≡ Some client
-    → client.under_way ≡ None → (calls : List Call) → AreTheirs clients calls → (call : Call) → Contains calls call
+    → client.under_way ≡ None → (calls : List HoldingCall) → AreTheirs clients calls → (call : HoldingCall) → Contains calls call
     → actor_of call ≢ index
 calls_of_others clients index client was idle calls theirs call listed its =
     let found = theirs.of call listed in
@@ -75,10 +75,10 @@ module _ (old new : List Client) (index : ℕ) (client : Client) (changes : Chan
       (same, ap (λ (c : Client). c.under_way) same ∙ going.under_way)
 
   -- The client has this call under way, and the others have theirs.
-  theirs_now : (calls left nexts : List Call) (next : Call) (under : UnderWay) → client.under_way ≡ Some under
+  theirs_now : (calls left nexts : List HoldingCall) (next : HoldingCall) (under : UnderWay) → client.under_way ≡ Some under
       → Gains left nexts next → actor_of next ≡ index → IsWorkOf under.work next
-      → ((other : Call) → Contains left other → (actor_of other ≢ index) × Contains calls other)
-      → ((other : Call) → Contains calls other → actor_of other ≢ index → Contains left other)
+      → ((other : HoldingCall) → Contains left other → (actor_of other ≢ index) × Contains calls other)
+      → ((other : HoldingCall) → Contains calls other → actor_of other ≢ index → Contains left other)
       → AreTheirs old calls → AreTheirs new nexts
   theirs_now calls left nexts next under going is its work_of others had theirs = record {
     of = λ other listed. ⊎_elim
@@ -91,7 +91,7 @@ module _ (old new : List Client) (index : ℕ) (client : Client) (changes : Chan
         (cases_eq other index);
   }
     where
-      Its : Call → Type 0
+      Its : HoldingCall → Type 0
       Its other = (its_client : Client) × (its_under : UnderWay) × IsGoing new (actor_of other) its_client its_under
           × IsWorkOf its_under.work other
 
@@ -103,7 +103,7 @@ module _ (old new : List Client) (index : ℕ) (client : Client) (changes : Chan
         work_of,
       )
 
-      there : (other : Call) → Contains left other → Its other
+      there : (other : HoldingCall) → Contains left other → Its other
       there other among =
           let was = others other among in
           let found = theirs.of other was.1 in
@@ -111,7 +111,7 @@ module _ (old new : List Client) (index : ℕ) (client : Client) (changes : Chan
 
       mine : (other : ℕ) (its_client : Client) (its_under : UnderWay) → other ≡ index
           → IsGoing new other its_client its_under
-          → (held : Call) × Contains nexts held × IsWorkOf its_under.work held × (actor_of held ≡ other)
+          → (held : HoldingCall) × Contains nexts held × IsWorkOf its_under.work held × (actor_of held ≡ other)
       mine other its_client its_under same its_going =
           let found = going_here its_client its_under
           (subst (λ (n : ℕ). IsGoing new n its_client its_under) same its_going) in
@@ -124,7 +124,7 @@ module _ (old new : List Client) (index : ℕ) (client : Client) (changes : Chan
 
       theirs_too : (other : ℕ) (its_client : Client) (its_under : UnderWay) → other ≢ index
           → IsGoing new other its_client its_under → (IsSync its_under.work → ⊥)
-          → (held : Call) × Contains nexts held × IsWorkOf its_under.work held × (actor_of held ≡ other)
+          → (held : HoldingCall) × Contains nexts held × IsWorkOf its_under.work held × (actor_of held ≡ other)
       theirs_too other its_client its_under apart its_going held =
           let found = theirs.every other its_client its_under
           (going_was other its_client its_under apart its_going) held in
@@ -132,7 +132,7 @@ module _ (old new : List Client) (index : ℕ) (client : Client) (changes : Chan
           (found.0, gains_old left nexts next found.0 is among, found.2, found.3)
 
   -- A call of the client's goes on.
-  pub theirs_goes : (left calls nexts : List Call) (call next : Call) (under : UnderWay)
+  pub theirs_goes : (left calls nexts : List HoldingCall) (call next : HoldingCall) (under : UnderWay)
       → client.under_way ≡ Some under → Gains left calls call → Gains left nexts next
       → actor_of call ≡ index → actor_of next ≡ index → IsWorkOf under.work next
       → AllPairs AreBeside calls → AreTheirs old calls → AreTheirs new nexts
@@ -150,7 +150,7 @@ module _ (old new : List Client) (index : ℕ) (client : Client) (changes : Chan
       theirs
 
   -- A call of the client's begins.
-  pub theirs_begins : (left calls : List Call) (call : Call) (under : UnderWay)
+  pub theirs_begins : (left calls : List HoldingCall) (call : HoldingCall) (under : UnderWay)
       → ((its : Client) (was : UnderWay) → IsGoing old index its was → ⊥)
       → client.under_way ≡ Some under → Gains left calls call → actor_of call ≡ index → IsWorkOf under.work call
       → AreTheirs old left → AreTheirs new calls
@@ -165,7 +165,7 @@ module _ (old new : List Client) (index : ℕ) (client : Client) (changes : Chan
       (λ other among apart. among) theirs
 
   -- A call of the client's ends.
-  pub theirs_ends : (left calls : List Call) (call : Call) → client.under_way ≡ None → Gains left calls call
+  pub theirs_ends : (left calls : List HoldingCall) (call : HoldingCall) → client.under_way ≡ None → Gains left calls call
       → actor_of call ≡ index → AllPairs AreBeside calls → AreTheirs old calls → AreTheirs new left
   theirs_ends left calls call ended was its beside theirs = record {
     of = λ other had.
@@ -182,7 +182,7 @@ module _ (old new : List Client) (index : ℕ) (client : Client) (changes : Chan
     where
       theirs_too : (other : ℕ) (its_client : Client) (its_under : UnderWay) → other ≢ index
           → IsGoing new other its_client its_under → (IsSync its_under.work → ⊥)
-          → (held : Call) × Contains left held × IsWorkOf its_under.work held × (actor_of held ≡ other)
+          → (held : HoldingCall) × Contains left held × IsWorkOf its_under.work held × (actor_of held ≡ other)
       theirs_too other its_client its_under apart its_going held =
           let found = theirs.every other its_client its_under
           (going_was other its_client its_under apart its_going) held in
@@ -193,7 +193,7 @@ module _ (old new : List Client) (index : ℕ) (client : Client) (changes : Chan
           (found.0, had, found.2, found.3)
 
   -- The client has no call under way that holds sectors, before and after.
-  pub theirs_stays : (calls : List Call)
+  pub theirs_stays : (calls : List HoldingCall)
       → ((its : Client) (was : UnderWay) → IsGoing old index its was → IsSync was.work)
       → ((under : UnderWay) → client.under_way ≡ Some under → IsSync under.work)
       → AreTheirs old calls → AreTheirs new calls
@@ -210,7 +210,7 @@ module _ (old new : List Client) (index : ℕ) (client : Client) (changes : Chan
         (cases_eq other index);
   }
     where
-      never : (call : Call) (does : Work) → IsSync does → IsWorkOf does call → ⊥
+      never : (call : HoldingCall) (does : Work) → IsSync does → IsWorkOf does call → ⊥
       never call (work.Put run) sync of = sync
       never call (work.Read run) sync of = sync
       never call (work.Sync run) sync of = of

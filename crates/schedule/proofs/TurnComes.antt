@@ -19,8 +19,8 @@ use Rattle.core_turns.specs.declared.turn.Turn.TheVariants.{Done}
 use Rattle.core_turns.proofs.Commits.{turn_bank}
 use Rattle.schedule.specs.declared.client.Client.{Client}
 use Rattle.schedule.specs.declared.client.UnderWay.{UnderWay}
-use Rattle.schedule.specs.Clients.{AreAnswered}
-use Rattle.schedule.specs.Coming.{HasCome}
+use Rattle.schedule.specs.Clients.{ClientsAreAnswered}
+use Rattle.schedule.specs.Coming.{LeadTo}
 use Rattle.schedule.specs.Turns.{turns_of, Turns, taken_by, IsListedWith}
 use Rattle.schedule.specs.Running.{AreGoing, Runs}
 use Rattle.schedule.specs.Recorded.{IsRightNext}
@@ -79,7 +79,7 @@ module _ (script : Script) (actor : ℕ) (before after : Station) (clients news 
   pub came_listed : (more : List Item) → TurnGoesOn before.state after.state → after.items ≡ before.items ++ more
       → FitSince was now
       → RunsOn script before after clients news (before.items ++ more) → FullStays script was now
-      → HasCome script was (taken_by actor now ∷ []) now
+      → LeadTo script was (taken_by actor now ∷ []) now
   came_listed more goes items fit runs full = came_turn script actor was now goes takes.space more items fit
       (λ world past handed within listed stood.
       subst (λ (l : List Item). Runs world script past after.state l news) (sym items)
@@ -99,7 +99,7 @@ module _ (script : Script) (actor : ℕ) (before after : Station) (clients news 
         (full_same script was now items);
     schedule = record {
       going = going;
-      answered = subst (AreAnswered script news) (sym items)
+      answered = subst (ClientsAreAnswered script news) (sym items)
           (answers_same script clients news actor before.client after.client before.items takes.changes takes.was few
           some takes.schedule.answered same);
       bank = turn_bank before.state after.state goes takes.schedule.bank;
@@ -126,7 +126,7 @@ module _ (script : Script) (actor : ℕ) (before after : Station) (clients news 
           (full_answer script was now its_entry items full);
       schedule = record {
         going = going;
-        answered = subst (AreAnswered script news) (sym items)
+        answered = subst (ClientsAreAnswered script news) (sym items)
             (answers_call script clients news actor before.client after.client before.items takes.changes takes.was few
             (λ under is. absurd (none_some (sym (ap (λ (c : Client). c.under_way) client_is) ∙ is)))
             takes.schedule.answered call its_entry (ap answered client_is ∙ number_is) next refl number_is refl refl);

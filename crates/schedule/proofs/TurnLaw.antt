@@ -14,14 +14,14 @@ use Rattle.client_script.specs.Script.{Script, MayHave, IsAllowed, calls_of}
 use Rattle.core_turns.specs.declared.turn.Turn.{Turn}
 use Rattle.core_turns.specs.declared.turn.Turn.TheVariants.{More, Busy, Done}
 use Rattle.core_turns.specs.declared.getting.GetRun.{GetRun}
-use Rattle.core_turns.specs.Getting.{IsRead, BeginsGet}
+use Rattle.core_turns.specs.Getting.{IsReadKind, BeginsGet}
 use Rattle.core_turns.specs.UnderWay.{TurnGoesOn}
 use Rattle.schedule.specs.declared.client.Client.{Client}
 use Rattle.schedule.specs.declared.client.UnderWay.{UnderWay}
 use Rattle.schedule.specs.declared.client.Work.{Work}
 use Rattle.schedule.specs.declared.client.Work.TheVariants as work
 use Rattle.schedule.specs.Comes.{TakesTurn, Comes}
-use Rattle.schedule.specs.Turned.{Station, Begins, Waits, AnswersAtOnce, BeginsCall, GoesOnBy, LeavesBegun, LeavesGoing, HasTableOf, Turned, Nothing, Began, Went}
+use Rattle.schedule.specs.Turned.{Station, BeginsWork, Waits, AnswersAtOnce, BeginsCall, GoesOnBy, LeavesBegun, LeavesGoing, HasTableOf, Turned, Nothing, Began, Went}
 use Rattle.schedule.proofs.TurnComes.{comes_nowhere}
 use Rattle.schedule.proofs.FreeComes.{free_at_once}
 use Rattle.schedule.proofs.PutComes.{put_begins, put_waits, put_at_once}
@@ -51,12 +51,12 @@ module _ (script : Script) (actor : ℕ) (before after : Station) (clients news 
         → BeginsGet before.state.core after.state.core actor call.kind id turn
     as_read asked id turn is = subst (λ (k : Kind). BeginsGet before.state.core after.state.core actor k id turn) (sym is)
 
-    is_read : (asked : Kind) → call.kind ≡ asked → IsRead asked → IsRead call.kind
-    is_read asked is = subst IsRead (sym is)
+    is_read : (asked : Kind) → call.kind ≡ asked → IsReadKind asked → IsReadKind call.kind
+    is_read asked is = subst IsReadKind (sym is)
 
     -- one that goes on,
     begins_by : (asked : Kind) (id : Option ℕ) (does : Work) → call.kind ≡ asked → call.id ≡ id
-        → Begins before.state.core after.state.core actor call asked id does
+        → BeginsWork before.state.core after.state.core actor call asked id does
         → HasTableOf before.state.core (More does) → LeavesBegun actor call before after (More does)
         → ItComes
     begins_by kind.Put (Some id) (work.Put run) asked id_is did table leaves =

@@ -10,9 +10,9 @@ use Rattle.core_turns.specs.declared.getting.GetRun.{GetRun}
 use Rattle.core_turns.specs.declared.putting.PutRun.{PutRun}
 use Rattle.core_turns.specs.Core.{Core, IsCore}
 use Rattle.core_blocks.specs.Blocks.{IsUnderWay}
-use Rattle.core_turns.specs.Getting.{HasTooManyOut, IsGetOf, IsRead}
+use Rattle.core_turns.specs.Getting.{HasTooManyOut, IsGetOf, IsReadKind}
 use Rattle.core_turns.specs.Putting.{IsPutOf}
-use Rattle.core_turns.specs.UnderWay.{Call, Putting, Reading}
+use Rattle.core_turns.specs.UnderWay.{HoldingCall, Putting, Reading}
 use Rattle.core_turns.proofs.Calls.{range_listed}
 use Rattle.schedule.specs.declared.client.Client.{Client}
 use Rattle.schedule.specs.declared.client.UnderWay.{UnderWay}
@@ -22,7 +22,7 @@ use Rattle.schedule.specs.Clients.{Changes}
 use Rattle.schedule.specs.Comes.{Comes, TakesTurn}
 use Rattle.schedule.specs.Coming.{IsSchedule}
 use Rattle.schedule.specs.Turns.{Turns, turns_of, taken_by}
-use Rattle.schedule.specs.Playing.{HasRoom, IsReady}
+use Rattle.schedule.specs.Playing.{HasRoomForAnswers, IsReady}
 use Rattle.schedule.specs.Replaying.{AreIdle, HasTurn, OnlyShared, TakesOne}
 use Rattle.schedule.specs.Running.{AreGoing, IsGoing, IsSync, IsWorkFor, IsWorkOf}
 use Rattle.schedule.specs.Turned.{MayGoOn, Station, Turned}
@@ -60,7 +60,7 @@ going_may script core clients index client under call going is asked =
         × IsWorkFor its under.work
     found = going.asked index client under is
 
-    held : (IsSync under.work → ⊥) → (its : Call) × Contains going.calls its × IsWorkOf under.work its
+    held : (IsSync under.work → ⊥) → (its : HoldingCall) × Contains going.calls its × IsWorkOf under.work its
     held no_sync = let its = going.theirs.every index client under is no_sync in (its.0, its.1, its.2)
 
     may : (does : Work) → under.work ≡ does → IsWorkFor call does → MayGoOn core call does
@@ -68,7 +68,7 @@ going_may script core clients index client under call going is asked =
         let its = held (λ sync. subst IsSync same sync) in
         putting its.0 its.1 (subst (λ (d : Work). IsWorkOf d its.0) same its.2)
       where
-        putting : (its : Call) → Contains going.calls its → IsWorkOf (work.Put run) its
+        putting : (its : HoldingCall) → Contains going.calls its → IsWorkOf (work.Put run) its
             → MayGoOn core call (work.Put run)
         putting (Putting other content) listed is_its = (
           subst (λ (r : PutRun). IsPutOf core r) (sym is_its) (going.are.each (Putting other content) listed),
@@ -81,10 +81,10 @@ going_may script core clients index client under call going is asked =
         let its = held (λ sync. subst IsSync same sync) in
         reading its.0 its.1 (subst (λ (d : Work). IsWorkOf d its.0) same its.2)
       where
-        reading : (its : Call) → Contains going.calls its → IsWorkOf (work.Read run) its
+        reading : (its : HoldingCall) → Contains going.calls its → IsWorkOf (work.Read run) its
             → MayGoOn core call (work.Read run)
         reading (Putting other content) listed is_its = absurd is_its
-        reading (Reading other content) listed is_its = subst (λ (r : GetRun). IsRead r.kind × IsGetOf core r)
+        reading (Reading other content) listed is_its = subst (λ (r : GetRun). IsReadKind r.kind × IsGetOf core r)
             (sym is_its) (going.are.each (Reading other content) listed)
     may (work.Sync run) same for = (going.syncs index client under run is same).0
 
@@ -199,7 +199,7 @@ module _ (script : Script) (actor : ℕ) (before after : Station) (clients news 
 
   -- The next turn may be taken then.
   pub turn_ready : (left : ℕ) → length clients ≡ script.clients → length news ≡ length clients
-      → HasRoom script news left → IsReady script (turns_of after.state after.items news) left
+      → HasRoomForAnswers script news left → IsReady script (turns_of after.state after.items news) left
   turn_ready left counted same enough = record {
     schedule = comes.schedule;
     shared = turned_shared (calls_of script actor) actor before after turned shared;

@@ -9,7 +9,7 @@ use Rattle.std.proofs.lemmas.List.Sums.{sum_by-append}
 use Rattle.std.proofs.lemmas.Option.{slice_get_within, get_or_from_slice_get}
 use Rattle.width_map.specs.declared.birth.Birth.{Birth}
 use Rattle.width_map.specs.Births.{width_from, width_of_birth, NoneAbove}
-use Rattle.space_alloc.specs.Space.{Run, Space, Gains, IsFull as HasNoRun}
+use Rattle.space_alloc.specs.Space.{Run, Space, Gains, HasNoFreeRun}
 use Rattle.block_record.specs.declared.entry.IndexEntry.{IndexEntry}
 use Rattle.uberblock_ring.specs.Uberblock.{Uber}
 use Rattle.core_blocks.specs.Runs.{held_sectors}
@@ -247,8 +247,8 @@ space_with capacity runs = record { capacity = capacity; taken = runs; held = []
 
 -- Where no run is free, none is beside the runs that were taken since the opening,
 full_beside : (runs : List Run) (core : Core) (size : ℕ) → AreRunsOf runs core
-    → HasNoRun core.pool.blocks.space core.holds size
-    → HasNoRun (space_with core.pool.blocks.space.capacity runs) [] size
+    → HasNoFreeRun core.pool.blocks.space core.holds size
+    → HasNoFreeRun (space_with core.pool.blocks.space.capacity runs) [] size
 full_beside runs core size are full start free = full start (λ sector inside. let its = free sector inside in record {
   below = its.below;
   untaken = λ taken. its.untaken (taken.0, are.taken taken.0 taken.1, taken.2);
@@ -265,7 +265,7 @@ full_beside runs core size are full start free = full start (λ sector inside. l
 
 -- and so they could leave none.
 pub full_by_runs : (runs : List Run) (core : Core) (left sizes : List ℕ) (size : ℕ) → AreRunsOf runs core
-    → AreAtMost runs left sizes → HasNoRun core.pool.blocks.space core.holds size
+    → AreAtMost runs left sizes → HasNoFreeRun core.pool.blocks.space core.holds size
     → IsTight core.pool.blocks.space.capacity sizes size
 full_by_runs runs core left sizes size are most full =
     full_tight (space_with core.pool.blocks.space.capacity runs) sizes size (record {

@@ -4,7 +4,7 @@ use Rattle.std.specs.Prelude.{option_map, slice_get, unwrap_or}
 use Rattle.reflow_mark.specs.Reflow.{sectors_of}
 use Rattle.reconstruct.specs.Rows.{sectors_for}
 use Rattle.row_layout.specs.Layout.{allocated_of}
-use Rattle.space_alloc.specs.Space.{Run, Gains, IsFull as HasNoRun}
+use Rattle.space_alloc.specs.Space.{Run, Gains, HasNoFreeRun}
 use Rattle.width_map.specs.Births.{width_of_birth}
 use Rattle.block_record.specs.declared.entry.IndexEntry.{IndexEntry}
 use Rattle.uberblock_ring.specs.Uberblock.{Uber}
@@ -44,7 +44,7 @@ use Rattle.schedule.proofs.UsingEnds.{GoesWith, IsPlainEnd, works_end, works_go}
 first_none : (old new : Core) (actor : ℕ) (call : ScriptCall) (asked : Kind) (id : Option ℕ) (size : ℕ)
     → AnswersAtOnce old new actor call asked id (answer.NoSpace size)
     → (size ≡ sectors_taken old.pool.uber.parity old.pool.uber.births (length (fill_bytes call.fill)) (old.begun + 1))
-    × HasNoRun old.pool.blocks.space old.holds size
+    × HasNoFreeRun old.pool.blocks.space old.holds size
 first_none old new actor call kind.Put (Some id) size answers = (answers.1, answers.2)
 first_none old new actor call kind.Get (Some id) size answers = absurd answers.1
 first_none old new actor call kind.Sum (Some id) size answers = absurd answers.1
@@ -190,7 +190,7 @@ module _ (script : Script) (actor : ℕ) (before after : Station) (clients news 
       → slice_get (calls_of script actor) before.client.begun ≡ Some call
       → (size ≡ sectors_taken old.pool.uber.parity old.pool.uber.births (length (fill_bytes call.fill))
       (old.begun + 1))
-      → HasNoRun old.pool.blocks.space old.holds size
+      → HasNoFreeRun old.pool.blocks.space old.holds size
       → FindsNoSpace script uber entries before.items (length before.items)
       (entry_for call actor (before.client.begun + 1) (length before.items) given) size
   finds call given size next size_is none = record {

@@ -32,7 +32,7 @@ use Rattle.journal_law.specs.NoSpace.{length_put, largest_size}
 use Rattle.journal_law.proofs.NoSpace.{largest}
 use Rattle.schedule.specs.declared.client.Work.{Work}
 use Rattle.schedule.specs.declared.client.Work.TheVariants as work
-use Rattle.schedule.specs.Turned.{AnswersAtOnce, Begins, Waits}
+use Rattle.schedule.specs.Turned.{AnswersAtOnce, BeginsWork, Waits}
 use Rattle.schedule.specs.Using.{AreRunsOf, IsHeldIn, IsOpenSince}
 
 -- ---- runs
@@ -272,7 +272,7 @@ module _ (old new : Core) (is : IsCore old) where
 
   -- A first turn: one that goes on,
   pub works_begin : (actor : ℕ) (call : ScriptCall) (asked : Kind) (id : Option ℕ) (does : Work)
-      → Begins old new actor call asked id does → BeginsOn old new (length_put asked (fill_bytes call.fill))
+      → BeginsWork old new actor call asked id does → BeginsOn old new (length_put asked (fill_bytes call.fill))
   works_begin actor call kind.Put (Some id) (work.Put run) begins =
       put_begins actor id (length (fill_bytes call.fill)) run begins
   works_begin actor call kind.Get (Some id) (work.Read run) begins =

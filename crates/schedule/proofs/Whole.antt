@@ -14,14 +14,15 @@ use Rattle.core_state.specs.Journal.{CallsAreRight}
 use Rattle.core_state.specs.Keeps.{Kept, Setting}
 use Rattle.core_state.specs.World.{World}
 use Rattle.core_blocks.specs.Blocks.{AreUnderWay}
-use Rattle.core_client.specs.Outs.{point_of, OnlyFailedGoOut}
+use Rattle.core_client.specs.Outs.{OnlyFailedGoOut}
+use Rattle.core_state.specs.Committing.{point_of}
 use Rattle.core_commit.specs.Spared.{IsOnInUse}
 use Rattle.core_open.specs.Causes.{IsOutFor, AreOutIn, AreOutOf}
 use Rattle.core_open.specs.Failing.{HaveFailed}
 use Rattle.core_open.specs.Holds.{HoldsImage, shape_of}
 use Rattle.core_open.specs.Opens.{HasBank, IsWithinBelow, RenewsChoice, WritesInOrder}
 use Rattle.core_open.specs.Regions.{IsOnBelow}
-use Rattle.open_pool.specs.Opening.{AreLoaded, MayBegin, Begins, IsBegunWith}
+use Rattle.open_pool.specs.Opening.{AreLoaded, MayBegin, OpensPool, IsBegunWith}
 use Rattle.open_pool.specs.Pool.{Pool}
 use Rattle.client_script.specs.Script.{Script, asked_by, handed_by}
 use Rattle.journal_law.specs.Moments.{KeepsLast}
@@ -35,11 +36,11 @@ use Rattle.schedule.specs.declared.client.Client.{Client}
 use Rattle.schedule.specs.declared.whole_run.Ended.{Ended}
 use Rattle.schedule.specs.declared.whole_run.Ended.TheVariants.{Whole, NoMemory, Limit}
 use Rattle.schedule.specs.Caused.{FullIsCaused}
-use Rattle.schedule.specs.Coming.{HasCome}
+use Rattle.schedule.specs.Coming.{LeadTo}
 use Rattle.schedule.specs.Turns.{turns_of, TurnTaken, Turns, bank_when}
 use Rattle.schedule.specs.InTurn.{Cursor, InOrder, HaveTaken, Replay, replay_at}
 use Rattle.schedule.specs.Moments.{Past}
-use Rattle.schedule.specs.Playing.{EndsSo}
+use Rattle.schedule.specs.Playing.{EndsAs}
 use Rattle.schedule.specs.Replaying.{blank_clients}
 use Rattle.schedule.specs.Running.{Runs}
 use Rattle.schedule.specs.WholeRun.{HasRun, HasRunInTurn, RunKeeps, first_turns}
@@ -86,7 +87,7 @@ module _ (script : Script) (old mid : Disk) (pool : Pool) (silent : ℕ) (items 
     (rest : AreUnderWay pool.blocks []) (bank : HasBank pool.uber pool.out mid) (lawful : Lawful old)
     (right : IsRightUber pool.uber) (loaded : AreLoaded pool.uber pool.blocks.table.entries pool.blocks)
     (taken : HaveTaken script (first_turns script (at_disk (resting pool) mid) (first_item pool)) passed)
-    (come : HasCome script (first_turns script (at_disk (resting pool) mid) (first_item pool)) passed
+    (come : LeadTo script (first_turns script (at_disk (resting pool) mid) (first_item pool)) passed
     (turns_of final items clients))
     (calls : CallsAreRight (asked_by script) items) where
   abbrev item : GroupItem
@@ -108,7 +109,7 @@ module _ (script : Script) (old mid : Disk) (pool : Pool) (silent : ℕ) (items 
   module _ (setting : Setting) (first : Kept) (later : List Kept) (may : MayBegin setting first later old)
       (width : first.uber.reflow.to ≡ pool.uber.reflow.to)
       (borne_in : IsWithin come.borne setting.failed) where
-    begins : Begins setting first later pool silent old mid
+    begins : OpensPool setting first later pool silent old mid
     begins = begun.each setting first later may width
         (λ device out. borne_in device (come.from_start few device out))
 
@@ -222,7 +223,7 @@ module _ (script : Script) (old mid : Disk) (pool : Pool) (silent : ℕ) (items 
 
   -- and the turns were those of the clients whose turn it was.
   pub has_run_in_turn : (listed : List ℕ) (ended : Ended) (turns : ℕ) (cursor : Cursor)
-      → EndsSo script (replay_at first_state 0 (InOrder listed)) passed
+      → EndsAs script (replay_at first_state 0 (InOrder listed)) passed
       (replay_at (turns_of final items clients) turns cursor) ended
       → HasRunInTurn script listed old final.disk items
       (record { ended = ended; turns = turns; out = final.core.pool.out })
@@ -234,7 +235,7 @@ module _ (script : Script) (old mid : Disk) (pool : Pool) (silent : ℕ) (items 
 
 -- However they ended, the turns were taken one after the other.
 pub ends_taken : (script : Script) (start now : Replay) (passed : List TurnTaken) (ended : Ended)
-    → EndsSo script start passed now ended → HaveTaken script start.turns passed
+    → EndsAs script start passed now ended → HaveTaken script start.turns passed
 ends_taken script start now passed Whole ends = (gone_taken script start now passed ends.0).0
 ends_taken script start now passed NoMemory ends =
     subst (HaveTaken script start.turns) (sym ends.1) tt

@@ -20,7 +20,7 @@ answered_of begun (Some under) = begun - 1
 
 -- The journal answers the first calls of each client, those that were begun and aren't under way, each once and
 -- in order, and no others.
-pub record AreAnswered (script : Script) (clients : List Client) (items : List Item) : Type 0 where
+pub record ClientsAreAnswered (script : Script) (clients : List Client) (items : List Item) : Type 0 where
   pub right : CallsAreRight (asked_by script) items
   pub few : (caller : ℕ) (client : Client) → slice_get clients caller ≡ Some client
       → client.begun ≤ length (calls_of script caller)

@@ -5,7 +5,7 @@ use Rattle.client_script.specs.Script.{Script}
 use Rattle.core_turns.specs.Core.{IsCore}
 use Rattle.schedule.specs.declared.client.Client.{Client}
 use Rattle.schedule.specs.Clients.{Changes}
-use Rattle.schedule.specs.Coming.{HasCome, IsSchedule, KeepsUsing}
+use Rattle.schedule.specs.Coming.{LeadTo, IsSchedule, KeepsUsing}
 use Rattle.schedule.specs.Turned.{Station}
 use Rattle.schedule.specs.Turns.{taken_by, turns_of}
 
@@ -22,6 +22,6 @@ pub record TakesTurn (script : Script) (actor : ℕ) (before after : Station) (c
 
 -- It comes to a state in which the next turn may be taken.
 pub record Comes (script : Script) (actor : ℕ) (before after : Station) (clients news : List Client) : Type 0 where
-  pub come : HasCome script (turns_of before.state before.items clients)
+  pub come : LeadTo script (turns_of before.state before.items clients)
       (taken_by actor (turns_of after.state after.items news) ∷ []) (turns_of after.state after.items news)
   pub schedule : IsSchedule script (turns_of after.state after.items news)

@@ -9,12 +9,13 @@ use Rattle.core_state.specs.declared.item.Entry.{Entry}
 use Rattle.core_state.specs.declared.item.Item.{Item}
 use Rattle.core_state.specs.Legal.{CallAt}
 use Rattle.core_state.specs.World.{World}
-use Rattle.core_client.specs.Outs.{point_of, OnlyFailedGoOut}
+use Rattle.core_client.specs.Outs.{OnlyFailedGoOut}
+use Rattle.core_state.specs.Committing.{point_of}
 use Rattle.core_commit.specs.Spared.{IsOnInUse}
 use Rattle.open_pool.specs.Pool.{HasBank}
 use Rattle.client_script.specs.Script.{Script, handed_by}
 use Rattle.schedule.specs.Caused.{FullIsCaused}
-use Rattle.schedule.specs.Clients.{AreAnswered}
+use Rattle.schedule.specs.Clients.{ClientsAreAnswered}
 use Rattle.schedule.specs.Fitting.{FitsCall}
 use Rattle.schedule.specs.Moments.{Past}
 use Rattle.schedule.specs.Running.{AreGoing, Runs}
@@ -24,7 +25,7 @@ use Rattle.schedule.specs.Using.{HasUsedRuns}
 -- What is needed of the calls under way, and which calls the journal answers.
 pub record IsSchedule (script : Script) (turns : Turns) : Type 0 where
   pub going : AreGoing script turns.state.core turns.clients
-  pub answered : AreAnswered script turns.clients turns.items
+  pub answered : ClientsAreAnswered script turns.clients turns.items
   pub bank : HasBank turns.state.core.pool.uber turns.state.core.pool.out turns.state.disk
 
 -- What turns have used of a pool's space since its opening goes on being known.
@@ -37,7 +38,7 @@ KeepsUsing script start now = (uber : Uber) (entries : List IndexEntry)
 -- of the pool that were in use. What was answered fits its call. The devices whose failure has to be borne were out when it began, or have failed, and are no
 -- more than there are parities; none where too many were out then, since no device is called any more. Where these may
 -- fail, what stood stands, and answers that the table is full have their cause.
-pub record HasCome (script : Script) (start : Turns) (passed : List TurnTaken) (now : Turns) : Type 0 where
+pub record LeadTo (script : Script) (start : Turns) (passed : List TurnTaken) (now : Turns) : Type 0 where
   pub ends : last_left start passed ≡ now
   pub later : Later start.state.disk now.state.disk
   pub parity : now.state.core.pool.uber.parity ≡ start.state.core.pool.uber.parity

@@ -44,7 +44,7 @@ abbrev pub has_left_at : List Client → ℕ → ℕ → Bool
 has_left_at clients actor number = has_left (slice_get clients actor) number
 
 -- The call of a script after so many is this client's, and has this number among its calls, from 1.
-pub record IsCallOf (script : Script) (given actor number : ℕ) : Type 0 where
+pub record IsCallOfScript (script : Script) (given actor number : ℕ) : Type 0 where
   pub placed : Placed
   pub there : slice_get script.calls given ≡ Some placed
   pub is : placed.actor ≡ actor
@@ -127,7 +127,7 @@ IsStepOf script before passed more after (Some actor) = IsTurnOf script actor be
     × (after.taken ≡ before.taken + 1) × (more ≡ passed ++ taken_by actor after.turns ∷ [])
 
 -- One step of a replay: the turn of the client whose it is there.
-pub record Steps (script : Script) (before : Replay) (passed more : List TurnTaken) (after : Replay) : Type 0 where
+pub record ReplaySteps (script : Script) (before : Replay) (passed more : List TurnTaken) (after : Replay) : Type 0 where
   pub turn : IsStepOf script before passed more after (turn_at script before.turns.clients before.cursor)
   pub cursor : after.cursor ≡ cursor_after script before.turns.clients before.cursor
 
@@ -135,7 +135,7 @@ pub record Steps (script : Script) (before : Replay) (passed more : List TurnTak
 abbrev pub Goes : Script → ℕ → Replay → List TurnTaken → Replay → Type 0
 Goes script zero start passed now = (now ≡ start) × (passed ≡ [])
 Goes script (suc steps) start passed now = (middle : Replay) × (before : List TurnTaken)
-    × Goes script steps start before middle × Steps script middle before passed now
+    × Goes script steps start before middle × ReplaySteps script middle before passed now
 
 -- A replay has gone on by some steps.
 pub record HasGone (script : Script) (start : Replay) (passed : List TurnTaken) (now : Replay) : Type 0 where

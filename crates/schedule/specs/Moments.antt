@@ -3,7 +3,7 @@ use Rattle.std.specs.Prelude.{◌≡◌, ℕ, ◌+◌, ◌<◌, ◌≤◌, List,
 use Rattle.bank_trait.specs.Disk.{Disk, Later}
 use Rattle.core_state.specs.declared.item.Group.{Group as GroupItem}
 use Rattle.core_state.specs.declared.item.Item.{Item}
-use Rattle.core_state.specs.Map.{Map, Handed}
+use Rattle.core_state.specs.Map.{Map, PutBytes}
 use Rattle.core_state.specs.Keeps.{Kept, Setting}
 use Rattle.core_state.specs.Collision.{BankKeeps}
 use Rattle.core_state.specs.Moment.{IsBegunAfter, KeepsSince, KeepsThroughout}
@@ -16,7 +16,7 @@ pub record Past : Type 0 where
 
 -- The banks of a run whose journal has come to these items. Until the opening listed the first, whatever a stop left
 -- keeps some of the groups known and that first one; since then, no older group than the last one listed by then.
-pub record KeptSoFar (setting : Setting) (handed : Handed) (opening : Map) (known : List Kept) (items : List Item)
+pub record KeptSoFar (setting : Setting) (handed : PutBytes) (opening : Map) (known : List Kept) (items : List Item)
     (past : Past) : Type 0 where
   pub later : Later past.origin (past.banks 1)
   pub opened : KeepsThroughout setting handed opening known (take 1 items) past.origin (past.banks 1)
@@ -24,7 +24,7 @@ pub record KeptSoFar (setting : Setting) (handed : Handed) (opening : Map) (know
       → KeepsUntil setting handed opening known (take count items) (past.banks count) (past.banks (count + 1))
 
 -- So it is to the run's end, when the bank is this one.
-pub record KeepsTurnByTurn (setting : Setting) (handed : Handed) (opening : Map) (known : List Kept)
+pub record KeepsTurnByTurn (setting : Setting) (handed : PutBytes) (opening : Map) (known : List Kept)
     (items : List Item) (past : Past) (new : Disk) : Type 0 where
   pub later : Later past.origin (past.banks 1)
   pub opened : KeepsThroughout setting handed opening known (take 1 items) past.origin (past.banks 1)
@@ -34,7 +34,7 @@ pub record KeepsTurnByTurn (setting : Setting) (handed : Handed) (opening : Map)
 
 -- From the moment at which the journal came to these items, whose last group this is: first the bank kept it, and
 -- maybe one that was begun after it; and whatever a stop left keeps some in a row of it and those begun by now.
-pub record KeepsOn (setting : Setting) (handed : Handed) (opening : Map) (items : List Item) (item : GroupItem)
+pub record KeepsOn (setting : Setting) (handed : PutBytes) (opening : Map) (items : List Item) (item : GroupItem)
     (last : Kept) (begun : List Kept) (from now : Disk) : Type 0 where
   pub later : Later from now
   pub first : List Kept

@@ -7,7 +7,7 @@ use Rattle.schedule.specs.declared.client.Client.{Client}
 use Rattle.schedule.specs.declared.whole_run.Ended.{Ended}
 use Rattle.schedule.specs.declared.whole_run.Ended.TheVariants.{Whole, NoMemory, Limit}
 use Rattle.schedule.specs.Clients.{answered_of}
-use Rattle.schedule.specs.Coming.{HasCome, IsSchedule}
+use Rattle.schedule.specs.Coming.{LeadTo, IsSchedule}
 use Rattle.schedule.specs.InTurn.{Cursor, InOrder, InRest, HasGone, HaveTaken, Replay, replay_at}
 use Rattle.schedule.specs.Turns.{Turns, TurnTaken, turns_of}
 use Rattle.schedule.specs.Replaying.{AreIdle, OnlyShared}
@@ -34,7 +34,7 @@ UsesRoom before after old new = before + 2 * answered_of old.begun old.under_way
     ≤ after + 2 * answered_of new.begun new.under_way
 
 -- There is room for an answer of each call that has none yet, and for the groups that syncs make.
-pub record HasRoom (script : Script) (clients : List Client) (room : ℕ) : Type 0 where
+pub record HasRoomForAnswers (script : Script) (clients : List Client) (room : ℕ) : Type 0 where
   pub enough : 2 * all_unanswered (calls_by script) clients ≤ room
 
 -- ---- between turns
@@ -44,12 +44,12 @@ pub record IsReady (script : Script) (turns : Turns) (room : ℕ) : Type 0 where
   pub schedule : IsSchedule script turns
   pub shared : OnlyShared turns.state.core.holds
   pub counted : length turns.clients ≡ script.clients
-  pub enough : HasRoom script turns.clients room
+  pub enough : HasRoomForAnswers script turns.clients room
 
 -- Turns have come to a state in which the next turn may be taken, and they are those of the script.
 pub record HasPlayed (script : Script) (start now : Replay) (room : ℕ) : Type 0 where
   pub passed : List TurnTaken
-  pub come : HasCome script start.turns passed now.turns
+  pub come : LeadTo script start.turns passed now.turns
   pub gone : HasGone script start passed now
   pub ready : IsReady script now.turns room
 
@@ -60,7 +60,7 @@ pub record HaveHadTurns (script : Script) (start : Turns) (actors : List ℕ) (n
   pub passed : List TurnTaken
   pub actors_are : map (λ turn. turn.actor) passed ≡ actors
   pub taken : HaveTaken script start passed
-  pub come : HasCome script start passed now
+  pub come : LeadTo script start passed now
   pub ready : IsReady script now room
 
 -- most turns of a replay
@@ -68,7 +68,7 @@ abbrev pub most_turns : ℕ
 most_turns = 2 ^ 62
 
 -- Turns have come so far that no more can be counted.
-pub record HasStopped (script : Script) (start : Replay) (turns : Turns) (taken room : ℕ) : Type 0 where
+pub record HasRunOutOfTurns (script : Script) (start : Replay) (turns : Turns) (taken room : ℕ) : Type 0 where
   pub most : most_turns ≤ taken
   pub cursor : Cursor
   pub played : HasPlayed script start (replay_at turns taken cursor) room
@@ -77,11 +77,11 @@ pub record HasStopped (script : Script) (start : Replay) (turns : Turns) (taken 
 
 -- How a replay ends: each call is answered; or memory was wanting before the first turn, and nothing was done; or no
 -- more turns can be counted.
-abbrev pub EndsSo : Script → Replay → List TurnTaken → Replay → Ended → Type 0
-EndsSo script start passed now Whole = HasGone script start passed now × (now.cursor ≡ InRest (length script.calls))
+abbrev pub EndsAs : Script → Replay → List TurnTaken → Replay → Ended → Type 0
+EndsAs script start passed now Whole = HasGone script start passed now × (now.cursor ≡ InRest (length script.calls))
     × AreIdle now.turns.clients
-EndsSo script start passed now NoMemory = (now ≡ start) × (passed ≡ [])
-EndsSo script start passed now Limit = HasGone script start passed now × (most_turns ≤ now.taken)
+EndsAs script start passed now NoMemory = (now ≡ start) × (passed ≡ [])
+EndsAs script start passed now Limit = HasGone script start passed now × (most_turns ≤ now.taken)
 
 -- From this start the calls of a script were carried out, with these turns, first those that were listed, so many in
 -- all; and they ended so, with this core, its disk and this journal.
@@ -90,6 +90,6 @@ pub record CarriesOut (script : Script) (listed : List ℕ) (start : Turns) (end
   pub passed : List TurnTaken
   pub clients : List Client
   pub cursor : Cursor
-  pub come : HasCome script start passed (turns_of state items clients)
-  pub ends : EndsSo script (replay_at start 0 (InOrder listed)) passed
+  pub come : LeadTo script start passed (turns_of state items clients)
+  pub ends : EndsAs script (replay_at start 0 (InOrder listed)) passed
       (replay_at (turns_of state items clients) taken cursor) ended

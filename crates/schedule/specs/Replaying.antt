@@ -8,7 +8,7 @@ use Rattle.client_script.specs.Script.{Script, calls_of}
 use Rattle.core_turns.specs.Core.{Core}
 use Rattle.schedule.specs.declared.client.Client.{Client}
 use Rattle.schedule.specs.declared.client.UnderWay.{UnderWay}
-use Rattle.schedule.specs.Coming.{HasCome}
+use Rattle.schedule.specs.Coming.{LeadTo}
 use Rattle.schedule.specs.InTurn.{IsTurnOf}
 use Rattle.schedule.specs.Turns.{Turns, taken_by}
 use Rattle.schedule.specs.Left.{turns_left}
@@ -48,7 +48,7 @@ pub record TakesOne (script : Script) (actor : ℕ) (before : Turns) (clients : 
 
 -- A client had a turn, and the others stay as they were.
 pub record HasTurn (script : Script) (actor : ℕ) (before after : Turns) : Type 0 where
-  pub come : HasCome script before (taken_by actor after ∷ []) after
+  pub come : LeadTo script before (taken_by actor after ∷ []) after
   pub is : IsTurnOf script actor before after
   pub others : (other : ℕ) → other ≢ actor → slice_get after.clients other ≡ slice_get before.clients other
   pub takes : (client : Client) → slice_get before.clients actor ≡ Some client

@@ -15,7 +15,7 @@ use Rattle.client_script.specs.Script.{Script, calls_of}
 use Rattle.core_turns.specs.Core.{Core, CoreState}
 use Rattle.core_turns.specs.Getting.{HasTooManyOut}
 use Rattle.core_turns.specs.Committing.{IsCommitOf}
-use Rattle.core_turns.specs.UnderWay.{Call, Putting, Reading, AreCallsOf, Stands, hold_of_call}
+use Rattle.core_turns.specs.UnderWay.{HoldingCall, Putting, Reading, AreCallsOf, Stands, hold_of_call}
 use Rattle.schedule.specs.declared.client.Client.{Client}
 use Rattle.schedule.specs.declared.client.UnderWay.{UnderWay}
 use Rattle.schedule.specs.declared.client.Work.{Work}
@@ -31,7 +31,7 @@ pub record IsGoing (clients : List Client) (index : ℕ) (client : Client) (unde
   pub under_way : client.under_way ≡ Some under
 
 -- The work is that of this call, one that holds sectors.
-abbrev pub IsWorkOf : Work → Call → Type 0
+abbrev pub IsWorkOf : Work → HoldingCall → Type 0
 IsWorkOf (work.Put run) (Putting other content) = run ≡ other
 IsWorkOf (work.Read run) (Reading other content) = run ≡ other
 IsWorkOf other call = ⊥
@@ -43,12 +43,12 @@ IsSync other = ⊥
 
 -- The calls under way that hold sectors are the clients' works: each is that of the client who has its hold, and
 -- each client's is one of them.
-pub record AreTheirs (clients : List Client) (calls : List Call) : Type 0 where
-  pub of : (call : Call) → Contains calls call → (client : Client) × (under : UnderWay)
+pub record AreTheirs (clients : List Client) (calls : List HoldingCall) : Type 0 where
+  pub of : (call : HoldingCall) → Contains calls call → (client : Client) × (under : UnderWay)
       × IsGoing clients (hold_of_call call).actor client under × IsWorkOf under.work call
   pub every : (index : ℕ) (client : Client) (under : UnderWay) → IsGoing clients index client under
       → (IsSync under.work → ⊥)
-      → (call : Call) × Contains calls call × IsWorkOf under.work call × ((hold_of_call call).actor ≡ index)
+      → (call : HoldingCall) × Contains calls call × IsWorkOf under.work call × ((hold_of_call call).actor ≡ index)
 
 -- The work is what a call of the script asks for.
 abbrev pub IsWorkFor : ScriptCall → Work → Type 0
@@ -60,7 +60,7 @@ IsWorkFor call (work.Sync run) = (call.kind ≡ kind.Sync) × (call.id ≡ None)
 -- The clients' calls under way are calls of this core, whatever their blocks' bytes, and are what the script asks
 -- for. At most one is a sync, the core's commit.
 pub record AreGoing (script : Script) (core : Core) (clients : List Client) : Type 0 where
-  pub calls : List Call
+  pub calls : List HoldingCall
   pub are : AreCallsOf core calls
   pub theirs : AreTheirs clients calls
   pub asked : (index : ℕ) (client : Client) (under : UnderWay) → IsGoing clients index client under
@@ -89,18 +89,18 @@ IsSyncOf world items item begun at (work.Sync run) =
 IsSyncOf world items item begun at other = ⊤
 
 -- A put has the bytes that the script hands it, a read the block that its id had when the read began.
-abbrev pub HasContent : World → List Item → ScriptCall → ℕ → Call → Type 0
+abbrev pub HasContent : World → List Item → ScriptCall → ℕ → HoldingCall → Type 0
 HasContent world items call at (Putting run content) = content ≡ fill_bytes call.fill
 HasContent world items call at (Reading run content) =
     map_after world.handed world.opening items at run.entry.id ≡ Some content
 
 -- A client's call under way began after some items, those of its own calls before it.
 pub record IsClient (world : World) (script : Script) (items : List Item) (item : GroupItem) (begun : List Kept)
-    (calls : List Call) (index : ℕ) (client : Client) (under : UnderWay) : Type 0 where
+    (calls : List HoldingCall) (index : ℕ) (client : Client) (under : UnderWay) : Type 0 where
   pub at : (1 ≤ under.at) × (under.at ≤ length items)
   pub after : (place : ℕ) (entry : Entry) → CallAt items place entry → entry.caller ≡ index → place < under.at
   pub sync : IsSyncOf world items item begun under.at under.work
-  pub content : (call : ScriptCall) (held : Call)
+  pub content : (call : ScriptCall) (held : HoldingCall)
       → slice_get (calls_of script index) (client.begun - 1) ≡ Some call → Contains calls held
       → (hold_of_call held).actor ≡ index → HasContent world items call under.at held
 
@@ -111,7 +111,7 @@ pub record Runs (world : World) (script : Script) (past : Past) (state : CoreSta
     (clients : List Client) : Type 0 where
   pub last : Kept
   pub begun : List Kept
-  pub calls : List Call
+  pub calls : List HoldingCall
   pub commit : Option CommitRun
   pub item : GroupItem
   pub latest : IsGroupBefore items (length items) item

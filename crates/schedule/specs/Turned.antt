@@ -16,7 +16,7 @@ use Rattle.core_blocks.specs.Blocks.{AreUnderWay, IsUnderWay}
 use Rattle.core_blocks.specs.Kept.{NoneFree}
 use Rattle.block_record.specs.declared.entry.IndexEntry.{IndexEntry}
 use Rattle.block_table.specs.Table.{IsTable}
-use Rattle.core_client.specs.BlockTurns.{IsPlace}
+use Rattle.core_client.specs.BlockTurns.{IsAtColumn}
 use Rattle.core_commit.specs.CommitTurns.{CommitRun}
 use Rattle.client_script.specs.declared.call.ScriptCall.{ScriptCall}
 use Rattle.client_script.specs.Lines.{fill_bytes}
@@ -26,7 +26,7 @@ use Rattle.core_turns.specs.declared.putting.PutRun.{PutRun}
 use Rattle.core_turns.specs.declared.turn.Turn.{Turn}
 use Rattle.core_turns.specs.declared.turn.Turn.TheVariants.{More, Busy, Done}
 use Rattle.core_turns.specs.Core.{Core, CoreState, at_disk}
-use Rattle.core_turns.specs.Getting.{IsRead, IsGetOf, BeginsGet, ReadsTurn, SolvesGet, EndsGet}
+use Rattle.core_turns.specs.Getting.{IsReadKind, IsGetOf, BeginsGet, ReadsTurn, SolvesGet, EndsGet}
 use Rattle.core_turns.specs.Freeing.{FreesBlock}
 use Rattle.core_turns.specs.Putting.{IsPutOf, BeginsPutTurn, FillsPut, WritesTurn, EndsPut, GivesUpTurn}
 use Rattle.core_turns.specs.Committing.{IsCommitOf, BeginsCommit, StepsCommit}
@@ -84,16 +84,16 @@ Waits old new actor call kind.Sync None by = BeginsCommit old new actor (Busy by
 Waits old new actor call asked id by = ⊥
 
 -- what a call that goes on comes to
-abbrev pub Begins : Core → Core → ℕ → ScriptCall → Kind → Option ℕ → Work → Type 0
-Begins old new actor call kind.Put (Some id) (work.Put run) =
+abbrev pub BeginsWork : Core → Core → ℕ → ScriptCall → Kind → Option ℕ → Work → Type 0
+BeginsWork old new actor call kind.Put (Some id) (work.Put run) =
     BeginsPutTurn old new actor id (length (fill_bytes call.fill)) (More run)
-Begins old new actor call kind.Get (Some id) (work.Read run) = BeginsGet old new actor kind.Get id (More run)
-Begins old new actor call kind.Sum (Some id) (work.Read run) = BeginsGet old new actor kind.Sum id (More run)
-Begins old new actor call kind.Sync None (work.Sync run) = BeginsCommit old new actor (More run)
-Begins old new actor call asked id does = ⊥
+BeginsWork old new actor call kind.Get (Some id) (work.Read run) = BeginsGet old new actor kind.Get id (More run)
+BeginsWork old new actor call kind.Sum (Some id) (work.Read run) = BeginsGet old new actor kind.Sum id (More run)
+BeginsWork old new actor call kind.Sync None (work.Sync run) = BeginsCommit old new actor (More run)
+BeginsWork old new actor call asked id does = ⊥
 
 abbrev pub BeginsCall : Core → Core → ℕ → ScriptCall → Turn Work → Type 0
-BeginsCall old new actor call (More does) = Begins old new actor call call.kind call.id does
+BeginsCall old new actor call (More does) = BeginsWork old new actor call call.kind call.id does
 BeginsCall old new actor call (Busy by) = Waits old new actor call call.kind call.id by
 BeginsCall old new actor call (Done given) = AnswersAtOnce old new actor call call.kind call.id given
 
@@ -138,7 +138,7 @@ WritesOn before run after turn = WritesTurn before run after turn
 -- A read has one column more, or passed over it.
 pub record GoesOnReading (before after : CoreState) (run next : GetRun) : Type 0 where
   pub left : run.read.row < rows_of run.read.layout
-  pub place : IsPlace run.read
+  pub place : IsAtColumn run.read
   pub reads : ReadsTurn before run after (More next)
   pub unchanged : Unchanged before.disk after.disk
 
@@ -219,7 +219,7 @@ pub record BeginsNext (calls : List ScriptCall) (actor : ℕ) (before after : St
   pub disk : after.state.disk ≡ before.state.disk
 
 -- The client's call under way goes on, or is answered.
-pub record GoesOn (calls : List ScriptCall) (before after : Station) (under : UnderWay) (turn : Turn Work) : Type 0 where
+pub record CallGoesOn (calls : List ScriptCall) (before after : Station) (under : UnderWay) (turn : Turn Work) : Type 0 where
   pub going : before.client.under_way ≡ Some under
   pub call : ScriptCall
   pub is : slice_get calls (before.client.begun - 1) ≡ Some call
@@ -256,7 +256,7 @@ pub data Turned (calls : List ScriptCall) (actor : ℕ) (before after : Station)
   Nothing : HasNothingLeft calls before after → Turned calls actor before after
   Began : (turn : Turn Work) (begins : BeginsNext calls actor before after turn)
       → LeavesBegun actor begins.call before after turn → Turned calls actor before after
-  Went : (under : UnderWay) (turn : Turn Work) (goes : GoesOn calls before after under turn)
+  Went : (under : UnderWay) (turn : Turn Work) (goes : CallGoesOn calls before after under turn)
       → LeavesGoing actor goes.call before after under turn → Turned calls actor before after
 
 -- ---- what a turn asks for
@@ -265,5 +265,5 @@ pub data Turned (calls : List ScriptCall) (actor : ℕ) (before after : Station)
 abbrev pub MayGoOn : Core → ScriptCall → Work → Type 0
 MayGoOn core call (work.Put run) = IsPutOf core run × IsUnderWay core.pool.blocks run.range
     × (length (fill_bytes call.fill) ≡ run.len)
-MayGoOn core call (work.Read run) = IsRead run.kind × IsGetOf core run
+MayGoOn core call (work.Read run) = IsReadKind run.kind × IsGetOf core run
 MayGoOn core call (work.Sync run) = IsCommitOf core run

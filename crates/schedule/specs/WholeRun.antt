@@ -31,7 +31,7 @@ use Rattle.schedule.specs.declared.whole_run.Ran.{Ran}
 use Rattle.schedule.specs.Fitting.{FitsCall}
 use Rattle.schedule.specs.InTurn.{Cursor, HaveTaken, InOrder, replay_at}
 use Rattle.schedule.specs.Moments.{KeepsTurnByTurn}
-use Rattle.schedule.specs.Playing.{EndsSo}
+use Rattle.schedule.specs.Playing.{EndsAs}
 use Rattle.schedule.specs.Recorded.{GroupsAreCounted}
 use Rattle.schedule.specs.Replaying.{IsAtRest, blank_clients}
 use Rattle.schedule.specs.Turns.{Turns, TurnTaken, bank_when, last_left, turns_of}
@@ -128,7 +128,7 @@ pub record HasTakenTurns (script : Script) (listed : List ℕ) {old new : Disk} 
     (run : HasRun script old new items out) (ran : Ran) : Type 0 where
   pub now : Turns
   pub cursor : Cursor
-  pub ends : EndsSo script (replay_at (first_turns script run.start run.opened) 0 (InOrder listed)) run.passed
+  pub ends : EndsAs script (replay_at (first_turns script run.start run.opened) 0 (InOrder listed)) run.passed
       (replay_at now ran.turns cursor) ran.ended
 
 -- A script was carried out on the pool that the devices showed, and the turns were those of the list and then the

@@ -9,8 +9,8 @@ ghost use Rattle.core_turns.specs.Core.{at_disk};
 ghost use Rattle.schedule.specs.declared.client.Client.{Client as ClientOf};
 ghost use Rattle.schedule.specs.declared.whole_run.Ended.TheVariants.{Whole};
 ghost use Rattle.schedule.specs.Turns.{turns_of};
-ghost use Rattle.schedule.specs.InTurn.{Cursor, InOrder, InRest, InRound, IsCallOf, has_left_at, replay_by, turns_by};
-ghost use Rattle.schedule.specs.Playing.{CarriesOut, HasPlayed, HaveHadTurns, HasStopped, IsReady};
+ghost use Rattle.schedule.specs.InTurn.{Cursor, InOrder, InRest, InRound, IsCallOfScript, has_left_at, replay_by, turns_by};
+ghost use Rattle.schedule.specs.Playing.{CarriesOut, HasPlayed, HaveHadTurns, HasRunOutOfTurns, IsReady};
 ghost use Rattle.schedule.specs.Replaying.{AreIdle, BeginsOne, HasTurn, HaveBegun, HaveFewer, IsAtRest, blank_clients};
 
 use crate::progress::{Progress, UsedUp};
@@ -83,7 +83,7 @@ fn count_turn_of<B: Bank>(
     ensures ready { OnOk result (IsReady script.now
         (turns_by core.new (B.disk bank.new) journal.new progress.new) journal.new.room) }
     ensures turns { OnOk result (progress.new.turns ≡ progress.old.turns + 1) }
-    ensures stopped { OnErr result ((cursor : Cursor) → HasStopped script.now
+    ensures stopped { OnErr result ((cursor : Cursor) → HasRunOutOfTurns script.now
         (replay_by core.old (B.disk bank.old) journal.old progress.old cursor)
         (turns_by core.new (B.disk bank.new) journal.new progress.new) progress.new.turns journal.new.room) }
 {
@@ -111,7 +111,7 @@ pub fn take_listed<B: Bank>(
     ensures played { OnOk result (HasPlayed script.now
         (replay_by core.old (B.disk bank.old) journal.old progress.old (InOrder listed.now))
         (replay_by core.new (B.disk bank.new) journal.new progress.new (InOrder [])) journal.new.room) }
-    ensures stopped { OnErr result (HasStopped script.now
+    ensures stopped { OnErr result (HasRunOutOfTurns script.now
         (replay_by core.old (B.disk bank.old) journal.old progress.old (InOrder listed.now))
         (turns_by core.new (B.disk bank.new) journal.new progress.new) progress.new.turns journal.new.room) }
 {
@@ -138,7 +138,7 @@ fn take_if_busy<B: Bank>(
     ensures played { OnOk result (HasPlayed script.now
         (replay_by core.old (B.disk bank.old) journal.old progress.old (InRound actor))
         (replay_by core.new (B.disk bank.new) journal.new progress.new (InRound (actor + 1))) journal.new.room) }
-    ensures stopped { OnErr result (HasStopped script.now
+    ensures stopped { OnErr result (HasRunOutOfTurns script.now
         (replay_by core.old (B.disk bank.old) journal.old progress.old (InRound actor))
         (turns_by core.new (B.disk bank.new) journal.new progress.new) progress.new.turns journal.new.room) }
     ensures fewer { OnOk result ((old : List ClientOf) → HaveFewer actor old progress.old.clients.items
@@ -166,7 +166,7 @@ fn take_round<B: Bank>(
     ensures played { OnOk result (HasPlayed script.now
         (replay_by core.old (B.disk bank.old) journal.old progress.old (InRound 0))
         (replay_by core.new (B.disk bank.new) journal.new progress.new (InRound script.now.clients)) journal.new.room) }
-    ensures stopped { OnErr result (HasStopped script.now
+    ensures stopped { OnErr result (HasRunOutOfTurns script.now
         (replay_by core.old (B.disk bank.old) journal.old progress.old (InRound 0))
         (turns_by core.new (B.disk bank.new) journal.new progress.new) progress.new.turns journal.new.room) }
     ensures fewer { OnOk result (HaveFewer script.now.clients
@@ -193,7 +193,7 @@ fn take_rounds<B: Bank>(
     ensures played { OnOk result (HasPlayed script.now
         (replay_by core.old (B.disk bank.old) journal.old progress.old (InOrder []))
         (replay_by core.new (B.disk bank.new) journal.new progress.new (InRest 0)) journal.new.room) }
-    ensures stopped { OnErr result (HasStopped script.now
+    ensures stopped { OnErr result (HasRunOutOfTurns script.now
         (replay_by core.old (B.disk bank.old) journal.old progress.old (InOrder []))
         (turns_by core.new (B.disk bank.new) journal.new progress.new) progress.new.turns journal.new.room) }
     ensures idle { OnOk result (AreIdle progress.new.clients.items) }
@@ -221,10 +221,10 @@ fn take_call<B: Bank>(
     requires idle { AreIdle progress.old.clients.items }
     requires left { has_left_at progress.old.clients.items actor number ≡ true }
     requires of_client { number ≤ length (calls_of script.now actor) }
-    ensures played { OnOk result ((given : ℕ) → IsCallOf script.now given actor number → HasPlayed script.now
+    ensures played { OnOk result ((given : ℕ) → IsCallOfScript script.now given actor number → HasPlayed script.now
         (replay_by core.old (B.disk bank.old) journal.old progress.old (InRest given))
         (replay_by core.new (B.disk bank.new) journal.new progress.new (InRest given)) journal.new.room) }
-    ensures stopped { OnErr result ((given : ℕ) → IsCallOf script.now given actor number → HasStopped script.now
+    ensures stopped { OnErr result ((given : ℕ) → IsCallOfScript script.now given actor number → HasRunOutOfTurns script.now
         (replay_by core.old (B.disk bank.old) journal.old progress.old (InRest given))
         (turns_by core.new (B.disk bank.new) journal.new progress.new) progress.new.turns journal.new.room) }
     ensures begins { OnOk result (BeginsOne actor progress.old.clients.items progress.new.clients.items) }
@@ -254,7 +254,7 @@ fn take_rest<B: Bank>(
         (replay_by core.old (B.disk bank.old) journal.old progress.old (InRest 0))
         (replay_by core.new (B.disk bank.new) journal.new progress.new (InRest (length script.now.calls)))
         journal.new.room) }
-    ensures stopped { OnErr result (HasStopped script.now
+    ensures stopped { OnErr result (HasRunOutOfTurns script.now
         (replay_by core.old (B.disk bank.old) journal.old progress.old (InRest 0))
         (turns_by core.new (B.disk bank.new) journal.new progress.new) progress.new.turns journal.new.room) }
     ensures begun { OnOk result (HaveBegun script.now (length script.now.calls) progress.new.clients.items) }
@@ -295,7 +295,7 @@ fn take_turns<B: Bank>(
         (replay_by core.old (B.disk bank.old) journal.old progress.old (InOrder listed.now))
         (replay_by core.new (B.disk bank.new) journal.new progress.new (InRest (length script.now.calls)))
         journal.new.room) }
-    ensures stopped { OnErr result (HasStopped script.now
+    ensures stopped { OnErr result (HasRunOutOfTurns script.now
         (replay_by core.old (B.disk bank.old) journal.old progress.old (InOrder listed.now))
         (turns_by core.new (B.disk bank.new) journal.new progress.new) progress.new.turns journal.new.room) }
     ensures begun { OnOk result (HaveBegun script.now (length script.now.calls) progress.new.clients.items) }

@@ -9,7 +9,7 @@ ghost use Rattle.client_script.specs.Script.{IsAllowed};
 ghost use Rattle.open_pool.specs.Pool.{HasBank};
 ghost use Rattle.core_turns.specs.declared.putting.Filled.{Filled as FilledOf};
 ghost use Rattle.core_turns.specs.Core.{Core as CoreOf, at_disk};
-ghost use Rattle.core_turns.specs.Getting.{IsGetOf, IsRead};
+ghost use Rattle.core_turns.specs.Getting.{IsGetOf, IsReadKind};
 ghost use Rattle.core_turns.specs.Putting.{IsPutOf};
 ghost use Rattle.core_turns.specs.UnderWay.{TurnGoesOn};
 ghost use Rattle.schedule.specs.Turned.{BeginsCall, GoesOnBy, HasTableOf, IsFilledIn, MayGoOn, PutGoesOn, ReadGoesOn, WritesOn, put_turn, read_turn, sync_turn};
@@ -164,7 +164,7 @@ fn go_on_putting<B: Bank>(
 
 /// A read's block is solved before its last turn. Where memory is wanting for that, the last turn says so.
 fn go_on_reading<B: Bank>(alloc: Global, bank: &mut B, core: &mut Core, run: GetRun) -> Turn<GetRun>
-    requires kind { IsRead run.kind }
+    requires kind { IsReadKind run.kind }
     requires of { IsGetOf core.old run }
     requires bank { HasBank core.old.pool.uber core.old.pool.out (B.disk bank.old) }
     ensures goes { ReadGoesOn (at_disk core.old (B.disk bank.old))

@@ -10,9 +10,9 @@ use Rattle.range_locks.specs.Holds.{Overlaps, HasSectors, IsClear, IsFirstIn}
 use Rattle.range_locks.proofs.Searching.{busy_by_first}
 use Rattle.space_alloc.specs.declared.entry.Entry.{Entry}
 use Rattle.space_alloc.specs.declared.fit.Spared.TheVariants.{SharedHolds, AllHolds}
-use Rattle.space_alloc.specs.Space.{IsIn, IsFree, IsFreeRun, IsFirstFit, IsFull, IsBusySpace}
+use Rattle.space_alloc.specs.Space.{IsIn, IsFree, IsFreeRun, IsFirstFit, HasNoFreeRun, IsBusySpace}
 use Rattle.space_alloc.specs.Entries.{space_of, entry_end, IsEntry, AreEntries}
-use Rattle.space_alloc.specs.Fit.{Meets, Fits, IsFit}
+use Rattle.space_alloc.specs.Fit.{Meets, FitsAt, IsFit}
 use Rattle.space_alloc.proofs.InUse.{Covers, taken_covers, held_covers, covered_in_use}
 
 -- Two ranges that overlap have a sector in common.
@@ -29,7 +29,7 @@ covered_meets entries start len sector inside covers =
     record { begins = omega (arith, covers.inside, inside); ends = omega (arith, covers.inside, inside) }
 
 -- Where a run fits beside the shared holds its sectors are free.
-pub fit_is_free : (entries : List Entry) (holds : List Hold) (capacity len start : ℕ) → Fits entries holds SharedHolds capacity len start
+pub fit_is_free : (entries : List Entry) (holds : List Hold) (capacity len start : ℕ) → FitsAt entries holds SharedHolds capacity len start
     → IsFreeRun (space_of capacity entries) holds start len
 fit_is_free entries holds capacity len start fits sector inside = record {
   below = omega (arith, inside, fits.within);
@@ -66,7 +66,7 @@ free_spares entries holds capacity len start long nonempty free hold listed shar
 
 -- Where the sectors are free a run fits beside the shared holds.
 pub free_fits : (entries : List Entry) (holds : List Hold) (capacity len start : ℕ) → 0 < len → AreEntries entries → All HasSectors holds
-    → IsFreeRun (space_of capacity entries) holds start len → Fits entries holds SharedHolds capacity len start
+    → IsFreeRun (space_of capacity entries) holds start len → FitsAt entries holds SharedHolds capacity len start
 free_fits entries holds capacity len start long are nonempty free = record {
   within = free_within entries holds capacity len start long free;
   apart = free_apart entries holds capacity len start long are free;
@@ -74,12 +74,12 @@ free_fits entries holds capacity len start long are nonempty free = record {
 }
 
 -- One that spares all holds spares the shared ones.
-all_fit_shared : (entries : List Entry) (holds : List Hold) (capacity len start : ℕ) → Fits entries holds AllHolds capacity len start
-    → Fits entries holds SharedHolds capacity len start
+all_fit_shared : (entries : List Entry) (holds : List Hold) (capacity len start : ℕ) → FitsAt entries holds AllHolds capacity len start
+    → FitsAt entries holds SharedHolds capacity len start
 all_fit_shared entries holds capacity len start fits =
     record { within = fits.within; apart = fits.apart; spares = λ hold listed shared overlaps. fits.spares hold listed tt overlaps }
 
-all_fit_clear : (entries : List Entry) (holds : List Hold) (capacity len start : ℕ) → Fits entries holds AllHolds capacity len start
+all_fit_clear : (entries : List Entry) (holds : List Hold) (capacity len start : ℕ) → FitsAt entries holds AllHolds capacity len start
     → IsClear holds start (start + len) Shared
 all_fit_clear entries holds capacity len start fits hold listed blocks = fits.spares hold listed tt blocks.overlaps
 
@@ -88,8 +88,8 @@ by_kind Shared = inl refl
 by_kind Exclusive = inr refl
 
 -- One beside the shared holds that no exclusive one overlaps spares all.
-clear_fits_all : (entries : List Entry) (holds : List Hold) (capacity len start : ℕ) → Fits entries holds SharedHolds capacity len start
-    → IsClear holds start (start + len) Shared → Fits entries holds AllHolds capacity len start
+clear_fits_all : (entries : List Entry) (holds : List Hold) (capacity len start : ℕ) → FitsAt entries holds SharedHolds capacity len start
+    → IsClear holds start (start + len) Shared → FitsAt entries holds AllHolds capacity len start
 clear_fits_all entries holds capacity len start fits clear = record {
   within = fits.within;
   apart = fits.apart;
@@ -99,7 +99,7 @@ clear_fits_all entries holds capacity len start fits clear = record {
 
 -- No run fits beside the shared holds: the space is full.
 pub none_is_full : (entries : List Entry) (holds : List Hold) (capacity len : ℕ) → 0 < len → AreEntries entries → All HasSectors holds
-    → IsFit entries holds SharedHolds capacity len None → IsFull (space_of capacity entries) holds len
+    → IsFit entries holds SharedHolds capacity len None → HasNoFreeRun (space_of capacity entries) holds len
 none_is_full entries holds capacity len long are nonempty none start free =
     none start (free_fits entries holds capacity len start long are nonempty free)
 

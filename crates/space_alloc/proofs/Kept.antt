@@ -8,7 +8,7 @@ use Rattle.std.proofs.lemmas.Option.{slice_get-get_or, slice_get_within}
 use Rattle.std.proofs.lemmas.List.Elements.{All-take, All-drop, All-append, All-cons, All-filter, Contains-get_or}
 use Rattle.space_alloc.specs.declared.entry.Use.{Use}
 use Rattle.space_alloc.specs.declared.entry.Entry.{Entry}
-use Rattle.space_alloc.specs.Entries.{entry_end, IsEntry, IsBefore, AreEntries, IsPlace, IsInserted, IsRemoved, IsReplaced, is_left}
+use Rattle.space_alloc.specs.Entries.{entry_end, IsEntry, IsBefore, AreEntries, IsPlaceBehind, IsInserted, IsRemoved, IsReplaced, is_left}
 use Rattle.space_alloc.specs.Fit.{Meets}
 use Rattle.space_alloc.proofs.Pairs.{all_pairs_insert, all_pairs_swap, all_pairs_leave, all_pairs_filter, all_swap, all_leave}
 
@@ -16,7 +16,7 @@ use Rattle.space_alloc.proofs.Pairs.{all_pairs_insert, all_pairs_swap, all_pairs
 abbrev pub IsApart : List Entry → Entry → Type 0
 IsApart entries entry = (other : Entry) → Contains entries other → Meets other entry.start (entry_end entry) → ⊥
 
-before_it : (entries : List Entry) (entry : Entry) (at : ℕ) → IsEntry entry → IsApart entries entry → IsPlace entries entry.start at
+before_it : (entries : List Entry) (entry : Entry) (at : ℕ) → IsEntry entry → IsApart entries entry → IsPlaceBehind entries entry.start at
     → All (λ other. IsBefore other entry) (take at entries)
 before_it entries entry at is apart place k default within =
     let inside : k < length entries = search (arith, length-take) in
@@ -27,7 +27,7 @@ before_it entries entry at is apart place k default within =
     (⊎_elim (λ meets. absurd (apart (get_or entries k default) (Contains-get_or entries k default inside)
     (record { begins = omega (arith, lower, is.some); ends = meets }))) (λ before. before) (cases_lt entry.start (entry_end (get_or entries k default))))
 
-behind_it : (entries : List Entry) (entry : Entry) (at : ℕ) → AreEntries entries → IsApart entries entry → IsPlace entries entry.start at
+behind_it : (entries : List Entry) (entry : Entry) (at : ℕ) → AreEntries entries → IsApart entries entry → IsPlaceBehind entries entry.start at
     → All (λ other. IsBefore entry other) (drop at entries)
 behind_it entries entry at are apart place k default within =
     let inside : at + k < length entries = search (arith, length-drop) in
@@ -89,7 +89,7 @@ kept_filter entries group are = record {
 
 -- Where none begins behind, the place is the end.
 pub place_at_end : (entries : List Entry) (start at : ℕ) → length entries ≤ at → All (λ entry. entry.start ≤ start) (take at entries)
-    → IsPlace entries start (length entries)
+    → IsPlaceBehind entries start (length entries)
 place_at_end entries start at all before = record {
   within = omega arith;
   before = subst (λ (l : List Entry). All (λ (entry : Entry). entry.start ≤ start) l)

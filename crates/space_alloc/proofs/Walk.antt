@@ -9,7 +9,7 @@ use Rattle.range_locks.specs.Holds.{Overlaps}
 use Rattle.space_alloc.specs.declared.entry.Entry.{Entry}
 use Rattle.space_alloc.specs.declared.fit.Spared.{Spared}
 use Rattle.space_alloc.specs.Entries.{entry_end, IsEntry, IsBefore, AreEntries}
-use Rattle.space_alloc.specs.Fit.{Counts, Spares, IsHitBy, IsFirstClear, IsClearFrom, Meets, Fits, IsFit, HasWalked}
+use Rattle.space_alloc.specs.Fit.{Counts, Spares, IsHitBy, IsFirstClear, IsClearFrom, Meets, FitsAt, IsFit, HasWalked}
 
 -- No test is both.
 pub not_false : false ≡ true → ⊥
@@ -70,14 +70,14 @@ walk_passes entries holds spared capacity len start at end default within walked
 -- No start up to the end of a run that is met fits.
 met_before : (entries : List Entry) (holds : List Hold) (spared : Spared) (capacity len start at other : ℕ) (default : Entry) → at < length entries
     → (get_or entries at default).start < start + len → start ≤ other → other < entry_end (get_or entries at default)
-    → Fits entries holds spared capacity len other → ⊥
+    → FitsAt entries holds spared capacity len other → ⊥
 met_before entries holds spared capacity len start at other default within begins above below fits =
     fits.apart (get_or entries at default) (Contains-get_or entries at default within)
     (record { begins = omega (arith, begins, above); ends = below })
 
 none_until : (entries : List Entry) (holds : List Hold) (spared : Spared) (capacity len start at other : ℕ) (default : Entry) → at < length entries
     → HasWalked entries holds spared capacity len start at → (get_or entries at default).start < start + len
-    → other < entry_end (get_or entries at default) → Fits entries holds spared capacity len other → ⊥
+    → other < entry_end (get_or entries at default) → FitsAt entries holds spared capacity len other → ⊥
 none_until entries holds spared capacity len start at other default within walked begins below fits =
     ⊎_elim (λ before. walked.none other before fits)
     (λ from. met_before entries holds spared capacity len start at other default within begins from below fits) (cases_lt other start)

@@ -55,7 +55,7 @@ is_left group entry = left_in entry.used
     left_in (Held until) = nat_lt group until
 
 -- the place of the first run that begins behind a sector
-pub record IsPlace (entries : List Entry) (start at : ℕ) : Type 0 where
+pub record IsPlaceBehind (entries : List Entry) (start at : ℕ) : Type 0 where
   pub within : at ≤ length entries
   pub before : All (λ entry. entry.start ≤ start) (take at entries)
   pub behind : (entry : Entry) → slice_get entries at ≡ Some entry → start < entry.start
@@ -63,7 +63,7 @@ pub record IsPlace (entries : List Entry) (start at : ℕ) : Type 0 where
 -- A run is put before the first that begins behind it.
 pub record IsInserted (old new : List Entry) (entry : Entry) : Type 0 where
   pub at : ℕ
-  pub place : IsPlace old entry.start at
+  pub place : IsPlaceBehind old entry.start at
   pub is : new ≡ take at old ++ entry ∷ drop at old
 
 -- A run is taken away.

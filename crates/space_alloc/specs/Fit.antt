@@ -49,7 +49,7 @@ pub record Meets (entry : Entry) (start end : ℕ) : Type 0 where
   pub ends : start < entry_end entry
 
 -- A run that starts here ends within the pool, and meets neither a run in use nor a hold.
-pub record Fits (entries : List Entry) (holds : List Hold) (spared : Spared) (capacity len start : ℕ) : Type 0 where
+pub record FitsAt (entries : List Entry) (holds : List Hold) (spared : Spared) (capacity len start : ℕ) : Type 0 where
   pub within : start + len ≤ capacity
   pub apart : (entry : Entry) → Contains entries entry → Meets entry start (start + len) → ⊥
   pub spares : Spares holds spared start (start + len)
@@ -57,14 +57,14 @@ pub record Fits (entries : List Entry) (holds : List Hold) (spared : Spared) (ca
 -- the lowest start at which a run fits, if any is
 abbrev pub IsFit : List Entry → List Hold → Spared → ℕ → ℕ → Option ℕ → Type 0
 IsFit entries holds spared capacity len None =
-    (start : ℕ) → Fits entries holds spared capacity len start → ⊥
+    (start : ℕ) → FitsAt entries holds spared capacity len start → ⊥
 IsFit entries holds spared capacity len (Some start) =
-    Fits entries holds spared capacity len start
-    × ((other : ℕ) → Fits entries holds spared capacity len other → start ≤ other)
+    FitsAt entries holds spared capacity len start
+    × ((other : ℕ) → FitsAt entries holds spared capacity len other → start ≤ other)
 
 -- how far a walk over the runs has come: so many are passed, and no lower start fits
 pub record HasWalked (entries : List Entry) (holds : List Hold) (spared : Spared) (capacity len start passed : ℕ) : Type 0 where
   pub within : start + len ≤ capacity
   pub spares : Spares holds spared start (start + len)
   pub behind : All (λ entry. entry_end entry ≤ start) (take passed entries)
-  pub none : (other : ℕ) → other < start → Fits entries holds spared capacity len other → ⊥
+  pub none : (other : ℕ) → other < start → FitsAt entries holds spared capacity len other → ⊥

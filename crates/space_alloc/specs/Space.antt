@@ -55,8 +55,8 @@ pub record IsFirstFit (space : Space) (holds : List Hold) (len start : ℕ) : Ty
       → IsClear holds other (other + len) Shared → start ≤ other
 
 -- No run of free sectors is long enough.
-abbrev pub IsFull : Space → List Hold → ℕ → Type 0
-IsFull space holds len = (start : ℕ) → IsFreeRun space holds start len → ⊥
+abbrev pub HasNoFreeRun : Space → List Hold → ℕ → Type 0
+HasNoFreeRun space holds len = (start : ℕ) → IsFreeRun space holds start len → ⊥
 
 -- There is one, and each overlaps an exclusive hold; `by` holds the lowest.
 pub record IsBusySpace (space : Space) (holds : List Hold) (len by : ℕ) : Type 0 where
@@ -98,6 +98,6 @@ pub record IsHolding (old new : Space) (start len group : ℕ) : Type 0 where
 
 -- Why a run isn't given out. Want of memory comes only where there is one.
 abbrev pub IsTakeCause : Space → List Hold → ℕ → TakeRefused → Type 0
-IsTakeCause space holds len (NoSpace sectors) = IsFull space holds len × (sectors ≡ len)
+IsTakeCause space holds len (NoSpace sectors) = HasNoFreeRun space holds len × (sectors ≡ len)
 IsTakeCause space holds len (Busy by) = IsBusySpace space holds len by
 IsTakeCause space holds len NoMemory = (start : ℕ) × IsFirstFit space holds len start

@@ -1,6 +1,6 @@
 // The list of runs in use, by their start.
 ghost use Rattle.std.specs.Prelude.{◌≡◌, Some, Contains, OnOk, OnErr, slice_get, filter};
-ghost use Rattle.space_alloc.specs.Entries.{IsInserted, IsRemoved, IsReplaced, IsPlace, is_left};
+ghost use Rattle.space_alloc.specs.Entries.{IsInserted, IsRemoved, IsReplaced, IsPlaceBehind, is_left};
 
 use crate::entry::Entry;
 use std::alloc::AllocError;
@@ -17,7 +17,7 @@ pub fn insert(entries: &mut Vec<Entry>, entry: Entry) -> Result<(), AllocError>
 
 /// The place of the first run that begins behind this sector.
 fn place(entries: &[Entry], start: u64) -> usize
-    ensures { IsPlace entries.now start result }
+    ensures { IsPlaceBehind entries.now start result }
 {
     for (at, entry) in entries.iter().enumerate() {
         if start < entry.start {

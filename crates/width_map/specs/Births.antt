@@ -52,5 +52,5 @@ IsGrowing [] = ⊥
 IsGrowing (first ∷ births) = (first.group ≡ 0) × GrowFrom first births
 
 -- There is an entry, and an uberblock has room for all.
-abbrev pub IsFitting : List Birth → Type 0
-IsFitting births = (0 < length births) × (length births ≤ 16)
+abbrev pub BirthsFit : List Birth → Type 0
+BirthsFit births = (0 < length births) × (length births ≤ 16)

@@ -16,7 +16,7 @@ abbrev pub table_of : List Birth → Inside
 table_of births = record { entries = padded births; used = length births }
 
 -- The first places are used, one at least, and the others are blank.
-pub record IsTable (entries : List Birth) (used : ℕ) : Type 0 where
+pub record IsBirthTable (entries : List Birth) (used : ℕ) : Type 0 where
   pub some : 0 < used
   pub room : used ≤ 16
   pub counted : length (take used entries) ≡ used

@@ -1,6 +1,6 @@
 // The widths that the pool has had.
 ghost use Rattle.std.specs.Prelude.{◌≡◌, ℕ, ◌+◌, ◌<◌, ◌≤◌, ◌^◌, length, SomeIff};
-ghost use Rattle.width_map.specs.Births.{first_births, births_after, width_of_birth, last_width, IsGrowing, NoneAbove, IsFitting};
+ghost use Rattle.width_map.specs.Births.{first_births, births_after, width_of_birth, last_width, IsGrowing, NoneAbove, BirthsFit};
 
 use crate::Birth;
 use std::marker::Model;
@@ -23,11 +23,11 @@ impl Model for Births {
 
     ghost Value = { List Birth };
 
-    ghost use Rattle.width_map.specs.Table.{table_of, IsTable};
+    ghost use Rattle.width_map.specs.Table.{table_of, IsBirthTable};
 
     ghost view = { λ table. take table.used table.entries };
 
-    ghost invariant = { λ table. IsTable table.entries table.used };
+    ghost invariant = { λ table. IsBirthTable table.entries table.used };
 
     ghost inverse = { table_of };
 
@@ -56,7 +56,7 @@ impl Births {
 
     /// The table of these entries, where they fit and there is one.
     pub fn from_slice(births: &[Birth]) -> Option<Births>
-        ensures value { SomeIff result (IsFitting births.now) births.now }
+        ensures value { SomeIff result (BirthsFit births.now) births.now }
     {
         if births.is_empty() || births.len() > MAX_BIRTHS {
             return None;

@@ -1,5 +1,5 @@
 use Rattle.std.proofs.Common.{⊎_elim, Some, ◌∙◌, ap, sym, refl}
-use Rattle.bank_mem.specs.Record.{content, device_of, sector_of}
+use Rattle.bank_mem.specs.Record.{content, called_device, called_sector}
 use Rattle.bank_mem.specs.CrashSteps.{tear_of}
 use Rattle.bank_mem.specs.declared.crash.Tear.TheVariants.{Kept, Filled}
 use Rattle.bank_mem.proofs.Placed.{in_row}
@@ -8,17 +8,17 @@ use Rattle.bank_mem.proofs.crash.put_torn.Goals as goal
 
 pub put_sector-requires-clause-sector : goal.put_sector-requires-clause-sector
 put_sector-requires-clause-sector c =
-    in_row _ _ _ _ c.requires (ap device_of c.in-Spoil.is) (ap sector_of c.in-Spoil.is)
+    in_row _ _ _ _ c.requires (ap called_device c.in-Spoil.is) (ap called_sector c.in-Spoil.is)
 
 pub put_sector-requires-in-Some-Kept-clause-sector : goal.put_sector-requires-in-Some-Kept-clause-sector
 put_sector-requires-in-Some-Kept-clause-sector c = ⊎_elim
-    (λ w. in_row _ _ _ _ c.requires (ap device_of w.1) (ap sector_of w.1))
-    (λ w. in_row _ _ _ _ c.requires (ap device_of w.1) (ap sector_of w.1)) c.in-Write.is
+    (λ w. in_row _ _ _ _ c.requires (ap called_device w.1) (ap called_sector w.1))
+    (λ w. in_row _ _ _ _ c.requires (ap called_device w.1) (ap called_sector w.1)) c.in-Write.is
 
 pub put_sector-requires-in-Some-Filled-clause-sector : goal.put_sector-requires-in-Some-Filled-clause-sector
 put_sector-requires-in-Some-Filled-clause-sector c = ⊎_elim
-    (λ w. in_row _ _ _ _ c.requires (ap device_of w.1) (ap sector_of w.1))
-    (λ w. in_row _ _ _ _ c.requires (ap device_of w.1) (ap sector_of w.1)) c.in-Write.is
+    (λ w. in_row _ _ _ _ c.requires (ap called_device w.1) (ap called_sector w.1))
+    (λ w. in_row _ _ _ _ c.requires (ap called_device w.1) (ap called_sector w.1)) c.in-Write.is
 
 pub returns-in-Some-Kept-clause-held : goal.returns-in-Some-Kept-clause-held
 returns-in-Some-Kept-clause-held c =

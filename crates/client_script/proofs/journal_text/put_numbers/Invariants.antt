@@ -1,10 +1,10 @@
 use Rattle.std.proofs.Common.{take}
 use Rattle.client_script.specs.Texts.{numbers_text}
-use Rattle.client_script.specs.Written.{Gains, Blames}
+use Rattle.client_script.specs.Written.{GainsText, FailsOnlyWithFault}
 use Rattle.client_script.proofs.journal_text.put_numbers.Given as goal
 
 abbrev pub invariant-loop-number : goal.invariant-loop-number
 invariant-loop-number g l = record {
-  gains : Gains (g.K.Sink.held l.initial.out) (g.K.Sink.held l.out) l.initial.writer l.writer (numbers_text (take l.number-index l.numbers));
-  cause : Blames (g.K.Sink.faults l.initial.out) (g.K.Sink.faults l.out) l.initial.writer l.writer;
+  gains : GainsText (g.K.Sink.held l.initial.out) (g.K.Sink.held l.out) l.initial.writer l.writer (numbers_text (take l.number-index l.numbers));
+  cause : FailsOnlyWithFault (g.K.Sink.faults l.initial.out) (g.K.Sink.faults l.out) l.initial.writer l.writer;
 }

@@ -1,6 +1,6 @@
 use Rattle.std.proofs.Common.{subst}
 use Rattle.core_client.specs.declared.spot.Spot.{Spot}
-use Rattle.core_client.specs.Outs.{point_of}
+use Rattle.core_state.specs.Committing.{point_of}
 use Rattle.core_client.specs.Reading.{IsGot, IsPassedOrRead}
 use Rattle.core_client.proofs.Below.{below_by_read}
 use Rattle.core_client.proofs.Gotten.{got_by_step, unchanged_by_step, outs_by_step}

@@ -1,7 +1,7 @@
 use Rattle.std.proofs.Common.{ℕ, ◌∙◌, ap, arith}
 use Rattle.reflow_mark.specs.declared.reflow.Reflow.{Reflow}
 use Rattle.commit_job.specs.Stages.{copies_of}
-use Rattle.core_commit.specs.Ran.{point_of}
+use Rattle.core_state.specs.Committing.{point_of}
 use Rattle.core_commit.proofs.Copying.{copies_all_inside, copy_gone, copy_spares, copy_short, copy_whole}
 use Rattle.core_commit.proofs.Writing.{ran_writes}
 use Rattle.core_commit.proofs.committing.copy.Goals as goal

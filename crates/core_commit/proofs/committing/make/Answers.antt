@@ -3,8 +3,8 @@ use Rattle.std.specs.Prelude.{◌||◌, ◌+◌, ◌<◌, ◌≤◌, ◌^◌}
 use Rattle.uberblock_ring.proofs.DeviceSets.{with_below}
 use Rattle.uberblock_ring.specs.Devices.{has_device, with_device, count_of}
 use Rattle.commit_job.specs.Stages.{device_of}
-use Rattle.core_state.specs.Committing.{lost_by}
-use Rattle.core_commit.specs.Ran.{MadeOne, point_of}
+use Rattle.core_state.specs.Committing.{lost_by, point_of}
+use Rattle.core_commit.specs.Ran.{MadeOne}
 use Rattle.core_commit.proofs.Going.{inside_device, in_use_before}
 use Rattle.core_commit.proofs.Halves.{goes_on, stays_out}
 use Rattle.core_commit.proofs.Running.{none_lost, one_lost}

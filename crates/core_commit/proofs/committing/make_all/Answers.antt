@@ -1,7 +1,8 @@
 use Rattle.std.proofs.Common.{[], refl, sym, ap, arith, length, subst}
 use Rattle.std.specs.Prelude.{All, List}
 use Rattle.commit_job.specs.declared.call.CommitCall.{CommitCall}
-use Rattle.core_commit.specs.Ran.{IsInside, Ran, point_of}
+use Rattle.core_commit.specs.Ran.{IsCallInPool, Ran}
+use Rattle.core_state.specs.Committing.{point_of}
 use Rattle.core_commit.proofs.Running.{next_is, ran_more}
 use Rattle.core_commit.proofs.Touching.{touched_none, touched_more}
 use Rattle.core_commit.proofs.Stopping.{stops_none, stops_then}
@@ -9,12 +10,12 @@ use Rattle.core_commit.proofs.committing.make_all.Goals as goal
 
 pub make-requires-clause-inside : goal.make-requires-clause-inside
 make-requires-clause-inside g c =
-    (next_is (IsInside c.args.uber.now) c.loop-call.out c.loop-call.calls c.in-Some.call c.loop-call.invariant.inside
+    (next_is (IsCallInPool c.args.uber.now) c.loop-call.out c.loop-call.calls c.in-Some.call c.loop-call.invariant.inside
     (c.next_call.ensures.some c.in-Some.call c.in-Some.is)).fits
 
 pub make-requires-clause-in_use : goal.make-requires-clause-in_use
 make-requires-clause-in_use g c =
-    (next_is (IsInside c.args.uber.now) c.loop-call.out c.loop-call.calls c.in-Some.call c.loop-call.invariant.inside
+    (next_is (IsCallInPool c.args.uber.now) c.loop-call.out c.loop-call.calls c.in-Some.call c.loop-call.invariant.inside
     (c.next_call.ensures.some c.in-Some.call c.in-Some.is)).in_use
 
 pub loop-call-init : goal.loop-call-init
@@ -29,13 +30,13 @@ loop-call-init g c = record {
 
 pub loop-call-smaller : goal.loop-call-smaller
 loop-call-smaller g c =
-    let next = next_is (IsInside c.args.uber.now) c.loop-call.out c.loop-call.calls c.in-Some.call
+    let next = next_is (IsCallInPool c.args.uber.now) c.loop-call.out c.loop-call.calls c.in-Some.call
     c.loop-call.invariant.inside (c.next_call.ensures.some c.in-Some.call c.in-Some.is) in
     omega (arith, next.less, ap length c.advance.ensures.left)
 
 pub loop-call-preserved : goal.loop-call-preserved
 loop-call-preserved g c =
-    let next = next_is (IsInside c.args.uber.now) c.loop-call.out c.loop-call.calls c.in-Some.call
+    let next = next_is (IsCallInPool c.args.uber.now) c.loop-call.out c.loop-call.calls c.in-Some.call
     c.loop-call.invariant.inside (c.next_call.ensures.some c.in-Some.call c.in-Some.is) in
     record {
       ran = subst (λ (l : List CommitCall). Ran c.args.uber.now c.args.entries.now c.args.calls.now
@@ -61,7 +62,7 @@ loop-call-preserved g c =
           c.loop-call.invariant.stops (omega (arith, few, c.parity.ensures.value))
           (omega (arith, few, c.make.ensures.one, c.parity.ensures.value));
       fits = c.make.ensures.fits;
-      inside = subst (All (IsInside c.args.uber.now)) (sym c.advance.ensures.left) next.rest;
+      inside = subst (All (IsCallInPool c.args.uber.now)) (sym c.advance.ensures.left) next.rest;
       below = c.make.ensures.below;
     }
 

@@ -1,6 +1,7 @@
 use Rattle.std.proofs.Common.{length}
 use Rattle.std.specs.Prelude.{◌<◌, ◌^◌, All}
-use Rattle.core_commit.specs.Ran.{Ran, IsInside, FitsBank, point_of}
+use Rattle.core_commit.specs.Ran.{Ran, IsCallInPool, FitsBank}
+use Rattle.core_state.specs.Committing.{point_of}
 use Rattle.core_commit.specs.Spared.{TouchesGroup, StopsInTime}
 use Rattle.core_commit.proofs.committing.make_all.Given as goal
 
@@ -13,7 +14,7 @@ invariant-loop-call g l = record {
   stops : StopsInTime l.uber.parity (point_of l.initial.out (g.B.Bank.disk l.initial.bank))
       (point_of l.out (g.B.Bank.disk l.bank));
   fits : FitsBank l.uber l.entries l.out (g.B.Bank.disk l.bank);
-  inside : All (IsInside l.uber) l.calls;
+  inside : All (IsCallInPool l.uber) l.calls;
   below : l.out < 2 ^ l.uber.reflow.to;
 }
 

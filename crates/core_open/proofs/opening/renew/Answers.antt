@@ -1,6 +1,6 @@
 use Rattle.std.proofs.Common.{ℕ, ◌+◌, ◌∙◌, ap}
 use Rattle.uberblock_ring.specs.Uberblock.{Uber}
-use Rattle.core_commit.specs.Ran.{point_of}
+use Rattle.core_state.specs.Committing.{point_of}
 use Rattle.core_open.proofs.Renewal.{right_renewed, few_of, spread_of, stops_renewing, ends_renewing}
 use Rattle.core_open.proofs.opening.renew.Goals as goal
 

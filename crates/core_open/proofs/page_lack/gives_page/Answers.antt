@@ -2,7 +2,7 @@ use Rattle.std.proofs.Common.{Option, sym, subst}
 use Rattle.std.specs.Prelude.{IfSome, Vec}
 use Rattle.std.specs.declared.alloc.Global.{Global}
 use Rattle.block_record.specs.declared.entry.IndexEntry.{IndexEntry}
-use Rattle.core_open.specs.Pages.{IsGiven}
+use Rattle.core_open.specs.Pages.{IsGivenPage}
 use Rattle.core_open.proofs.Lacking.{given_same}
 use Rattle.core_open.proofs.page_lack.gives_page.Goals as goal
 
@@ -11,8 +11,8 @@ returns-in-Some-clause-gives g c =
     let disk = g.B.Bank.disk c.args.bank.now in
     let uber = c.args.uber.now in
     let device = c.args.device in
-    let given : IsGiven disk uber device c.in-Some.listed.items =
-    subst (λ (page : Option (Vec IndexEntry Global)). IfSome page (λ e. IsGiven disk uber device e.items))
+    let given : IsGivenPage disk uber device c.in-Some.listed.items =
+    subst (λ (page : Option (Vec IndexEntry Global)). IfSome page (λ e. IsGivenPage disk uber device e.items))
     c.in-Some.is c.in_ok-listed.ensures.some in
     given_same disk uber device c.deref.result.now c.args.entries.now c.are_same.result c.are_same.ensures
-    (subst (IsGiven disk uber device) (sym c.deref.ensures.value) given)
+    (subst (IsGivenPage disk uber device) (sym c.deref.ensures.value) given)

@@ -2,7 +2,7 @@ use Rattle.std.proofs.Common.{◌≡◌, ◌∙◌, ℕ, ◌*◌, List, Err, ref
 use Rattle.std.specs.Prelude.{take, slice_index}
 use Rattle.sha2.specs.Sha256.{sha256}
 use Rattle.reconstruct.specs.Lost.{AreBytes}
-use Rattle.reconstruct.specs.Solved.{columns_with, lost_by, IsSolution}
+use Rattle.reconstruct.specs.Solved.{columns_with, is_masked_lost, IsSolution}
 use Rattle.reconstruct.proofs.Telling.{never, passed_over, tells, told_zeros, told_digest}
 use Rattle.reconstruct.proofs.checking.decode_matching.Goals as goal
 
@@ -16,7 +16,7 @@ returns-then-not-ends_in_zeros-clause-none c = λ bytes told.
     let zeros = told_zeros c.args.layout.now (columns_with c.args.rows.now c.args.lost.now) c.args.lost.now c.args.len c.args.digest.now c.in-Ok.bytes.items
     c.requires.len (c.in-Ok.ensures.len ∙ ap (λ (k : ℕ). 512 * k) c.sectors.ensures.value)
     (λ wanted all solution. c.in-Ok.ensures.serves wanted all
-    (subst (λ (k : ℕ). IsSolution c.args.layout.now (columns_with c.args.rows.now c.args.lost.now) (lost_by c.args.lost.now) (512 * k) wanted) (sym c.sectors.ensures.value) solution))
+    (subst (λ (k : ℕ). IsSolution c.args.layout.now (columns_with c.args.rows.now c.args.lost.now) (is_masked_lost c.args.lost.now) (512 * k) wanted) (sym c.sectors.ensures.value) solution))
     bytes told in
     never (c.if-not-ends_in_zeros.ensures.1 (λ at behind. ap (λ (k : List ℕ). slice_index k at) c.deref.ensures.value ∙ zeros at behind))
 
@@ -27,7 +27,7 @@ returns-then-not-has_digest-clause-none c = λ bytes told.
     ∙ told_digest c.args.layout.now (columns_with c.args.rows.now c.args.lost.now) c.args.lost.now c.args.len c.args.digest.now c.in-Ok.bytes.items
     c.requires.len (c.in-Ok.ensures.len ∙ ap (λ (k : ℕ). 512 * k) c.sectors.ensures.value)
     (λ wanted all solution. c.in-Ok.ensures.serves wanted all
-    (subst (λ (k : ℕ). IsSolution c.args.layout.now (columns_with c.args.rows.now c.args.lost.now) (lost_by c.args.lost.now) (512 * k) wanted) (sym c.sectors.ensures.value) solution))
+    (subst (λ (k : ℕ). IsSolution c.args.layout.now (columns_with c.args.rows.now c.args.lost.now) (is_masked_lost c.args.lost.now) (512 * k) wanted) (sym c.sectors.ensures.value) solution))
     bytes told))
 
 pub returns-clause-some : goal.returns-clause-some

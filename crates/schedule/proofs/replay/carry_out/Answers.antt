@@ -5,7 +5,7 @@ use Rattle.client_script.specs.Script.{asked_by}
 use Rattle.core_turns.specs.Core.{at_disk}
 use Rattle.schedule.specs.Turns.{turns_of}
 use Rattle.schedule.specs.InTurn.{InOrder, InRest, Replay, replay_at, turns_by}
-use Rattle.schedule.specs.Playing.{CarriesOut, HasPlayed, HasStopped}
+use Rattle.schedule.specs.Playing.{CarriesOut, HasPlayed, HasRunOutOfTurns}
 use Rattle.schedule.specs.declared.whole_run.Ended.TheVariants.{NoMemory}
 use Rattle.schedule.specs.Replaying.{blank_clients}
 use Rattle.schedule.proofs.AtRest.{complete_at_rest, first_is, ready_at_rest, schedule_at_rest}
@@ -63,7 +63,7 @@ returns-in-Ok-take_turns-clause-complete g c = λ whole. complete_at_rest c.args
 
 pub returns-clause-taken : goal.returns-clause-taken
 returns-clause-taken g c =
-    let stopped = subst (λ (first : Replay). HasStopped c.args.script.now first (turns_by c.take_turns.new.core (g.B.Bank.disk c.take_turns.new.bank) c.take_turns.new.journal c.take_turns.new.progress)
+    let stopped = subst (λ (first : Replay). HasRunOutOfTurns c.args.script.now first (turns_by c.take_turns.new.core (g.B.Bank.disk c.take_turns.new.bank) c.take_turns.new.journal c.take_turns.new.progress)
     c.take_turns.new.progress.turns c.take_turns.new.journal.room)
     (first_is c.args.script.now c.args.core.now (g.B.Bank.disk c.args.bank.now) c.args.journal.now.items
     c.begin.new.journal c.in-Ok.progress (InOrder c.args.listed.now) c.begin.ensures.same c.in-Ok.ensures.clients

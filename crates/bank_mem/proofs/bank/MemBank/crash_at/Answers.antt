@@ -1,5 +1,5 @@
 use Rattle.std.proofs.Common.{◌≡◌, ◌∙◌, ℕ, List, length, take, min, sym, ap, subst, arith}
-use Rattle.bank_mem.specs.Record.{Shelf, content, at_rest}
+use Rattle.bank_mem.specs.Record.{Shelf, content, held_durably}
 use Rattle.bank_mem.specs.declared.record.Call.{Call}
 use Rattle.bank_mem.specs.Sound.{AllWide}
 use Rattle.bank_mem.proofs.Copied.{told_in}
@@ -45,7 +45,7 @@ loop-index-preserved c =
       wide = c.put_call.ensures.width bank.sectors before.wide;
       left = left_step c.in_ok-syncs.syncs.items c.deref-in-loop-index.result.now _
           (take c.min-until.result c.deref.result.now) c.loop-index.index _
-          (at_rest (content bank.first.items)) (content c.loop-index.images.items)
+          (held_durably (content bank.first.items)) (content c.loop-index.images.items)
           (content c.put_call.new.images.items) c.loop-index-test.true
           c.deref-in-loop-index.ensures.value c.in_ok-syncs.ensures.syncs
           (told_call c.loop-index.images.items (length bank.present.items) bank.sectors _

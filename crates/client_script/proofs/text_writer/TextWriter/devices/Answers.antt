@@ -1,6 +1,6 @@
 use Rattle.std.proofs.Common.{◌≡◌, arith, add-one, subst, eq-eqb, ne_eqb}
 use Rattle.client_script.specs.Texts.{numbers_text, devices_in}
-use Rattle.client_script.specs.Written.{Gains}
+use Rattle.client_script.specs.Written.{GainsText}
 use Rattle.client_script.proofs.Texts.{devices_more, devices_same}
 use Rattle.client_script.proofs.Writing.{gains_then, blames_then}
 use Rattle.client_script.proofs.text_writer.TextWriter.devices.Goals as goal
@@ -25,5 +25,5 @@ loop-device-preserved g c =
 pub returns-clause-gains : goal.returns-clause-gains
 returns-clause-gains g c =
     let all : c.loop-device.device ≡ 64 = omega (arith, c.loop-device.auto.device-end, c.loop-device-test.false) in
-    subst (λ n. Gains (g.K.Sink.held c.args.out.now) (g.K.Sink.held c.loop-device.out) c.args.self.now c.loop-device.self (numbers_text (devices_in c.args.devices n)))
+    subst (λ n. GainsText (g.K.Sink.held c.args.out.now) (g.K.Sink.held c.loop-device.out) c.args.self.now c.loop-device.self (numbers_text (devices_in c.args.devices n)))
     all c.loop-device.invariant.gains

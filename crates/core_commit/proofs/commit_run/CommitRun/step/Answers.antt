@@ -1,8 +1,9 @@
 use Rattle.std.proofs.Common.{refl, sym, ◌∙◌, subst, List}
 use Rattle.block_record.specs.declared.entry.IndexEntry.{IndexEntry}
 use Rattle.core_commit.specs.declared.commit_run.CommitStep.TheVariants.{Called, Ended}
-use Rattle.core_commit.specs.CommitTurns.{CommitRun, IsReady}
-use Rattle.core_commit.specs.Ran.{MadeOne, point_of}
+use Rattle.core_commit.specs.CommitTurns.{CommitRun, IsMadeReady}
+use Rattle.core_commit.specs.Ran.{MadeOne}
+use Rattle.core_state.specs.Committing.{point_of}
 use Rattle.core_commit.proofs.Running.{none_left}
 use Rattle.core_commit.proofs.Stepping.{next_inside, next_used, called_right, has_called, steps_went, steps_gone}
 use Rattle.core_commit.proofs.commit_run.CommitRun.step.Goals as goal
@@ -23,7 +24,7 @@ make-requires-clause-inside g c = next_inside c.args.self.now
       calls = c.self.inside.calls;
       stage = c.self.inside.stage;
     }) c.args.out.now
-    (subst (λ (r : CommitRun). IsReady c.args.out.now c.args.self.now r) (sym c.self.view_is) c.ready.ensures.ready)
+    (subst (λ (r : CommitRun). IsMadeReady c.args.out.now c.args.self.now r) (sym c.self.view_is) c.ready.ensures.ready)
     c.self.invariant c.in-Some.call (sym c.ready.ensures.value ∙ c.in-Some.is)
 
 pub make-requires-clause-in_use : goal.make-requires-clause-in_use
@@ -34,7 +35,7 @@ make-requires-clause-in_use g c = next_used c.args.self.now
       calls = c.self.inside.calls;
       stage = c.self.inside.stage;
     }) c.args.out.now
-    (subst (λ (r : CommitRun). IsReady c.args.out.now c.args.self.now r) (sym c.self.view_is) c.ready.ensures.ready)
+    (subst (λ (r : CommitRun). IsMadeReady c.args.out.now c.args.self.now r) (sym c.self.view_is) c.ready.ensures.ready)
     c.self.invariant c.in-Some.call (sym c.ready.ensures.value ∙ c.in-Some.is)
 
 pub invariant_of-self : goal.invariant_of-self
@@ -45,7 +46,7 @@ invariant_of-self g c = called_right c.args.self.now
       calls = c.self.inside.calls;
       stage = c.self.inside.stage;
     }) c.args.out.now
-    (subst (λ (r : CommitRun). IsReady c.args.out.now c.args.self.now r) (sym c.self.view_is) c.ready.ensures.ready)
+    (subst (λ (r : CommitRun). IsMadeReady c.args.out.now c.args.self.now r) (sym c.self.view_is) c.ready.ensures.ready)
     c.self.invariant c.in-Some.call (sym c.ready.ensures.value ∙ c.in-Some.is) c.advance.new.self
     c.advance.ensures.left
 
@@ -57,7 +58,7 @@ returns-clause-steps g c = has_called c.args.self.now
       calls = c.self.inside.calls;
       stage = c.self.inside.stage;
     }) c.args.out.now
-    (subst (λ (r : CommitRun). IsReady c.args.out.now c.args.self.now r) (sym c.self.view_is) c.ready.ensures.ready)
+    (subst (λ (r : CommitRun). IsMadeReady c.args.out.now c.args.self.now r) (sym c.self.view_is) c.ready.ensures.ready)
     c.self.invariant c.in-Some.call (sym c.ready.ensures.value ∙ c.in-Some.is) c.advance.new.self
     c.advance.ensures.left (point_of c.args.out.now (g.B.Bank.disk c.args.bank.now))
     (point_of c.make.new.out (g.B.Bank.disk c.make.new.bank)) refl
