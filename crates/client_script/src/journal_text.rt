@@ -9,7 +9,7 @@ use crate::text_writer::TextWriter;
 use bank_trait::{Failed, Sink};
 use core_state::{Answer, Entry, Item, Journal, Kind};
 
-/// Writes the text of a journal. After a failure a front of it is written. GainsText no memory.
+/// Writes the text of a journal. After a failure a front of it is written. Takes no memory.
 pub fn print_journal<K: Sink>(journal: &Journal, out: &mut K) -> Result<(), Failed>
     ensures ok { OnOk result
         (IsAdded (K.held out.old) (K.held out.new) (journal_text journal.now.items)) }

@@ -31,6 +31,7 @@ use Rattle.schedule.specs.declared.whole_run.Ran.{Ran}
 use Rattle.raidzx_top.specs.declared.order.Order.{Order}
 use Rattle.raidzx_top.specs.Bearing.{setting_with}
 use Rattle.raidzx_top.specs.Call.{TopCall}
+use Rattle.raidzx_top.specs.Order.{listed_by}
 use Rattle.raidzx_top.specs.Causes.{IsCause, FindsNoPool, MeetsLimit, most_turns}
 use Rattle.raidzx_top.specs.Promises.{RunPromises, RunsUnhindered, IsSmoothAnswer, CompletesAll}
 use Rattle.raidzx_top.specs.Running.{IsStatusOf, HasMet, StoppedFor, after_fault, EndsTelling, WasCarriedOut}
@@ -205,6 +206,7 @@ module _ (order : Order) (call : TopCall) (lawful : Lawful call.old)
     run = was.done.run.run;
     taken = was.done.run.turns;
     turns = was.turns_are;
+    lines = λ is. was.done.run.lines (ap (λ (o : Order). listed_by o was.script) is);
     binds = λ setting first later failed may width bears.
         was.done.run.run.keeps (setting_with setting failed) first later
         (may_bear setting first later call.old was.done.run.run.borne failed may bears) width bears.now;

@@ -21,6 +21,7 @@ use Rattle.core_open.specs.Opens.{IsUnhindered, LeavesOthers}
 use Rattle.open_pool.specs.Opening.{CutsOpening, MayBegin}
 use Rattle.client_script.specs.Script.{Script, IsScript, asked_by}
 use Rattle.client_script.specs.Texts.{journal_text}
+use Rattle.schedule.specs.OfLines.{FollowsLines}
 use Rattle.schedule.specs.WholeRun.{HasRun, HasTakenTurns, RunKeeps, banks_of}
 use Rattle.schedule.specs.declared.whole_run.Ran.{Ran}
 use Rattle.raidzx_top.specs.declared.order.Order.{Order}
@@ -115,6 +116,8 @@ pub record RunPromises (order : Order) (call : TopCall) : Type 0 where
   -- the script lists.
   pub taken : HasTakenTurns script (listed_by order script) run ran
   pub turns : call.turns ≡ ran.turns
+  -- So the answers of a run stand in the order of the lines, each call whole before the next.
+  pub lines : order ≡ OfLines → FollowsLines script call.journal
   -- That binds however many devices fail: those that have to be borne are no more than there are parities, and what was
   -- answered is right for whoever can bear them.
   pub binds : (setting : Setting) (first : Kept) (later : List Kept) (failed : ℕ) → MayBegin setting first later call.old

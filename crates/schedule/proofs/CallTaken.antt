@@ -75,7 +75,7 @@ pub begun_none : (script : Script) (clients : List Client) → HaveBegun script 
 begun_none script clients = record { each = λ actor client there. omega arith }
 
 -- One more call of the script is a client's, and no other's.
-given_more : (script : Script) (given actor : ℕ) (placed : Placed) → slice_get script.calls given ≡ Some placed
+pub given_more : (script : Script) (given actor : ℕ) (placed : Placed) → slice_get script.calls given ≡ Some placed
     → ((actor ≡ placed.actor) × (given_of script (given + 1) actor ≡ given_of script given actor + 1))
     ⊎ ((actor ≢ placed.actor) × (given_of script (given + 1) actor ≡ given_of script given actor))
 given_more script given actor placed there = ⊎_elim

@@ -24,6 +24,7 @@ use Rattle.core_turns.specs.UnderWay.{TurnGoesOn}
 use Rattle.schedule.specs.Coming.{LeadTo, KeepsUsing}
 use Rattle.schedule.specs.Turns.{Turns, TurnTaken, last_left, AreListedWith, IsListedWith, taken_by}
 use Rattle.schedule.specs.Fitting.{FitsCall}
+use Rattle.schedule.specs.Numbered.{IsNumbered}
 use Rattle.schedule.specs.Running.{Runs}
 use Rattle.schedule.proofs.Fitting.{FitSince}
 use Rattle.schedule.proofs.Fulls.{FullStays}
@@ -59,6 +60,7 @@ came_nowhere script turns passed same = by (few_or_many turns.state.core.pool.ou
       runs = λ world past handed runs within listed. runs;
       full = λ world past handed runs within listed caused. caused;
       space = λ uber entries used. used;
+      numbers = λ numbered. numbered;
     }
     by (inr many) = record {
       ends = same;
@@ -77,6 +79,7 @@ came_nowhere script turns passed same = by (few_or_many turns.state.core.pool.ou
       runs = λ world past handed runs within listed. runs;
       full = λ world past handed runs within listed caused. caused;
       space = λ uber entries used. used;
+      numbers = λ numbered. numbered;
     }
 
 -- What turns left that go on after turns.
@@ -166,6 +169,7 @@ module _ (script : Script) (start middle now : Turns) (one two : List TurnTaken)
         second.full world past same (first.runs world past same runs earlier parts.0) within parts.1
         (first.full world past same runs earlier parts.0 caused);
     space = λ uber entries used. second.space uber entries (first.space uber entries used);
+    numbers = λ numbered. second.numbers (first.numbers numbered);
   }
   by (inr many) = record {
     ends = ends;
@@ -193,6 +197,7 @@ module _ (script : Script) (start middle now : Turns) (one two : List TurnTaken)
         (λ device out. absurd (none_out device (second.stopped many device out))) parts.1
         (first.full world past same runs within parts.0 caused);
     space = λ uber entries used. second.space uber entries (first.space uber entries used);
+    numbers = λ numbered. second.numbers (first.numbers numbered);
   }
 
   pub came_on : LeadTo script start (one ++ two) now
@@ -200,7 +205,8 @@ module _ (script : Script) (start middle now : Turns) (one two : List TurnTaken)
 
 -- One turn, in which these items were listed.
 module _ (script : Script) (actor : ℕ) (before after : Turns) (goes : TurnGoesOn before.state after.state)
-    (space : KeepsUsing script before after) (more : List Item) (items : after.items ≡ before.items ++ more)
+    (space : KeepsUsing script before after)
+    (numbers : IsNumbered before.items before.state.core → IsNumbered after.items after.state.core) (more : List Item) (items : after.items ≡ before.items ++ more)
     (fit : FitSince before after)
     (runs : (world : World) (past : Past) → world.handed ≡ handed_by script
     → (count_of before.state.core.pool.out ≤ before.state.core.pool.uber.parity
@@ -229,6 +235,7 @@ module _ (script : Script) (actor : ℕ) (before after : Turns) (goes : TurnGoes
     runs = λ world past same stood within listed. runs world past same (λ still. within) listed.0 stood;
     full = λ world past same stood within listed. full world past same stood;
     space = space;
+    numbers = numbers;
   }
   turn (inr many) = record {
     ends = refl;
@@ -249,6 +256,7 @@ module _ (script : Script) (actor : ℕ) (before after : Turns) (goes : TurnGoes
         listed.0 stood;
     full = λ world past same stood within listed. full world past same stood;
     space = space;
+    numbers = numbers;
   }
 
   pub came_turn : LeadTo script before (taken_by actor after ∷ []) after

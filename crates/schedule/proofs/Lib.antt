@@ -16,6 +16,7 @@ pub mod RunsEnd
 pub mod Using
 pub mod UsingTurns
 pub mod UsingEnds
+pub mod Numbered
 pub mod UsingLaw
 pub mod Fitting
 pub mod Coming
@@ -45,6 +46,7 @@ pub mod TurnTaken
 pub mod RoundTaken
 pub mod CallTaken
 pub mod InTurn
+pub mod OfLines
 pub mod Playing
 pub mod Rooms
 pub mod AtRest

@@ -80,7 +80,7 @@ module _ (script : Script) (actor : ℕ) (before after : Station) (clients news 
       → FitSince was now
       → RunsOn script before after clients news (before.items ++ more) → FullStays script was now
       → LeadTo script was (taken_by actor now ∷ []) now
-  came_listed more goes items fit runs full = came_turn script actor was now goes takes.space more items fit
+  came_listed more goes items fit runs full = came_turn script actor was now goes takes.space takes.numbers more items fit
       (λ world past handed within listed stood.
       subst (λ (l : List Item). Runs world script past after.state l news) (sym items)
       (runs world past handed within

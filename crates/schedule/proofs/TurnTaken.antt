@@ -31,6 +31,7 @@ use Rattle.schedule.proofs.Left.{turned_fewer}
 use Rattle.schedule.proofs.Shared.{turned_begins, turned_further, turned_shared}
 use Rattle.schedule.proofs.Theirs.{none_some, some_is}
 use Rattle.schedule.proofs.TurnLaw.{turned_comes}
+use Rattle.schedule.proofs.Numbered.{turn_numbers}
 use Rattle.schedule.proofs.UsingLaw.{turn_uses}
 
 -- ---- before a turn
@@ -134,7 +135,8 @@ pub takes_turn : (script : Script) (place actor : ℕ) (before after : Station) 
     → Lawful before.state.disk × Lawful after.state.disk → Turned (calls_of script actor) actor before after
     → TakesTurn script actor before after clients (slice_set clients place after.client)
 takes_turn script place actor before after clients schedule was same low is lawful turned =
-    let changes = changes_at clients place actor after.client same low in record {
+    let changes = changes_at clients place actor after.client same low in
+    let numbers = λ numbered. turn_numbers script actor before after clients schedule.going was is numbered turned in record {
       schedule = schedule;
       was = was;
       changes = changes;
@@ -142,7 +144,8 @@ takes_turn script place actor before after clients schedule was same low is lawf
       lawful = lawful.0;
       still_lawful = lawful.1;
       space = λ uber entries stood. turn_uses script actor before after clients (slice_set clients place after.client)
-          schedule.going was changes is uber entries stood turned;
+          schedule.going was changes is uber entries stood (numbers stood.last) turned;
+      numbers = numbers;
     }
 
 -- Where no client has a call under way and devices enough are in, no commit is under way.

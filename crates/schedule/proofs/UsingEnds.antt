@@ -20,7 +20,7 @@ use Rattle.core_turns.specs.declared.getting.GetRun.{GetRun}
 use Rattle.core_turns.specs.declared.putting.PutRun.{PutRun}
 use Rattle.core_turns.specs.declared.turn.Turn.{Turn}
 use Rattle.core_turns.specs.declared.turn.Turn.TheVariants.{More, Busy, Done}
-use Rattle.core_turns.specs.Core.{Core, CoreState, IsCore}
+use Rattle.core_turns.specs.Core.{Core, CoreState, IsCore, groups_begun}
 use Rattle.core_turns.specs.declared.getting.Solved.{Solved}
 use Rattle.core_turns.specs.declared.getting.Solved.TheVariants.{NotYet, Bytes, Damaged}
 use Rattle.core_turns.specs.Getting.{AnswersSolved, EndsGet, answer_of}
@@ -53,7 +53,14 @@ IsPlainEnd other = ⊤
 -- A call ends so: with a plain answer in the same group, or with its group.
 abbrev pub EndsWith : Core → Core → Answer → Type 0
 EndsWith old new given = (IsPlainEnd given × GoesWith old new old.pool.uber.group)
-    ⊎ ((number : ℕ) × (given ≡ answer.Synced number) × GoesWith old new number)
+    ⊎ ((number : ℕ) × (given ≡ answer.Synced number) × GoesWith old new number
+    × (number ≡ old.pool.uber.group + 1))
+
+-- An end that is plain lists its entry alone.
+plain_listed : (core : Core) (items : List Item) (at : ℕ) (entry : Entry) (given : Answer) → IsPlainEnd given
+    → listed_for core items at entry given ≡ items ++ CallItem entry ∷ []
+plain_listed core items at entry (answer.Synced number) plain = absurd plain
+plain_listed core items at entry other plain = refl
 
 module _ (before after : CoreState) (is : IsCore before.core) where
   abbrev old : Core
@@ -131,6 +138,12 @@ module _ (before after : CoreState) (is : IsCore before.core) where
     | inr last ↦ (read_plain last.0 given last.3, ended_hold last.0.hold last.3.rest last.3.ends)
   ]
 
+  -- The group of a commit is the one after the last that was answered.
+  next_group : (run : CommitRun) (number : ℕ) → IsCommitOf old run → AnswersGroup before run after number
+      → number ≡ old.pool.uber.group + 1
+  next_group run number of answers =
+      answers.group_is ∙ is.begun ∙ ap (λ (c : Option ℕ). old.pool.uber.group + groups_begun c) of.under_way
+
   -- A group is answered: what was held back until it is free.
   group_ends : (run : CommitRun) (number : ℕ) → IsCommitOf old run → AnswersGroup before run after number
       → GoesWith old new number
@@ -148,12 +161,12 @@ module _ (before after : CoreState) (is : IsCore before.core) where
     group_is = ap (λ (c : Core). c.pool.uber.group) answers.rest
         ∙ ap (λ (u : Uber). u.group) (ready_keeps old.pool.out run answers.ended answers.ends.is_ready).uber
         ∙ of.number ∙ sym answers.group_is;
-    rises = (let begun = is.begun in let number_is = answers.group_is in omega (arith, begun, number_is));
+    rises = (let next = next_group run number of answers in omega (arith, next));
   }
 
   sync_ends : (run : CommitRun) (given : Answer) → IsCommitOf old run → StepsCommit before run after (Done given)
       → EndsWith old new given
-  sync_ends run (answer.Synced number) of steps = inr (number, refl, group_ends run number of steps)
+  sync_ends run (answer.Synced number) of steps = inr (number, refl, group_ends run number of steps, next_group run number of steps)
   sync_ends run (answer.TooManyFailed out) of steps =
       inl (
         tt,

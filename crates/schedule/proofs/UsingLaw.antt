@@ -52,13 +52,7 @@ first_none old new actor call kind.Free (Some id) size answers = absurd answers.
 first_none old new actor call kind.Sync None size answers = absurd answers.0
 first_none old new actor call asked id size answers = absurd answers
 
--- An end that is plain lists its entry alone,
-plain_listed : (core : Core) (items : List Item) (at : ℕ) (entry : Entry) (given : Answer) → IsPlainEnd given
-    → listed_for core items at entry given ≡ items ++ CallItem entry ∷ []
-plain_listed core items at entry (answer.Synced number) plain = absurd plain
-plain_listed core items at entry other plain = refl
-
--- and tells of no want of space.
+-- An end that is plain tells of no want of space.
 plain_space : (given : Answer) (size : ℕ) → IsPlainEnd given → given ≡ answer.NoSpace size → ⊥
 plain_space given size plain is = subst IsPlainEnd is plain
 
@@ -66,7 +60,8 @@ module _ (script : Script) (actor : ℕ) (before after : Station) (clients news 
     (going : AreGoing script before.state.core clients) (was : slice_get clients actor ≡ Some before.client)
     (changes : Changes clients news actor after.client) (is : IsCore before.state.core) (uber : Uber)
     (entries : List IndexEntry)
-    (stood : HasUsedRuns script uber entries before.state.core before.items clients) where
+    (stood : HasUsedRuns script uber entries before.state.core before.items clients)
+    (last : IsNumbered after.items after.state.core) where
   abbrev old : Core
   old = before.state.core
 
@@ -132,57 +127,36 @@ module _ (script : Script) (actor : ℕ) (before after : Station) (clients news 
 
   -- ---- what is listed
 
-  -- Nothing,
-  lists_none : IsOpenSince uber new → AreUsed script uber entries new news
-      → new.pool.uber.group ≡ old.pool.uber.group → after.items ≡ before.items
+  uses : IsOpenSince uber new → AreUsed script uber entries new news → NoSpaceIsCaused script uber entries after.items
       → HasUsedRuns script uber entries new after.items news
-  lists_none opened used group items =
-      subst (λ (l : List Item). HasUsedRuns script uber entries new l news) (sym items) (record {
-        opened = opened;
-        used = used;
-        last = record { group = stood.last.group; latest = stood.last.latest; number = group ∙ stood.last.number };
-        caused = stood.caused;
-      })
+  uses opened used caused = record { opened = opened; used = used; last = last; caused = caused }
+
+  -- Nothing,
+  lists_none : IsOpenSince uber new → AreUsed script uber entries new news → after.items ≡ before.items
+      → HasUsedRuns script uber entries new after.items news
+  lists_none opened used items =
+      uses opened used (subst (NoSpaceIsCaused script uber entries) (sym items) stood.caused)
 
   -- an answer,
-  lists_entry : IsOpenSince uber new → AreUsed script uber entries new news
-      → new.pool.uber.group ≡ old.pool.uber.group → (entry : Entry)
+  lists_entry : IsOpenSince uber new → AreUsed script uber entries new news → (entry : Entry)
       → after.items ≡ before.items ++ CallItem entry ∷ []
       → ((size : ℕ) → entry.answer ≡ answer.NoSpace size
       → FindsNoSpace script uber entries before.items (length before.items) entry size)
       → HasUsedRuns script uber entries new after.items news
-  lists_entry opened used group entry items finds =
-      subst (λ (l : List Item). HasUsedRuns script uber entries new l news) (sym items) (record {
-        opened = opened;
-        used = used;
-        last = record {
-          group = stood.last.group;
-          latest = latest_grown_call before.items entry stood.last.group stood.last.latest;
-          number = group ∙ stood.last.number;
-        };
-        caused = no_space_call script uber entries before.items stood.caused entry finds;
-      })
+  lists_entry opened used entry items finds =
+      uses opened used (subst (NoSpaceIsCaused script uber entries) (sym items)
+      (no_space_call script uber entries before.items stood.caused entry finds))
 
   -- or a group and its answer.
-  lists_group : IsOpenSince uber new → AreUsed script uber entries new news → (group : GroupItem)
-      → new.pool.uber.group ≡ group.group → (entry : Entry)
+  lists_group : IsOpenSince uber new → AreUsed script uber entries new news → (group : GroupItem) → (entry : Entry)
       → after.items ≡ (before.items ++ Group group ∷ []) ++ CallItem entry ∷ []
       → ((size : ℕ) → entry.answer ≡ answer.NoSpace size → ⊥)
       → HasUsedRuns script uber entries new after.items news
-  lists_group opened used group number entry items never =
-      subst (λ (l : List Item). HasUsedRuns script uber entries new l news) (sym items) (record {
-        opened = opened;
-        used = used;
-        last = record {
-          group = group;
-          latest = latest_grown_call (before.items ++ Group group ∷ []) entry group
-              (latest_grown_group before.items group);
-          number = number;
-        };
-        caused = no_space_call script uber entries (before.items ++ Group group ∷ [])
-            (no_space_group script uber entries before.items stood.caused group) entry
-            (λ size is. absurd (never size is));
-      })
+  lists_group opened used group entry items never =
+      uses opened used (subst (NoSpaceIsCaused script uber entries) (sym items)
+      (no_space_call script uber entries (before.items ++ Group group ∷ [])
+      (no_space_group script uber entries before.items stood.caused group) entry
+      (λ size is. absurd (never size is))))
 
   -- ---- a put that finds no space
 
@@ -241,23 +215,20 @@ module _ (script : Script) (actor : ℕ) (before after : Station) (clients news 
       lists_none (opened_same (ap (λ (c : Core). c.pool.uber) core))
       (used_still (runs_still old new (same_core old new core))
       (ap (λ (s : Station). s.client.begun) nothing.same))
-      (ap (λ (c : Core). c.pool.uber.group) core) (ap (λ (s : Station). s.items) nothing.same)
+      (ap (λ (s : Station). s.items) nothing.same)
   turn_uses (Began (More does) begins leaves) =
       let on = works_begin old new is actor begins.call begins.call.kind begins.call.id does begins.did in
       lists_none (opened_same on.begins.uber)
       (used_next begins.call begins.next (ap (λ (c : Client). c.begun) leaves.1) on.more on.begins
-      (on.fits uber stood.opened))
-      (ap (λ (u : Uber). u.group) on.begins.uber) leaves.0
+      (on.fits uber stood.opened)) leaves.0
   turn_uses (Began (Busy by) begins leaves) =
       let with = waits_with old new is actor begins.call begins.call.kind begins.call.id by begins.did in
-      lists_none (opened_same with.uber) (used_still with.runs (ap (λ (c : Client). c.begun) leaves.1))
-      (ap (λ (u : Uber). u.group) with.uber) leaves.0
+      lists_none (opened_same with.uber) (used_still with.runs (ap (λ (c : Client). c.begun) leaves.1)) leaves.0
   turn_uses (Began (Done given) begins leaves) =
       let with = answers_with old new is actor begins.call begins.call.kind begins.call.id given begins.did in
       lists_entry (opened_same with.uber)
       (used_next begins.call begins.next (ap (λ (c : Client). c.begun) leaves.1) [] with
       (none_fits uber (length_put begins.call.kind (fill_bytes begins.call.fill))))
-      (ap (λ (u : Uber). u.group) with.uber)
       (entry_for begins.call actor (before.client.begun + 1) (length before.items) given) leaves.0
       (λ size told.
       let why = first_none old new actor begins.call begins.call.kind begins.call.id size
@@ -266,19 +237,19 @@ module _ (script : Script) (actor : ℕ) (before after : Station) (clients news 
   turn_uses (Went under (More does) goes leaves) =
       let with = works_go before.state after.state is goes.call under.work does goes.did in
       lists_none (opened_goes old.pool.uber.group goes.goes with)
-      (used_still (runs_still old new with.uses) (ap (λ (c : Client). c.begun) leaves.1)) with.group_is leaves.0
+      (used_still (runs_still old new with.uses) (ap (λ (c : Client). c.begun) leaves.1)) leaves.0
   turn_uses (Went under (Busy by) goes leaves) = absurd leaves
   turn_uses (Went under (Done given) goes leaves) = elim (works_end before.state after.state is goes.call under.work given
       (its_commit under goes.going) goes.did) [
         | inl plain ↦ lists_entry (opened_goes old.pool.uber.group goes.goes plain.1)
-            (used_still (runs_still old new plain.1.uses) (ap (λ (c : Client). c.begun) leaves.1)) plain.1.group_is
+            (used_still (runs_still old new plain.1.uses) (ap (λ (c : Client). c.begun) leaves.1))
             (entry_for goes.call actor before.client.begun under.at given)
             (leaves.0 ∙ plain_listed old before.items under.at
             (entry_for goes.call actor before.client.begun under.at given) given plain.0)
             (λ size told. absurd (plain_space given size plain.0 told))
         | inr synced ↦ lists_group (opened_goes synced.0 goes.goes synced.2)
             (used_still (runs_still old new synced.2.uses) (ap (λ (c : Client). c.begun) leaves.1))
-            (group_for old under.at synced.0) synced.2.group_is
+            (group_for old under.at synced.0)
             (entry_for goes.call actor before.client.begun under.at given)
             (leaves.0 ∙ ap (listed_for old before.items under.at
             (entry_for goes.call actor before.client.begun under.at given)) synced.1)

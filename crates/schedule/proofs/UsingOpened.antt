@@ -98,6 +98,6 @@ module _ (script : Script) (pool : Pool) (disk : Disk) (right : IsRightUber pool
       };
       most = most;
     };
-    last = record { group = first_item pool; latest = latest_alone (first_item pool); number = refl };
+    last = first_numbered pool;
     caused = no_space_alone script pool.uber entries (first_item pool);
   }

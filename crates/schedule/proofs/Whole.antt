@@ -1,6 +1,6 @@
 -- A run of turns from the opening of its pool to its end.
 use Rattle.std.proofs.Common.{◌≡◌, inl, inr, ⊎_elim, ℕ, ◌≤◌, List, [], ◌∷◌, ◌++◌, Bool, true, false, refl, sym, ◌∙◌, ap, arith, length, subst, ◌+◌}
-use Rattle.std.specs.Prelude.{Contains}
+use Rattle.std.specs.Prelude.{Contains, All}
 use Rattle.bank_trait.specs.Disk.{Image, Disk, Later, Lawful}
 use Rattle.bank_trait.specs.Regions.{TouchesOnly}
 use Rattle.bank_trait.proofs.Touches.{touches_then}
@@ -24,7 +24,7 @@ use Rattle.core_open.specs.Opens.{HasBank, IsWithinBelow, RenewsChoice, WritesIn
 use Rattle.core_open.specs.Regions.{IsOnBelow}
 use Rattle.open_pool.specs.Opening.{AreLoaded, MayBegin, OpensPool, IsBegunWith}
 use Rattle.open_pool.specs.Pool.{Pool}
-use Rattle.client_script.specs.Script.{Script, asked_by, handed_by}
+use Rattle.client_script.specs.Script.{Placed, Script, asked_by, handed_by}
 use Rattle.journal_law.specs.Moments.{KeepsLast}
 use Rattle.journal_law.specs.NoSpace.{NoSpaceIsCaused}
 use Rattle.journal_law.specs.FirstGroup.{BeginsAfter}
@@ -47,6 +47,8 @@ use Rattle.schedule.specs.WholeRun.{HasRun, HasRunInTurn, RunKeeps, first_turns}
 use Rattle.schedule.proofs.Banks.{are_listed, at_end as bank_at_end, at_start}
 use Rattle.schedule.proofs.Beginning.{no_call}
 use Rattle.schedule.proofs.InTurn.{gone_taken}
+use Rattle.schedule.proofs.Numbered.{first_numbered}
+use Rattle.schedule.proofs.OfLines.{follows_lines}
 use Rattle.schedule.proofs.Opened.{resting, opened_world, runs_first}
 use Rattle.schedule.proofs.OpenedBirths.{opened_births}
 use Rattle.schedule.proofs.Recording.{recorded_throughout, recorded_keeps, recorded_no_older}
@@ -213,6 +215,7 @@ module _ (script : Script) (old mid : Disk) (pool : Pool) (silent : ℕ) (items 
     calls = calls;
     fits = λ index entry there. ⊎_elim
         (λ at. absurd (no_call item index entry at)) (λ fit. fit) (come.fits index entry there);
+    numbers = (come.numbers (first_numbered pool)).numbered;
     borne = come.borne;
     few = come.few;
     within = come.within;
@@ -223,15 +226,22 @@ module _ (script : Script) (old mid : Disk) (pool : Pool) (silent : ℕ) (items 
 
   -- and the turns were those of the clients whose turn it was.
   pub has_run_in_turn : (listed : List ℕ) (ended : Ended) (turns : ℕ) (cursor : Cursor)
+      → All (λ (placed : Placed). placed.actor < script.clients) script.calls
       → EndsAs script (replay_at first_state 0 (InOrder listed)) passed
       (replay_at (turns_of final items clients) turns cursor) ended
       → HasRunInTurn script listed old final.disk items
       (record { ended = ended; turns = turns; out = final.core.pool.out })
   unfolding has_run
-  has_run_in_turn listed ended turns cursor ends = record {
+  has_run_in_turn listed ended turns cursor actors ends = record {
     run = has_run;
     turns = record { now = turns_of final items clients; cursor = cursor; ends = ends };
+    lines = λ none. follows_lines script (at_disk (resting pool) mid) item now passed ended actors refl
+        (subst (λ (l : List ℕ). EndsAs script (replay_at first_state 0 (InOrder l)) passed now ended) none ends)
+        (λ index entry there. (has_run.fits index entry there).of_kind);
   }
+    where
+      now : Replay
+      now = replay_at (turns_of final items clients) turns cursor
 
 -- However they ended, the turns were taken one after the other.
 pub ends_taken : (script : Script) (start now : Replay) (passed : List TurnTaken) (ended : Ended)

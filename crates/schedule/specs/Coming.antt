@@ -18,6 +18,7 @@ use Rattle.schedule.specs.Caused.{FullIsCaused}
 use Rattle.schedule.specs.Clients.{ClientsAreAnswered}
 use Rattle.schedule.specs.Fitting.{FitsCall}
 use Rattle.schedule.specs.Moments.{Past}
+use Rattle.schedule.specs.Numbered.{IsNumbered}
 use Rattle.schedule.specs.Running.{AreGoing, Runs}
 use Rattle.schedule.specs.Turns.{Turns, TurnTaken, AreListedWith, last_left}
 use Rattle.schedule.specs.Using.{HasUsedRuns}
@@ -34,10 +35,11 @@ KeepsUsing script start now = (uber : Uber) (entries : List IndexEntry)
     → HasUsedRuns script uber entries start.state.core start.items start.clients
     → HasUsedRuns script uber entries now.state.core now.items now.clients
 
--- These turns have come from one state to another. Devices went out where they failed, and none was touched but those
--- of the pool that were in use. What was answered fits its call. The devices whose failure has to be borne were out when it began, or have failed, and are no
--- more than there are parities; none where too many were out then, since no device is called any more. Where these may
--- fail, what stood stands, and answers that the table is full have their cause.
+-- These turns lead from one state to another. Devices went out where they failed, and none was touched but those of the
+-- pool that were in use. What was answered fits its call, and groups are numbered. The devices whose failure has to be
+-- borne were out when it began, or have failed, and are no more than there are parities; none where too many were out
+-- then, since no device is called any more. Where these may fail, what stood stands, and answers that the table is full
+-- have their cause.
 pub record LeadTo (script : Script) (start : Turns) (passed : List TurnTaken) (now : Turns) : Type 0 where
   pub ends : last_left start passed ≡ now
   pub later : Later start.state.disk now.state.disk
@@ -67,3 +69,4 @@ pub record LeadTo (script : Script) (start : Turns) (passed : List TurnTaken) (n
       → IsWithin borne world.setting.failed → AreListedWith past.banks start passed
       → FullIsCaused script world.opening start.items → FullIsCaused script world.opening now.items
   pub space : KeepsUsing script start now
+  pub numbers : IsNumbered start.items start.state.core → IsNumbered now.items now.state.core

@@ -4,12 +4,14 @@ pub mod Caused
 pub mod Recorded
 pub mod Clients
 pub mod Running
+pub mod Numbered
 pub mod Using
 pub mod Fitting
 pub mod Coming
 pub mod Turned
 pub mod Comes
 pub mod InTurn
+pub mod OfLines
 pub mod Left
 pub mod Replaying
 pub mod Playing

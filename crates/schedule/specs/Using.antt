@@ -6,9 +6,7 @@ use Rattle.space_alloc.specs.Space.{Run, HeldRun}
 use Rattle.block_record.specs.declared.entry.IndexEntry.{IndexEntry}
 use Rattle.uberblock_ring.specs.Uberblock.{Uber}
 use Rattle.uberblock_ring.specs.Valid.{IsRightUber}
-use Rattle.core_state.specs.declared.item.Group.{Group as GroupItem}
 use Rattle.core_state.specs.declared.item.Item.{Item}
-use Rattle.core_state.specs.Legal.{IsGroupBefore}
 use Rattle.core_blocks.specs.Runs.{held_sectors}
 use Rattle.core_blocks.specs.Usage.{sectors_in}
 use Rattle.client_script.specs.declared.call.ScriptCall.{ScriptCall}
@@ -17,6 +15,7 @@ use Rattle.client_script.specs.Script.{Placed, Script, calls_of}
 use Rattle.core_turns.specs.Core.{Core}
 use Rattle.journal_law.specs.NoSpace.{length_put, lengths_of, largest_size, NoSpaceIsCaused}
 use Rattle.schedule.specs.declared.client.Client.{Client}
+use Rattle.schedule.specs.Numbered.{IsNumbered}
 
 -- ---- the calls that are left
 
@@ -82,16 +81,10 @@ pub record AreUsed (script : Script) (uber : Uber) (entries : List IndexEntry) (
   pub are : AreRunsOf runs core
   pub most : AreAtMost runs (sizes_left uber left) (sizes_of uber entries script.calls)
 
--- The last group of the journal is the pool's.
-pub record HasLatest (items : List Item) (core : Core) : Type 0 where
-  pub group : GroupItem
-  pub latest : IsGroupBefore items (length items) group
-  pub number : core.pool.uber.group ≡ group.group
-
 -- So it is between two turns, and each answer so far that tells of no space has its cause.
 pub record HasUsedRuns (script : Script) (uber : Uber) (entries : List IndexEntry) (core : Core) (items : List Item)
     (clients : List Client) : Type 0 where
   pub opened : IsOpenSince uber core
   pub used : AreUsed script uber entries core clients
-  pub last : HasLatest items core
+  pub last : IsNumbered items core
   pub caused : NoSpaceIsCaused script uber entries items

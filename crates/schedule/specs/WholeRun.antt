@@ -31,6 +31,8 @@ use Rattle.schedule.specs.declared.whole_run.Ran.{Ran}
 use Rattle.schedule.specs.Fitting.{FitsCall}
 use Rattle.schedule.specs.InTurn.{Cursor, HaveTaken, InOrder, replay_at}
 use Rattle.schedule.specs.Moments.{KeepsTurnByTurn}
+use Rattle.schedule.specs.Numbered.{GroupsAreNumbered}
+use Rattle.schedule.specs.OfLines.{FollowsLines}
 use Rattle.schedule.specs.Playing.{EndsAs}
 use Rattle.schedule.specs.Recorded.{GroupsAreCounted}
 use Rattle.schedule.specs.Replaying.{IsAtRest, blank_clients}
@@ -99,9 +101,11 @@ pub record HasRun (script : Script) (old new : Disk) (items : List Item) (out : 
   pub parity : ℕ
   pub each : (image : Image) → HoldsImage old image → AreOutIn old new silent opened.to parity out image
   pub only : TouchesOnly (IsOnBelow opened.to) old new
-  -- The calls that were answered are the script's, those of each client in its order, and each answer fits its call.
+  -- The calls that were answered are the script's, those of each client in its order, and each answer fits its call. The
+  -- groups are numbered one after the other.
   pub calls : CallsAreRight (asked_by script) items
   pub fits : (index : ℕ) (entry : Entry) → CallAt items index entry → FitsCall parity out entry
+  pub numbers : GroupsAreNumbered items
   -- Some devices have to be borne: no more than there are parities, of those that are out at the end; with the silent
   -- ones of the pool, and those that the opening's group lists as out.
   pub borne : ℕ
@@ -132,8 +136,9 @@ pub record HasTakenTurns (script : Script) (listed : List ℕ) {old new : Disk} 
       (replay_at now ran.turns cursor) ran.ended
 
 -- A script was carried out on the pool that the devices showed, and the turns were those of the list and then the
--- script's.
+-- script's. Where none were listed the answers follow the lines of the script.
 pub record HasRunInTurn (script : Script) (listed : List ℕ) (old new : Disk) (items : List Item) (ran : Ran) : Type 0
   where
     pub run : HasRun script old new items ran.out
     pub turns : HasTakenTurns script listed run ran
+    pub lines : listed ≡ [] → FollowsLines script items
