@@ -345,14 +345,6 @@ commit_ends_stands setting last next map calls before after run group answers wi
     (subst (λ (k : Kept). NoneFree before.core.pool.blocks before.core.begun k.entries) (sym same) was.kept)
     (subst (λ (k : Kept). PutsSpare before calls k) (sym same) was.spared) stands))
 
--- Its last turn calls no device.
-pub commit_ends_since : (setting : Setting) (before after : CoreState) (run : CommitRun) (group : ℕ)
-    (groups : List Kept)
-    (time : ℕ) → AnswersGroup before run after group → KeepsSince setting groups time before.disk
-    → KeepsSince setting groups time after.disk
-commit_ends_since setting before after run group groups time answers kept =
-    subst (λ (p : Point). KeepsSince setting groups time p.disk) (sym answers.ends.same) kept
-
 -- A commit that is cut short, since too many devices are out.
 pub commit_is_cut : (setting : Setting) (last : Kept) (begun : List Kept) (map : Map) (calls : List HoldingCall)
     (state : CoreState) (run : CommitRun) → HasTooManyOut state.core
@@ -376,22 +368,3 @@ commit_is_cut setting last begun map calls state run many stands = record {
   are = stands.are;
   each = stands.each;
 }
-
--- A read that is under way stays one of the core over any turn of a commit.
-pub commit_gets : (before after : CoreState) (run : CommitRun) (result : Turn CommitRun) (read : GetRun)
-    → IsCommitOf before.core run → StepsCommit before run after result → IsGetOf before.core read
-    → IsGetOf after.core read
-commit_gets before after run (More next) read of steps get =
-    get_of_stays before.core after.core read (widths_out before.core after.core steps.2)
-    (subst (λ (core : Core). Contains core.holds read.hold) (sym steps.2) get.holds) get
-commit_gets before after run (Busy by) read of steps get = absurd steps
-commit_gets before after run (Done given) read of steps get = by given steps
-  where
-    by : (given : Answer) → StepsCommit before run after (Done given) → IsGetOf after.core read
-    by (answer.Synced group) answers =
-        let core = answered before.core run answers.ended after.core.pool.out before.disk after.disk of answers.ends in
-        subst (λ (c : Core). IsGetOf c read) (sym answers.rest) (get_of_stays before.core core read
-        (answered_widths before.core run answers.ended after.core.pool.out before.disk after.disk of answers.ends)
-        get.holds get)
-    by (answer.TooManyFailed out) many = subst (λ (state : CoreState). IsGetOf state.core read) (sym many.2) get
-    by other none = absurd none

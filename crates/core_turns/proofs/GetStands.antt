@@ -192,24 +192,7 @@ freed old new id (answer.TooManyFailed out) frees = let same : new ≡ old = fre
   births = ap (λ (c : Core). c.pool.blocks.births) same;
   holds = λ map disk holds. subst (λ (c : Core). HoldsMap map (pool_at (at_disk c disk))) (sym same) holds;
 }
-freed old new id answer.Stored frees = absurd frees
-freed old new id (answer.Read bytes) frees = absurd frees
-freed old new id (answer.Digest len sha) frees = absurd frees
-freed old new id (answer.Synced group) frees = absurd frees
-freed old new id (answer.Attached width group) frees = absurd frees
-freed old new id (answer.Completed width) frees = absurd frees
-freed old new id (answer.Scrubbed blocks repaired damaged) frees = absurd frees
-freed old new id (answer.NoSpace sectors) frees = absurd frees
-freed old new id answer.Full frees = absurd frees
-freed old new id answer.Damaged frees = absurd frees
-freed old new id (answer.Expanding to) frees = absurd frees
-freed old new id (answer.DeviceOut device) frees = absurd frees
-freed old new id (answer.NoDevice devices width) frees = absurd frees
-freed old new id (answer.NewDeviceFailed device) frees = absurd frees
-freed old new id (answer.Taken slot) frees = absurd frees
-freed old new id (answer.Paused device) frees = absurd frees
-freed old new id (answer.Limit reached) frees = absurd frees
-freed old new id answer.NoMemory frees = absurd frees
+freed old new id other frees = absurd frees
 
 -- A free leaves all calls under way, reads of its block too.
 pub frees_calls : (old new : Core) (id : ℕ) (given : Answer) (calls : List HoldingCall) → FreesBlock old new id given

@@ -12,7 +12,7 @@ use Rattle.reflow_mark.specs.declared.reflow.Reflow.{Reflow}
 use Rattle.shadow_write.specs.Required.{front_after_stop}
 use Rattle.shadow_write.specs.Writes.{writes_of}
 use Rattle.core_blocks.specs.Blocks.{AreUnderWay, layout_run, put_run}
-use Rattle.core_blocks.proofs.Lists.{gains_item, gains_old, gains_cases, pairs_gain, pairs_lose, pairs_beside}
+use Rattle.core_blocks.proofs.Lists.{gains_item}
 use Rattle.core_blocks.proofs.Runs.{clear_turned, free_of_taken}
 use Rattle.core_client.specs.Writing.{IsPlanOf}
 use Rattle.core_turns.specs.declared.putting.Filled.{Filled}
@@ -20,24 +20,10 @@ use Rattle.core_turns.specs.declared.putting.PutRun.{PutRun}
 use Rattle.core_turns.specs.Core.{Core, CoreState}
 use Rattle.core_turns.specs.Putting.{BeginsPutSo, FillsPut, GivesUp, IsFilledWith, IsPutOf, LeavesBlocks, StoresBlock, WritesOne}
 use Rattle.core_turns.specs.UnderWay.{HoldingCall, Putting, Reading, AreBeside, AreCallsOf, HaveNoneInCommon, IsCallOfCore, hold_of_call, ranges_of}
-use Rattle.core_turns.proofs.Frames.{KeepsWidths, call_of_stays, calls_keep, calls_stay, ends_other, hold_listed}
-use Rattle.core_turns.proofs.PutRanges.{at_end, range_listed, ranges_gain, under_moved}
-
--- Calls are beside each other in either order.
-pub beside_turned : (one other : HoldingCall) → AreBeside one other → AreBeside other one
-beside_turned one other beside = record {
-  actors = λ same. beside.actors (sym same);
-  apart = apart_turned one other beside.apart;
-}
-  where
-    apart_turned : (one other : HoldingCall) → HaveNoneInCommon one other → HaveNoneInCommon other one
-    apart_turned (Reading run content) (Reading other held) apart = tt
-    apart_turned (Reading run content) (Putting other held) apart =
-        clear_turned (layout_run run.read.layout) (put_run other.range) apart
-    apart_turned (Putting run content) (Reading other held) apart =
-        clear_turned (put_run run.range) (layout_run other.read.layout) apart
-    apart_turned (Putting run content) (Putting other held) apart =
-        clear_turned (put_run run.range) (put_run other.range) apart
+use Rattle.core_turns.proofs.Calls.{calls_gain, calls_lose, calls_swap, range_listed}
+use Rattle.core_turns.proofs.Frames.{KeepsWidths, calls_keep, calls_stay}
+use Rattle.core_turns.proofs.PutRanges.{at_end, ranges_gain, under_moved}
+use Rattle.core_turns.proofs.PutTurns.{fills_of, written, written_of}
 
 -- A turn that calls no device: blocks and holds are others, but not the widths, and all else is as it was.
 pub record Rearranges (old new : Core) : Type 0 where
@@ -100,23 +86,19 @@ pub put_begins_calls : (left calls : List HoldingCall) (old new : Core) (actor i
     → AreCallsOf old left → BeginsPutSo old new actor id len run
     → ((call : HoldingCall) → Contains left call → (hold_of_call call).actor ≢ actor)
     → Gains left calls (Putting run content) → AreCallsOf new calls
-put_begins_calls left calls old new actor id len run content are begins differs gains = record {
-  each = λ call listed. ⊎_elim (λ same. subst (IsCallOfCore new) same begins.of)
-      (λ there. call_of_stays old new call
-      (rearranged_widths old new (begins_rearranges old new actor id len run begins))
-      (subst (λ (holds : List Hold). Contains holds (hold_of_call call))
-      (sym (begins_holds old new actor id len run begins))
-      (Contains-append_left old.holds (run.hold ∷ []) (hold_of_call call) (hold_listed old call (are.each call there))))
-      (are.each call there))
-      (gains_cases left calls (Putting run content) call gains listed);
-  under = under_moved new.pool.blocks (ranges_of left) (ranges_of left ++ run.range ∷ []) (ranges_of calls) run.range
-      (at_end (ranges_of left) run.range) (ranges_gain left calls run content gains)
-      (begins.under (ranges_of left) are.under);
-  beside = pairs_gain AreBeside beside_turned left calls (Putting run content) gains
-      (λ other there. begins_beside old new left actor id len run content begins are.under other there
-      (differs other there) (are.each other there))
-      are.beside;
-}
+put_begins_calls left calls old new actor id len run content are begins differs gains =
+    calls_gain old new left calls (Putting run content) gains
+    (rearranged_widths old new (begins_rearranges old new actor id len run begins))
+    (λ hold listed. subst (λ (holds : List Hold). Contains holds hold)
+    (sym (begins_holds old new actor id len run begins))
+    (Contains-append_left old.holds (run.hold ∷ []) hold listed))
+    (under_moved new.pool.blocks (ranges_of left) (ranges_of left ++ run.range ∷ []) (ranges_of calls) run.range
+    (at_end (ranges_of left) run.range) (ranges_gain left calls run content gains)
+    (begins.under (ranges_of left) are.under))
+    begins.of
+    (λ other there. begins_beside old new left actor id len run content begins are.under other there
+    (differs other there) (are.each other there))
+    are
 
 -- One that is refused calls no device,
 pub leaves_rearranges : (old new : Core) → LeavesBlocks old new → Rearranges old new
@@ -140,22 +122,6 @@ put_refused_calls calls old new leaves are = calls_keep old new calls
 
 -- ---- a put ends
 
--- The calls that are left where the hold of a put ends are under way still.
-left_calls : (left calls : List HoldingCall) (old new : Core) (run : PutRun) (content : List ℕ) → Rearranges old new
-    → EndsHold old.holds new.holds run.hold → Gains left calls (Putting run content)
-    → AreUnderWay new.pool.blocks (ranges_of left) → AreCallsOf old calls → AreCallsOf new left
-left_calls left calls old new run content change ends gains under are = record {
-  each = λ call listed.
-      let was = are.each call (gains_old left calls (Putting run content) call gains listed) in
-      let beside = pairs_beside AreBeside beside_turned calls left (Putting run content) call gains are.beside listed in
-      call_of_stays old new call (rearranged_widths old new change)
-      (ends_other old.holds new.holds run.hold (hold_of_call call) ends (hold_listed old call was)
-      (λ same. beside.actors (sym same)))
-      was;
-  under = under;
-  beside = pairs_lose AreBeside beside_turned calls left (Putting run content) gains are.beside;
-}
-
 -- A put that ends calls no device,
 pub ends_rearranges : (old new : Core) (run : PutRun) → StoresBlock old new run → Rearranges old new
 ends_rearranges old new run ends = record { rest = ends.rest; parity = ends.parity; births = ends.births }
@@ -164,7 +130,8 @@ ends_rearranges old new run ends = record { rest = ends.rest; parity = ends.pari
 pub put_ends_calls : (left calls : List HoldingCall) (old new : Core) (run : PutRun) (content : List ℕ)
     → StoresBlock old new run → AreCallsOf old calls → Gains left calls (Putting run content) → AreCallsOf new left
 put_ends_calls left calls old new run content ends are gains =
-    left_calls left calls old new run content (ends_rearranges old new run ends) ends.ends gains
+    calls_lose old new left calls (Putting run content) gains
+    (rearranged_widths old new (ends_rearranges old new run ends)) ends.ends
     (ends.under (ranges_of left) (ranges_of calls) (ranges_gain left calls run content gains) are.under) are
 
 -- so does one that is given up.
@@ -175,7 +142,8 @@ gives_up_rearranges old new run gives_up =
 pub put_gives_up_calls : (left calls : List HoldingCall) (old new : Core) (run : PutRun) (content : List ℕ)
     → GivesUp old new run → AreCallsOf old calls → Gains left calls (Putting run content) → AreCallsOf new left
 put_gives_up_calls left calls old new run content gives_up are gains =
-    left_calls left calls old new run content (gives_up_rearranges old new run gives_up) gives_up.ends gains
+    calls_lose old new left calls (Putting run content) gains
+    (rearranged_widths old new (gives_up_rearranges old new run gives_up)) gives_up.ends
     (gives_up.under (ranges_of left) (ranges_of calls) (ranges_gain left calls run content gains) are.under) are
 
 -- ---- a put goes on
@@ -184,63 +152,28 @@ put_gives_up_calls left calls old new run content gives_up are gains =
 next_calls : (left calls nexts : List HoldingCall) (core : Core) (run : PutRun) (filled : Option Filled) (content : List ℕ)
     → Gains left calls (Putting run content) → Gains left nexts (Putting (record run { filled = filled }) content)
     → IsPutOf core (record run { filled = filled }) → AreCallsOf core calls → AreCallsOf core nexts
-next_calls left calls nexts core run filled content gains gains_next of are = record {
-  each = λ call listed. ⊎_elim (λ same. subst (IsCallOfCore core) same of)
-      (λ there. are.each call (gains_old left calls (Putting run content) call gains there))
-      (gains_cases left nexts (Putting (record run { filled = filled }) content) call gains_next listed);
-  under = under_moved core.pool.blocks (ranges_of left) (ranges_of calls) (ranges_of nexts) run.range
-      (ranges_gain left calls run content gains)
-      (ranges_gain left nexts (record run { filled = filled }) content gains_next) are.under;
-  beside = pairs_gain AreBeside beside_turned left nexts (Putting (record run { filled = filled }) content) gains_next
-      (λ other there. same_beside other
-      (pairs_beside AreBeside beside_turned calls left (Putting run content) other gains are.beside there))
-      (pairs_lose AreBeside beside_turned calls left (Putting run content) gains are.beside);
-}
+next_calls left calls nexts core run filled content gains gains_next of are =
+    calls_swap core left calls nexts (Putting run content) (Putting (record run { filled = filled }) content) gains
+    gains_next refl same_apart of
+    (under_moved core.pool.blocks (ranges_of left) (ranges_of calls) (ranges_of nexts) run.range
+    (ranges_gain left calls run content gains)
+    (ranges_gain left nexts (record run { filled = filled }) content gains_next) are.under)
+    are
   where
-    same_beside : (other : HoldingCall) → AreBeside (Putting run content) other
-        → AreBeside (Putting (record run { filled = filled }) content) other
-    same_beside (Putting other bytes) beside = record { actors = beside.actors; apart = beside.apart }
-    same_beside (Reading other bytes) beside = record { actors = beside.actors; apart = beside.apart }
-
--- A put with these columns is one of its pool still, if they are of some bytes.
-filled_of : (core : Core) (run : PutRun) (filled : Filled) (content : List ℕ)
-    → IsFilledWith core (record run { filled = Some filled }) filled content → IsPutOf core run
-    → IsPutOf core (record run { filled = Some filled })
-filled_of core run filled content with of = record {
-  pool = of.pool;
-  reflow_is = of.reflow_is;
-  range = of.range;
-  born = of.born;
-  len = of.len;
-  holds = of.holds;
-  hold_is = of.hold_is;
-  filled = λ other same. (
-    content,
-    subst (λ (f : Filled). IsFilledWith core (record run { filled = Some filled }) f content)
-        (same_filled other same) with,
-  );
-}
-  where
-    same_filled : (other : Filled) → Some filled ≡ Some other → filled ≡ other
-    same_filled other same = cc
+    same_apart : (other : HoldingCall) → HaveNoneInCommon (Putting run content) other
+        → HaveNoneInCommon (Putting (record run { filled = filled }) content) other
+    same_apart (Putting other bytes) apart = apart
+    same_apart (Reading other bytes) apart = apart
 
 -- Bytes are filled in.
 pub put_fills_calls : (left calls nexts : List HoldingCall) (core : Core) (run next : PutRun) (bytes content : List ℕ)
     → FillsPut run next bytes → length bytes ≡ run.len → AreCallsOf core calls → Gains left calls (Putting run content)
     → Gains left nexts (Putting next content) → AreCallsOf core nexts
 put_fills_calls left calls nexts core run next bytes content fills len_is are gains gains_next =
-    let of : IsPutOf core run = are.each (Putting run content) (gains_item left calls (Putting run content) gains) in
     next_calls left calls nexts core run (Some fills.filled) content gains
     (subst (λ (r : PutRun). Gains left nexts (Putting r content)) fills.rest gains_next)
-    (filled_of core run fills.filled bytes (record {
-      plan = subst (λ (r : Reflow). IsPlanOf run.range.layout r (front_after_stop r) bytes fills.filled.write.rows
-          fills.filled.write.writes) of.reflow_is fills.plan;
-      writes = subst (λ (r : Reflow). fills.filled.write.writes ≡ writes_of run.range.layout r (front_after_stop r))
-          of.reflow_is fills.writes;
-      so_far = (let first = fills.next in omega (arith, first));
-      len_is = len_is;
-      digest_is = fills.digest_is;
-    }) of)
+    (subst (IsPutOf core) fills.rest (fills_of core run next bytes fills len_is
+    (are.each (Putting run content) (gains_item left calls (Putting run content) gains))))
     are
 
 -- One write more is made or passed over.
@@ -248,20 +181,9 @@ pub put_writes_calls : (left calls nexts : List HoldingCall) (before after : Cor
     → WritesOne before run after next → AreCallsOf before.core calls → Gains left calls (Putting run content)
     → Gains left nexts (Putting next content) → AreCallsOf after.core nexts
 put_writes_calls left calls nexts before after run next content writes are gains gains_next =
-    let of : IsPutOf before.core run =
-    are.each (Putting run content) (gains_item left calls (Putting run content) gains) in
-    let with = of.filled writes.filled writes.filled_is in
-    let more : Filled =
-    record writes.filled { write = record writes.filled.write { next = writes.filled.write.next + 1 } } in
     calls_stay before.core after.core nexts writes.rest
-    (next_calls left calls nexts before.core run (Some more) content gains
+    (next_calls left calls nexts before.core run (Some (written writes.filled)) content gains
     (subst (λ (r : PutRun). Gains left nexts (Putting r content)) writes.next_is gains_next)
-    (filled_of before.core run more with.0 (record {
-      plan = with.1.plan;
-      writes = with.1.writes;
-      so_far = (let low = slice_get_within writes.filled.write.writes writes.filled.write.next writes.write
-          writes.write_is in omega (arith, low));
-      len_is = with.1.len_is;
-      digest_is = with.1.digest_is;
-    }) of)
+    (written_of before.core run writes.filled writes.write writes.filled_is writes.write_is
+    (are.each (Putting run content) (gains_item left calls (Putting run content) gains)))
     are)

@@ -7,7 +7,7 @@ use Rattle.space_alloc.specs.Space.{Gains}
 use Rattle.core_blocks.specs.declared.range.PutRange.{PutRange}
 use Rattle.core_blocks.specs.Blocks.{Blocks, AreUnderWay, put_run}
 use Rattle.core_blocks.specs.Runs.{AreClear}
-use Rattle.core_blocks.proofs.Lists.{first_listed, rest_listed, listed_cases, none_listed, gains_item, gains_old, gains_cases, pairs_gain, pairs_lose, pairs_beside}
+use Rattle.core_blocks.proofs.Lists.{gains_item, gains_old, gains_cases, pairs_gain, pairs_lose, pairs_beside}
 use Rattle.core_blocks.proofs.Runs.{clear_turned}
 use Rattle.core_turns.specs.declared.putting.PutRun.{PutRun}
 use Rattle.core_turns.specs.UnderWay.{HoldingCall, Putting, Reading, range_in, ranges_of}
@@ -79,19 +79,3 @@ ranges_gain left calls run content gains = record {
 -- Two calls that are the same are of the same put.
 pub same_put : (one other : PutRun) (bytes content : List ℕ) → Putting one bytes ≡ Putting other content → one ≡ other
 same_put one other bytes content same = cc
-
--- Each put under way has its range there.
-pub range_listed : (calls : List HoldingCall) (run : PutRun) (content : List ℕ) → Contains calls (Putting run content)
-    → Contains (ranges_of calls) run.range
-range_listed [] run content listed = absurd (none_listed (Putting run content) listed)
-range_listed (Putting first bytes ∷ calls) run content listed = ⊎_elim
-    (λ same. subst (λ (one : PutRun). Contains (first.range ∷ ranges_of calls) one.range)
-    (same_put first run bytes content same) (first_listed first.range (ranges_of calls)))
-    (λ rest. rest_listed first.range run.range (ranges_of calls) (range_listed calls run content rest))
-    (listed_cases (Putting first bytes) (Putting run content) calls listed)
-range_listed (Reading first bytes ∷ calls) run content listed = ⊎_elim (λ same. absurd (clash same))
-    (λ rest. range_listed calls run content rest)
-    (listed_cases (Reading first bytes) (Putting run content) calls listed)
-  where
-    clash : Reading first bytes ≡ Putting run content → ⊥
-    clash same = cc

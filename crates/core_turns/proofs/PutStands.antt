@@ -33,7 +33,8 @@ use Rattle.core_turns.specs.Core.{Core, CoreState, IsCore, as_begun, at_disk, po
 use Rattle.core_turns.specs.Putting.{BeginsPutSo, FillsPut, GivesUp, HoldsPut, IsPutOf, LeavesBlocks, StoresBlock, filled_entry}
 use Rattle.core_turns.specs.UnderWay.{HoldingCall, Putting, Reading, AreCallsOf, GroupsStand, HoldsCall, PutsSpare, Stands, hold_of_call}
 use Rattle.core_turns.proofs.Beside.{IsWrittenTo}
-use Rattle.core_turns.proofs.PutRanges.{range_listed, same_put}
+use Rattle.core_turns.proofs.Calls.{range_listed}
+use Rattle.core_turns.proofs.PutRanges.{same_put}
 use Rattle.core_turns.proofs.PutCalls.{Rearranges, begins_rearranges, ends_rearranges, gives_up_rearranges, leaves_rearranges, put_begins_calls, put_ends_calls, put_fills_calls, put_gives_up_calls, put_refused_calls}
 
 -- The groups whose blocks are kept: the last answered one, and the last one begun.

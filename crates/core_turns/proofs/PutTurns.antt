@@ -1,7 +1,7 @@
 -- Puts, turn by turn: what each turn comes to.
 use Rattle.std.proofs.Common.{◌≡◌, ◌≢◌, ⊎_elim, ℕ, ◌+◌, ◌<◌, ◌≤◌, ◌^◌, List, ◌∷◌, [], ◌++◌, length, true, Option, Some, None, Result, Ok, Err, append-nil, refl, sym, ◌∙◌, ap, subst, arith}
 use Rattle.std.specs.Prelude.{All, Contains, OnOk, OnErr, slice_get, slice_index_or}
-use Rattle.std.proofs.lemmas.Option.{slice_get-get_or}
+use Rattle.std.proofs.lemmas.Option.{slice_get-get_or, slice_get_within}
 use Rattle.std.proofs.lemmas.List.Elements.{Contains-append_left, Contains-append_right}
 use Rattle.bank_trait.specs.Disk.{Disk}
 use Rattle.bank_trait.specs.Regions.{TouchesOnly}
@@ -56,7 +56,7 @@ use Rattle.core_turns.specs.Getting.{HasTooManyOut, IsGetOf}
 use Rattle.core_turns.specs.Putting.{BeginsPutSo, BeginsPutTurn, FillsPut, IsFilledWith, IsMorePut, IsPutOf, LeavesBlocks, StoresBlock, WritesOne, WritesTurn, filled_entry, hold_on, refused_turn}
 use Rattle.core_turns.specs.UnderWay.{TurnGoesOn}
 use Rattle.core_turns.proofs.Cores.{bank_has, core_blocks}
-use Rattle.core_turns.proofs.GetTurns.{get_of}
+use Rattle.core_turns.proofs.Frames.{put_of_stays, widths_out}
 use Rattle.core_turns.proofs.TakenBack.{was_there}
 
 -- What is filled in is one.
@@ -207,10 +207,11 @@ put_dropped core begun after range holds same begins under kept spares parity bi
 
 -- ---- filling in
 
--- What is filled in is a block of the put's length.
-pub fills_of : (core : Core) (old new : PutRun) (content : List ℕ) → FillsPut old new content → length content ≡ old.len
-    → IsPutOf core old → IsPutOf core new
-fills_of core old new content fills len of = subst (IsPutOf core) (sym fills.rest) (record {
+-- A put with these columns is one of its pool still, if they are of some bytes.
+pub filled_of : (core : Core) (run : PutRun) (filled : Filled) (content : List ℕ)
+    → IsFilledWith core (record run { filled = Some filled }) filled content → IsPutOf core run
+    → IsPutOf core (record run { filled = Some filled })
+filled_of core run filled content with of = record {
   pool = of.pool;
   reflow_is = of.reflow_is;
   range = of.range;
@@ -218,28 +219,51 @@ fills_of core old new content fills len of = subst (IsPutOf core) (sym fills.res
   len = of.len;
   holds = of.holds;
   hold_is = of.hold_is;
-  filled = λ filled is. subst
-      (λ (f : Filled). (content : List ℕ) × IsFilledWith core (record old { filled = Some fills.filled }) f content)
-      (same_filled is) (
-        content,
-        record {
-          plan = subst (λ (r : Reflow). IsPlanOf old.range.layout r (front_after_stop r) content
-              fills.filled.write.rows fills.filled.write.writes) of.reflow_is fills.plan;
-          writes = subst (λ (r : Reflow). fills.filled.write.writes ≡ writes_of old.range.layout r (front_after_stop r))
-              of.reflow_is fills.writes;
-          so_far = (let first = fills.next in omega (arith, first));
-          len_is = len;
-          digest_is = fills.digest_is;
-        },
-      );
-})
+  filled = λ other same. (
+    content,
+    subst (λ (f : Filled). IsFilledWith core (record run { filled = Some filled }) f content)
+        (same_filled same) with,
+  );
+}
 
--- So it is whether memory was wanting or not.
+-- So it is where a block of the put's length is filled in,
+pub fills_of : (core : Core) (old new : PutRun) (content : List ℕ) → FillsPut old new content → length content ≡ old.len
+    → IsPutOf core old → IsPutOf core new
+fills_of core old new content fills len of = subst (IsPutOf core) (sym fills.rest)
+    (filled_of core old fills.filled content (record {
+      plan = subst (λ (r : Reflow). IsPlanOf old.range.layout r (front_after_stop r) content
+          fills.filled.write.rows fills.filled.write.writes) of.reflow_is fills.plan;
+      writes = subst (λ (r : Reflow). fills.filled.write.writes ≡ writes_of old.range.layout r (front_after_stop r))
+          of.reflow_is fills.writes;
+      so_far = (let first = fills.next in omega (arith, first));
+      len_is = len;
+      digest_is = fills.digest_is;
+    }) of)
+
+-- whether memory was wanting for that or not,
 pub went_filled : (old new : PutRun) (content : List ℕ) (result : Result (Unit {0}) OutOfMemory)
     → OnOk result (FillsPut old new content) → OnErr result (new ≡ old) → length content ≡ old.len
     → (core : Core) → IsPutOf core old → IsPutOf core new
 went_filled old new content (Ok value) fills same len core of = fills_of core old new content fills len of
 went_filled old new content (Err why) fills same len core of = subst (IsPutOf core) (sym same) of
+
+-- a block with one write more
+abbrev pub written : Filled → Filled
+written filled = record filled { write = record filled.write { next = filled.write.next + 1 } }
+
+-- and where one more is written.
+pub written_of : (core : Core) (run : PutRun) (filled : Filled) (write : Write) → run.filled ≡ Some filled
+    → slice_get filled.write.writes filled.write.next ≡ Some write → IsPutOf core run
+    → IsPutOf core (record run { filled = Some (written filled) })
+written_of core run filled write is there of =
+    let was = of.filled filled is in
+    filled_of core run (written filled) was.0 (record {
+      plan = was.1.plan;
+      writes = was.1.writes;
+      so_far = (let low = slice_get_within filled.write.writes filled.write.next write there in omega (arith, low));
+      len_is = was.1.len_is;
+      digest_is = was.1.digest_is;
+    }) of
 
 -- ---- a turn that writes
 
@@ -389,42 +413,16 @@ put_bank before after run result of writes bank =
     writes_uber (Busy by) writes = absurd writes
     writes_uber (Done given) writes = ap (λ (c : Core). c.pool.uber) writes.0.gives_up.rest
 
--- a block with one write more
-abbrev written : Filled → Filled
-written filled = record filled { write = record filled.write { next = filled.write.next + 1 } }
-
 -- A put with one write more is one of this pool still.
 pub put_more : (before after : CoreState) (run : PutRun) (result : Turn PutRun) → IsPutOf before.core run
     → IsUnderWay before.core.pool.blocks run.range → WritesTurn before run after result → IsMorePut after.core result
 put_more before after run (More next) of under_way writes =
     let core = record before.core { pool = record before.core.pool { out = after.core.pool.out } } in
     subst (λ (c : Core). IsMorePut c (More next)) (sym writes.rest)
-    (subst (λ (r : PutRun). IsMorePut core (More r)) (sym writes.next_is) (
-      record {
-        pool = of.pool;
-        reflow_is = of.reflow_is;
-        range = of.range;
-        born = of.born;
-        len = of.len;
-        holds = of.holds;
-        hold_is = of.hold_is;
-        filled = λ filled is.
-            let was = of.filled writes.filled writes.filled_is in
-            let found = numbered writes.filled.write.writes writes.filled.write.next writes.write writes.write_is in
-            let more = record run { filled = Some (written writes.filled) } in
-            subst (λ (f : Filled). (content : List ℕ) × IsFilledWith core more f content) (same_filled is) (
-              was.0,
-              record {
-                plan = was.1.plan;
-                writes = was.1.writes;
-                so_far = omega (arith, found.0);
-                len_is = was.1.len_is;
-                digest_is = was.1.digest_is;
-              },
-            );
-      },
-      under_way,
-    ))
+    (subst (λ (r : PutRun). IsMorePut core (More r)) (sym writes.next_is)
+    (put_of_stays before.core core (record run { filled = Some (written writes.filled) })
+    (widths_out before.core core refl) of.holds
+    (written_of before.core run writes.filled writes.write writes.filled_is writes.write_is of), under_way))
 put_more before after run (Busy by) of under_way writes = tt
 put_more before after run (Done given) of under_way writes = tt
 
@@ -508,17 +506,3 @@ put_in_pool core run of = subst (IsInPool run.range.layout) (sym of.reflow_is) o
 -- and has as many sectors as they fill.
 pub put_sectors : (core : Core) (run : PutRun) → IsPutOf core run → sectors_for run.len ≡ run.range.layout.sectors
 put_sectors core run of = sym (ap (λ (l : Layout). l.sectors) of.range.layout_is)
-
--- A read stays one of its pool over the turns of a put: over the first,
-pub begins_gets : (old new : Core) (actor id len : ℕ) (put : PutRun) (run : GetRun)
-    → BeginsPutSo old new actor id len put → IsGetOf old run → IsGetOf new run
-begins_gets old new actor id len put run begins of = get_of old new run (ap (λ (c : Core). c.pool.uber) begins.rest)
-    (subst (λ (c : Core). Contains c.holds run.hold) (sym begins.rest)
-    (Contains-append_left old.holds (put.hold ∷ []) run.hold of.holds)) of
-
--- and over one that writes.
-pub writes_gets : (before after : CoreState) (put next : PutRun) (run : GetRun) → WritesOne before put after next
-    → IsGetOf before.core run → IsGetOf after.core run
-writes_gets before after put next run writes of =
-    get_of before.core after.core run (ap (λ (c : Core). c.pool.uber) writes.rest)
-    (subst (λ (c : Core). Contains c.holds run.hold) (sym writes.rest) of.holds) of

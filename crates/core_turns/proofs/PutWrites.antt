@@ -58,9 +58,10 @@ use Rattle.core_turns.specs.Committing.{IsCommitOf}
 use Rattle.core_turns.specs.UnderWay.{HoldingCall, Putting, Reading, AreBeside, AreCallsOf, CommitStands, GroupsStand, HoldsCall, IsCallOfCore, NoCommitStands, PutsSpare, Stands, layout_of_call}
 use Rattle.core_turns.proofs.Beside.{IsWrittenTo, AreInPool, never_asked, put_beside_commit}
 use Rattle.core_turns.proofs.Frames.{AreOff, IsOff, Leaves, call_stays, leaves_touched, off_written, stands_anew}
-use Rattle.core_turns.proofs.PutRanges.{range_listed}
-use Rattle.core_turns.proofs.PutCalls.{beside_turned, put_writes_calls}
+use Rattle.core_turns.proofs.Calls.{beside_turn, range_listed}
+use Rattle.core_turns.proofs.PutCalls.{put_writes_calls}
 use Rattle.core_turns.proofs.PutStands.{groups_with, listed_clear, next_spares}
+use Rattle.core_turns.proofs.PutTurns.{outs_by_write}
 
 -- ---- where a put writes
 
@@ -113,7 +114,7 @@ written_spare setting first later reflow layout out sound pool clear device devi
           (clear kept listed).inside pool (clear kept listed).spares written asks);
     }
 
--- One write touches no more than such a place,
+-- One write touches no more than such a place.
 one_touched : (rows : Rows) (writes : List Write) (write : Write) (before after : Point) → Contains writes write
     → IsPassedOrMade rows write before after → TouchesOnly (IsPlaceOf writes before.out) before.disk after.disk
 one_touched rows writes write before after listed step = ⊎_elim
@@ -122,16 +123,6 @@ one_touched rows writes write before after listed step = ⊎_elim
     (touches_none (IsPlaceOf writes before.out) before.disk))
     (λ (made : IsMade rows write before after).
     wrote_touches (IsPlaceOf writes before.out) (write, listed, made.called.in_use, refl, refl) made.wrote)
-    step
-
--- and at most its device goes out.
-one_out : (rows : Rows) (write : Write) (before after : Point) → IsPassedOrMade rows write before after
-    → OnlyFailedGoOut before after
-one_out rows write before after step = ⊎_elim
-    (λ (passed : (has_device before.out write.device ≡ true) × (after ≡ before)).
-    subst (OnlyFailedGoOut before) (sym passed.1) (outs_none before))
-    (λ (made : IsMade rows write before after).
-    outs_called write.device made.result before after made.called made.wrote.failed)
     step
 
 -- A commit's group has the widths of the pool.
@@ -186,7 +177,7 @@ module _ (setting : Setting) (last : Kept) (begun : List Kept) (map : Map) (left
 
   -- At most the write's device goes out.
   outs : OnlyFailedGoOut here there
-  outs = one_out writes.filled.write.rows writes.write here there writes.made
+  outs = outs_by_write here there writes.filled writes.write writes.made
 
   -- Not too many devices were out.
   few : count_of before.core.pool.out ≤ before.core.pool.uber.parity
@@ -371,7 +362,7 @@ module _ (setting : Setting) (last : Kept) (begun : List Kept) (map : Map) (left
         (λ other.
         let was = gains_old left calls (Putting run content) call gains other in
         let beside =
-        pairs_beside AreBeside beside_turned calls left (Putting run content) call gains stands.are.beside other in
+        pairs_beside AreBeside beside_turn calls left (Putting run content) call gains stands.are.beside other in
         call_stays places before written call (leaves its_of)
         (calls_off its_of call beside (stands.are.each call was)) (stands.each call was))
         (gains_cases left nexts (Putting next content) call gains_next listed))

@@ -25,7 +25,7 @@ use Rattle.schedule.specs.Playing.{IsReady}
 use Rattle.schedule.specs.Replaying.{AreIdle, HaveBegun, IsAtRest, OnlyShared, blank_client, blank_clients}
 use Rattle.schedule.proofs.Rooms.{room_at_first}
 use Rattle.schedule.proofs.Theirs.{none_some}
-use Rattle.schedule.proofs.Opened.{blank_is, none_of_blank}
+use Rattle.schedule.proofs.Opened.{blank_is, calls_none, none_held, none_of_blank}
 
 -- A core at rest, clients that have begun no call, and a journal that answers none are a schedule.
 pub schedule_at_rest : (script : Script) (core : Core) (disk : Disk) (items : List Item) (count : ℕ) → IsAtRest core
@@ -34,16 +34,8 @@ pub schedule_at_rest : (script : Script) (core : Core) (disk : Disk) (items : Li
     → IsSchedule script (turns_of (at_disk core disk) items (blank_clients count))
 schedule_at_rest script core disk items count rest bank none = record {
   going = record {
-    calls = [];
-    are = record {
-      each = λ call listed. absurd (none_listed call listed);
-      under = rest.blocks;
-      beside = λ i j d before within. absurd (omega (arith, within));
-    };
-    theirs = record {
-      of = λ call listed. absurd (none_listed call listed);
-      every = λ index client under going no_sync. absurd (none_of_blank count index client under going);
-    };
+    are = λ contents. subst (AreCallsOf core) (sym (none_held contents count)) (calls_none core rest.blocks);
+    holds = λ index client under going. absurd (none_of_blank count index client under going);
     asked = λ index client under going. absurd (none_of_blank count index client under going);
     syncs = λ index client under run going is. absurd (none_of_blank count index client under going);
     one = λ actor is. absurd (none_some (sym rest.committing ∙ is));

@@ -28,6 +28,7 @@ use Rattle.schedule.proofs.Theirs.{none_some}
 use Rattle.schedule.proofs.LeavesPool.{LeavesPool, leaves_pool}
 use Rattle.schedule.proofs.TurnComes.{first_entry, comes_at_once}
 use Rattle.schedule.proofs.Fulls.{put_alone}
+use Rattle.schedule.specs.Running.{calls_under_way}
 
 -- The pool stays,
 frees_pool : (old new : Core) (id : ℕ) (given : Answer) → FreesBlock old new id given → LeavesPool old new
@@ -92,19 +93,20 @@ module _ (script : Script) (actor : ℕ) (before after : Station) (clients news 
         memory = λ wanting. absurd (subst (FreesBlock before.state.core after.state.core id) wanting frees.frees);
       })
       (λ full. absurd (put_alone kind.Free given free_no_put of.0 full))
-      (frees_calls before.state.core after.state.core id given takes.schedule.going.calls frees.frees frees.under
-      takes.schedule.going.are)
+      (λ contents. frees_calls before.state.core after.state.core id given (calls_under_way contents clients) frees.frees
+      frees.under (takes.schedule.going.are contents))
       (λ world past runs.
       let map = map_of world.handed world.opening before.items in
+      let calls = calls_under_way runs.contents clients in
       let entry = first_entry call actor before given in (
         free_right world before.items entry asked of.1
             (subst (λ (held : Option (List ℕ)). IsRightFree held given) (sym (ap (option_and_then map) id_is))
             (frees_right before.state.core after.state.core before.state.disk map id given runs.stands.holds
             frees.frees)),
-        subst (λ (m : Map). Stands world.setting runs.last runs.begun m runs.calls runs.commit after.state)
+        subst (λ (m : Map). Stands world.setting runs.last runs.begun m calls runs.commit after.state)
             (sym (frees_map before.state.core after.state.core world.handed map entry id given id_is frees.frees))
-            (subst (λ (d : Disk). Stands world.setting runs.last runs.begun (map_after_free map id given) runs.calls
+            (subst (λ (d : Disk). Stands world.setting runs.last runs.begun (map_after_free map id given) calls
             runs.commit (at_disk after.state.core d)) (sym disk)
-            (frees_stands world.setting runs.last runs.begun map runs.calls runs.commit before.state.core
+            (frees_stands world.setting runs.last runs.begun map calls runs.commit before.state.core
             after.state.core before.state.disk id given takes.is frees.frees frees.under frees.kept runs.stands)),
       ))

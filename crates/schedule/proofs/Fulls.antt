@@ -18,7 +18,7 @@ use Rattle.core_state.specs.Map.{Map, map_of}
 use Rattle.core_state.specs.Legal.{IsAnswerOf}
 use Rattle.core_state.specs.World.{World}
 use Rattle.core_blocks.specs.Blocks.{puts_of}
-use Rattle.core_blocks.proofs.Lists.{first_listed, rest_listed}
+use Rattle.core_blocks.proofs.Lists.{first_listed, rest_listed, none_listed}
 use Rattle.client_script.specs.declared.call.ScriptCall.{ScriptCall}
 use Rattle.client_script.specs.Script.{Script, calls_of, handed_by}
 use Rattle.journal_law.specs.Caused.{IsHeldOrPut, HasTooManyIds}
@@ -36,8 +36,10 @@ use Rattle.schedule.specs.declared.client.Work.TheVariants as work
 use Rattle.schedule.specs.Caused.{FullIsCaused}
 use Rattle.schedule.specs.Coming.{IsSchedule}
 use Rattle.schedule.specs.Turns.{Turns}
-use Rattle.schedule.specs.Running.{IsWorkOf, IsWorkFor, AreGoing, Runs}
+use Rattle.schedule.specs.Running.{AreGoing, IsWorkFor, Runs, calls_under_way, held_by}
 use Rattle.schedule.specs.Moments.{Past}
+use Rattle.core_turns.proofs.PutRanges.{same_put}
+use Rattle.schedule.proofs.Theirs.{whose, only_one}
 
 -- ---- the ids that are reserved
 
@@ -79,25 +81,34 @@ put_counted (Putting run content ∷ calls) id some =
         (found.0, found.1, rest_listed (Putting run content) (Putting found.0 found.1) calls found.2, found.3)
 
 -- The script asks for a put that is a client's work.
-put_asked : (does : Work) (run : PutRun) (content : List ℕ) (call : ScriptCall) → IsWorkOf does (Putting run content)
-    → IsWorkFor call does → (call.kind ≡ kind.Put) × (call.id ≡ Some run.range.id)
-put_asked (work.Put other) run content call same asked =
-    (asked.0, asked.1 ∙ ap (λ (r : PutRun). Some r.range.id) same)
-put_asked (work.Read other) run content call same asked = absurd same
-put_asked (work.Sync other) run content call same asked = absurd same
+put_asked : (does : Work) (bytes : List ℕ) (run : PutRun) (content : List ℕ) (call : ScriptCall)
+    → Contains (held_by bytes does) (Putting run content) → IsWorkFor call does
+    → (call.kind ≡ kind.Put) × (call.id ≡ Some run.range.id)
+put_asked (work.Put other) bytes run content call held asked = (
+  asked.0,
+  asked.1 ∙ ap (λ (r : PutRun). Some r.range.id)
+      (same_put other run bytes content (only_one (Putting other bytes) (Putting run content) held)),
+)
+put_asked (work.Read other) bytes run content call held asked =
+    absurd (apart (only_one (Reading other bytes) (Putting run content) held))
+  where
+    apart : Reading other bytes ≡ Putting run content → ⊥
+    apart same = cc
+put_asked (work.Sync other) bytes run content call held asked = absurd (none_listed (Putting run content) held)
 
 -- An id that is reserved is one that a call of the script puts.
 reserved_put : (script : Script) (core : Core) (clients : List Client) (opening : Map) (id : ℕ)
     → AreGoing script core clients → is_member nat_eq core.pool.blocks.table.reserved id ≡ true
     → IsHeldOrPut script opening id
 reserved_put script core clients opening id going there =
+    let contents : (index : ℕ) → List ℕ = λ index. [] in
     let some = member_counted core.pool.blocks.table.reserved id there in
-    let counted = going.are.under.reserved id in
-    let found = put_counted going.calls id (omega (arith, some, counted)) in
-    let its = going.theirs.of (Putting found.0 found.1) found.2 in
-    let asked = going.asked found.0.hold.actor its.0 its.1 its.2 in
-    let puts = put_asked its.1.work found.0 found.1 asked.0 its.3 asked.2 in
-    call_puts script opening found.0.hold.actor (its.0.begun - 1) asked.0 id asked.1 puts.0 (puts.1 ∙ ap Some found.3)
+    let counted = (going.are contents).under.reserved id in
+    let found = put_counted (calls_under_way contents clients) id (omega (arith, some, counted)) in
+    let its = whose contents clients (Putting found.0 found.1) found.2 in
+    let asked = going.asked its.index its.client its.under its.going in
+    let puts = put_asked its.under.work [] found.0 found.1 asked.0 its.held asked.2 in
+    call_puts script opening its.index (its.client.begun - 1) asked.0 id asked.1 puts.0 (puts.1 ∙ ap Some found.3)
 
 -- ---- a put that is refused
 

@@ -11,7 +11,6 @@ pub mod Answered
 pub mod Running
 pub mod Fulls
 pub mod RunsGoOn
-pub mod RunsBegin
 pub mod RunsEnd
 pub mod Using
 pub mod UsingTurns

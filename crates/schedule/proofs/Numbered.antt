@@ -11,7 +11,7 @@ use Rattle.core_state.specs.Legal.{GroupAt, IsGroupBefore}
 use Rattle.core_commit.specs.CommitTurns.{CommitRun}
 use Rattle.client_script.specs.Script.{Script, calls_of}
 use Rattle.journal_law.proofs.Grown.{group_before_first, new_or_before}
-use Rattle.journal_law.proofs.GrownGroups.{latest_alone, latest_grown_call, latest_grown_group, one_before}
+use Rattle.journal_law.proofs.GrownGroups.{latest_alone, latest_grown_call, latest_grown_group}
 use Rattle.open_pool.specs.Pool.{Pool, first_item}
 use Rattle.core_turns.specs.declared.turn.Turn.TheVariants.{More, Busy, Done}
 use Rattle.core_turns.specs.Core.{Core, IsCore}
@@ -22,6 +22,7 @@ use Rattle.schedule.specs.declared.client.Work.TheVariants as work
 use Rattle.schedule.specs.Numbered.{GroupsAreNumbered, IsNumbered}
 use Rattle.schedule.specs.Running.{AreGoing}
 use Rattle.schedule.specs.Turned.{Station, Turned, Nothing, Began, Went, entry_for, group_for, listed_for}
+use Rattle.schedule.proofs.Begun.{one_latest}
 use Rattle.schedule.proofs.Opened.{resting}
 use Rattle.schedule.proofs.UsingEnds.{plain_listed, works_end, works_go}
 use Rattle.schedule.proofs.UsingTurns.{answers_with, waits_with, works_begin}
@@ -75,7 +76,7 @@ module _ (items : List Item) (numbered : GroupsAreNumbered items) where
   numbered_group last group latest number = record {
     each = λ index before next is there. elim (new_or_before items (Group group) index (Group next) there) [
       | inl new ↦ ap (λ (g : GroupItem). g.group) (sym (same_group group next new.1)) ∙ number
-          ∙ ap (λ (g : GroupItem). g.group + 1) (one_before items (length items) last before latest
+          ∙ ap (λ (g : GroupItem). g.group + 1) (one_latest latest
           (group_before_first items (Group group ∷ []) (length items) before (omega arith)
           (subst (λ (k : ℕ). IsGroupBefore (items ++ Group group ∷ []) k before) new.0 is)))
       | inr old ↦ earlier (Group group ∷ []) index before next old.0 is old.1

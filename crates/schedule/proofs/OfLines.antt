@@ -38,6 +38,7 @@ use Rattle.schedule.proofs.CallTaken.{given_more, given_own}
 use Rattle.schedule.proofs.InTurn.{busy_in_rest, left_begun, left_in_rest, none_in_rest, none_left_begun, not_busy_idle, rest_next}
 use Rattle.schedule.proofs.Opened.{blank_is}
 use Rattle.schedule.proofs.Theirs.{none_some, some_is}
+use Rattle.schedule.proofs.TurnTaken.{all_at}
 
 -- ---- lists
 
@@ -46,14 +47,6 @@ past_end : (calls : List Placed) (number : ℕ) → slice_get calls number ≡ N
 past_end [] number none = omega arith
 past_end (first ∷ calls) zero none = absurd (none_some (sym none))
 past_end (first ∷ calls) (suc number) none = let past = past_end calls number none in omega (arith, past)
-
-actor_below : (calls : List Placed) (clients number : ℕ) (placed : Placed)
-    → All (λ (p : Placed). p.actor < clients) calls → slice_get calls number ≡ Some placed → placed.actor < clients
-actor_below [] clients number placed all there = absurd (none_some there)
-actor_below (first ∷ calls) clients zero placed all there =
-    subst (λ (p : Placed). p.actor < clients) (some_is there) all.0
-actor_below (first ∷ calls) clients (suc number) placed all there =
-    actor_below calls clients number placed all.1 there
 
 blank_there : (count index : ℕ) → index < count
     → (client : Client) × (slice_get (blank_clients count) index ≡ Some client)
@@ -81,12 +74,9 @@ callers_more (Call entry ∷ items) more = ap (λ (l : List ℕ). entry.caller �
 
 -- The first calls of a script and the next one are one call more.
 actors_more : (calls : List Placed) (count : ℕ) (placed : Placed) → slice_get calls count ≡ Some placed
-    → take (count + 1) (map (λ (p : Placed). p.actor) calls)
+    → take (suc count) (map (λ (p : Placed). p.actor) calls)
     ≡ take count (map (λ (p : Placed). p.actor) calls) ++ placed.actor ∷ []
-actors_more [] count placed there = absurd (none there)
-  where
-    none : slice_get ([] : List Placed) count ≡ Some placed → ⊥
-    none is = cc
+actors_more [] count placed there = absurd (none_some there)
 actors_more (first ∷ calls) zero placed there = ap (λ (p : Placed). p.actor ∷ []) (some_is there)
 actors_more (first ∷ calls) (suc count) placed there =
     ap (λ (l : List ℕ). first.actor ∷ l) (actors_more calls count placed there)
@@ -137,7 +127,9 @@ module _ (script : Script) (items : List Item) (follows : Follows script items) 
     callers = callers_more items (Call entry ∷ [])
         ∙ ap (λ (l : List ℕ). l ++ entry.caller ∷ []) follows.callers
         ∙ ap (λ (n : ℕ). take follows.answered (actors_in script) ++ n ∷ []) caller
-        ∙ sym (actors_more script.calls follows.answered placed there);
+        ∙ sym (actors_more script.calls follows.answered placed there)
+        ∙ ap (λ (n : ℕ). take n (actors_in script))
+        (let same : suc follows.answered ≡ follows.answered + 1 = omega arith in same);
     reads = λ index other is. elim (new_or_before items (Call entry) index (Call other) is) [
       | inl last ↦ subst (λ (e : Entry). IsAnswerOf e.kind e.answer → e.at ≡ point_after e.kind index e.answer)
           (call_is entry other last.1) (subst (λ (n : ℕ). IsAnswerOf entry.kind entry.answer
@@ -203,7 +195,7 @@ module _ (script : Script) (items : List Item) (clients news : List Client) (giv
       → slice_get clients actor ≡ Some client → client.under_way ≡ Some under → ⊥
   only_next actor client under apart is going =
       let its = (goes.each actor client is).under under going in
-      apart (sym its.2.2.2.2 ∙ ap (λ (p : Placed). p.actor) (some_is (sym its.2.2.2.1 ∙ next)))
+      apart (sym its.5 ∙ ap (λ (p : Placed). p.actor) (some_is (sym its.4 ∙ next)))
 
   module _ {T : ℕ → Client → Type 0} (own : T placed.actor now)
       (others : (actor : ℕ) (client : Client) → actor ≢ placed.actor → slice_get clients actor ≡ Some client
@@ -240,7 +232,7 @@ module _ (script : Script) (items : List Item) (clients news : List Client) (giv
       → GoesByLines script more news (InRest given)
   answers_by more follows one idle begun at = record {
     follows = follows;
-    few = let low = call_below script answered placed next in omega (arith, one, low);
+    few = let low = slice_get_within script.calls answered placed next in omega (arith, one, low);
     place = inr (inl (omega (arith, one, at)));
     there = still_there;
     each = each_client {T = λ actor client. IsInLine script more follows.answered (InRest given) actor client}
@@ -275,6 +267,7 @@ module _ (script : Script) (items : List Item) (clients news : List Client) (giv
         → now ≡ record { begun = begun; under_way = None } → begun ≡ given_of script answered placed.actor + 1
         → GoesByLines script (items ++ Call (entry_for call placed.actor number (length items) answer) ∷ []) news
         (InRest given)
+    unfolding follows_call
     answers_alone call number begun answer now_is counted =
         answers_by (items ++ Call entry ∷ []) (follows_call script items goes.follows placed entry next refl (λ of. refl)) refl
         (ap (λ (c : Client). c.under_way) now_is) (ap (λ (c : Client). c.begun) now_is ∙ counted) at
@@ -287,6 +280,7 @@ module _ (script : Script) (items : List Item) (clients news : List Client) (giv
         → now ≡ record { begun = begun; under_way = None } → begun ≡ given_of script answered placed.actor + 1
         → GoesByLines script (listed_for core items (length items)
         (entry_for call placed.actor number (length items) given_answer) given_answer) news (InRest given)
+    unfolding follows_call follows_group
     answers_listed core call number begun (answer.Synced group) now_is counted =
         answers_by (listed ++ Call entry ∷ [])
         (follows_call script listed (follows_group script items goes.follows made refl) placed entry next refl at_any)
@@ -407,7 +401,7 @@ module _ (script : Script) (before after : Replay) (passed more : List TurnTaken
         there = here.there;
         each = λ actor client is. record {
           counted = (here.each actor client is).counted;
-          under = λ under going. absurd (not_there ((here.each actor client is).under under going).2.2.0);
+          under = λ under going. absurd (not_there ((here.each actor client is).under under going).2);
         };
       })
     where
@@ -418,7 +412,7 @@ module _ (script : Script) (before after : Replay) (passed more : List TurnTaken
           → is_any_busy before.turns.clients ≡ false
       none_busy here = idle_none_busy before.turns.clients (record {
         each = λ actor client is. no_under client.under_way
-            (λ under going. not_there ((here.each actor client is).under under going).2.2.0);
+            (λ under going. not_there ((here.each actor client is).under under going).2);
       })
 
   -- Where no call is left, none is answered any more.
@@ -439,8 +433,8 @@ module _ (script : Script) (before after : Replay) (passed more : List TurnTaken
         each = λ actor client is. record {
           counted = (here.each actor client is).counted;
           under = λ under going.
-              let next = ((here.each actor client is).under under going).2.2.2 in
-              let low = call_below script here.follows.answered next.0 next.1 in
+              let its = (here.each actor client is).under under going in
+              let low = slice_get_within script.calls here.follows.answered its.3 its.4 in
               let all = (all_answered here past).0 in
               absurd (omega (arith, low, all));
         };
@@ -461,8 +455,8 @@ module _ (script : Script) (before after : Replay) (passed more : List TurnTaken
     abbrev clients : List Client
     clients = before.turns.clients
 
-    abbrev its : IsCallOfScript script given placed.actor (given_of script given placed.actor + 1)
-    its = record { placed = placed; there = next; is = refl; counted = refl }
+    abbrev its_place : IsCallOfScript script given placed.actor (given_of script given placed.actor + 1)
+    its_place = record { placed = placed; there = next; is = refl; counted = refl }
 
     abbrev its_client : (client : Client) × (slice_get clients placed.actor ≡ Some client)
     its_client = here.there given placed next
@@ -491,7 +485,7 @@ module _ (script : Script) (before after : Replay) (passed more : List TurnTaken
           each = λ actor client is. record {
             counted = (here.each actor client is).counted;
             under = λ under going.
-                absurd (not_same (rest_number ((here.each actor client is).under under going).2.2.0));
+                absurd (not_same (rest_number ((here.each actor client is).under under going).2));
           };
         })
       where
@@ -523,7 +517,7 @@ module _ (script : Script) (before after : Replay) (passed more : List TurnTaken
         by : (under : Option UnderWay) → its_client.0.under_way ≡ under → given ≡ here.follows.answered
         by None idle = absurd (true≢false (sym busy ∙ ap is_under_way its_client.1 ∙ ap (λ (u : Option UnderWay). is_some u) idle))
         by (Some under) going =
-            rest_number ((here.each placed.actor its_client.0 its_client.1).under under going).2.2.0
+            rest_number ((here.each placed.actor its_client.0 its_client.1).under under going).2
           where
             rest_number : {number other : ℕ} → InRest number ≡ InRest other → number ≡ other
             rest_number same = cc
@@ -548,7 +542,7 @@ module _ (script : Script) (before after : Replay) (passed more : List TurnTaken
         idle_left free left =
             let idle = not_busy_idle clients placed.actor free its_client.0 its_client.1 in
             let less = left_begun clients placed.actor (given_of script given placed.actor + 1) left its_client.0 its_client.1 in
-            let low = call_below script given placed next in
+            let low = slice_get_within script.calls given placed next in
             elim here.place [
               | inl same ↦ same
               | inr (inl one) ↦ let begun = answered_begun one idle in absurd (omega (arith, less, begun))
@@ -561,7 +555,7 @@ module _ (script : Script) (before after : Replay) (passed more : List TurnTaken
         idle_none free none =
             let idle = not_busy_idle clients placed.actor free its_client.0 its_client.1 in
             let enough = none_left_begun clients placed.actor (given_of script given placed.actor + 1) none its_client.0 its_client.1 in
-            let low = call_below script given placed next in
+            let low = slice_get_within script.calls given placed next in
             elim here.place [
               | inl same ↦ let begun = unanswered_begun same idle in absurd (omega (arith, enough, begun))
               | inr (inl one) ↦ one
@@ -571,11 +565,11 @@ module _ (script : Script) (before after : Replay) (passed more : List TurnTaken
         by : (busy left : Bool) → is_busy_at clients placed.actor ≡ busy
             → has_left_at clients placed.actor (given_of script given placed.actor + 1) ≡ left → GoesAt script after
         by true left busy has = at_turn (busy_unanswered busy)
-            (busy_in_rest script clients given placed.actor (given_of script given placed.actor + 1) its busy)
+            (busy_in_rest script clients given placed.actor (given_of script given placed.actor + 1) its_place busy)
         by false true free left = at_turn (idle_left free left)
-            (left_in_rest script clients given placed.actor (given_of script given placed.actor + 1) its free left)
+            (left_in_rest script clients given placed.actor (given_of script given placed.actor + 1) its_place free left)
         by false false free none = next_call
-            (none_in_rest script clients given placed.actor (given_of script given placed.actor + 1) its free none)
+            (none_in_rest script clients given placed.actor (given_of script given placed.actor + 1) its_place free none)
             (idle_none free none)
 
   step_by_lines : GoesAt script before → GoesAt script after
@@ -618,7 +612,7 @@ begins_by_lines script start opened actors first = record {
   few = omega arith;
   place = refl;
   there = λ number placed there.
-      blank_there script.clients placed.actor (actor_below script.calls script.clients number placed actors there);
+      blank_there script.clients placed.actor (all_at (λ (p : Placed). p.actor < script.clients) script.calls number placed actors there);
   each = λ actor client there. record {
     counted = ap (λ (c : Client). answered_of c.begun c.under_way) (blank_is script.clients actor client there);
     under = λ under going. absurd (none_some

@@ -15,10 +15,10 @@ use Rattle.client_script.specs.Script.{Script}
 use Rattle.open_pool.specs.Pool.{first_item}
 use Rattle.journal_law.proofs.GrownGroups.{latest_alone}
 use Rattle.core_turns.specs.Core.{Core, at_disk}
-use Rattle.core_turns.specs.UnderWay.{Putting, AreCallsOf, Stands}
+use Rattle.core_turns.specs.UnderWay.{Putting, AreCallsOf, Stands, HoldingCall}
 use Rattle.schedule.specs.declared.client.Client.{Client}
 use Rattle.schedule.specs.declared.client.UnderWay.{UnderWay}
-use Rattle.schedule.specs.Running.{IsGoing, Runs}
+use Rattle.schedule.specs.Running.{IsGoing, Runs, calls_under_way}
 use Rattle.schedule.specs.Replaying.{blank_client, blank_clients}
 use Rattle.schedule.proofs.Beginning.{recorded_first}
 use Rattle.schedule.proofs.Theirs.{none_some}
@@ -47,6 +47,18 @@ pub none_of_blank : (count index : ℕ) (client : Client) (under : UnderWay)
 none_of_blank count index client under going =
     none_some (sym (ap (λ (c : Client). c.under_way) (blank_is count index client going.there)) ∙ going.under_way)
 
+pub none_held : (contents : ℕ → List ℕ) (count : ℕ) → calls_under_way contents (blank_clients count) ≡ []
+none_held contents zero = refl
+none_held contents (suc count) = none_held (λ (n : ℕ). contents (suc n)) count
+
+-- No call of a core is under way.
+pub calls_none : (core : Core) → AreUnderWay core.pool.blocks [] → AreCallsOf core []
+calls_none core rest = record {
+  each = λ call has. absurd (contains_none call has);
+  under = rest;
+  beside = λ place further call less low. absurd (omega (arith, less, low));
+}
+
 module _ {setting : Setting} {first : Kept} {later : List Kept} {pool : Pool} {silent : ℕ} {old mid : Disk} (handed : PutBytes)
     (may : MayOpen setting first later old) (begins : OpensPool setting first later pool silent old mid) where
   abbrev chosen_map : Map
@@ -55,14 +67,6 @@ module _ {setting : Setting} {first : Kept} {later : List Kept} {pool : Pool} {s
   -- the world of a run that begins with the chosen group's map
   abbrev pub opened_world : World
   opened_world = record { setting = setting; known = first ∷ later; opening = chosen_map; handed = handed }
-
-  -- No call is under way.
-  calls_none : AreUnderWay pool.blocks [] → AreCallsOf (resting pool) []
-  calls_none rest = record {
-    each = λ call has. absurd (contains_none call has);
-    under = rest;
-    beside = λ place further call less low. absurd (omega (arith, less, low));
-  }
 
   -- The pool stands, and holds the map of the group that was chosen.
   stands_first : HasBank pool.uber pool.out mid → AreUnderWay pool.blocks []
@@ -78,7 +82,7 @@ module _ {setting : Setting} {first : Kept} {later : List Kept} {pool : Pool} {s
     bank = bank;
     holds = subst (λ (map : Map). HoldsMap map (state_of pool mid)) (λ i id. begins.opened.renews.map id i)
         begins.holds;
-    are = calls_none rest;
+    are = calls_none (resting pool) rest;
     each = λ call has. absurd (contains_none call has);
   }
 
@@ -89,16 +93,13 @@ module _ {setting : Setting} {first : Kept} {later : List Kept} {pool : Pool} {s
   runs_first past origin here opened_later bank rest script count = record {
     last = begins.opened.next;
     begun = [];
-    calls = [];
+    contents = λ index. [];
     commit = None;
     item = first_item pool;
     latest = latest_alone (first_item pool);
     recorded = recorded_first handed may begins past origin here opened_later;
-    stands = stands_first bank rest;
-    theirs = record {
-      of = λ call has. absurd (contains_none call has);
-      every = λ index client under going. absurd (none_of_blank count index client under going);
-    };
+    stands = subst (λ (calls : List HoldingCall). Stands setting begins.opened.next [] chosen_map calls None
+        (at_disk (resting pool) mid)) (sym (none_held (λ index. []) count)) (stands_first bank rest);
     sync = λ index client under going. absurd (none_of_blank count index client under going);
     each = λ index client under going. absurd (none_of_blank count index client under going);
   }

@@ -1,5 +1,5 @@
 -- What the first turn of a client's put comes to.
-use Rattle.std.proofs.Common.{◌≡◌, ℕ, ◌+◌, ◌-◌, ◌<◌, List, ◌∷◌, length, Some, None, refl, sym, ◌∙◌, ap, subst, arith}
+use Rattle.std.proofs.Common.{◌≡◌, ℕ, ◌+◌, ◌-◌, ◌<◌, List, [], ◌∷◌, length, Some, None, refl, sym, ◌∙◌, ap, subst, arith, []}
 use Rattle.std.specs.Prelude.{slice_get}
 use Rattle.std.proofs.lemmas.Option.{slice_get_within}
 use Rattle.bank_trait.specs.Disk.{Disk}
@@ -25,20 +25,20 @@ use Rattle.core_turns.proofs.PutStands.{put_begins_stands, put_refused_stands}
 use Rattle.schedule.specs.declared.client.Client.{Client}
 use Rattle.schedule.specs.declared.client.UnderWay.{UnderWay}
 use Rattle.schedule.specs.declared.client.Work.TheVariants as work
-use Rattle.schedule.specs.Running.{IsGoing, IsSync, AreGoing, Runs}
+use Rattle.schedule.specs.Running.{AreGoing, IsGoing, IsSync, Runs, calls_under_way}
 use Rattle.schedule.specs.Turns.{turns_of}
 use Rattle.schedule.specs.Turned.{Station, LeavesBegun}
 use Rattle.schedule.specs.Comes.{TakesTurn, Comes}
 use Rattle.schedule.proofs.Fitting.{fits, plain_no_limit, put_no_free}
 use Rattle.schedule.proofs.RightNext.{put_right}
-use Rattle.schedule.proofs.Theirs.{some_is, none_some, none_going, calls_of_others}
+use Rattle.schedule.proofs.Theirs.{call_begins, calls_of_others, held_is, none_going, some_is}
 use Rattle.schedule.proofs.Fulls.{full_put}
-use Rattle.schedule.proofs.Answered.{answered, answered_idle, answered_going}
-use Rattle.schedule.proofs.Going.{begins as going_begins, at_once as going_at_once}
-use Rattle.schedule.proofs.RunsBegin.{begins as runs_begins, waits as runs_waits}
-use Rattle.schedule.proofs.TurnComes.{comes_on, comes_at_once, first_entry}
-use Rattle.schedule.proofs.Puts.{Refuses, put_no_sync, put_refused, unstored_plain, unstored_answers, unstored_map, rearranged_leaves}
-use Rattle.schedule.proofs.Lists.{gains_first}
+use Rattle.schedule.proofs.Answered.{answered_idle, answered_going}
+use Rattle.schedule.proofs.Going.{goes as going_goes}
+use Rattle.schedule.proofs.Running.{with_content, with_other, with_own}
+use Rattle.schedule.proofs.RunsGoOn.{begins as runs_begins}
+use Rattle.schedule.proofs.TurnComes.{RunsOn, comes_at_once, comes_on, comes_waiting, first_entry}
+use Rattle.schedule.proofs.Puts.{Refuses, put_refused, unstored_plain, unstored_answers, unstored_map, rearranged_leaves}
 use Rattle.schedule.proofs.LeavesPool.{LeavesPool, leaves_commit, leaves_many, turn_still}
 use Rattle.schedule.specs.Moments.{Past}
 
@@ -88,54 +88,50 @@ module _ (script : Script) (actor : ℕ) (before after : Station) (clients news 
     its = ap (λ (h : Hold). h.actor) begins.hold_is
 
     begins_going : AreGoing script now news
-    begins_going =
-        let calls : List HoldingCall = Putting run content ∷ going.calls in
-        going_begins script old now clients news actor before.client after.client takes.changes takes.was going
-        change.committing (leaves_commit old now change) (leaves_many old now change)
-        was_no_sync
-        (λ its_under is. put_no_sync its_under.work run (ap (λ (u : UnderWay). u.work) (some_is (sym is ∙ under_is))))
-        calls (Putting run content) under call idle under_is (ap (slice_get (calls_of script actor)) one_less ∙ next)
+    begins_going = going_goes script old now clients news actor before.client after.client takes.changes takes.was going
+        (λ contents. put_begins_calls (calls_under_way contents clients) (calls_under_way contents news) old now actor id
+        (length content) run (contents actor) (going.are contents) begins
+        (calls_of_others clients actor before.client takes.was idle going.holds contents)
+        (call_begins contents contents clients news actor before.client after.client takes.was takes.changes
+        (λ other apart. refl) (Putting run (contents actor)) idle
+        (held_is (contents actor) after.client under (work.Put run) under_is refl)))
+        change.committing (leaves_commit old now change) (leaves_many old now change) was_no_sync under call under_is
+        (λ sync. sync) its (ap (slice_get (calls_of script actor)) one_less ∙ next)
         (asked, id_is ∙ ap Some (sym begins.range.id_is), sym begins.len_is)
-        (gains_first (Putting run content) going.calls) its refl
-        (put_begins_calls going.calls calls old now actor id (length content) run content going.are begins
-        (calls_of_others clients actor before.client takes.was idle going.calls going.theirs)
-        (gains_first (Putting run content) going.calls))
 
-    begins_stands : (world : World) (past : Past)
-        → (runs : Runs world script past before.state before.items clients)
-        → Stands world.setting runs.last runs.begun (map_of world.handed world.opening before.items)
-        (Putting run content ∷ runs.calls) runs.commit after.state
-    begins_stands world past runs =
+    begins_runs : RunsOn script before after clients news before.items
+    begins_runs world past handed fits listed runs =
+        let contents = with_content runs.contents actor content in
+        let calls = calls_under_way contents news in
         let map = map_of world.handed world.opening before.items in
-        let calls : List HoldingCall = Putting run content ∷ runs.calls in
-        subst (λ (d : Disk). Stands world.setting runs.last runs.begun map calls runs.commit (at_disk now d)) (sym disk)
-        (put_begins_stands world.setting runs.last runs.begun map runs.calls calls runs.commit old now before.state.disk
-        actor id (length content) run content runs.stands begins refl are
-        (calls_of_others clients actor before.client takes.was idle runs.calls runs.theirs)
-        (gains_first (Putting run content) runs.calls))
+        runs_begins world script past before.state after.state before.items clients news actor before.client
+        after.client takes.changes takes.was runs idle change.uber disk content (work.Put run) leaves.1 (λ sync. sync)
+        (λ other is. ap (λ (c : ScriptCall). fill_bytes c.fill) (some_is (sym next ∙ is)))
+        (subst (λ (d : Disk). Stands world.setting runs.last runs.begun map calls runs.commit (at_disk now d)) (sym disk)
+        (put_begins_stands world.setting runs.last runs.begun map (calls_under_way runs.contents clients) calls
+        runs.commit old now before.state.disk actor id (length content) run content runs.stands begins refl are
+        (calls_of_others clients actor before.client takes.was idle going.holds runs.contents)
+        (call_begins runs.contents contents clients news actor before.client after.client takes.was takes.changes
+        (with_other runs.contents actor content) (Putting run content) idle
+        (held_is (contents actor) after.client under (work.Put run) under_is refl
+        ∙ ap (λ (bytes : List ℕ). Putting run bytes ∷ []) (with_own runs.contents actor content)))))
 
     pub put_begins : Comes script actor before after clients news
     put_begins = comes_on script actor before after clients news takes
         (turn_still before.state after.state change.uber change.out disk) leaves.0
         (answered_going after.client under_is ∙ one_less ∙ sym (answered_idle before.client idle))
-        (omega (arith, begun_is, within)) (λ its_under is. omega (arith, begun_is)) begins_going
-        (λ world past handed fits listed runs. runs_begins world script past before.state after.state before.items clients
-        news actor before.client after.client takes.changes takes.was runs idle (Putting run content ∷ runs.calls)
-        (Putting run content) (work.Put run) change.uber disk leaves.1 (λ sync. sync)
-        (gains_first (Putting run content) runs.calls) its refl
-        (λ other is. ap (λ (c : ScriptCall). fill_bytes c.fill) (some_is (sym next ∙ is)))
-        (begins_stands world past runs))
+        (omega (arith, begun_is, within)) (λ its_under is. omega (arith, begun_is)) begins_going begins_runs
 
   -- A refusal leaves what stands.
   refused_stands : LeavesBlocks old now → (world : World) (past : Past)
       → (runs : Runs world script past before.state before.items clients)
-      → Stands world.setting runs.last runs.begun (map_of world.handed world.opening before.items) runs.calls
-      runs.commit after.state
+      → Stands world.setting runs.last runs.begun (map_of world.handed world.opening before.items)
+      (calls_under_way runs.contents clients) runs.commit after.state
   refused_stands leaves world past runs =
       let map = map_of world.handed world.opening before.items in
-      subst (λ (d : Disk). Stands world.setting runs.last runs.begun map runs.calls runs.commit (at_disk now d))
-      (sym disk)
-      (put_refused_stands world.setting runs.last runs.begun map runs.calls runs.commit old now before.state.disk leaves
+      let calls = calls_under_way runs.contents clients in
+      subst (λ (d : Disk). Stands world.setting runs.last runs.begun map calls runs.commit (at_disk now d)) (sym disk)
+      (put_refused_stands world.setting runs.last runs.begun map calls runs.commit old now before.state.disk leaves
       runs.stands)
 
   -- One that finds another's sectors in its way waits.
@@ -145,19 +141,9 @@ module _ (script : Script) (actor : ℕ) (before after : Station) (clients news 
       → Comes script actor before after clients news
   put_waits by waits leaves =
       let change = rearranged_leaves old now (leaves_rearranges old now waits.1) in
-      let still : after.client.under_way ≡ None = ap (λ (c : Client). c.under_way) leaves.1 ∙ idle in
-      let begun_is : after.client.begun ≡ before.client.begun = ap (λ (c : Client). c.begun) leaves.1 in
-      comes_on script actor before after clients news takes
-      (turn_still before.state after.state change.uber change.out disk) leaves.0 (ap answered leaves.1)
-      (omega (arith, begun_is, within)) (λ its_under is. absurd (none_some (sym still ∙ is)))
-      (going_at_once script old now clients news actor before.client after.client takes.changes takes.was going
-      change.committing (leaves_commit old now change) (leaves_many old now change)
-      was_no_sync (λ its_under is. absurd (none_some (sym still ∙ is))) idle still
-      (put_refused_calls going.calls old now waits.1 going.are))
-      (λ world past handed fits listed runs.
-      runs_waits world script past before.state after.state before.items clients news
-      actor before.client after.client takes.changes takes.was runs idle still change.uber disk
-      (refused_stands waits.1 world past runs))
+      comes_waiting script actor before after clients news takes call idle leaves.1 leaves.0 change disk
+      (λ contents. put_refused_calls (calls_under_way contents clients) old now waits.1 (going.are contents))
+      (refused_stands waits.1)
 
   -- One is refused: too many devices are out, the table is full, no run of free sectors fits, or memory is wanting.
   pub put_at_once : (given : Answer)
@@ -175,10 +161,11 @@ module _ (script : Script) (actor : ℕ) (before after : Station) (clients news 
       (λ full.
       full_put script (turns_of before.state before.items clients) takes.schedule actor before.client.begun call
       id next asked id_is (subst (IsPutRefused old now id (length content)) full is).1)
-      (put_refused_calls takes.schedule.going.calls old now refuses.leaves takes.schedule.going.are)
+      (λ contents. put_refused_calls (calls_under_way contents clients) old now refuses.leaves (going.are contents))
       (λ world past runs. (
         put_right world before.items entry asked (unstored_plain given refuses.unstored),
-        subst (λ (m : Map). Stands world.setting runs.last runs.begun m runs.calls runs.commit after.state)
+        subst (λ (m : Map). Stands world.setting runs.last runs.begun m (calls_under_way runs.contents clients)
+            runs.commit after.state)
             (sym (unstored_map world.handed (map_of world.handed world.opening before.items) entry given
             refuses.unstored))
             (refused_stands refuses.leaves world past runs),

@@ -13,7 +13,6 @@ use Rattle.core_state.specs.Map.{Map, PutBytes, map_of, map_after_answer, with_b
 use Rattle.core_state.specs.Legal.{IsAnswerOf}
 use Rattle.core_state.specs.World.{World}
 use Rattle.core_blocks.specs.declared.range.PutRange.{PutRange}
-use Rattle.core_blocks.proofs.Lists.{gains_item}
 use Rattle.client_script.specs.declared.call.ScriptCall.{ScriptCall}
 use Rattle.client_script.specs.Lines.{fill_bytes}
 use Rattle.client_script.specs.Script.{Script, calls_of, handed_by}
@@ -28,18 +27,17 @@ use Rattle.core_turns.proofs.PutWrites.{put_writes_stands, put_writes_since}
 use Rattle.schedule.specs.declared.client.Client.{Client}
 use Rattle.schedule.specs.declared.client.UnderWay.{UnderWay}
 use Rattle.schedule.specs.declared.client.Work.TheVariants as work
-use Rattle.schedule.specs.Running.{IsGoing, IsWorkFor, IsSync, AreGoing, Runs}
+use Rattle.schedule.specs.Running.{AreGoing, HasContent, IsGoing, IsHoldOf, IsSync, IsWorkFor, Runs, calls_under_way, held_under}
 use Rattle.schedule.specs.Turned.{Station, EndsPutting, GoesOnPutting, IsFilledIn, LeavesGoing, entry_for, listed_for}
 use Rattle.schedule.specs.Comes.{TakesTurn, Comes}
 use Rattle.schedule.proofs.Fitting.{TellsOut, fits, plain_no_limit, put_no_free}
 use Rattle.schedule.proofs.RightNext.{IsPlain, put_right}
-use Rattle.schedule.proofs.Theirs.{none_some, some_is, going_under}
-use Rattle.schedule.proofs.Going.{goes as going_goes, ends as going_ends}
+use Rattle.schedule.proofs.Theirs.{call_ends, call_goes, going_under, held_is, some_is}
+use Rattle.schedule.proofs.Going.{goes as going_goes, rests as going_rests}
 use Rattle.schedule.proofs.RunsGoOn.{GoesOnSince, goes_on as runs_goes_on}
-use Rattle.schedule.proofs.RunsEnd.{ends as runs_ends}
-use Rattle.schedule.proofs.TurnComes.{comes_on, comes_answered}
-use Rattle.schedule.proofs.Puts.{IsAmong, put_no_sync, put_among, unstored_plain, unstored_answers, unstored_listed, unstored_map, rearranged_leaves}
-use Rattle.schedule.proofs.Lists.{gains_first}
+use Rattle.schedule.proofs.RunsEnd.{answers_call}
+use Rattle.schedule.proofs.TurnComes.{RunsOn, comes_answered, comes_on}
+use Rattle.schedule.proofs.Puts.{put_no_sync, unstored_plain, unstored_answers, unstored_listed, unstored_map, rearranged_leaves}
 use Rattle.schedule.proofs.Answered.{answered_going}
 use Rattle.schedule.proofs.Syncs.{groups_know}
 use Rattle.schedule.proofs.LeavesPool.{LeavesPool, commit_still, leaves_commit, leaves_many}
@@ -77,31 +75,42 @@ module _ (script : Script) (actor : ℕ) (before after : Station) (clients news 
       subst (λ (c : ScriptCall). IsWorkFor c (work.Put run)) (some_is (sym found.1 ∙ is))
       (subst (IsWorkFor found.0) does_is found.2)
 
-  among : IsAmong going.calls actor run
-  among = put_among clients going.calls actor before.client under run going.theirs takes.was under_is does_is
+  -- the calls under way, with these bytes of each client's block
+  abbrev calls_with : (ℕ → List ℕ) → List HoldingCall
+  calls_with contents = calls_under_way contents clients
+
+  abbrev nows_with : (ℕ → List ℕ) → List HoldingCall
+  nows_with contents = calls_under_way contents news
+
+  was_held : (contents : ℕ → List ℕ) → held_under (contents actor) before.client.under_way
+      ≡ Putting run (contents actor) ∷ []
+  was_held contents = held_is (contents actor) before.client under (work.Put run) under_is does_is
+
+  its : run.hold.actor ≡ actor
+  its = subst (IsHoldOf actor) does_is (going.holds actor before.client under here)
 
   -- Filled in, it is among the calls still.
-  filled_calls : (filled : PutRun) → IsFilledIn call run filled
-      → (nexts : List HoldingCall) × Gains among.left nexts (Putting filled among.content) × AreCallsOf old nexts
-  filled_calls filled fills =
-      fills_calls among.left going.calls old call run filled among.content fills asked_for.2 going.are among.gains
+  filled_calls : (contents : ℕ → List ℕ) (filled : PutRun) → IsFilledIn call run filled → (left : List HoldingCall)
+      → Gains left (calls_with contents) (Putting run (contents actor))
+      → (nexts : List HoldingCall) × Gains left nexts (Putting filled (contents actor)) × AreCallsOf old nexts
+  filled_calls contents filled fills left gains =
+      fills_calls left (calls_with contents) old call run filled (contents actor) fills asked_for.2 (going.are contents)
+      gains
 
   -- With a world, the put has the bytes that the script hands it.
   module _ (world : World) (past : Past) (runs : Runs world script past before.state before.items clients) where
-    among_runs : IsAmong runs.calls actor run
-    among_runs = put_among clients runs.calls actor before.client under run runs.theirs takes.was under_is does_is
+    content_is : runs.contents actor ≡ fill_bytes call.fill
+    content_is = subst (HasContent world before.items call under.at (runs.contents actor)) does_is
+        ((runs.each actor before.client under here).content call is)
 
-    content_is : among_runs.content ≡ fill_bytes call.fill
-    content_is = (runs.each actor before.client under here).content call (Putting run among_runs.content) is
-        (gains_item among_runs.left runs.calls (Putting run among_runs.content) among_runs.gains) among_runs.its
-
-    filled_stands : (filled : PutRun) → IsFilledIn call run filled
-        → (nexts : List HoldingCall) × Gains among_runs.left nexts (Putting filled among_runs.content)
+    filled_stands : (filled : PutRun) → IsFilledIn call run filled → (left : List HoldingCall)
+        → Gains left (calls_with runs.contents) (Putting run (runs.contents actor))
+        → (nexts : List HoldingCall) × Gains left nexts (Putting filled (runs.contents actor))
         × Stands world.setting runs.last runs.begun (map_of world.handed world.opening before.items) nexts runs.commit
         before.state
-    filled_stands filled fills = fills_stands world.setting runs.last runs.begun
-        (map_of world.handed world.opening before.items) among_runs.left runs.calls runs.commit before.state call run
-        filled among_runs.content fills content_is runs.stands among_runs.gains
+    filled_stands filled fills left gains = fills_stands world.setting runs.last runs.begun
+        (map_of world.handed world.opening before.items) left (calls_with runs.contents) runs.commit before.state call
+        run filled (runs.contents actor) fills content_is runs.stands gains
 
   -- It goes on by one write.
   module _ (next : PutRun) (puts : GoesOnPutting before.state after.state call run next)
@@ -138,43 +147,43 @@ module _ (script : Script) (actor : ℕ) (before after : Station) (clients news 
       asked_for.2 ∙ sym len_is,
     )
 
+    -- The put stands among the calls as before, with one write more.
+    moves : (contents : ℕ → List ℕ) → (left : List HoldingCall)
+        × Gains left (calls_with contents) (Putting run (contents actor))
+        × Gains left (nows_with contents) (Putting next (contents actor))
+    moves contents = call_goes contents contents clients news actor before.client after.client takes.was takes.changes
+        (λ other apart. refl) (Putting run (contents actor)) (Putting next (contents actor)) (was_held contents)
+        (held_is (contents actor) after.client next_under (work.Put next) next_under_is refl)
+
     goes_going : AreGoing script now news
-    goes_going =
-        let filled = filled_calls puts.filled puts.fills in
-        let nexts : List HoldingCall = Putting next among.content ∷ among.left in
-        let first = gains_first (Putting next among.content) among.left in
-        going_goes script old now clients news actor before.client after.client takes.changes takes.was going
+    goes_going = going_goes script old now clients news actor before.client after.client takes.changes takes.was going
+        (λ contents.
+        let left = moves contents in
+        let filled = filled_calls contents puts.filled puts.fills left.0 left.1 in
+        put_writes_calls left.0 filled.0 (nows_with contents) before.state after.state puts.filled next (contents actor)
+        writes filled.2 filled.1 left.2)
         (ap (λ (core : Core). core.committing) writes.rest)
         (λ commit. commit_still old now commit (ap (λ (core : Core). core.pool.uber) writes.rest)
         (ap (λ (core : Core). core.begun) writes.rest) (ap (λ (core : Core). core.committing) writes.rest)
         goes.out.still)
-        (λ many. absurd (writes.few many)) was_no_sync
-        (λ its_under its_is. put_no_sync its_under.work next
-        (ap (λ (u : UnderWay). u.work) (some_is (sym its_is ∙ next_under_is))))
-        among.left nexts (Putting run among.content) (Putting next among.content) next_under call next_under_is
-        (ap (λ (begun : ℕ). slice_get (calls_of script actor) (begun - 1)) begun_is ∙ is) next_asked among.gains first
-        among.its (still_its among.its) refl
-        (put_writes_calls among.left filled.0 nexts before.state after.state puts.filled next among.content writes
-        filled.2 filled.1 first)
+        (λ many. absurd (writes.few many)) was_no_sync next_under call next_under_is (λ sync. sync) (still_its its)
+        (ap (λ (begun : ℕ). slice_get (calls_of script actor) (begun - 1)) begun_is ∙ is) next_asked
 
-    goes_runs : (world : World) (past : Past) → Runs world script past before.state before.items clients
-        → Runs world script past after.state before.items news
-    goes_runs world past runs =
-        let mine = among_runs world past runs in
-        let filled = filled_stands world past runs puts.filled puts.fills in
+    goes_runs : RunsOn script before after clients news before.items
+    goes_runs world past handed fits listed runs =
+        let left = moves runs.contents in
+        let filled = filled_stands world past runs puts.filled puts.fills left.0 left.1 in
         let map = map_of world.handed world.opening before.items in
-        let nexts : List HoldingCall = Putting next mine.content ∷ mine.left in
-        let first = gains_first (Putting next mine.content) mine.left in
         let since : GoesOnSince world runs.last runs.begun before.state.disk after.state.disk =
-        put_writes_since world.setting runs.last runs.begun map mine.left filled.0 before.state after.state puts.filled
-        next mine.content takes.is takes.lawful writes filled.1 runs.commit filled.2 in
+        put_writes_since world.setting runs.last runs.begun map left.0 filled.0 before.state after.state puts.filled
+        next (runs.contents actor) takes.is takes.lawful writes filled.1 runs.commit filled.2 in
         runs_goes_on world script past before.state after.state before.items clients news actor before.client
         after.client takes.changes takes.was runs (ap (λ (core : Core). core.pool.uber) writes.rest) goes.later since
-        mine.left nexts (Putting run mine.content) (Putting next mine.content) under (work.Put next) under_is leaves.1
-        no_sync (λ sync. sync) mine.gains first mine.its (still_its mine.its) refl (λ asked has. has)
-        (put_writes_stands world.setting runs.last runs.begun map mine.left filled.0 before.state after.state
-        puts.filled next mine.content takes.is takes.lawful writes filled.1 runs.commit filled.2 nexts takes.is.step
-        takes.still_lawful first)
+        under (work.Put next) under_is leaves.1 no_sync (λ sync. sync)
+        (λ asked has. subst (HasContent world before.items asked under.at (runs.contents actor)) does_is has)
+        (put_writes_stands world.setting runs.last runs.begun map left.0 filled.0 before.state after.state
+        puts.filled next (runs.contents actor) takes.is takes.lawful writes filled.1 runs.commit filled.2
+        (nows_with runs.contents) takes.is.step takes.still_lawful left.2)
 
     pub put_goes_on : Comes script actor before after clients news
     put_goes_on =
@@ -183,8 +192,7 @@ module _ (script : Script) (actor : ℕ) (before after : Station) (clients news 
         comes_on script actor before after clients news takes goes leaves.0
         (answered_going after.client next_under_is ∙ ap (λ (begun : ℕ). begun - 1) begun_is
         ∙ sym (answered_going before.client under_is))
-        (omega (arith, begun_is, few)) (λ its_under its_is. omega (arith, begun_is, some)) goes_going
-        (λ world past handed fits listed runs. goes_runs world past runs)
+        (omega (arith, begun_is, few)) (λ its_under its_is. omega (arith, begun_is, some)) goes_going goes_runs
 
   -- the entry of its answer
   abbrev entry : Answer → Entry
@@ -198,12 +206,16 @@ module _ (script : Script) (actor : ℕ) (before after : Station) (clients news 
     ended : after.client.under_way ≡ None
     ended = ap (λ (c : Client). c.under_way) leaves.1
 
-    ends_with : after.items ≡ before.items ++ CallItem (entry given) ∷ [] → AreCallsOf now among.left
+    ends_with : after.items ≡ before.items ++ CallItem (entry given) ∷ []
+        → ((contents : ℕ → List ℕ)
+        → Gains (nows_with contents) (calls_with contents) (Putting run (contents actor))
+        → AreCallsOf now (nows_with contents))
         → ((world : World) (past : Past) → world.handed ≡ handed_by script
         → (runs : Runs world script past before.state before.items clients)
+        → Gains (nows_with runs.contents) (calls_with runs.contents) (Putting run (runs.contents actor))
         → Stands world.setting runs.last runs.begun
         (map_after_answer world.handed (map_of world.handed world.opening before.items) (entry given) given)
-        (among_runs world past runs).left runs.commit after.state)
+        (nows_with runs.contents) runs.commit after.state)
         → Comes script actor before after clients news
     ends_with listed are stands =
         let some = takes.schedule.answered.some actor before.client under takes.was under_is in
@@ -213,19 +225,21 @@ module _ (script : Script) (actor : ℕ) (before after : Station) (clients news 
         (fits old call.kind given (subst (λ (k : Kind). IsAnswerOf k given) (sym asked_for.0) answers) tells
         (plain_no_limit given plain) (put_no_free call.kind asked_for.0))
         (λ full. absurd (other full))
-        (going_ends script old now clients news actor before.client after.client takes.changes takes.was going
-        change.committing (leaves_commit old now change) (leaves_many old now change)
-        was_no_sync (λ its_under its_is. absurd (none_some (sym ended ∙ its_is))) among.left
-        (Putting run among.content) ended among.gains among.its are)
+        (going_rests script old now clients news actor before.client after.client takes.changes takes.was going
+        (λ contents. are contents (gone contents)) change.committing (leaves_commit old now change)
+        (leaves_many old now change) was_no_sync ended)
         (λ world past handed fits listed runs.
-        let mine = among_runs world past runs in
-        runs_ends world script past before.state after.state before.items clients news actor before.client
+        answers_call world script past before.state after.state before.items clients news actor before.client
         after.client takes.changes takes.was runs (entry given) refl ended change.uber disk
-        (groups_know world.setting runs.last runs.begun runs.calls runs.commit before.state runs.stands.groups)
+        (groups_know world.setting runs.last runs.begun (calls_with runs.contents) runs.commit before.state
+        runs.stands.groups)
         (put_right world before.items (entry given) asked_for.0 plain)
-        (subst (λ (k : Kind). IsAnswerOf k given) (sym asked_for.0) answers) listed
-        mine.left (Putting run mine.content) under under_is no_sync mine.gains mine.its
-        (stands world past handed runs))
+        (subst (λ (k : Kind). IsAnswerOf k given) (sym asked_for.0) answers) listed was_no_sync
+        (stands world past handed runs (gone runs.contents)))
+      where
+        gone : (contents : ℕ → List ℕ) → Gains (nows_with contents) (calls_with contents) (Putting run (contents actor))
+        gone contents = call_ends contents contents clients news actor before.client after.client takes.was takes.changes
+            (λ other apart. refl) (Putting run (contents actor)) (was_held contents) ended
 
   module _ (given : Answer) (leaves : LeavesGoing actor call before after under (Done given))
       (disk : after.state.disk ≡ before.state.disk) (filled : PutRun) (fills : IsFilledIn call run filled) where
@@ -233,24 +247,26 @@ module _ (script : Script) (actor : ℕ) (before after : Station) (clients news 
     put_stored : given ≡ answer.Stored → StoresBlock old now filled → IsWhole filled
         → Comes script actor before after clients news
     put_stored given_is stores whole =
-        let among_filled = filled_calls filled fills in
         ends_with given disk (rearranged_leaves old now (ends_rearranges old now filled stores))
         (subst IsPlain (sym given_is) tt)
         (subst (IsAnswerOf kind.Put) (sym given_is) refl)
         (λ listed told. absurd (apart listed (sym given_is ∙ told))) (λ full. no_full (sym given_is ∙ full)) leaves
         (leaves.0 ∙ subst (λ (a : Answer). listed_for old before.items under.at (entry given) a
         ≡ before.items ++ CallItem (entry given) ∷ []) (sym given_is) refl)
-        (put_ends_calls among.left among_filled.0 old now filled among.content stores among_filled.2 among_filled.1)
-        (λ world past handed runs.
-        let mine = among_runs world past runs in
-        let filled_in = filled_stands world past runs filled fills in
+        (λ contents gone.
+        let among = filled_calls contents filled fills (nows_with contents) gone in
+        put_ends_calls (nows_with contents) among.0 old now filled (contents actor) stores among.2 among.1)
+        (λ world past handed runs gone.
+        let left = nows_with runs.contents in
+        let content = runs.contents actor in
+        let among = filled_stands world past runs filled fills left gone in
         let map = map_of world.handed world.opening before.items in
-        subst (λ (m : Map). Stands world.setting runs.last runs.begun m mine.left runs.commit after.state)
-        (sym (map_is world handed map mine.content (content_is world past runs)))
+        subst (λ (m : Map). Stands world.setting runs.last runs.begun m left runs.commit after.state)
+        (sym (map_is world handed map content (content_is world past runs)))
         (subst (λ (d : Disk). Stands world.setting runs.last runs.begun
-        (with_block map (Some filled.range.id) (Some mine.content)) mine.left runs.commit (at_disk now d)) (sym disk)
-        (put_ends_stands world.setting runs.last runs.begun map mine.left filled_in.0 runs.commit old now
-        before.state.disk filled mine.content takes.is takes.is.step stores whole filled_in.2 filled_in.1)))
+        (with_block map (Some filled.range.id) (Some content)) left runs.commit (at_disk now d)) (sym disk)
+        (put_ends_stands world.setting runs.last runs.begun map left among.0 runs.commit old now
+        before.state.disk filled content takes.is takes.is.step stores whole among.2 among.1)))
       where
         apart : (listed : ℕ) → answer.Stored ≡ answer.TooManyFailed listed → ⊥
         apart listed told = cc
@@ -276,23 +292,23 @@ module _ (script : Script) (actor : ℕ) (before after : Station) (clients news 
     -- It is given up: too many devices are out, or memory is wanting.
     put_given_up : IsGivenUp old now filled given → Comes script actor before after clients news
     put_given_up given_up =
-        let among_filled = filled_calls filled fills in
         ends_with given disk (rearranged_leaves old now (gives_up_rearranges old now filled given_up.gives_up))
         (unstored_plain given given_up.unstored) (unstored_answers given given_up.unstored) given_up.tells
         given_up.other leaves
         (leaves.0 ∙ unstored_listed old before.items under.at (entry given) given given_up.unstored)
-        (put_gives_up_calls among.left among_filled.0 old now filled among.content given_up.gives_up among_filled.2
-        among_filled.1)
-        (λ world past handed runs.
-        let mine = among_runs world past runs in
-        let filled_in = filled_stands world past runs filled fills in
+        (λ contents gone.
+        let among = filled_calls contents filled fills (nows_with contents) gone in
+        put_gives_up_calls (nows_with contents) among.0 old now filled (contents actor) given_up.gives_up among.2 among.1)
+        (λ world past handed runs gone.
+        let left = nows_with runs.contents in
+        let among = filled_stands world past runs filled fills left gone in
         let map = map_of world.handed world.opening before.items in
-        subst (λ (m : Map). Stands world.setting runs.last runs.begun m mine.left runs.commit after.state)
+        subst (λ (m : Map). Stands world.setting runs.last runs.begun m left runs.commit after.state)
         (sym (unstored_map world.handed map (entry given) given given_up.unstored))
-        (subst (λ (d : Disk). Stands world.setting runs.last runs.begun map mine.left runs.commit (at_disk now d))
+        (subst (λ (d : Disk). Stands world.setting runs.last runs.begun map left runs.commit (at_disk now d))
         (sym disk)
-        (put_gives_up_stands world.setting runs.last runs.begun map mine.left filled_in.0 runs.commit old now
-        before.state.disk filled mine.content given_up.gives_up filled_in.2 filled_in.1)))
+        (put_gives_up_stands world.setting runs.last runs.begun map left among.0 runs.commit old now
+        before.state.disk filled (runs.contents actor) given_up.gives_up among.2 among.1)))
 
   -- It ends: its block is stored, or it is given up.
   pub put_ends : (given : Answer) → EndsPutting before.state after.state call run given

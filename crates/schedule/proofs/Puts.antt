@@ -21,47 +21,15 @@ use Rattle.schedule.specs.declared.client.Client.{Client}
 use Rattle.schedule.specs.declared.client.UnderWay.{UnderWay}
 use Rattle.schedule.specs.declared.client.Work.{Work}
 use Rattle.schedule.specs.declared.client.Work.TheVariants as work
-use Rattle.schedule.specs.Running.{IsWorkOf, IsSync, AreTheirs}
+use Rattle.schedule.specs.Running.{IsSync}
 use Rattle.schedule.specs.Turned.{listed_for}
 use Rattle.schedule.proofs.Fitting.{TellsOut}
 use Rattle.schedule.proofs.RightNext.{IsPlain}
-use Rattle.schedule.proofs.Theirs.{actor_of}
-use Rattle.schedule.proofs.Lists.{gains_of}
 use Rattle.schedule.proofs.LeavesPool.{LeavesPool, leaves_pool}
-
--- ---- among the calls under way
 
 -- a put is no sync
 pub put_no_sync : (does : Work) (run : PutRun) → does ≡ work.Put run → IsSync does → ⊥
 put_no_sync does run is sync = subst IsSync is sync
-
--- A client's put stands among the calls under way, with some bytes.
-pub record IsAmong (calls : List HoldingCall) (actor : ℕ) (run : PutRun) : Type 0 where
-  pub content : List ℕ
-  pub left : List HoldingCall
-  pub gains : Gains left calls (Putting run content)
-  pub its : run.hold.actor ≡ actor
-
--- A put's work is that of a put among the calls.
-put_is : (run : PutRun) (call : HoldingCall) → IsWorkOf (work.Put run) call
-    → (content : List ℕ) × (call ≡ Putting run content)
-put_is run (Putting other content) same = (content, ap (λ (r : PutRun). Putting r content) (sym same))
-put_is run (Reading other content) of = absurd of
-
--- Each client's put does.
-pub put_among : (clients : List Client) (calls : List HoldingCall) (actor : ℕ) (client : Client) (under : UnderWay)
-    (run : PutRun) → AreTheirs clients calls → slice_get clients actor ≡ Some client → client.under_way ≡ Some under
-    → under.work ≡ work.Put run → IsAmong calls actor run
-put_among clients calls actor client under run theirs was going does_is =
-    let found = theirs.every actor client under (record { there = was; under_way = going })
-    (put_no_sync under.work run does_is) in
-    let is = put_is run found.0 (subst (λ (w : Work). IsWorkOf w found.0) does_is found.2) in
-    let split = gains_of (Putting run is.0) calls (subst (Contains calls) is.1 found.1) in record {
-      content = is.0;
-      left = split.0;
-      gains = split.1;
-      its = sym (ap actor_of is.1) ∙ found.3;
-    }
 
 -- ---- turns that call no device
 

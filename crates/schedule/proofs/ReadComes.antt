@@ -1,6 +1,6 @@
 -- What the turns of reads come to.
 use Rattle.std.proofs.Common.{◌≡◌, ℕ, ◌+◌, ◌-◌, List, [], ◌∷◌, ◌++◌, length, Option, Some, None, refl, sym, ◌∙◌, ap, subst, arith}
-use Rattle.std.specs.Prelude.{Contains, slice_get, option_and_then}
+use Rattle.std.specs.Prelude.{slice_get, option_and_then}
 use Rattle.std.proofs.lemmas.Option.{slice_get_within}
 use Rattle.bank_trait.specs.Disk.{Disk}
 use Rattle.range_locks.specs.declared.hold.Hold.{Hold}
@@ -22,51 +22,30 @@ use Rattle.core_turns.specs.declared.getting.GetRun.{GetRun}
 use Rattle.core_turns.specs.declared.turn.Turn.TheVariants.{More, Busy, Done}
 use Rattle.core_turns.specs.Core.{Core, at_disk}
 use Rattle.core_turns.specs.Getting.{IsReadKind, IsGetRefused, BeginsGet}
-use Rattle.core_turns.specs.UnderWay.{HoldingCall, Putting, Reading, AreCallsOf, Stands, TurnGoesOn}
+use Rattle.core_turns.specs.UnderWay.{HoldingCall, Reading, AreCallsOf, Stands, TurnGoesOn}
 use Rattle.core_turns.proofs.Frames.{since_read}
 use Rattle.core_turns.proofs.GetLaws.{get_finds}
 use Rattle.core_turns.proofs.GetStands.{get_begins_calls, get_reads_calls, get_begins_stands, get_reads_stands}
 use Rattle.core_turns.proofs.GetTurns.{reads_uber}
 use Rattle.schedule.specs.declared.client.Client.{Client}
 use Rattle.schedule.specs.declared.client.UnderWay.{UnderWay}
-use Rattle.schedule.specs.declared.client.Work.{Work}
 use Rattle.schedule.specs.declared.client.Work.TheVariants as work
-use Rattle.schedule.specs.Running.{AreGoing, IsGoing, IsWorkOf, IsSync, IsWorkFor, AreTheirs}
+use Rattle.schedule.specs.Running.{AreGoing, HasContent, IsGoing, IsHoldOf, IsSync, IsWorkFor, calls_under_way, held_under}
 use Rattle.schedule.specs.Turned.{Station, GoesOnReading, EndsReading, LeavesBegun, LeavesGoing, entry_for}
 use Rattle.schedule.specs.Comes.{TakesTurn, Comes}
 use Rattle.schedule.proofs.Fitting.{fits, read_no_free}
 use Rattle.schedule.proofs.Answered.{answered, answered_idle, answered_going}
 use Rattle.schedule.proofs.Below.{below_end}
-use Rattle.schedule.proofs.Theirs.{actor_of, some_is, none_some, none_going, calls_of_others, going_under}
+use Rattle.schedule.proofs.Theirs.{call_begins, call_ends, call_goes, calls_of_others, going_under, held_is, none_going, some_is}
 use Rattle.schedule.proofs.Fulls.{put_alone, read_no_put}
-use Rattle.schedule.proofs.Going.{goes, begins as going_begins, ends as going_ends}
-use Rattle.schedule.proofs.RunsGoOn.{goes_on}
-use Rattle.schedule.proofs.RunsBegin.{begins as runs_begins}
-use Rattle.schedule.proofs.RunsEnd.{ends as runs_ends}
+use Rattle.schedule.proofs.Going.{goes as going_goes, rests as going_rests}
+use Rattle.schedule.proofs.Running.{with_content, with_other, with_own}
+use Rattle.schedule.proofs.RunsGoOn.{goes_on, begins as runs_begins}
+use Rattle.schedule.proofs.RunsEnd.{answers_call}
 use Rattle.schedule.proofs.ReadAnswers.{EndsRead, listed_read, map_read, right_read, refused_of, refused_right, read_ends_so}
 use Rattle.schedule.proofs.LeavesPool.{LeavesPool, leaves_pool, commit_still, leaves_commit, leaves_many, turn_still}
 use Rattle.schedule.proofs.TurnComes.{RunsOn, first_entry, comes_nowhere, comes_on, comes_answered, comes_at_once}
-use Rattle.schedule.proofs.Lists.{gains_first, gains_of}
 use Rattle.schedule.proofs.Syncs.{groups_know}
-
--- The calls under way have the client's read, of some bytes.
-record HasRead (calls : List HoldingCall) (actor : ℕ) (run : GetRun) : Type 0 where
-  left : List HoldingCall
-  content : List ℕ
-  gains : Gains left calls (Reading run content)
-  its : run.hold.actor ≡ actor
-
--- They do where that is one of them.
-read_in : (calls : List HoldingCall) (actor : ℕ) (run : GetRun) (held : HoldingCall) → Contains calls held
-    → IsWorkOf (work.Read run) held → actor_of held ≡ actor → HasRead calls actor run
-read_in calls actor run (Putting put content) listed of its = absurd of
-read_in calls actor run (Reading other content) listed of its =
-    let found = gains_of (Reading other content) calls listed in record {
-      left = found.0;
-      content = content;
-      gains = subst (λ (r : GetRun). Gains found.0 calls (Reading r content)) (sym of) found.1;
-      its = ap (λ (r : GetRun). r.hold.actor) of ∙ its;
-    }
 
 module _ (script : Script) (actor : ℕ) (before after : Station) (clients news : List Client)
     (takes : TakesTurn script actor before after clients news) (call : ScriptCall) where
@@ -103,34 +82,41 @@ module _ (script : Script) (actor : ℕ) (before after : Station) (clients news 
         (before.state.core.holds ++ run.hold ∷ []) begins.6
 
     going_on : AreGoing script after.state.core news
-    going_on = let was = takes.schedule.going in
-        going_begins script before.state.core after.state.core clients news actor before.client after.client
-        takes.changes takes.was was leaves.committing (leaves_commit before.state.core after.state.core leaves)
-        (leaves_many before.state.core after.state.core leaves) (was_none idle)
-        (λ under its. subst (λ (u : UnderWay). IsSync u.work) (some_is (sym its ∙ under_is)))
-        (Reading run [] ∷ was.calls) (Reading run []) its_under call idle under_is
+    going_on = going_goes script before.state.core after.state.core clients news actor before.client after.client
+        takes.changes takes.was takes.schedule.going
+        (λ contents. get_begins_calls before.state.core after.state.core actor id call.kind run (contents actor)
+        (calls_under_way contents clients) (calls_under_way contents news) is takes.is begins
+        (calls_of_others clients actor before.client takes.was idle takes.schedule.going.holds contents)
+        (call_begins contents contents clients news actor before.client after.client takes.was takes.changes
+        (λ other apart. refl) (Reading run (contents actor)) idle
+        (held_is (contents actor) after.client its_under (work.Read run) under_is refl))
+        (takes.schedule.going.are contents))
+        leaves.committing (leaves_commit before.state.core after.state.core leaves)
+        (leaves_many before.state.core after.state.core leaves) (was_none idle) its_under call under_is (λ sync. sync)
+        its_actor
         (ap (slice_get (calls_of script actor))
         (let begun = ap (λ (c : Client). c.begun) left.1 in omega (arith, begun)) ∙ next)
-        (sym begins.2, id_is ∙ ap Some (sym entry_id)) (gains_first (Reading run []) was.calls) its_actor refl
-        (get_begins_calls before.state.core after.state.core actor id call.kind run [] was.calls
-        (Reading run [] ∷ was.calls) is takes.is begins
-        (calls_of_others clients actor before.client takes.was idle was.calls was.theirs)
-        (gains_first (Reading run []) was.calls) was.are)
+        (sym begins.2, id_is ∙ ap Some (sym entry_id))
 
     runs_on : RunsOn script before after clients news before.items
     runs_on world past handed within listed runs =
         let map = map_of world.handed world.opening before.items in
         let found = get_begins_stands world.setting runs.last runs.begun map runs.commit before.state.core
-        after.state.core before.state.disk actor id call.kind run runs.calls is takes.is begins
-        (calls_of_others clients actor before.client takes.was idle runs.calls runs.theirs) runs.stands in
-        let calls = Reading run found.0 ∷ runs.calls in
+        after.state.core before.state.disk actor id call.kind run (calls_under_way runs.contents clients) is takes.is
+        begins (calls_of_others clients actor before.client takes.was idle takes.schedule.going.holds runs.contents)
+        runs.stands in
+        let contents = with_content runs.contents actor found.0 in
+        let calls = calls_under_way contents news in
         runs_begins world script past before.state after.state before.items clients news actor before.client
-        after.client takes.changes takes.was runs idle calls (Reading run found.0) (work.Read run) leaves.uber disk
-        left.1 (λ sync. sync) (gains_first (Reading run found.0) runs.calls) its_actor refl
+        after.client takes.changes takes.was runs idle leaves.uber disk found.0 (work.Read run) left.1 (λ sync. sync)
         (λ asked asked_is. ap (λ (m : Map). m run.entry.id) (map_at_end world.handed world.opening before.items)
         ∙ ap map entry_id ∙ found.1)
         (subst (λ (d : Disk). Stands world.setting runs.last runs.begun map calls runs.commit
-        (at_disk after.state.core d)) (sym disk) (found.2 calls (gains_first (Reading run found.0) runs.calls)))
+        (at_disk after.state.core d)) (sym disk) (found.2 calls
+        (call_begins runs.contents contents clients news actor before.client after.client takes.was takes.changes
+        (with_other runs.contents actor found.0) (Reading run found.0) idle
+        (held_is (contents actor) after.client its_under (work.Read run) under_is refl
+        ∙ ap (λ (bytes : List ℕ). Reading run bytes ∷ []) (with_own runs.contents actor found.0)))))
 
     -- A read begins.
     pub read_begins : Comes script actor before after clients news
@@ -167,7 +153,8 @@ module _ (script : Script) (actor : ℕ) (before after : Station) (clients news 
         (fits before.state.core call.kind given of (λ out tells. subst (IsGetRefused before.state.core id) tells begins.1)
         (λ reached told. subst (IsGetRefused before.state.core id) told begins.1) (read_no_free call.kind is))
         (λ full. absurd (put_alone call.kind given (read_no_put call.kind is) of full))
-        (subst (λ (c : Core). AreCallsOf c takes.schedule.going.calls) (sym begins.0) takes.schedule.going.are)
+        (λ contents. subst (λ (c : Core). AreCallsOf c (calls_under_way contents clients)) (sym begins.0)
+        (takes.schedule.going.are contents))
         (λ world past runs.
         let map = map_of world.handed world.opening before.items in
         let map_now = map_after world.handed world.opening before.items (length before.items) in
@@ -179,9 +166,10 @@ module _ (script : Script) (actor : ℕ) (before after : Station) (clients news 
               (λ absent. ap (option_and_then map_now) id_is
               ∙ ap (λ (m : Map). m id) (map_at_end world.handed world.opening before.items) ∙ none absent)
               begins.1),
-          subst (λ (m : Map). Stands world.setting runs.last runs.begun m runs.calls runs.commit after.state)
+          let calls = calls_under_way runs.contents clients in
+          subst (λ (m : Map). Stands world.setting runs.last runs.begun m calls runs.commit after.state)
               (sym (map_read world.handed map (first_entry call actor before given) call.kind given is of))
-              (subst (Stands world.setting runs.last runs.begun map runs.calls runs.commit)
+              (subst (Stands world.setting runs.last runs.begun map calls runs.commit)
               (λ i. at_disk (sym begins.0 i) (sym disk i)) runs.stands),
         ))
 
@@ -201,11 +189,13 @@ module _ (script : Script) (actor : ℕ) (before after : Station) (clients news 
     was_read its its_under its_going sync = not_sync (subst (λ (u : UnderWay). IsSync u.work)
         (going_under clients actor before.client under takes.was under_is its its_under its_going) sync)
 
+    its : run.hold.actor ≡ actor
+    its = subst (IsHoldOf actor) work_is (takes.schedule.going.holds actor before.client under going)
+
     -- Its read is among the calls under way.
-    among : (calls : List HoldingCall) → AreTheirs clients calls → HasRead calls actor run
-    among calls theirs =
-        let found = theirs.every actor before.client under going not_sync in
-        read_in calls actor run found.0 found.1 (subst (λ (w : Work). IsWorkOf w found.0) work_is found.2) found.3
+    was_held : (contents : ℕ → List ℕ) → held_under (contents actor) before.client.under_way
+        ≡ Reading run (contents actor) ∷ []
+    was_held contents = held_is (contents actor) before.client under (work.Read run) under_is work_is
 
     -- The script asks for it.
     its_call : slice_get (calls_of script actor) (before.client.begun - 1) ≡ Some call
@@ -239,45 +229,47 @@ module _ (script : Script) (actor : ℕ) (before after : Station) (clients news 
     next_its : run.hold.actor ≡ actor → next.hold.actor ≡ actor
     next_its its = ap (λ (r : GetRun). r.hold.actor) next_is ∙ its
 
+    moves : (contents : ℕ → List ℕ) → (left : List HoldingCall)
+        × Gains left (calls_under_way contents clients) (Reading run (contents actor))
+        × Gains left (calls_under_way contents news) (Reading next (contents actor))
+    moves contents = call_goes contents contents clients news actor before.client after.client takes.was takes.changes
+        (λ other apart. refl) (Reading run (contents actor)) (Reading next (contents actor))
+        (was_held under run work_is under_is contents)
+        (held_is (contents actor) after.client (record { at = under.at; work = work.Read next }) (work.Read next)
+        under_now refl)
+
     still_going : AreGoing script after.state.core news
     still_going =
-        let was = takes.schedule.going in
-        let has = among under run work_is under_is was.calls was.theirs in
         let asked = its_call under run work_is under_is is in
-        goes script before.state.core after.state.core clients news actor before.client after.client takes.changes
-        takes.was was (ap (λ (c : Core). c.committing) core_is)
+        going_goes script before.state.core after.state.core clients news actor before.client after.client takes.changes
+        takes.was takes.schedule.going
+        (λ contents. let left = moves contents in
+        get_reads_calls before.state after.state run next (contents actor) left.0 (calls_under_way contents clients)
+        (calls_under_way contents news) reads.reads left.1 left.2 (takes.schedule.going.are contents))
+        (ap (λ (c : Core). c.committing) core_is)
         (λ commit. commit_still before.state.core after.state.core commit (ap (λ (c : Core). c.pool.uber) core_is)
         (ap (λ (c : Core). c.begun) core_is) (ap (λ (c : Core). c.committing) core_is) turn.out.still)
         (λ many. absurd (reads.reads.0 many)) (was_read under run work_is under_is)
-        (λ its its_is. subst (λ (u : UnderWay). IsSync u.work) (some_is (sym its_is ∙ under_now)))
-        has.left (Reading next has.content ∷ has.left) (Reading run has.content) (Reading next has.content)
-        (record { at = under.at; work = work.Read next }) call under_now
+        (record { at = under.at; work = work.Read next }) call under_now (λ sync. sync)
+        (next_its (its under run work_is under_is))
         (ap (λ (c : Client). slice_get (calls_of script actor) (c.begun - 1)) left.1 ∙ is) (
           asked.0 ∙ sym (ap (λ (r : GetRun). r.kind) next_is),
-          asked.1 ∙ sym
-              (ap (λ (r : GetRun). Some r.entry.id) next_is),
+          asked.1 ∙ sym (ap (λ (r : GetRun). Some r.entry.id) next_is),
         )
-        has.gains (gains_first (Reading next has.content) has.left) has.its (next_its has.its) refl
-        (get_reads_calls before.state after.state run next has.content has.left was.calls
-        (Reading next has.content ∷ has.left) reads.reads has.gains (gains_first (Reading next has.content) has.left)
-        was.are)
 
     still_runs : RunsOn script before after clients news before.items
     still_runs world past handed within listed runs =
-        let has = among under run work_is under_is runs.calls runs.theirs in
+        let moved = moves runs.contents in
         goes_on world script past before.state after.state before.items clients news actor before.client after.client
         takes.changes takes.was runs (reads_uber before.state after.state run (More next) reads.reads) turn.later
         (λ groups time row. since_read world.setting groups time before.state.disk after.state.disk reads.unchanged)
-        has.left (Reading next has.content ∷ has.left) (Reading run has.content) (Reading next has.content) under
-        (work.Read next) under_is left.1 (not_sync under run work_is under_is) (λ sync. sync) has.gains
-        (gains_first (Reading next has.content) has.left) has.its (next_its has.its) refl
-        (λ asked held. ap (λ (r : GetRun). map_after world.handed world.opening before.items under.at r.entry.id)
-        next_is ∙ held)
+        under (work.Read next) under_is left.1 (not_sync under run work_is under_is) (λ sync. sync)
+        (λ asked has. ap (λ (r : GetRun). map_after world.handed world.opening before.items under.at r.entry.id) next_is
+        ∙ subst (HasContent world before.items asked under.at (runs.contents actor)) work_is has)
         (get_reads_stands world.setting runs.last runs.begun (map_of world.handed world.opening before.items)
-        runs.commit before.state after.state run next has.content has.left runs.calls
-        (Reading next has.content ∷ has.left)
-        reads.place reads.left reads.reads reads.unchanged turn.out takes.still_lawful has.gains
-        (gains_first (Reading next has.content) has.left) runs.stands)
+        runs.commit before.state after.state run next (runs.contents actor) moved.0
+        (calls_under_way runs.contents clients) (calls_under_way runs.contents news)
+        reads.place reads.left reads.reads reads.unchanged turn.out takes.still_lawful moved.1 moved.2 runs.stands)
 
     -- A read goes on.
     pub read_goes_on : Comes script actor before after clients news
@@ -299,14 +291,21 @@ module _ (script : Script) (actor : ℕ) (before after : Station) (clients news 
     abbrev entry : Entry
     entry = entry_for call actor before.client.begun under.at given
 
+    ended : after.client.under_way ≡ None
+    ended = ap (λ (c : Client). c.under_way) left.1
+
     asked_is : (call.kind ≡ run.kind) × (call.id ≡ Some run.entry.id)
     asked_is = its_call under run work_is under_is is
 
+    gone : (contents : ℕ → List ℕ)
+        → Gains (calls_under_way contents news) (calls_under_way contents clients) (Reading run (contents actor))
+    gone contents = call_ends contents contents clients news actor before.client after.client takes.was takes.changes
+        (λ other apart. refl) (Reading run (contents actor)) (was_held under run work_is under_is contents) ended
+
     is_read : IsReadKind run.kind
-    is_read =
-        let was = takes.schedule.going in
-        let has = among under run work_is under_is was.calls was.theirs in
-        (was.are.each (Reading run has.content) (gains_item has.left was.calls (Reading run has.content) has.gains)).0
+    is_read = ((takes.schedule.going.are (λ index. [])).each (Reading run [])
+        (gains_item (calls_under_way (λ index. []) news) (calls_under_way (λ index. []) clients) (Reading run [])
+        (gone (λ index. [])))).0
 
     call_read : IsReadKind call.kind
     call_read = subst IsReadKind (sym asked_is.0) is_read
@@ -317,39 +316,34 @@ module _ (script : Script) (actor : ℕ) (before after : Station) (clients news 
     given_is : IsAnswerOf call.kind given
     given_is = subst (λ (k : Kind). IsAnswerOf k given) (sym asked_is.0) ends.answer_is
 
-    ended : after.client.under_way ≡ None
-    ended = ap (λ (c : Client). c.under_way) left.1
-
     end_going : AreGoing script after.state.core news
-    end_going =
-        let was = takes.schedule.going in
-        let has = among under run work_is under_is was.calls was.theirs in
-        going_ends script before.state.core after.state.core clients news actor before.client after.client takes.changes
-        takes.was was ends.leaves.committing (leaves_commit before.state.core after.state.core ends.leaves)
-        (leaves_many before.state.core after.state.core ends.leaves) (was_read under run work_is under_is)
-        (λ its its_is. absurd (none_some (sym ended ∙ its_is))) has.left (Reading run has.content) ended has.gains
-        has.its (ends.calls has.content has.left was.calls has.gains was.are)
+    end_going = going_rests script before.state.core after.state.core clients news actor before.client after.client
+        takes.changes takes.was takes.schedule.going
+        (λ contents. ends.calls (contents actor) (calls_under_way contents news) (calls_under_way contents clients)
+        (gone contents) (takes.schedule.going.are contents))
+        ends.leaves.committing (leaves_commit before.state.core after.state.core ends.leaves)
+        (leaves_many before.state.core after.state.core ends.leaves) (was_read under run work_is under_is) ended
 
     end_runs : RunsOn script before after clients news (before.items ++ CallItem entry ∷ [])
     end_runs world past handed within listed runs =
         let map = map_of world.handed world.opening before.items in
-        let has = among under run work_is under_is runs.calls runs.theirs in
+        let calls = calls_under_way runs.contents clients in
+        let bytes = runs.contents actor in
         let mine = runs.each actor before.client under (record { there = takes.was; under_way = under_is }) in
-        let done = ends.stands world.setting runs.last runs.begun map runs.commit has.content has.left runs.calls
-        has.gains runs.stands in
-        let content = mine.content call (Reading run has.content) is
-        (gains_item has.left runs.calls (Reading run has.content) has.gains) has.its in
-        runs_ends world script past before.state after.state before.items clients news actor before.client
+        let done = ends.stands world.setting runs.last runs.begun map runs.commit bytes
+        (calls_under_way runs.contents news) calls (gone runs.contents) runs.stands in
+        let content = subst (HasContent world before.items call under.at bytes) work_is (mine.content call is) in
+        answers_call world script past before.state after.state before.items clients news actor before.client
         after.client takes.changes takes.was runs entry refl ended ends.leaves.uber ending.disk
-        (groups_know world.setting runs.last runs.begun runs.calls runs.commit before.state runs.stands.groups)
+        (groups_know world.setting runs.last runs.begun calls runs.commit before.state runs.stands.groups)
         (right_read world before.items call actor before.client.begun under.at given call_read mine.at.0 mine.at.1
         mine.after
         (subst (λ (held : Option (List ℕ)). IsReadRight held call.kind given)
         (sym (ap (option_and_then (map_after world.handed world.opening before.items under.at)) asked_is.1 ∙ content))
-        (subst (λ (k : Kind). IsReadRight (Some has.content) k given) (sym asked_is.0) done.1)))
-        given_is listed has.left (Reading run has.content) under under_is (not_sync under run work_is under_is) has.gains
-        has.its (subst (λ (m : Map). Stands world.setting runs.last runs.begun m has.left runs.commit after.state)
-        (sym (map_read world.handed map entry call.kind given call_read given_is)) done.0)
+        (subst (λ (k : Kind). IsReadRight (Some bytes) k given) (sym asked_is.0) done.1)))
+        given_is listed (was_read under run work_is under_is)
+        (subst (λ (m : Map). Stands world.setting runs.last runs.begun m (calls_under_way runs.contents news)
+        runs.commit after.state) (sym (map_read world.handed map entry call.kind given call_read given_is)) done.0)
 
     -- A read ends.
     pub read_ends : Comes script actor before after clients news

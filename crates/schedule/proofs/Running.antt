@@ -1,7 +1,6 @@
 -- What stands between two turns stands after a client's next one.
-use Rattle.std.proofs.Common.{◌≡◌, ◌≢◌, inl, inr, ⊎_elim, ℕ, ◌≤◌, List, [], ◌∷◌, ◌++◌, length, Some, sym, ◌∙◌, ap, subst, arith, length-append}
-use Rattle.std.specs.Prelude.{Contains}
-use Rattle.std.proofs.lemmas.Bool.{cases_eq}
+use Rattle.std.proofs.Common.{◌≡◌, ◌≢◌, inl, inr, ⊎_elim, ℕ, ◌≤◌, List, [], ◌∷◌, ◌++◌, length, refl, sym, ◌∙◌, ap, arith, length-append, eq-eqb, ne_eqb}
+use Rattle.std.specs.Prelude.{Bool, ◌==◌, if◌then◌else◌}
 use Rattle.core_state.specs.declared.item.Entry.{Entry}
 use Rattle.core_state.specs.declared.item.Group.{Group as GroupItem}
 use Rattle.core_state.specs.declared.item.Item.{Item}
@@ -18,18 +17,17 @@ use Rattle.schedule.specs.declared.client.Client.{Client}
 use Rattle.schedule.specs.declared.client.UnderWay.{UnderWay}
 use Rattle.schedule.specs.declared.client.Work.{Work}
 use Rattle.schedule.specs.declared.client.Work.TheVariants as work
-use Rattle.schedule.specs.Clients.{Changes}
 use Rattle.schedule.specs.Recorded.{IsBegunAt}
-use Rattle.schedule.specs.Running.{IsGoing, IsSync, IsSyncOf, HasContent, IsClient}
-use Rattle.schedule.proofs.Theirs.{actor_of, going_here, going_was}
+use Rattle.schedule.specs.Running.{IsSync, IsSyncOf, HasContent, IsClient}
 
 -- What a call is about stays as the journal grows.
-pub content_grown : (world : World) (items more : List Item) (call : ScriptCall) (at : ℕ) (held : HoldingCall)
+content_grown : (world : World) (items more : List Item) (call : ScriptCall) (at : ℕ) (content : List ℕ) (does : Work)
     → at ≤ length items
-    → HasContent world items call at held → HasContent world (items ++ more) call at held
-content_grown world items more call at (Putting run content) low has = has
-content_grown world items more call at (Reading run content) low has =
+    → HasContent world items call at content does → HasContent world (items ++ more) call at content does
+content_grown world items more call at content (work.Put run) low has = has
+content_grown world items more call at content (work.Read run) low has =
     ap (λ (map : Map). map run.entry.id) (map_before world.handed world.opening items more at low) ∙ has
+content_grown world items more call at content (work.Sync run) low has = has
 
 pub begun_grown : (world : World) (items more : List Item) (item : GroupItem) (after : ℕ) (next : Kept)
     → IsBegunAt world items item after next → IsBegunAt world (items ++ more) item after next
@@ -56,57 +54,36 @@ sync_free world items item begun at (work.Sync run) not_sync = absurd (not_sync 
 sync_free world items item begun at (work.Put run) not_sync = tt
 sync_free world items item begun at (work.Read run) not_sync = tt
 
--- Clients whose calls stay among those under way go on as the journal grows by items that are none of theirs.
+-- Clients go on as the journal grows by items that are none of theirs.
 pub client_grown : (world : World) (script : Script) (items more : List Item) (item now : GroupItem)
-    (begun onward : List Kept) (calls nexts : List HoldingCall) (index : ℕ) (client : Client) (under : UnderWay)
-    → ((held : HoldingCall) → Contains nexts held → actor_of held ≡ index → Contains calls held)
+    (begun onward : List Kept) (content : List ℕ) (index : ℕ) (client : Client) (under : UnderWay)
     → (IsSyncOf world items item begun under.at under.work
     → IsSyncOf world (items ++ more) now onward under.at under.work)
     → ((place : ℕ) (entry : Entry) → CallAt (items ++ more) place entry → entry.caller ≡ index
     → CallAt items place entry)
-    → IsClient world script items item begun calls index client under
-    → IsClient world script (items ++ more) now onward nexts index client under
-client_grown world script items more item now begun onward calls nexts index client under among sync none is = record {
+    → IsClient world script items item begun content index client under
+    → IsClient world script (items ++ more) now onward content index client under
+client_grown world script items more item now begun onward content index client under sync none is = record {
   at = (is.at.0, (let low = is.at.1 in omega (arith, low, length-append items more)));
   after = λ place entry there caller. is.after place entry (none place entry there caller) caller;
   sync = sync is.sync;
-  content = λ call held asked has its. content_grown world items more call under.at held is.at.1
-      (is.content call held asked (among held has its) its);
+  content = λ call asked. content_grown world items more call under.at content under.work is.at.1 (is.content call asked);
 }
 
--- The same where the journal stays.
-pub client_stays : (world : World) (script : Script) (items : List Item) (item : GroupItem) (begun onward : List Kept)
-    (calls nexts : List HoldingCall) (index : ℕ) (client : Client) (under : UnderWay)
-    → ((held : HoldingCall) → Contains nexts held → actor_of held ≡ index → Contains calls held)
-    → (IsSyncOf world items item begun under.at under.work → IsSyncOf world items item onward under.at under.work)
-    → IsClient world script items item begun calls index client under
-    → IsClient world script items item onward nexts index client under
-client_stays world script items item begun onward calls nexts index client under among sync is = record {
-  at = is.at;
-  after = is.after;
-  sync = sync is.sync;
-  content = λ call held asked has its. is.content call held asked (among held has its) its;
-}
+-- ---- the bytes of one more client's block
 
--- Where one client has changed, each is right whose call is under way: that one, and the others as they were.
-pub each_client : (world : World) (script : Script) (items : List Item) (item : GroupItem) (begun : List Kept)
-    (calls : List HoldingCall) (clients news : List Client) (index : ℕ) (client : Client) → Changes clients news index client
-    → ((under : UnderWay) → client.under_way ≡ Some under
-    → IsClient world script items item begun calls index client under)
-    → ((other : ℕ) (its : Client) (under : UnderWay) → other ≢ index → IsGoing clients other its under
-    → IsClient world script items item begun calls other its under)
-    → (other : ℕ) (its : Client) (under : UnderWay) → IsGoing news other its under
-    → IsClient world script items item begun calls other its under
-each_client world script items item begun calls clients news index client changes here others other its under is =
-    ⊎_elim
-    (λ (same : other ≡ index).
-    let found = going_here clients news index client changes its under
-    (subst (λ (n : ℕ). IsGoing news n its under) same is) in
-    subst (λ (n : ℕ). IsClient world script items item begun calls n its under) (sym same)
-    (subst (λ (c : Client). IsClient world script items item begun calls index c under) found.0 (here under found.1)))
-    (λ (apart : other ≢ index).
-    others other its under apart (going_was clients news index client changes other its under apart is))
-    (cases_eq other index)
+-- the bytes of each client's block, where those of one are these
+abbrev pub with_content : (ℕ → List ℕ) → ℕ → List ℕ → ℕ → List ℕ
+with_content contents index content other = if other == index then content else contents other
+
+pub with_own : (contents : ℕ → List ℕ) (index : ℕ) (content : List ℕ) → with_content contents index content index ≡ content
+with_own contents index content =
+    ap (λ (own : Bool). if own then content else contents index) (eq-eqb index index refl)
+
+pub with_other : (contents : ℕ → List ℕ) (index : ℕ) (content : List ℕ) (other : ℕ) → other ≢ index
+    → with_content contents index content other ≡ contents other
+with_other contents index content other apart =
+    ap (λ (own : Bool). if own then content else contents other) (ne_eqb other index apart)
 
 -- A new entry is none of another caller's.
 pub entry_apart : (items : List Item) (entry : Entry) (index : ℕ) → entry.caller ≢ index → (place : ℕ) (other : Entry)

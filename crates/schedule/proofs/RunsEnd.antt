@@ -1,5 +1,5 @@
 -- What stood before a turn of one client stands after it, where its call is answered.
-use Rattle.std.proofs.Common.{◌≡◌, ◌≢◌, ℕ, List, [], ◌∷◌, ◌++◌, Some, None, sym, ◌∙◌, ap, subst, length, ◌+◌, ◌<◌, arith, ◌≤◌, length-append}
+use Rattle.std.proofs.Common.{◌≡◌, ◌≢◌, ℕ, List, [], ◌∷◌, ◌++◌, Some, None, sym, ◌∙◌, ap, subst, length, ◌+◌, ◌<◌, arith, ◌≤◌, length-append, Option}
 use Rattle.std.specs.Prelude.{Contains, slice_get}
 use Rattle.space_alloc.specs.Space.{Gains}
 use Rattle.uberblock_ring.specs.Uberblock.{Uber}
@@ -20,15 +20,15 @@ use Rattle.client_script.specs.Script.{Script}
 use Rattle.journal_law.proofs.Grown.{map_grown_call, map_grown_group}
 use Rattle.journal_law.proofs.GrownGroups.{latest_grown_call, latest_grown_group}
 use Rattle.core_turns.specs.Core.{CoreState}
-use Rattle.core_turns.specs.UnderWay.{HoldingCall, Stands}
+use Rattle.core_turns.specs.UnderWay.{Stands}
 use Rattle.schedule.specs.declared.client.Client.{Client}
 use Rattle.schedule.specs.declared.client.UnderWay.{UnderWay}
 use Rattle.schedule.specs.declared.client.Work.TheVariants as work
 use Rattle.schedule.specs.Clients.{Changes}
 use Rattle.schedule.specs.Recorded.{Recorded, IsRightNext, IsBegunAt}
-use Rattle.schedule.specs.Running.{IsGoing, IsSync, IsSyncOf, IsClient, Runs}
-use Rattle.schedule.proofs.Theirs.{actor_of, none_some, sync_gone, theirs_ends, theirs_stays, sync_stays, none_going, going_under}
-use Rattle.schedule.proofs.Running.{head_is, client_grown, entry_apart, group_apart, sync_grown, sync_free, each_client}
+use Rattle.schedule.specs.Running.{IsClient, IsGoing, IsSync, IsSyncOf, IsTheirs, Runs, calls_under_way}
+use Rattle.schedule.proofs.Theirs.{each_going, none_some, sync_gone, sync_stays}
+use Rattle.schedule.proofs.Running.{head_is, client_grown, entry_apart, group_apart, sync_grown, sync_free}
 use Rattle.schedule.proofs.Recording.{recorded_answers, recorded_ends}
 use Rattle.schedule.proofs.Begun.{one_latest}
 use Rattle.schedule.specs.Moments.{Past}
@@ -59,16 +59,14 @@ module _ (world : World) (script : Script) (past : Past) (before after : CoreSta
     its_none : (its_under : UnderWay) → client.under_way ≡ Some its_under → ⊥
     its_none its_under is = none_some (sym ended ∙ is)
 
-    each_left : (calls : List HoldingCall)
-        → ((other : ℕ) → other ≢ index → (held : HoldingCall) → Contains calls held → actor_of held ≡ other
-        → Contains runs.calls held)
-        → (other : ℕ) (its_client : Client) (its_under : UnderWay) → IsGoing news other its_client its_under
-        → IsClient world script grown runs.item runs.begun calls other its_client its_under
-    each_left calls among = each_client world script grown runs.item runs.begun calls clients news index client changes
+    each_left : (other : ℕ) (its_client : Client) (its_under : UnderWay) → IsGoing news other its_client its_under
+        → IsClient world script grown runs.item runs.begun (runs.contents other) other its_client its_under
+    each_left = each_going clients news index client changes {T = λ other its its_under.
+        IsClient world script grown runs.item runs.begun (runs.contents other) other its its_under}
         (λ its_under is. absurd (its_none its_under is))
         (λ other its its_under apart is.
-        client_grown world script items (CallItem entry ∷ []) runs.item runs.item runs.begun runs.begun runs.calls calls
-        other its its_under (among other apart)
+        client_grown world script items (CallItem entry ∷ []) runs.item runs.item runs.begun runs.begun
+        (runs.contents other) other its its_under
         (sync_grown world items (CallItem entry ∷ []) runs.item runs.begun its_under.at its_under.work)
         (entry_apart items entry other (λ same. apart (sym same ∙ caller)))
         (runs.each other its its_under is))
@@ -76,82 +74,38 @@ module _ (world : World) (script : Script) (past : Past) (before after : CoreSta
     map_is : map_of world.handed world.opening grown ≡ map_after_answer world.handed map entry entry.answer
     map_is = map_grown_call world.handed world.opening items entry
 
-    -- A put or a read that was under way ends.
-    pub ends : (left : List HoldingCall) (call : HoldingCall) (under : UnderWay) → old.under_way ≡ Some under
-        → (IsSync under.work → ⊥) → Gains left runs.calls call → actor_of call ≡ index
-        → Stands world.setting runs.last runs.begun (map_after_answer world.handed map entry entry.answer) left
-        runs.commit after
+    -- what stands with this commit under way
+    abbrev StandsWith : Option CommitRun → Type 0
+    StandsWith commit = Stands world.setting runs.last runs.begun (map_after_answer world.handed map entry entry.answer)
+        (calls_under_way runs.contents news) commit after
+
+    answered_with : (commit : Option CommitRun) → IsTheirs news commit → StandsWith commit
         → Runs world script past after grown news
-    ends left call under old_is not_sync lost its stands = record {
+    answered_with commit sync stands = record {
       last = runs.last;
       begun = runs.begun;
-      calls = left;
-      commit = runs.commit;
+      contents = runs.contents;
+      commit = commit;
       item = runs.item;
       latest = latest_grown_call items entry runs.item runs.latest;
       recorded = recorded_entry;
-      stands = subst (λ (m : Map). Stands world.setting runs.last runs.begun m left runs.commit after) (sym map_is)
-          stands;
-      theirs = theirs_ends clients news index client changes left runs.calls call ended lost its runs.stands.are.beside
-          runs.theirs;
-      sync = sync_stays clients news index client changes runs.commit
-          (λ other its_under is sync. not_sync (subst (λ (u : UnderWay). IsSync u.work)
-          (going_under clients index old under was old_is other its_under is) sync))
-          (λ its_under is sync. its_none its_under is)
-          runs.sync;
-      each = each_left left (λ other apart held had its_held. gains_old left runs.calls call held lost had);
+      stands = subst (λ (m : Map). Stands world.setting runs.last runs.begun m (calls_under_way runs.contents news)
+          commit after) (sym map_is) stands;
+      sync = sync;
+      each = each_left;
     }
 
-    -- A call is answered in its first turn.
-    pub answers_at_once : old.under_way ≡ None
-        → Stands world.setting runs.last runs.begun (map_after_answer world.handed map entry entry.answer) runs.calls
-        runs.commit after
-        → Runs world script past after grown news
-    answers_at_once idle stands = record {
-      last = runs.last;
-      begun = runs.begun;
-      calls = runs.calls;
-      commit = runs.commit;
-      item = runs.item;
-      latest = latest_grown_call items entry runs.item runs.latest;
-      recorded = recorded_entry;
-      stands = subst (λ (m : Map). Stands world.setting runs.last runs.begun m runs.calls runs.commit after)
-          (sym map_is) stands;
-      theirs = theirs_stays clients news index client changes runs.calls
-          (λ other its_under is. absurd (none_going clients index old was idle other its_under is))
-          (λ its_under is. absurd (its_none its_under is)) runs.theirs;
-      sync = sync_stays clients news index client changes runs.commit
-          (λ other its_under is sync. none_going clients index old was idle other its_under is)
-          (λ its_under is sync. its_none its_under is) runs.sync;
-      each = each_left runs.calls (λ other apart held had its_held. had);
-    }
+    -- A put or a read ends, or a call is answered in its first turn.
+    pub answers_call : ((its : Client) (under : UnderWay) → IsGoing clients index its under → IsSync under.work → ⊥)
+        → StandsWith runs.commit → Runs world script past after grown news
+    answers_call was_none = answered_with runs.commit (sync_stays clients news index client changes runs.commit was_none
+        (λ its_under is sync. its_none its_under is) runs.sync)
 
     -- A commit is cut short.
-    pub commit_is_cut : (under : UnderWay) (run : CommitRun) → old.under_way ≡ Some under
-        → under.work ≡ work.Sync run
-        → ((other : ℕ) (its : Client) (its_under : UnderWay) → IsGoing clients other its its_under
+    pub commit_is_cut : ((other : ℕ) (its : Client) (its_under : UnderWay) → IsGoing clients other its its_under
         → IsSync its_under.work → other ≡ index)
-        → Stands world.setting runs.last runs.begun (map_after_answer world.handed map entry entry.answer) runs.calls
-        None after
-        → Runs world script past after grown news
-    commit_is_cut under run old_is does_is only stands = record {
-      last = runs.last;
-      begun = runs.begun;
-      calls = runs.calls;
-      commit = None;
-      item = runs.item;
-      latest = latest_grown_call items entry runs.item runs.latest;
-      recorded = recorded_entry;
-      stands = subst (λ (m : Map). Stands world.setting runs.last runs.begun m runs.calls None after) (sym map_is)
-          stands;
-      theirs = theirs_stays clients news index client changes runs.calls
-          (λ other its_under is. subst (λ (u : UnderWay). IsSync u.work)
-          (sym (going_under clients index old under was old_is other its_under is))
-          (subst IsSync (sym does_is) tt))
-          (λ its_under is. absurd (its_none its_under is)) runs.theirs;
-      sync = sync_gone clients news index client changes ended only;
-      each = each_left runs.calls (λ other apart held had its_held. had);
-    }
+        → StandsWith None → Runs world script past after grown news
+    commit_is_cut only = answered_with None (sync_gone clients news index client changes ended only)
 
   -- A commit ends its group, whose item is listed before its entry.
   module _ (under : UnderWay) (run : CommitRun) (next : Kept) (group : GroupItem) (entry : Entry)
@@ -171,7 +125,7 @@ module _ (world : World) (script : Script) (past : Past) (before after : CoreSta
       (asked : entry.kind ≡ kind.Sync) (answer_is : entry.answer ≡ answer.Synced group.group)
       (knows : Knows world.setting next [] before.disk)
       (with : IsListedWith past.banks items ((items ++ Group group ∷ []) ++ CallItem entry ∷ []) after.disk)
-      (stands : Stands world.setting next [] map runs.calls None after) where
+      (stands : Stands world.setting next [] map (calls_under_way runs.contents news) None after) where
     -- Both were listed with this bank.
     both_with : (count : ℕ) → length items < count → count ≤ length items + 1 + 1 → past.banks count ≡ before.disk
     both_with count from until = with count from (omega (
@@ -181,7 +135,7 @@ module _ (world : World) (script : Script) (past : Past) (before after : CoreSta
       length-append (items ++ Group group ∷ []) (CallItem entry ∷ []),
     )) ∙ disk
 
-    my_end : IsClient world script items runs.item runs.begun runs.calls index old under
+    my_end : IsClient world script items runs.item runs.begun (runs.contents index) index old under
     my_end = runs.each index old under (record { there = was; under_way = old_is })
 
     is_next : IsBegunAt world items runs.item under.at next
@@ -220,17 +174,18 @@ module _ (world : World) (script : Script) (past : Past) (before after : CoreSta
         ∙ map_grown_group world.handed world.opening items group
 
     each_end : (other : ℕ) (its_client : Client) (its_under : UnderWay) → IsGoing news other its_client its_under
-        → IsClient world script with_both group [] runs.calls other its_client its_under
-    each_end = each_client world script with_both group [] runs.calls clients news index client changes
+        → IsClient world script with_both group [] (runs.contents other) other its_client its_under
+    each_end = each_going clients news index client changes {T = λ other its its_under.
+        IsClient world script with_both group [] (runs.contents other) other its its_under}
         (λ its_under is. absurd (end_none its_under is))
         (λ other its its_under apart is.
         let not_sync : IsSync its_under.work → ⊥ = λ sync. apart (only other its its_under is sync) in
-        client_grown world script (items ++ Group group ∷ []) (CallItem entry ∷ []) group group [] [] runs.calls
-        runs.calls other its its_under (λ held had its_held. had)
+        client_grown world script (items ++ Group group ∷ []) (CallItem entry ∷ []) group group [] []
+        (runs.contents other) other its its_under
         (λ sync. sync_free world with_both group [] its_under.at its_under.work not_sync)
         (entry_apart (items ++ Group group ∷ []) entry other (λ same. apart (sym same ∙ caller)))
-        (client_grown world script items (Group group ∷ []) runs.item group runs.begun [] runs.calls runs.calls
-        other its its_under (λ held had its_held. had)
+        (client_grown world script items (Group group ∷ []) runs.item group runs.begun [] (runs.contents other)
+        other its its_under
         (λ sync. sync_free world (items ++ Group group ∷ []) group [] its_under.at its_under.work not_sync)
         (λ place one there its. group_apart items group place one there)
         (runs.each other its its_under is)))
@@ -239,17 +194,13 @@ module _ (world : World) (script : Script) (past : Past) (before after : CoreSta
     commit_ends = record {
       last = next;
       begun = [];
-      calls = runs.calls;
+      contents = runs.contents;
       commit = None;
       item = group;
       latest = latest_grown_call (items ++ Group group ∷ []) entry group (latest_grown_group items group);
       recorded = recorded_end;
-      stands = subst (λ (m : Map). Stands world.setting next [] m runs.calls None after) (sym map_both) stands;
-      theirs = theirs_stays clients news index client changes runs.calls
-          (λ other its_under is. subst (λ (u : UnderWay). IsSync u.work)
-          (sym (going_under clients index old under was old_is other its_under is))
-          (subst IsSync (sym does_is) tt))
-          (λ its_under is. absurd (end_none its_under is)) runs.theirs;
+      stands = subst (λ (m : Map). Stands world.setting next [] m (calls_under_way runs.contents news) None after)
+          (sym map_both) stands;
       sync = sync_gone clients news index client changes ended only;
       each = each_end;
     }

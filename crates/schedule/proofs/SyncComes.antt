@@ -21,15 +21,15 @@ use Rattle.core_turns.proofs.CommitStands.{commit_begins_calls, commit_begins_st
 use Rattle.schedule.specs.declared.client.Client.{Client}
 use Rattle.schedule.specs.declared.client.UnderWay.{UnderWay}
 use Rattle.schedule.specs.declared.client.Work.TheVariants as work
-use Rattle.schedule.specs.Running.{IsGoing, IsSync, AreGoing}
+use Rattle.schedule.specs.Running.{IsGoing, IsSync, AreGoing, calls_under_way, held_under}
 use Rattle.schedule.specs.Turned.{Station, LeavesBegun}
 use Rattle.schedule.specs.Comes.{TakesTurn, Comes}
 use Rattle.schedule.proofs.Fitting.{sync_no_free}
-use Rattle.schedule.proofs.Theirs.{none_some, none_going}
+use Rattle.schedule.proofs.Theirs.{none_some, none_going, calls_stay, held_is}
 use Rattle.schedule.proofs.Answered.{answered, answered_idle}
 use Rattle.schedule.proofs.Begun.{begun_now}
 use Rattle.schedule.proofs.Going.{commits_on, run_of}
-use Rattle.schedule.proofs.RunsBegin.{commit_begins}
+use Rattle.schedule.proofs.RunsGoOn.{commit_begins}
 use Rattle.schedule.proofs.Fulls.{put_alone}
 use Rattle.schedule.proofs.LeavesPool.{leaves_pool, turn_still}
 use Rattle.schedule.proofs.TurnComes.{RunsOn, first_entry, comes_nowhere, comes_on, comes_at_once}
@@ -75,28 +75,37 @@ module _ (script : Script) (actor : ℕ) (before after : Station) (clients news 
           let its_run = run_of its_under.work sync in
           absurd (none_some (sym begins.1 ∙ (takes.schedule.going.syncs other its its_under its_run.0 is its_run.1).1))
 
+      under_is : after.client.under_way ≡ Some under
+      under_is = ap (λ (c : Client). c.under_way) leaves.1
+
+      same_calls : (contents : ℕ → List ℕ) → calls_under_way contents news ≡ calls_under_way contents clients
+      same_calls contents = calls_stay contents contents clients news actor before.client after.client takes.was
+          takes.changes (λ other apart. refl) (ap (held_under (contents actor)) idle)
+          (held_is (contents actor) after.client under (work.Sync run) under_is refl)
+
       going : AreGoing script after.state.core news
       going = commits_on script before.state.core after.state.core clients news actor before.client after.client
-          takes.changes takes.was takes.schedule.going under run call none_syncs
-          (λ its its_under is. absurd (none_going clients actor before.client takes.was idle its its_under is))
-          (ap (λ (c : Client). c.under_way) leaves.1) refl
+          takes.changes takes.was takes.schedule.going
+          (λ contents. subst (AreCallsOf after.state.core) (sym (same_calls contents))
+          (commit_begins_calls before.state.core after.state.core (calls_under_way contents clients) actor run begins
+          (takes.schedule.going.are contents)))
+          under run call none_syncs under_is refl
           (ap (λ (c : Client). slice_get (calls_of script actor) (c.begun - 1)) leaves.1
           ∙ ap (slice_get (calls_of script actor)) number ∙ next) (asked, no_id) begins.5
           (ap (λ (c : Core). c.committing) begins.4)
-          (commit_begins_calls before.state.core after.state.core takes.schedule.going.calls actor run begins
-          takes.schedule.going.are)
 
       on : RunsOn script before after clients news before.items
       on world past handed within listed runs =
           let map : Map = map_of world.handed world.opening before.items in
+          let calls = calls_under_way runs.contents clients in
           let none : runs.commit ≡ None =
-          no_commit world.setting runs.last runs.begun runs.calls runs.commit before.state begins.1
+          no_commit world.setting runs.last runs.begun calls runs.commit before.state begins.1
           runs.stands.groups in
-          let alone : Stands world.setting runs.last runs.begun map runs.calls None before.state =
-          subst (λ (c : Option CommitRun). Stands world.setting runs.last runs.begun map runs.calls c before.state) none
+          let alone : Stands world.setting runs.last runs.begun map calls None before.state =
+          subst (λ (c : Option CommitRun). Stands world.setting runs.last runs.begun map calls c before.state) none
           runs.stands in
           let empty : runs.begun ≡ [] = (alone.groups.whole (few_out before.state.core begins.0)).0 in
-          let made = commit_begins_stands world.setting runs.last runs.begun map runs.calls before.state.core
+          let made = commit_begins_stands world.setting runs.last runs.begun map calls before.state.core
           after.state.core before.state.disk actor run takes.lawful takes.is table takes.is.step begins alone in
           let last : before.state.core.pool.uber.group ≡ runs.last.uber.group =
           ap (λ (u : Uber). u.group) runs.stands.alike in
@@ -111,8 +120,10 @@ module _ (script : Script) (actor : ℕ) (before after : Station) (clients news 
           (ap (λ (r : Reflow). r.from) widths, ap (λ (r : Reflow). r.to) widths)
           (λ id. ap (λ (m : Map). m id) made.1))
           (ap (λ (r : Reflow). r.to) made.3) made.4
-          (subst (λ (d : Disk). Stands world.setting runs.last (made.0 ∷ []) map runs.calls (Some run)
-          (at_disk after.state.core d)) (sym disk) made.5)
+          (subst (λ (l : List HoldingCall). Stands world.setting runs.last (made.0 ∷ []) map l (Some run) after.state)
+          (sym (same_calls runs.contents))
+          (subst (λ (d : Disk). Stands world.setting runs.last (made.0 ∷ []) map calls (Some run)
+          (at_disk after.state.core d)) (sym disk) made.5))
 
   -- A sync waits for another's.
   pub sync_waits : (by : ℕ) → call.kind ≡ kind.Sync → call.id ≡ None → before.client.under_way ≡ None
@@ -142,18 +153,20 @@ module _ (script : Script) (actor : ℕ) (before after : Station) (clients news 
         memory = λ wanting. sync_no_free call.kind asked;
       })
       (λ full. absurd (put_alone call.kind given (λ put. no_put (sym asked ∙ put)) of full))
-      (subst (λ (c : Core). AreCallsOf c takes.schedule.going.calls) (sym refused.1) takes.schedule.going.are)
+      (λ contents. subst (λ (c : Core). AreCallsOf c (calls_under_way contents clients)) (sym refused.1)
+      (takes.schedule.going.are contents))
       (λ world past runs.
       let map : Map = map_of world.handed world.opening before.items in
+      let calls = calls_under_way runs.contents clients in
       let entry = first_entry call actor before given in
       let last : before.state.core.pool.uber.group ≡ runs.last.uber.group =
       ap (λ (u : Uber). u.group) runs.stands.alike in (
         refused_right world before.items runs.recorded.item entry before.state.core given asked refl
             runs.recorded.latest
             (λ none. rests before.state.core takes.is none ∙ last ∙ runs.recorded.item_is.number) refused.0,
-        subst (λ (m : Map). Stands world.setting runs.last runs.begun m runs.calls runs.commit after.state)
+        subst (λ (m : Map). Stands world.setting runs.last runs.begun m calls runs.commit after.state)
             (sym (refused_map world.handed map entry before.state.core given refused.0))
-            (subst (Stands world.setting runs.last runs.begun map runs.calls runs.commit)
+            (subst (Stands world.setting runs.last runs.begun map calls runs.commit)
             (λ i. at_disk (sym refused.1 i) (sym disk i)) runs.stands),
       ))
     where

@@ -22,19 +22,19 @@ use Rattle.journal_law.proofs.Grown.{new_or_before}
 use Rattle.core_turns.specs.declared.turn.Turn.TheVariants.{More, Done}
 use Rattle.core_turns.specs.Core.{Core, CoreState}
 use Rattle.core_turns.specs.Committing.{IsCommitOf, StepsCommit, AnswersGroup}
-use Rattle.core_turns.specs.UnderWay.{Stands, TurnGoesOn}
+use Rattle.core_turns.specs.UnderWay.{Stands, TurnGoesOn, AreCallsOf, HoldingCall}
 use Rattle.core_turns.proofs.Commits.{few_out, turn_bank}
 use Rattle.core_turns.proofs.CommitStands.{commit_steps_calls, commit_steps_stands, commit_steps_since, commit_ends_calls, commit_ends_stands, commit_is_cut as cut_stands}
 use Rattle.schedule.specs.declared.client.Client.{Client}
 use Rattle.schedule.specs.declared.client.UnderWay.{UnderWay}
 use Rattle.schedule.specs.declared.client.Work.TheVariants as work
 use Rattle.schedule.specs.Clients.{ClientsAreAnswered}
-use Rattle.schedule.specs.Running.{IsGoing, IsSync, IsWorkFor, AreGoing, Runs}
+use Rattle.schedule.specs.Running.{IsGoing, IsSync, IsWorkFor, AreGoing, Runs, calls_under_way, held_under}
 use Rattle.schedule.specs.Turns.{turns_of}
 use Rattle.schedule.specs.Turned.{Station, LeavesGoing, entry_for, group_for}
 use Rattle.schedule.specs.Comes.{TakesTurn, Comes}
 use Rattle.schedule.proofs.RightNext.{sync_cut_right, same_out}
-use Rattle.schedule.proofs.Theirs.{some_is, none_some, going_under}
+use Rattle.schedule.proofs.Theirs.{some_is, none_some, going_under, calls_stay, held_is}
 use Rattle.schedule.proofs.Answered.{answered, answers_call, answers_group, answered_going}
 use Rattle.schedule.specs.Fitting.{FitsCall}
 use Rattle.schedule.proofs.Fitting.{FitSince, fits, sync_no_free}
@@ -62,11 +62,15 @@ module _ (script : Script) (actor : ℕ) (before after : Station) (clients news 
         → IsSync its_under.work → other ≡ actor
     only = one_sync script before.state.core clients actor before.client under run takes.schedule.going syncing does_is
 
-    -- what it has under way is one,
-    is_sync : (its : Client) (its_under : UnderWay) → IsGoing clients actor its its_under → IsSync its_under.work
-    is_sync its its_under is = subst (λ (u : UnderWay). IsSync u.work)
-        (sym (going_under clients actor before.client under takes.was was_under its its_under is))
-        (subst IsSync (sym does_is) tt)
+    -- it holds no sectors,
+    was_held : (content : List ℕ) → held_under content before.client.under_way ≡ []
+    was_held content = held_is content before.client under (work.Sync run) was_under does_is
+
+    -- so the calls that do are the same where it goes on or ends,
+    same_calls : (contents : ℕ → List ℕ) → held_under (contents actor) after.client.under_way ≡ []
+        → calls_under_way contents news ≡ calls_under_way contents clients
+    same_calls contents is_held = calls_stay contents contents clients news actor before.client after.client takes.was
+        takes.changes (λ other apart. refl) (was_held (contents actor)) is_held
 
     -- its run is the core's commit,
     of_core : IsCommitOf before.state.core run × (before.state.core.committing ≡ Some actor)
@@ -85,10 +89,10 @@ module _ (script : Script) (actor : ℕ) (before after : Station) (clients news 
 
     -- and the commit that stands.
     its_stands : {world : World} {past : Past} (runs : Runs world script past before.state before.items clients)
-        → Stands world.setting runs.last runs.begun (map_of world.handed world.opening before.items) runs.calls
-        (Some run) before.state
+        → Stands world.setting runs.last runs.begun (map_of world.handed world.opening before.items)
+        (calls_under_way runs.contents clients) (Some run) before.state
     its_stands {world = world} runs = subst (λ (c : Option CommitRun). Stands world.setting runs.last runs.begun
-        (map_of world.handed world.opening before.items) runs.calls c before.state)
+        (map_of world.handed world.opening before.items) (calls_under_way runs.contents clients) c before.state)
         (its_commit clients actor before.client under run runs.commit syncing does_is only runs.sync) runs.stands
 
     -- It goes on.
@@ -104,26 +108,35 @@ module _ (script : Script) (actor : ℕ) (before after : Station) (clients news 
         begun_is : after.client.begun ≡ before.client.begun
         begun_is = ap (λ (c : Client). c.begun) leaves.1
 
+        is_held : (content : List ℕ) → held_under content after.client.under_way ≡ []
+        is_held content = held_is content after.client (record { at = under.at; work = work.Sync next })
+            (work.Sync next) (ap (λ (c : Client). c.under_way) leaves.1) refl
+
         going : AreGoing script after.state.core news
         going = commits_on script before.state.core after.state.core clients news actor before.client after.client
-            takes.changes takes.was takes.schedule.going (record { at = under.at; work = work.Sync next }) next call
-            only is_sync (ap (λ (c : Client). c.under_way) leaves.1) refl
+            takes.changes takes.was takes.schedule.going
+            (λ contents. subst (AreCallsOf after.state.core) (sym (same_calls contents (is_held (contents actor))))
+            (commit_steps_calls before.state after.state (calls_under_way contents clients) run next steps
+            (takes.schedule.going.are contents)))
+            (record { at = under.at; work = work.Sync next }) next call only
+            (ap (λ (c : Client). c.under_way) leaves.1) refl
             (ap (λ (n : ℕ). slice_get (calls_of script actor) (n - 1)) begun_is ∙ next_is) for_call steps.3
             (ap (λ (c : Core). c.committing) steps.2 ∙ of_core.1)
-            (commit_steps_calls before.state after.state takes.schedule.going.calls run next steps
-            takes.schedule.going.are)
 
         on : RunsOn script before after clients news before.items
         on world past handed within listed runs =
             let map : Map = map_of world.handed world.opening before.items in
             let borne = within (few_out before.state.core steps.0) in
+            let calls = calls_under_way runs.contents clients in
             commit_goes_on world script past before.state after.state before.items clients news actor before.client
             after.client takes.changes takes.was runs (ap (λ (c : Core). c.pool.uber) steps.2) goes.later
-            (λ groups time row kept. commit_steps_since world.setting runs.last runs.begun map runs.calls before.state
+            (λ groups time row kept. commit_steps_since world.setting runs.last runs.begun map calls before.state
             after.state run next groups time row steps borne (its_stands runs) kept)
             under run next was_under does_is leaves.1
-            (commit_steps_stands world.setting runs.last runs.begun map runs.calls before.state after.state run next
-            steps borne (its_stands runs))
+            (subst (λ (l : List HoldingCall). Stands world.setting runs.last runs.begun map l (Some next) after.state)
+            (sym (same_calls runs.contents (is_held (runs.contents actor))))
+            (commit_steps_stands world.setting runs.last runs.begun map calls before.state after.state run next steps
+            borne (its_stands runs)))
 
     -- It is the one after those answered.
     its_number : before.client.begun ≡ answered before.client + 1
@@ -213,19 +226,23 @@ module _ (script : Script) (actor : ℕ) (before after : Station) (clients news 
 
         going : AreGoing script after.state.core news
         going = going_ends script before.state.core after.state.core clients news actor before.client after.client
-            takes.changes takes.was takes.schedule.going under run was_under does_is ended only
+            takes.changes takes.was takes.schedule.going
+            (λ contents. subst (AreCallsOf after.state.core)
+            (sym (same_calls contents (ap (held_under (contents actor)) ended)))
+            (commit_ends_calls before.state after.state (calls_under_way contents clients) run number of_core.0 answers
+            (takes.schedule.going.are contents)))
+            ended only
             (λ its is. absurd (none_some (sym (ap (λ (c : Core). c.committing) answers.rest) ∙ is)))
-            (commit_ends_calls before.state after.state takes.schedule.going.calls run number of_core.0 answers
-            takes.schedule.going.are)
 
         on : RunsOn script before after clients news ((before.items ++ Group group ∷ []) ++ CallItem entry ∷ [])
         on world past handed within listed runs =
             let map : Map = map_of world.handed world.opening before.items in
             let stands = its_stands runs in
             let next : Kept = stands.groups.next in
-            let stood = commit_ends_stands world.setting runs.last next map runs.calls before.state after.state run
+            let calls = calls_under_way runs.contents clients in
+            let stood = commit_ends_stands world.setting runs.last next map calls before.state after.state run
             number answers (within (few_out before.state.core answers.few))
-            (subst (λ (l : List Kept). Stands world.setting runs.last l map runs.calls (Some run) before.state)
+            (subst (λ (l : List Kept). Stands world.setting runs.last l map calls (Some run) before.state)
             stands.groups.begun_is stands) in
             let number_is : number ≡ next.uber.group =
             answers.group_is ∙ sym stands.groups.of.number ∙ ap (λ (u : Uber). u.group) stands.groups.come.alike in
@@ -241,7 +258,9 @@ module _ (script : Script) (actor : ℕ) (before after : Station) (clients news 
               from = (reflow_is i).from;
               to = (reflow_is i).to;
             })
-            for_call.0 refl (subst (Knows world.setting next []) disk stood.groups.knows) listed stood
+            for_call.0 refl (subst (Knows world.setting next []) disk stood.groups.knows) listed
+            (subst (λ (l : List HoldingCall). Stands world.setting next [] map l None after.state)
+            (sym (same_calls runs.contents (ap (held_under (runs.contents actor)) ended))) stood)
 
     -- It is cut short.
     cut : (out : ℕ) → StepsCommit before.state run after.state (Done (answer.TooManyFailed out))
@@ -271,19 +290,24 @@ module _ (script : Script) (actor : ℕ) (before after : Station) (clients news 
 
         going : AreGoing script before.state.core news
         going = going_ends script before.state.core before.state.core clients news actor before.client after.client
-            takes.changes takes.was takes.schedule.going under run was_under does_is ended only (λ its is. steps.0)
-            takes.schedule.going.are
+            takes.changes takes.was takes.schedule.going
+            (λ contents. subst (AreCallsOf before.state.core)
+            (sym (same_calls contents (ap (held_under (contents actor)) ended))) (takes.schedule.going.are contents))
+            ended only (λ its is. steps.0)
 
         on : RunsOn script before after clients news (before.items ++ CallItem entry ∷ [])
         on world past handed within listed runs =
             let map : Map = map_of world.handed world.opening before.items in
+            let calls = calls_under_way runs.contents clients in
             commit_is_cut world script past before.state after.state before.items clients news actor before.client
             after.client takes.changes takes.was runs entry refl ended
             (ap (λ (s : CoreState). s.core.pool.uber) steps.2) (ap (λ (s : CoreState). s.disk) steps.2)
-            (groups_know world.setting runs.last runs.begun runs.calls runs.commit before.state runs.stands.groups)
-            (sync_cut_right world before.items entry for_call.0 tt) tt listed under run was_under does_is only
-            (subst (Stands world.setting runs.last runs.begun map runs.calls None) (sym steps.2)
-            (cut_stands world.setting runs.last runs.begun map runs.calls before.state run steps.0 (its_stands runs)))
+            (groups_know world.setting runs.last runs.begun calls runs.commit before.state runs.stands.groups)
+            (sync_cut_right world before.items entry for_call.0 tt) tt listed only
+            (subst (λ (l : List HoldingCall). Stands world.setting runs.last runs.begun map l None after.state)
+            (sym (same_calls runs.contents (ap (held_under (runs.contents actor)) ended)))
+            (subst (Stands world.setting runs.last runs.begun map calls None) (sym steps.2)
+            (cut_stands world.setting runs.last runs.begun map calls before.state run steps.0 (its_stands runs))))
 
   -- A sync goes on,
   pub sync_goes_on : (under : UnderWay) (run next : CommitRun) → under.work ≡ work.Sync run

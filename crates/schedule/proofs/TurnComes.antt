@@ -14,7 +14,7 @@ use Rattle.core_state.specs.Map.{map_of, map_after_answer}
 use Rattle.core_state.specs.World.{World}
 use Rattle.client_script.specs.declared.call.ScriptCall.{ScriptCall}
 use Rattle.client_script.specs.Script.{Script, calls_of, handed_by}
-use Rattle.core_turns.specs.UnderWay.{AreCallsOf, Stands, TurnGoesOn}
+use Rattle.core_turns.specs.UnderWay.{HoldingCall, AreCallsOf, Stands, TurnGoesOn}
 use Rattle.core_turns.specs.declared.turn.Turn.TheVariants.{Done}
 use Rattle.core_turns.proofs.Commits.{turn_bank}
 use Rattle.schedule.specs.declared.client.Client.{Client}
@@ -22,18 +22,18 @@ use Rattle.schedule.specs.declared.client.UnderWay.{UnderWay}
 use Rattle.schedule.specs.Clients.{ClientsAreAnswered}
 use Rattle.schedule.specs.Coming.{LeadTo}
 use Rattle.schedule.specs.Turns.{turns_of, Turns, taken_by, IsListedWith}
-use Rattle.schedule.specs.Running.{AreGoing, Runs}
+use Rattle.schedule.specs.Running.{AreGoing, IsGoing, IsSync, Runs, calls_under_way, held_under}
 use Rattle.schedule.specs.Recorded.{IsRightNext}
 use Rattle.schedule.specs.Turned.{Station, LeavesBegun, entry_for}
 use Rattle.schedule.specs.Comes.{TakesTurn, Comes}
-use Rattle.schedule.proofs.Theirs.{none_some, none_going}
+use Rattle.schedule.proofs.Theirs.{calls_stay, none_going, none_some, same_list}
 use Rattle.schedule.proofs.Answered.{answered, answers_same, answers_call, answered_idle}
-use Rattle.schedule.proofs.Going.{at_once}
-use Rattle.schedule.proofs.RunsEnd.{answers_at_once}
+use Rattle.schedule.proofs.Going.{rests as going_rests}
+use Rattle.schedule.proofs.RunsEnd.{answers_call as runs_answer}
+use Rattle.schedule.proofs.RunsGoOn.{waits as runs_waits}
 use Rattle.schedule.proofs.Fulls.{full_same, HasManyAt, full_answer, FullStays}
 use Rattle.schedule.proofs.Coming.{came_nowhere, came_turn}
 use Rattle.schedule.proofs.Fitting.{Fits, FitSince, fit_same, fit_entry}
-use Rattle.schedule.proofs.Lists.{same_list}
 use Rattle.schedule.proofs.Syncs.{groups_know}
 use Rattle.schedule.proofs.LeavesPool.{LeavesPool, leaves_commit, leaves_many, turn_still}
 use Rattle.schedule.specs.Moments.{Past}
@@ -140,6 +140,49 @@ module _ (script : Script) (actor : ℕ) (before after : Station) (clients news 
             let begun : after.client.begun ≡ number = ap (λ (c : Client). c.begun) client_is in
             omega (arith, low, begun, number_is)
 
+  -- ---- first turns that leave the calls under way
+
+  module _ (call : ScriptCall) (idle : before.client.under_way ≡ None) (still : after.client.under_way ≡ None)
+      (leaves : LeavesPool before.state.core after.state.core) (disk : after.state.disk ≡ before.state.disk)
+      (are : (contents : ℕ → List ℕ) → AreCallsOf after.state.core (calls_under_way contents clients)) where
+    was_idle : (its : Client) (its_under : UnderWay) → IsGoing clients actor its its_under → IsSync its_under.work → ⊥
+    was_idle its its_under its_going sync = none_going clients actor before.client takes.was idle its its_under its_going
+
+    same_calls : (contents : ℕ → List ℕ) → calls_under_way contents news ≡ calls_under_way contents clients
+    same_calls contents = calls_stay contents contents clients news actor before.client after.client takes.was
+        takes.changes (λ other apart. refl) (ap (held_under (contents actor)) idle)
+        (ap (held_under (contents actor)) still)
+
+    still_going : AreGoing script after.state.core news
+    still_going = going_rests script before.state.core after.state.core clients news actor before.client after.client
+        takes.changes takes.was takes.schedule.going
+        (λ contents. subst (AreCallsOf after.state.core) (sym (same_calls contents)) (are contents)) leaves.committing
+        (leaves_commit before.state.core after.state.core leaves)
+        (leaves_many before.state.core after.state.core leaves) was_idle still
+
+  -- A call that waits.
+  pub comes_waiting : (call : ScriptCall) → before.client.under_way ≡ None → after.client ≡ before.client
+      → after.items ≡ before.items → LeavesPool before.state.core after.state.core
+      → after.state.disk ≡ before.state.disk
+      → ((contents : ℕ → List ℕ) → AreCallsOf after.state.core (calls_under_way contents clients))
+      → ((world : World) (past : Past) → (runs : Runs world script past before.state before.items clients)
+      → Stands world.setting runs.last runs.begun (map_of world.handed world.opening before.items)
+      (calls_under_way runs.contents clients) runs.commit after.state)
+      → Comes script actor before after clients news
+  comes_waiting call idle client_is items leaves disk are stands =
+      let still : after.client.under_way ≡ None = ap (λ (c : Client). c.under_way) client_is ∙ idle in
+      let few = takes.schedule.answered.few actor before.client takes.was in
+      let begun_is = ap (λ (c : Client). c.begun) client_is in
+      comes_on (turn_still before.state after.state leaves.uber leaves.out disk) items (ap answered client_is)
+      (omega (arith, begun_is, few)) (λ its_under is. absurd (none_some (sym still ∙ is)))
+      (still_going call idle still leaves disk are)
+      (λ world past handed within listed runs.
+      runs_waits world script past before.state after.state before.items clients news actor before.client after.client
+      takes.changes takes.was runs idle leaves.uber disk still
+      (subst (λ (calls : List HoldingCall). Stands world.setting runs.last runs.begun
+      (map_of world.handed world.opening before.items) calls runs.commit after.state)
+      (sym (same_calls call idle still leaves disk are runs.contents)) (stands world past runs)))
+
   -- A call that is answered in its first turn.
   module _ (call : ScriptCall) (given : Answer) (idle : before.client.under_way ≡ None)
       (next : slice_get (calls_of script actor) before.client.begun ≡ Some call)
@@ -149,29 +192,26 @@ module _ (script : Script) (actor : ℕ) (before after : Station) (clients news 
     ended : after.client.under_way ≡ None
     ended = ap (λ (c : Client). c.under_way) left.1
 
-    still_going : AreCallsOf after.state.core takes.schedule.going.calls → AreGoing script after.state.core news
-    still_going are = at_once script before.state.core after.state.core clients news actor before.client after.client
-        takes.changes takes.was takes.schedule.going leaves.committing
-        (leaves_commit before.state.core after.state.core leaves)
-        (leaves_many before.state.core after.state.core leaves)
-        (λ its its_under its_going sync. none_going clients actor before.client takes.was idle its its_under its_going)
-        (λ its_under its. absurd (none_some (sym ended ∙ its))) idle ended are
-
-    pub comes_at_once : AreCallsOf after.state.core takes.schedule.going.calls
+    pub comes_at_once : ((contents : ℕ → List ℕ) → AreCallsOf after.state.core (calls_under_way contents clients))
         → ((world : World) (past : Past) → (runs : Runs world script past before.state before.items clients)
         → IsRightNext world before.items (first_entry call actor before given)
         × Stands world.setting runs.last runs.begun
         (map_after_answer world.handed (map_of world.handed world.opening before.items)
-        (first_entry call actor before given) given) runs.calls runs.commit after.state)
+        (first_entry call actor before given) given) (calls_under_way runs.contents clients) runs.commit after.state)
         → Comes script actor before after clients news
     comes_at_once are stands = comes_answered call (before.client.begun + 1) (length before.items) given
         (ap (λ (n : ℕ). n + 1) (sym (answered_idle before.client idle)))
         (ap (slice_get (calls_of script actor)) (answered_idle before.client idle) ∙ next)
         (turn_still before.state after.state leaves.uber leaves.out disk) left.0 left.1 fit full
-        (still_going are)
+        (still_going call idle ended leaves disk are)
         (λ world past handed within listed runs.
         let now = stands world past runs in
-        answers_at_once world script past before.state after.state before.items clients news actor before.client
+        runs_answer world script past before.state after.state before.items clients news actor before.client
         after.client takes.changes takes.was runs (first_entry call actor before given) refl ended leaves.uber disk
-        (groups_know world.setting runs.last runs.begun runs.calls runs.commit before.state runs.stands.groups)
-        now.0 fit.of_kind listed idle now.1)
+        (groups_know world.setting runs.last runs.begun (calls_under_way runs.contents clients) runs.commit before.state
+        runs.stands.groups)
+        now.0 fit.of_kind listed (was_idle call idle ended leaves disk are)
+        (subst (λ (calls : List HoldingCall). Stands world.setting runs.last runs.begun
+        (map_after_answer world.handed (map_of world.handed world.opening before.items)
+        (first_entry call actor before given) given) calls runs.commit after.state)
+        (sym (same_calls call idle ended leaves disk are runs.contents)) now.1))

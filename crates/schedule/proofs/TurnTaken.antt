@@ -24,19 +24,21 @@ use Rattle.schedule.specs.Coming.{IsSchedule}
 use Rattle.schedule.specs.Turns.{Turns, turns_of, taken_by}
 use Rattle.schedule.specs.Playing.{HasRoomForAnswers, IsReady}
 use Rattle.schedule.specs.Replaying.{AreIdle, HasTurn, OnlyShared, TakesOne}
-use Rattle.schedule.specs.Running.{AreGoing, IsGoing, IsSync, IsWorkFor, IsWorkOf}
+use Rattle.schedule.specs.Running.{AreGoing, IsGoing, IsWorkFor, calls_under_way, held_by}
 use Rattle.schedule.specs.Turned.{MayGoOn, Station, Turned}
 use Rattle.schedule.proofs.Coming.{came_nowhere}
 use Rattle.schedule.proofs.Left.{turned_fewer}
 use Rattle.schedule.proofs.Shared.{turned_begins, turned_further, turned_shared}
-use Rattle.schedule.proofs.Theirs.{none_some, some_is}
+use Rattle.schedule.proofs.Theirs.{none_some, some_is, is_among}
 use Rattle.schedule.proofs.TurnLaw.{turned_comes}
+use Rattle.schedule.specs.Numbered.{IsNumbered}
 use Rattle.schedule.proofs.Numbered.{turn_numbers}
 use Rattle.schedule.proofs.UsingLaw.{turn_uses}
+use Rattle.core_blocks.proofs.Lists.{first_listed}
 
 -- ---- before a turn
 
-all_at : {X : Type 0} (P : X → Type 0) (xs : List X) (index : ℕ) (x : X) → All P xs → slice_get xs index ≡ Some x → P x
+pub all_at : {X : Type 0} (P : X → Type 0) (xs : List X) (index : ℕ) (x : X) → All P xs → slice_get xs index ≡ Some x → P x
 all_at P xs index x all is = subst P (get_or_from_slice_get xs index x x is)
     (All-get_or P xs index x (slice_get_within xs index x is) all)
 
@@ -61,32 +63,23 @@ going_may script core clients index client under call going is asked =
         × IsWorkFor its under.work
     found = going.asked index client under is
 
-    held : (IsSync under.work → ⊥) → (its : HoldingCall) × Contains going.calls its × IsWorkOf under.work its
-    held no_sync = let its = going.theirs.every index client under is no_sync in (its.0, its.1, its.2)
+    bytes : ℕ → List ℕ
+    bytes index = []
+
+    among : (does : Work) (its : HoldingCall) → under.work ≡ does → Contains (held_by [] does) its
+        → Contains (calls_under_way bytes clients) its
+    among does its same held = is_among bytes clients index client under its is
+        (subst (λ (w : Work). Contains (held_by [] w) its) (sym same) held)
 
     may : (does : Work) → under.work ≡ does → IsWorkFor call does → MayGoOn core call does
     may (work.Put run) same for =
-        let its = held (λ sync. subst IsSync same sync) in
-        putting its.0 its.1 (subst (λ (d : Work). IsWorkOf d its.0) same its.2)
-      where
-        putting : (its : HoldingCall) → Contains going.calls its → IsWorkOf (work.Put run) its
-            → MayGoOn core call (work.Put run)
-        putting (Putting other content) listed is_its = (
-          subst (λ (r : PutRun). IsPutOf core r) (sym is_its) (going.are.each (Putting other content) listed),
-          subst (λ (r : PutRun). IsUnderWay core.pool.blocks r.range) (sym is_its)
-              (going.are.under.each other.range (range_listed going.calls other content listed)),
+        let listed = among (work.Put run) (Putting run []) same (first_listed (Putting run []) []) in (
+          (going.are bytes).each (Putting run []) listed,
+          (going.are bytes).under.each run.range (range_listed (calls_under_way bytes clients) run [] listed),
           for.2,
         )
-        putting (Reading other content) listed is_its = absurd is_its
-    may (work.Read run) same for =
-        let its = held (λ sync. subst IsSync same sync) in
-        reading its.0 its.1 (subst (λ (d : Work). IsWorkOf d its.0) same its.2)
-      where
-        reading : (its : HoldingCall) → Contains going.calls its → IsWorkOf (work.Read run) its
-            → MayGoOn core call (work.Read run)
-        reading (Putting other content) listed is_its = absurd is_its
-        reading (Reading other content) listed is_its = subst (λ (r : GetRun). IsReadKind r.kind × IsGetOf core r)
-            (sym is_its) (going.are.each (Reading other content) listed)
+    may (work.Read run) same for = (going.are bytes).each (Reading run [])
+        (among (work.Read run) (Reading run []) same (first_listed (Reading run []) []))
     may (work.Sync run) same for = (going.syncs index client under run is same).0
 
 -- ---- after a turn
@@ -136,7 +129,8 @@ pub takes_turn : (script : Script) (place actor : ℕ) (before after : Station) 
     → TakesTurn script actor before after clients (slice_set clients place after.client)
 takes_turn script place actor before after clients schedule was same low is lawful turned =
     let changes = changes_at clients place actor after.client same low in
-    let numbers = λ numbered. turn_numbers script actor before after clients schedule.going was is numbered turned in record {
+    let numbers : IsNumbered before.items before.state.core → IsNumbered after.items after.state.core = λ numbered.
+    turn_numbers script actor before after clients schedule.going was is numbered turned in record {
       schedule = schedule;
       was = was;
       changes = changes;

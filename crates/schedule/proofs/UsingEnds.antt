@@ -1,5 +1,5 @@
 -- What the later turns of a call leave of the runs of sectors that were taken, and of the pool's group.
-use Rattle.std.proofs.Common.{◌≡◌, ◌⊎◌, inl, inr, ⊎_elim, ℕ, ◌≤◌, List, refl, sym, ◌∙◌, ap, subst, arith}
+use Rattle.std.proofs.Common.{◌≡◌, ◌⊎◌, inl, inr, ⊎_elim, ℕ, ◌+◌, ◌≤◌, List, [], ◌∷◌, ◌++◌, Option, refl, sym, ◌∙◌, ap, subst, arith}
 use Rattle.std.specs.Prelude.{Contains, nat_lt, ⊤}
 use Rattle.std.proofs.lemmas.Bool.{cases_lt}
 use Rattle.range_locks.specs.declared.hold.Hold.{Hold}
@@ -28,8 +28,11 @@ use Rattle.core_turns.specs.Putting.{EndsPut, GivesUpTurn, IsStoppedPut, WritesT
 use Rattle.core_turns.specs.Committing.{AnswersGroup, IsCommitOf, StepsCommit}
 use Rattle.schedule.specs.declared.client.Work.{Work}
 use Rattle.schedule.specs.declared.client.Work.TheVariants as work
-use Rattle.schedule.specs.Turned.{EndsPutting, EndsReading, GoesOnBy}
+use Rattle.schedule.specs.Turned.{EndsPutting, EndsReading, GoesOnBy, listed_for}
 use Rattle.schedule.proofs.UsingTurns.{UsesNoMore, given_up, one_less, same_core, same_parts, stored}
+use Rattle.core_state.specs.declared.item.Item.{Item}
+use Rattle.core_state.specs.declared.item.Item.TheVariants.{Call as CallItem}
+use Rattle.core_state.specs.declared.item.Entry.{Entry}
 
 -- A turn goes on with no more runs; the group is this one then.
 pub record GoesWith (old new : Core) (group : ℕ) : Type 0 where
@@ -57,7 +60,7 @@ EndsWith old new given = (IsPlainEnd given × GoesWith old new old.pool.uber.gro
     × (number ≡ old.pool.uber.group + 1))
 
 -- An end that is plain lists its entry alone.
-plain_listed : (core : Core) (items : List Item) (at : ℕ) (entry : Entry) (given : Answer) → IsPlainEnd given
+pub plain_listed : (core : Core) (items : List Item) (at : ℕ) (entry : Entry) (given : Answer) → IsPlainEnd given
     → listed_for core items at entry given ≡ items ++ CallItem entry ∷ []
 plain_listed core items at entry (answer.Synced number) plain = absurd plain
 plain_listed core items at entry other plain = refl

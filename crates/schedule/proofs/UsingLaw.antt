@@ -26,7 +26,7 @@ use Rattle.core_turns.specs.declared.turn.Turn.TheVariants.{More, Busy, Done}
 use Rattle.core_turns.specs.Core.{Core, IsCore}
 use Rattle.core_turns.specs.Committing.{IsCommitOf}
 use Rattle.core_turns.specs.UnderWay.{TurnGoesOn}
-use Rattle.journal_law.specs.NoSpace.{length_put, FindsNoSpace}
+use Rattle.journal_law.specs.NoSpace.{length_put, FindsNoSpace, NoSpaceIsCaused}
 use Rattle.journal_law.proofs.GrownGroups.{latest_grown_call, latest_grown_group}
 use Rattle.journal_law.proofs.NoSpace.{no_space_call, no_space_group}
 use Rattle.schedule.specs.declared.client.Client.{Client}
@@ -38,7 +38,8 @@ use Rattle.schedule.specs.Turned.{AnswersAtOnce, Station, Turned, Nothing, Began
 use Rattle.schedule.specs.Using.{AreLeft, AreRunsOf, AreUsed, HasUsedRuns, IsOpenSince, sizes_of}
 use Rattle.schedule.proofs.Using.{full_by_runs, left_next, left_same, most_next, one_width}
 use Rattle.schedule.proofs.UsingTurns.{BeginsWith, FitsPut, answers_with, none_fits, runs_still, same_core, waits_with, works_begin}
-use Rattle.schedule.proofs.UsingEnds.{GoesWith, IsPlainEnd, works_end, works_go}
+use Rattle.schedule.proofs.UsingEnds.{GoesWith, IsPlainEnd, works_end, works_go, plain_listed}
+use Rattle.schedule.specs.Numbered.{IsNumbered}
 
 -- Only a put tells of no space in its first turn.
 first_none : (old new : Core) (actor : ℕ) (call : ScriptCall) (asked : Kind) (id : Option ℕ) (size : ℕ)

@@ -27,6 +27,7 @@ use Rattle.schedule.specs.Replaying.{blank_clients}
 use Rattle.schedule.specs.Using.{AreAtMost, HasUsedRuns, sizes_left, sizes_of}
 use Rattle.schedule.proofs.Opened.{blank_is, resting}
 use Rattle.schedule.proofs.Using.{sizes_split}
+use Rattle.schedule.proofs.Numbered.{first_numbered}
 
 -- The sizes of an index by the lengths of its blocks.
 index_sizes : (uber : Uber) (entries : List IndexEntry)

@@ -1,5 +1,5 @@
 -- A run of turns from the opening of its pool to its end.
-use Rattle.std.proofs.Common.{◌≡◌, inl, inr, ⊎_elim, ℕ, ◌≤◌, List, [], ◌∷◌, ◌++◌, Bool, true, false, refl, sym, ◌∙◌, ap, arith, length, subst, ◌+◌}
+use Rattle.std.proofs.Common.{◌≡◌, inl, inr, ⊎_elim, ℕ, ◌≤◌, List, [], ◌∷◌, ◌++◌, Bool, true, false, refl, sym, ◌∙◌, ap, arith, length, subst, ◌+◌, ◌<◌}
 use Rattle.std.specs.Prelude.{Contains, All}
 use Rattle.bank_trait.specs.Disk.{Image, Disk, Later, Lawful}
 use Rattle.bank_trait.specs.Regions.{TouchesOnly}
@@ -135,7 +135,7 @@ module _ (script : Script) (old mid : Disk) (pool : Pool) (silent : ℕ) (items 
     at_end : (kept : KeepsLast setting (handed_by script) begins.opened.chosen.map items final.disk)
         × ((group : Kept) → Contains (kept.last ∷ kept.begun) group → Contains run_groups group)
     at_end = recorded_keeps runs.recorded
-        (groups_know setting runs.last runs.begun runs.calls runs.commit final runs.stands.groups)
+        (groups_know setting runs.last runs.begun (calls_under_way runs.contents clients) runs.commit final runs.stands.groups)
 
     -- The journal begins with the group that renews the chosen one.
     begins_after : BeginsAfter begins.opened.chosen items

@@ -1,5 +1,5 @@
 -- What stands between two turns of a script's clients.
-use Rattle.std.specs.Prelude.{◌≡◌, ◌⊎◌, ℕ, ◌-◌, ◌<◌, ◌≤◌, List, ◌∷◌, [], length, Option, Some, None, slice_get, Contains, ⊤}
+use Rattle.std.specs.Prelude.{◌≡◌, ◌⊎◌, ℕ, suc, ◌-◌, ◌<◌, ◌≤◌, List, ◌∷◌, [], ◌++◌, length, Option, Some, None, slice_get, Contains, ⊤}
 use Rattle.core_state.specs.declared.answer.Kind.TheVariants as kind
 use Rattle.core_state.specs.declared.item.Entry.{Entry}
 use Rattle.core_state.specs.declared.item.Group.{Group as GroupItem}
@@ -15,7 +15,7 @@ use Rattle.client_script.specs.Script.{Script, calls_of}
 use Rattle.core_turns.specs.Core.{Core, CoreState}
 use Rattle.core_turns.specs.Getting.{HasTooManyOut}
 use Rattle.core_turns.specs.Committing.{IsCommitOf}
-use Rattle.core_turns.specs.UnderWay.{HoldingCall, Putting, Reading, AreCallsOf, Stands, hold_of_call}
+use Rattle.core_turns.specs.UnderWay.{HoldingCall, Putting, Reading, AreCallsOf, Stands}
 use Rattle.schedule.specs.declared.client.Client.{Client}
 use Rattle.schedule.specs.declared.client.UnderWay.{UnderWay}
 use Rattle.schedule.specs.declared.client.Work.{Work}
@@ -30,25 +30,32 @@ pub record IsGoing (clients : List Client) (index : ℕ) (client : Client) (unde
   pub there : slice_get clients index ≡ Some client
   pub under_way : client.under_way ≡ Some under
 
--- The work is that of this call, one that holds sectors.
-abbrev pub IsWorkOf : Work → HoldingCall → Type 0
-IsWorkOf (work.Put run) (Putting other content) = run ≡ other
-IsWorkOf (work.Read run) (Reading other content) = run ≡ other
-IsWorkOf other call = ⊥
+-- the call of a work that holds sectors, if it is one, with these bytes of its block
+abbrev pub held_by : List ℕ → Work → List HoldingCall
+held_by content (work.Put run) = Putting run content ∷ []
+held_by content (work.Read run) = Reading run content ∷ []
+held_by content (work.Sync run) = []
+
+abbrev pub held_under : List ℕ → Option UnderWay → List HoldingCall
+held_under content None = []
+held_under content (Some under) = held_by content under.work
+
+-- the calls under way that hold sectors, with the bytes of each client's
+abbrev pub calls_under_way : (ℕ → List ℕ) → List Client → List HoldingCall
+calls_under_way contents [] = []
+calls_under_way contents (client ∷ clients) =
+    held_under (contents 0) client.under_way ++ calls_under_way (λ index. contents (suc index)) clients
+
+-- The hold of a work is that of this client.
+abbrev pub IsHoldOf : ℕ → Work → Type 0
+IsHoldOf index (work.Put run) = run.hold.actor ≡ index
+IsHoldOf index (work.Read run) = run.hold.actor ≡ index
+IsHoldOf index (work.Sync run) = ⊤
 
 -- the work that holds no sectors
 abbrev pub IsSync : Work → Type 0
 IsSync (work.Sync run) = ⊤
 IsSync other = ⊥
-
--- The calls under way that hold sectors are the clients' works: each is that of the client who has its hold, and
--- each client's is one of them.
-pub record AreTheirs (clients : List Client) (calls : List HoldingCall) : Type 0 where
-  pub of : (call : HoldingCall) → Contains calls call → (client : Client) × (under : UnderWay)
-      × IsGoing clients (hold_of_call call).actor client under × IsWorkOf under.work call
-  pub every : (index : ℕ) (client : Client) (under : UnderWay) → IsGoing clients index client under
-      → (IsSync under.work → ⊥)
-      → (call : HoldingCall) × Contains calls call × IsWorkOf under.work call × ((hold_of_call call).actor ≡ index)
 
 -- The work is what a call of the script asks for.
 abbrev pub IsWorkFor : ScriptCall → Work → Type 0
@@ -60,9 +67,9 @@ IsWorkFor call (work.Sync run) = (call.kind ≡ kind.Sync) × (call.id ≡ None)
 -- The clients' calls under way are calls of this core, whatever their blocks' bytes, and are what the script asks
 -- for. At most one is a sync, the core's commit.
 pub record AreGoing (script : Script) (core : Core) (clients : List Client) : Type 0 where
-  pub calls : List HoldingCall
-  pub are : AreCallsOf core calls
-  pub theirs : AreTheirs clients calls
+  pub are : (contents : ℕ → List ℕ) → AreCallsOf core (calls_under_way contents clients)
+  pub holds : (index : ℕ) (client : Client) (under : UnderWay) → IsGoing clients index client under
+      → IsHoldOf index under.work
   pub asked : (index : ℕ) (client : Client) (under : UnderWay) → IsGoing clients index client under
       → (call : ScriptCall) × (slice_get (calls_of script index) (client.begun - 1) ≡ Some call)
       × IsWorkFor call under.work
@@ -89,20 +96,20 @@ IsSyncOf world items item begun at (work.Sync run) =
 IsSyncOf world items item begun at other = ⊤
 
 -- A put has the bytes that the script hands it, a read the block that its id had when the read began.
-abbrev pub HasContent : World → List Item → ScriptCall → ℕ → HoldingCall → Type 0
-HasContent world items call at (Putting run content) = content ≡ fill_bytes call.fill
-HasContent world items call at (Reading run content) =
+abbrev pub HasContent : World → List Item → ScriptCall → ℕ → List ℕ → Work → Type 0
+HasContent world items call at content (work.Put run) = content ≡ fill_bytes call.fill
+HasContent world items call at content (work.Read run) =
     map_after world.handed world.opening items at run.entry.id ≡ Some content
+HasContent world items call at content (work.Sync run) = ⊤
 
 -- A client's call under way began after some items, those of its own calls before it.
 pub record IsClient (world : World) (script : Script) (items : List Item) (item : GroupItem) (begun : List Kept)
-    (calls : List HoldingCall) (index : ℕ) (client : Client) (under : UnderWay) : Type 0 where
+    (bytes : List ℕ) (index : ℕ) (client : Client) (under : UnderWay) : Type 0 where
   pub at : (1 ≤ under.at) × (under.at ≤ length items)
   pub after : (place : ℕ) (entry : Entry) → CallAt items place entry → entry.caller ≡ index → place < under.at
   pub sync : IsSyncOf world items item begun under.at under.work
-  pub content : (call : ScriptCall) (held : HoldingCall)
-      → slice_get (calls_of script index) (client.begun - 1) ≡ Some call → Contains calls held
-      → (hold_of_call held).actor ≡ index → HasContent world items call under.at held
+  pub content : (call : ScriptCall) → slice_get (calls_of script index) (client.begun - 1) ≡ Some call
+      → HasContent world items call under.at bytes under.work
 
 -- After these items the journal is right, the core stands with the clients' calls under way and holds the
 -- journal's map, and each image since the bank was the first one keeps groups of the run in a row, none older than
@@ -111,13 +118,13 @@ pub record Runs (world : World) (script : Script) (past : Past) (state : CoreSta
     (clients : List Client) : Type 0 where
   pub last : Kept
   pub begun : List Kept
-  pub calls : List HoldingCall
+  pub contents : ℕ → List ℕ
   pub commit : Option CommitRun
   pub item : GroupItem
   pub latest : IsGroupBefore items (length items) item
   pub recorded : Recorded world past items last begun state.core.pool.uber state.disk
-  pub stands : Stands world.setting last begun (map_of world.handed world.opening items) calls commit state
-  pub theirs : AreTheirs clients calls
+  pub stands : Stands world.setting last begun (map_of world.handed world.opening items)
+      (calls_under_way contents clients) commit state
   pub sync : IsTheirs clients commit
   pub each : (index : ℕ) (client : Client) (under : UnderWay) → IsGoing clients index client under
-      → IsClient world script items item begun calls index client under
+      → IsClient world script items item begun (contents index) index client under
