@@ -50,8 +50,7 @@ same 'the calls of a first run' found wanted
 traced 'get 7' >found
 {
   begin
-  echo 'read disk0 64' # the page of the chosen group, and then on which images it stands
-  each read 64
+  each read 64 # the page of the chosen group: of the first image to choose it, then of the others
   group 6
   printf '%s\n' 'read disk0 192' 'read disk1 192'
   echo "answer $(wc -c <text) $(wc -c <text)"

@@ -1,12 +1,15 @@
 // Bytes spelled as two lower-case digits each.
-ghost use Rattle.std.specs.Prelude.{◌≡◌, ◌≢◌, ◌/◌, ◌%◌, ◌<◌, ℕ, List, IfSome, IfNone, IfOk, MatchOption};
-ghost use Rattle.client_script.specs.Lines.{hex_digit};
+ghost use Rattle.std.specs.Prelude.{◌≡◌, ◌≢◌, ◌*◌, ◌/◌, ◌%◌, ◌<◌, ◌≤◌, ℕ, List, length, take, IfSome, IfNone, IfOk, MatchOption};
+ghost use Rattle.client_script.specs.Lines.{hex_digit, hex_text};
 ghost use Rattle.client_script.specs.Words.{IsHex};
 
 use std::alloc::{AllocError, Global};
 
 /// Most bytes of a put.
 const MOST_BYTES: usize = 65_536;
+
+/// Most bytes that are spelled at once.
+pub const SPELLED: usize = 256;
 
 /// The bytes that a text spells: one at least, and not too many.
 pub fn hex_bytes(alloc: Global, text: &[u8]) -> Result<Option<Vec<u8>>, AllocError>
@@ -45,5 +48,27 @@ fn hex_value(digit: u8) -> Option<u8>
         b'0'..=b'9' => Some(digit - b'0'),
         b'a'..=b'f' => Some(digit - b'a' + 10),
         _ => None,
+    }
+}
+
+/// Spells bytes at the front of a place that has room for the digits of `SPELLED` bytes.
+pub fn spell(bytes: &[u8], digits: &mut [u8; 512])
+    requires { length bytes.now ≤ SPELLED }
+    ensures { take (2 * length bytes.now) digits.new ≡ hex_text bytes.now }
+{
+    for (place, byte) in bytes.iter().enumerate() {
+        digits[2 * place] = digit(*byte / 16);
+        digits[2 * place + 1] = digit(*byte % 16);
+    }
+}
+
+fn digit(value: u8) -> u8
+    requires { value < 16 }
+    ensures { result ≡ hex_digit value }
+{
+    if value < 10 {
+        b'0' + value
+    } else {
+        b'a' - 10 + value
     }
 }

@@ -1,10 +1,11 @@
 // Short pieces of text, gathered in front of a sink.
 ghost use Rattle.std.specs.Prelude.{◌≡◌, ◌⊎◌, ◌+◌, ◌<◌, ◌≤◌, ℕ, List, [], Option, Bool, true, false, length, take, decimal, OnOk, OnErr};
 ghost use Rattle.bank_trait.specs.Causes.{FaultCounted};
-ghost use Rattle.client_script.specs.Lines.{hex_digit as digit_of, hex_text};
+ghost use Rattle.client_script.specs.Lines.{hex_text};
 ghost use Rattle.client_script.specs.Texts.{devices_text};
 ghost use Rattle.client_script.specs.Written.{IsAdded, IsPartAdded, WriterHasText, GainsText, FailsOnlyWithFault};
 
+use crate::hex::{SPELLED, spell};
 use crate::output::write_all;
 use bank_trait::{Failed, Sink};
 use itoa::Buffer;
@@ -72,8 +73,11 @@ impl TextWriter {
             (hex_text bytes.now) }
         ensures cause { FailsOnlyWithFault (K.faults out.old) (K.faults out.new) self.old self.new }
     {
-        for byte in bytes {
-            self.text(out, &[hex_digit(*byte / 16), hex_digit(*byte % 16)]);
+        let mut done = 0;
+        while done < bytes.len() {
+            let end = bytes.len().min(done + SPELLED);
+            self.piece(out, &bytes[done..end]);
+            done = end;
         }
     }
 
@@ -103,6 +107,18 @@ impl TextWriter {
     {
         self.flush(out);
         if self.failed { Err(Failed) } else { Ok(()) }
+    }
+
+    // Bytes that are spelled at once.
+    fn piece<K: Sink>(&mut self, out: &mut K, bytes: &[u8])
+        requires { length bytes.now ≤ SPELLED }
+        ensures gains { GainsText (K.held out.old) (K.held out.new) self.old self.new
+            (hex_text bytes.now) }
+        ensures cause { FailsOnlyWithFault (K.faults out.old) (K.faults out.new) self.old self.new }
+    {
+        let mut digits = [0; 2 * SPELLED];
+        spell(bytes, &mut digits);
+        self.text(out, &digits[..2 * bytes.len()]);
     }
 
     // Lets a text wait, for which there is room.
@@ -137,17 +153,6 @@ impl TextWriter {
         } else {
             self.failed = hand_over(out, text, self.failed);
         }
-    }
-}
-
-fn hex_digit(value: u8) -> u8
-    requires { value < 16 }
-    ensures { result ≡ digit_of value }
-{
-    if value < 10 {
-        b'0' + value
-    } else {
-        b'a' - 10 + value
     }
 }
 

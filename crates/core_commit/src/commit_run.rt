@@ -1,6 +1,6 @@
 // A commit that makes one device call a step, so that other calls may come between.
 ghost use Rattle.std.specs.Prelude.{◌≡◌, ◌^◌, ◌<◌, ◌≤◌, Some, IsTrue, length, slice_get};
-ghost use Rattle.block_record.specs.Page.{IsIndex};
+ghost use Rattle.block_record.specs.Page.{index_page, IsIndex};
 ghost use Rattle.uberblock_ring.specs.Devices.{count_of};
 ghost use Rattle.uberblock_ring.specs.Valid.{IsRightUber};
 ghost use Rattle.commit_job.specs.declared.call.CommitCall.{CommitCall as CallOf};
@@ -32,16 +32,20 @@ pub enum CommitStep {
     Ended,
 }
 
-/// A commit under way: the group that is made, its index, and the calls that are still to be made.
+/// A commit under way: the group that is made, its index with the page that each device is given, and
+/// the calls that are still to be made.
 #[derive(Drop)]
 pub struct CommitRun {
     uber: Uber,
     entries: Vec<IndexEntry>,
+    page: Vec<u8>,
     calls: Commit,
     stage: Stage,
 }
 
 impl Model for CommitRun {
+    ghost use Rattle.std.specs.Prelude.{◌≡◌};
+    ghost use Rattle.block_record.specs.Page.{index_page};
     ghost use Rattle.core_commit.specs.CommitTurns.{CommitRun as RunOf, IsCommitRun};
 
     ghost Value = { RunOf };
@@ -58,7 +62,7 @@ impl Model for CommitRun {
       entries = run.entries.items;
       calls = run.calls;
       stage = run.stage;
-    }) };
+    }) × (run.page.items ≡ index_page run.entries.items) };
 }
 
 /// Whether the first half of a commit is done where this call comes next.
@@ -73,10 +77,11 @@ fn is_laid(next: Option<CommitCall>) -> bool
 }
 
 impl CommitRun {
-    /// The commit of a group with its index; no call is made yet.
-    pub fn new(uber: Uber, entries: Vec<IndexEntry>) -> CommitRun
+    /// The commit of a group with its index and the index page; no call is made yet.
+    pub fn new(uber: Uber, entries: Vec<IndexEntry>, page: Vec<u8>) -> CommitRun
         requires right { IsRightUber uber }
         requires index { IsIndex entries.items }
+        requires page { page.items ≡ index_page entries.items }
         requires counted { length entries.items ≡ uber.count }
         ensures value { result ≡ record {
           uber = uber;
@@ -89,6 +94,7 @@ impl CommitRun {
         CommitRun {
             uber,
             entries,
+            page,
             calls,
             stage: Stage::Lays,
         }
@@ -144,7 +150,7 @@ impl CommitRun {
             return CommitStep::Ended;
         };
         let _ = self.calls.advance(*out);
-        make(bank, &self.uber, &self.entries, call, out);
+        make(bank, &self.uber, &self.entries, Some(&self.page), call, out);
         CommitStep::Called
     }
 }

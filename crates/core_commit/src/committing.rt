@@ -1,12 +1,12 @@
 // The device calls of a commit, and copies of a group.
-ghost use Rattle.std.specs.Prelude.{◌≡◌, ◌↔◌, ◌+◌, ◌^◌, ◌<◌, ◌≤◌, [], All, Some, None, false, length, slice_get, IsTrue, OnOk, OnErr};
-ghost use Rattle.block_record.specs.Page.{IsIndex};
+ghost use Rattle.std.specs.Prelude.{◌≡◌, ◌↔◌, ◌+◌, ◌*◌, ◌^◌, ◌<◌, ◌≤◌, [], All, Some, None, false, length, take, drop, slice_get, IfSome, IsTrue, OnOk, OnErr};
+ghost use Rattle.block_record.specs.Page.{index_page, page_sectors, IsIndex};
 ghost use Rattle.uberblock_ring.specs.Devices.{has_device, count_of};
 ghost use Rattle.uberblock_ring.specs.Valid.{IsRightUber};
 ghost use Rattle.commit_job.specs.declared.call.CommitCall.{CommitCall as CallOf};
 ghost use Rattle.commit_job.specs.Stages.{device_of, calls_left};
 ghost use Rattle.core_commit.specs.Copies.{CopyKeeps};
-ghost use Rattle.core_commit.specs.Ran.{HasMade, MadeOne, Ran, IsCallInPool, FitsBank, IsSigning};
+ghost use Rattle.core_commit.specs.Ran.{HasMade, MadeOne, Ran, IsCallInPool, FitsBank, IsSigning, index_part};
 ghost use Rattle.core_state.specs.Committing.{point_of};
 ghost use Rattle.core_commit.specs.Spared.{SparesData, HaveGoneOut, TouchesGroup, StopsInTime};
 ghost use Rattle.core_commit.specs.Writing.{IsCopyOf, WritesOnly};
@@ -16,16 +16,43 @@ use block_record::{IndexEntry, index_sector};
 use commit_job::{Commit, CommitCall};
 use uberblock_ring::{DeviceSet, Uber, area_sector, slot};
 
-/// Makes one call.
+/// A sector of the index page, from the page where that stands encoded.
+fn page_sector(entries: &[IndexEntry], page: Option<&[u8]>, part: u64) -> [u8; 512]
+    requires index { IsIndex entries.now }
+    requires few { length entries.now ≤ 512 }
+    requires part { part < page_sectors (length entries.now) }
+    requires page { IfSome page (λ bytes. bytes.now ≡ index_page entries.now) }
+    ensures value { result ≡ index_part entries.now part }
+{
+    match page {
+        Some(bytes) => cut_sector(bytes, part),
+        None => index_sector(entries, part),
+    }
+}
+
+/// One sector of whole ones, counted from 0.
+fn cut_sector(bytes: &[u8], part: u64) -> [u8; 512]
+    requires inside { 512 * part + 512 ≤ length bytes.now }
+    ensures value { result ≡ take 512 (drop (512 * part) bytes.now) }
+{
+    let start = 512 * part as usize;
+    let mut sector = [0; 512];
+    sector.copy_from_slice(&bytes[start..start + 512]);
+    sector
+}
+
+/// Makes one call. `page` is the index page, where it stands encoded.
 fn call_bank<B: Bank>(
     bank: &mut B,
     uber: &Uber,
     entries: &[IndexEntry],
+    page: Option<&[u8]>,
     call: CommitCall,
 ) -> Result<(), Failed>
     requires right { IsRightUber uber.now }
     requires index { IsIndex entries.now }
     requires counted { length entries.now ≡ uber.now.count }
+    requires page { IfSome page (λ bytes. bytes.now ≡ index_page entries.now) }
     requires sectors { 192 ≤ (B.disk bank.old).sectors }
     requires device { device_of call < (B.disk bank.old).devices }
     requires inside { IsCallInPool uber.now call }
@@ -36,7 +63,7 @@ fn call_bank<B: Bank>(
             bank.write(
                 device,
                 area_sector(uber.area()) + part,
-                &index_sector(entries, part),
+                &page_sector(entries, page, part),
             )
         }
         CommitCall::UberWrite { device } => {
@@ -47,16 +74,19 @@ fn call_bank<B: Bank>(
     }
 }
 
-/// Makes one call, and puts its device out where it fails.
+/// Makes one call, and puts its device out where it fails. `page` is the index page, where it stands
+/// encoded.
 pub(crate) fn make<B: Bank>(
     bank: &mut B,
     uber: &Uber,
     entries: &[IndexEntry],
+    page: Option<&[u8]>,
     call: CommitCall,
     out: &mut DeviceSet,
 )
     requires right { IsRightUber uber.now }
     requires index { IsIndex entries.now }
+    requires page { IfSome page (λ bytes. bytes.now ≡ index_page entries.now) }
     requires fits { FitsBank uber.now entries.now out.old (B.disk bank.old) }
     requires inside { IsCallInPool uber.now call }
     requires in_use { has_device out.old (device_of call) ≡ false }
@@ -67,7 +97,7 @@ pub(crate) fn make<B: Bank>(
     ensures fits { FitsBank uber.now entries.now out.new (B.disk bank.new) }
     ensures below { out.new < 2 ^ uber.now.reflow.to }
 {
-    if call_bank(bank, uber, entries, call).is_err() {
+    if call_bank(bank, uber, entries, page, call).is_err() {
         out.insert(call.device());
     }
 }
@@ -119,7 +149,7 @@ fn make_all<B: Bank>(
 {
     while let Some(call) = next_call(calls, *out, uber.parity()) {
         let _ = calls.advance(*out);
-        make(bank, uber, entries, call, out);
+        make(bank, uber, entries, None, call, out);
     }
 }
 

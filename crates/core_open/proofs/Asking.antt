@@ -1,7 +1,6 @@
 -- Asking the devices for the index of an uberblock.
 use Rattle.std.proofs.Common.{◌≡◌, ⊎_elim, ℕ, ◌+◌, ◌<◌, ◌≤◌, List, None, Some, true, false, sym, ◌∙◌, subst, arith}
-use Rattle.std.specs.Prelude.{min, Vec}
-use Rattle.std.specs.declared.alloc.Global.{Global}
+use Rattle.std.specs.Prelude.{min}
 use Rattle.std.proofs.lemmas.Bool.{cases_lt, false≢true}
 use Rattle.bank_trait.specs.Disk.{Image, Disk, Unchanged}
 use Rattle.block_record.specs.declared.entry.IndexEntry.{IndexEntry}
@@ -10,6 +9,7 @@ use Rattle.uberblock_ring.specs.Devices.{has_device}
 use Rattle.uberblock_ring.specs.Uberblock.{Uber}
 use Rattle.core_state.specs.Index.{IsFitting}
 use Rattle.core_state.specs.Shown.{Shape, Gives}
+use Rattle.core_open.specs.declared.candidates.GivenIndex.{GivenIndex}
 use Rattle.core_open.specs.Candidates.{IsGivenIndex, IsIndexChoice}
 use Rattle.core_open.specs.Holds.{HoldsImage, shape_of}
 use Rattle.core_open.proofs.Unchanged.{holds_then, shape_then, unchanged_none, unchanged_then}
@@ -75,15 +75,16 @@ module _ (silent device : ℕ) (uber : Uber) (old mid : Disk) (so_far : AreAsked
   }
 
   -- or this one.
-  pub index_given : (entries : Vec IndexEntry Global) → has_device silent device ≡ false → IsFitting uber entries.items
-      → ((image : Image) → HoldsImage mid image → IsGivenIndex (shape_of mid) image uber device (Some entries))
+  pub index_given : (index : GivenIndex) → has_device silent device ≡ false → IsFitting uber index.entries.items
+      → ((image : Image) → HoldsImage mid image
+      → IsGivenIndex (shape_of mid) image uber device (Some index.entries))
       → (image : Image) → HoldsImage old image
-      → IsIndexChoice (shape_of old) silent image uber (Some entries)
-  index_given entries works fitting gave image holds = record {
+      → IsIndexChoice (shape_of old) silent image uber (Some index)
+  index_given index works fitting gave image holds = record {
     room = so_far.room;
     giver = device;
     giver_reads = works;
-    gives = subst (λ (shape : Shape). Gives shape image uber entries.items device) (shape_then so_far.unchanged)
+    gives = subst (λ (shape : Shape). Gives shape image uber index.entries.items device) (shape_then so_far.unchanged)
         (gave image (holds_then so_far.unchanged holds));
     fitting = fitting;
   }

@@ -18,8 +18,8 @@ first_kept P [] copy there some each first is = absurd (cc)
 first_kept P (one ∷ copies) copy there some each first is = each first is
 
 -- or there was none.
-pub first_more : (P : UberCopy → List IndexEntry → Type 0) (copies : List UberCopy) (copy : UberCopy)
-    (before fresh after : List IndexEntry)
+pub first_more : {E : Type 0} (P : UberCopy → E → Type 0) (copies : List UberCopy) (copy : UberCopy)
+    (before fresh after : E)
     → ((first : UberCopy) → slice_get copies 0 ≡ Some first → P first before)
     → (copies ≡ [] → after ≡ fresh) → (copies ≢ [] → after ≡ before) → P copy fresh
     → (first : UberCopy) → slice_get (copies ++ copy ∷ []) 0 ≡ Some first

@@ -158,7 +158,7 @@ module _ (disk : Disk) (uber : Uber) (entries : List IndexEntry) (width out lack
           (cases_eq device width)
 
 -- A device outside a set is outside each set within it.
-not_within : (devices others device : ℕ) → IsWithin devices others
+pub not_within : (devices others device : ℕ) → IsWithin devices others
     → has_device others device ≡ false → has_device devices device ≡ false
 not_within devices others device within outside = ⊎_elim
     (λ has. absurd (true≢false (sym (within device has) ∙ outside)))

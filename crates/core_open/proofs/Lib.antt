@@ -5,6 +5,7 @@ pub mod Chosen
 pub mod Considering
 pub mod Failures
 pub mod Gathering
+pub mod Givers
 pub mod Lacking
 pub mod Leading
 pub mod Newest

@@ -1,5 +1,5 @@
 -- Runs of reads, which change nothing but counts of faults.
-use Rattle.std.proofs.Common.{◌≡◌, ℕ, ◌≤◌, List, [], ◌∷◌, ◌++◌, refl, ◌∙◌, ap, subst, arith}
+use Rattle.std.proofs.Common.{◌≡◌, ℕ, ◌≤◌, List, [], ◌∷◌, ◌++◌, refl, sym, ◌∙◌, ap, subst, arith}
 use Rattle.bank_trait.specs.Causes.{FaultCounted}
 use Rattle.bank_trait.specs.Disk.{Image, Disk, Unchanged}
 use Rattle.bank_trait.proofs.Moments.{later_refl, later_trans}
@@ -38,6 +38,15 @@ pub holds_then : {old new : Disk} {image : Image} → Unchanged old new → Hold
     → HoldsImage new image
 holds_then same holds = record {
   each = λ device device_sector low below. same.reads device device_sector
+      ∙ holds.each device device_sector (omega (arith, low, same.goes_on.later.devices))
+      (omega (arith, below, same.goes_on.later.sectors));
+}
+
+-- It held what it holds after some reads.
+pub held_before : {old new : Disk} {image : Image} → Unchanged old new → HoldsImage new image
+    → HoldsImage old image
+held_before same holds = record {
+  each = λ device device_sector low below. sym (same.reads device device_sector)
       ∙ holds.each device device_sector (omega (arith, low, same.goes_on.later.devices))
       (omega (arith, below, same.goes_on.later.sectors));
 }

@@ -2,7 +2,7 @@
 use Rattle.std.specs.Prelude.{◌≡◌, ◌⊎◌, ℕ, ◌+◌, ◌<◌, ◌≤◌, List, [], ◌∷◌, ◌++◌, Option, Some, None, length, All, Contains, slice_get, false}
 use Rattle.std.specs.declared.alloc.Global.{Global}
 use Rattle.std.specs.Prelude.{Vec}
-use Rattle.bank_trait.specs.Disk.{Image}
+use Rattle.bank_trait.specs.Disk.{Image, Disk}
 use Rattle.block_record.specs.declared.entry.IndexEntry.{IndexEntry}
 use Rattle.block_record.specs.Page.{IsIndex}
 use Rattle.uberblock_ring.specs.Devices.{has_device}
@@ -10,8 +10,10 @@ use Rattle.uberblock_ring.specs.Uberblock.{Uber}
 use Rattle.core_state.specs.Index.{IsFitting}
 use Rattle.core_state.specs.Shown.{Shape, Gives, IsCandidate}
 use Rattle.core_state.specs.Choosing.{IsChosenPool, IsNotPool}
+use Rattle.core_open.specs.declared.candidates.GivenIndex.{GivenIndex}
 use Rattle.core_open.specs.declared.uber_copy.UberCopy.{UberCopy}
 use Rattle.core_open.specs.Copies.{AreOfOneGroup}
+use Rattle.core_open.specs.Lacking.{IsFirstGiver}
 
 -- The data rows are on the devices, and one outside the set gives the page, which fits.
 pub record HasIndex (shape : Shape) (silent : ℕ) (image : Image) (uber : Uber)
@@ -23,9 +25,9 @@ pub record HasIndex (shape : Shape) (silent : ℕ) (image : Image) (uber : Uber)
   pub fitting : IsFitting uber entries
 
 -- The uberblock has this index, or none.
-abbrev pub IsIndexChoice : Shape → ℕ → Image → Uber → Option (Vec IndexEntry Global) → Type 0
-IsIndexChoice shape silent image uber (Some entries) =
-    HasIndex shape silent image uber entries.items
+abbrev pub IsIndexChoice : Shape → ℕ → Image → Uber → Option GivenIndex → Type 0
+IsIndexChoice shape silent image uber (Some index) =
+    HasIndex shape silent image uber index.entries.items
 IsIndexChoice shape silent image uber None =
     (entries : List IndexEntry) → HasIndex shape silent image uber entries → ⊥
 
@@ -50,6 +52,11 @@ FirstFits copies entries =
 abbrev pub FirstHasRoom : ℕ → List UberCopy → Type 0
 FirstHasRoom sectors copies = (first : UberCopy) → slice_get copies 0 ≡ Some first
     → 192 + first.uber.reflow.rows ≤ sectors
+
+-- that this device is the first that gives the page of these entries,
+abbrev pub FirstIsGiven : Disk → ℕ → List UberCopy → List IndexEntry → ℕ → Type 0
+FirstIsGiven disk silent copies entries giver = (first : UberCopy)
+    → slice_get copies 0 ≡ Some first → IsFirstGiver disk silent first.uber entries giver
 
 -- and that it has this index.
 abbrev pub FirstHas : Shape → ℕ → Image → List UberCopy → List IndexEntry → Type 0

@@ -19,6 +19,13 @@ pub record LacksPage (disk : Disk) (uber : Uber) (device : ℕ) (entries : List 
   pub none : (image : Image) → HoldsImage disk image
       → Gives (shape_of disk) image uber entries device → ⊥
 
+-- The device gives the page of these entries; of the pool's before it each that isn't silent lacks it.
+pub record IsFirstGiver (disk : Disk) (silent : ℕ) (uber : Uber) (entries : List IndexEntry)
+    (giver : ℕ) : Type 0 where
+  pub gives : IsGivenPage disk uber giver entries
+  pub before : (device : ℕ) → device < giver → device < uber.reflow.to
+      → has_device silent device ≡ false → LacksPage disk uber device entries
+
 -- The device gives the page of these entries, or it lacks it.
 abbrev pub GivesOrLacks : Disk → Uber → ℕ → List IndexEntry → Bool → Type 0
 GivesOrLacks disk uber device entries true = IsGivenPage disk uber device entries

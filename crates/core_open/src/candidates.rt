@@ -4,9 +4,11 @@ ghost use Rattle.bank_trait.specs.Disk.{Image, Unchanged};
 ghost use Rattle.uberblock_ring.specs.Valid.{AreAlike, IsRightUber};
 ghost use Rattle.core_state.specs.Shown.{read_devices};
 ghost use Rattle.core_open.specs.declared.uber_copy.UberCopy.{UberCopy as CopyOf};
-ghost use Rattle.core_open.specs.Candidates.{FirstFits, FirstHas, FirstHasRoom, IsConsidered, IsGivenIndex, IsIndexChoice, IsIndexFor};
+ghost use Rattle.core_open.specs.Candidates.{FirstFits, FirstHas, FirstHasRoom, FirstIsGiven, IsConsidered, IsGivenIndex, IsIndexChoice, IsIndexFor};
 ghost use Rattle.core_open.specs.Failing.{HasStopped, HasStoppedOn};
 ghost use Rattle.core_open.specs.Holds.{HoldsImage, shape_of};
+ghost use Rattle.core_open.specs.Lacking.{IsFirstGiver};
+ghost use Rattle.core_open.specs.Pages.{IsGivenPage};
 
 use crate::fitting::is_fitting;
 use crate::index_page::{PageFault, read_page};
@@ -19,11 +21,20 @@ use std::alloc::{AllocError, Global};
 use uberblock_ring::{DeviceSet, Uber};
 use width_map::FIRST_DATA_SECTOR;
 
-/// Candidates of one group, by device, and the index of the first.
+/// The index of an uberblock, and the first device that gives its page.
+#[derive(Drop)]
+pub struct GivenIndex {
+    pub device: u32,
+    pub entries: Vec<IndexEntry>,
+}
+
+/// Candidates of one group, by device, and the index of the first with the first device that gives
+/// its page.
 #[derive(Drop)]
 pub struct Candidates {
     pub copies: Vec<UberCopy>,
     pub entries: Vec<IndexEntry>,
+    pub giver: u32,
 }
 
 impl Candidates {
@@ -34,6 +45,7 @@ impl Candidates {
         Candidates {
             copies: Vec::new(alloc),
             entries: Vec::new(alloc),
+            giver: 0,
         }
     }
 
@@ -61,8 +73,12 @@ impl Candidates {
         requires right { IsRightUber copy.now.uber }
         requires first { FirstFits self.old.copies.items self.old.entries.items }
         requires room { FirstHasRoom (B.disk bank.old).sectors self.old.copies.items }
+        requires given { FirstIsGiven (B.disk bank.old) silent
+            self.old.copies.items self.old.entries.items self.old.giver }
         ensures unchanged { Unchanged (B.disk bank.old) (B.disk bank.new) }
         ensures stopped { IfErr result (HasStopped silent (B.disk bank.old) (B.disk bank.new)) }
+        ensures given { OnOk result (FirstIsGiven (B.disk bank.old) silent
+            self.new.copies.items self.new.entries.items self.new.giver) }
         ensures first { OnOk result (FirstFits self.new.copies.items self.new.entries.items) }
         ensures room { OnOk result
             (FirstHasRoom (B.disk bank.old).sectors self.new.copies.items) }
@@ -80,22 +96,25 @@ impl Candidates {
             self.copies.push(*copy)?;
             return Ok(());
         }
-        if let Some(entries) = find_index(alloc, bank, &copy.uber, silent)? {
-            self.add(copy, entries)?;
+        if let Some(index) = find_index(alloc, bank, &copy.uber, silent)? {
+            self.add(copy, index)?;
         }
         Ok(())
     }
 
     /// Adds a copy, and takes its index where it is the first.
-    fn add(&mut self, copy: &UberCopy, entries: Vec<IndexEntry>) -> Result<(), AllocError>
+    fn add(&mut self, copy: &UberCopy, index: GivenIndex) -> Result<(), AllocError>
         ensures copies { OnOk result (
             self.new.copies.items ≡ self.old.copies.items ++ copy.now ∷ []) }
-        ensures first { self.old.copies.items ≡ [] → self.new.entries.items ≡ entries.items }
+        ensures first { self.old.copies.items ≡ [] → self.new.entries.items ≡ index.entries.items }
+        ensures giver { self.old.copies.items ≡ [] → self.new.giver ≡ index.device }
         ensures others { self.old.copies.items ≢ []
             → self.new.entries.items ≡ self.old.entries.items }
+        ensures same { self.old.copies.items ≢ [] → self.new.giver ≡ self.old.giver }
     {
         if self.copies.is_empty() {
-            self.entries = entries;
+            self.entries = index.entries;
+            self.giver = index.device;
         }
         self.copies.push(*copy)?;
         Ok(())
@@ -159,12 +178,14 @@ pub fn find_index<B: Bank>(
     bank: &mut B,
     uber: &Uber,
     silent: DeviceSet,
-) -> Result<Option<Vec<IndexEntry>>, Stopped>
+) -> Result<Option<GivenIndex>, Stopped>
     requires right { IsRightUber uber.now }
     ensures unchanged { Unchanged (B.disk bank.old) (B.disk bank.new) }
     ensures stopped { IfErr result (HasStopped silent (B.disk bank.old) (B.disk bank.new)) }
-    ensures fits { IfOk result (λ found. IfSome found (λ entries.
-        IsIndexFor uber.now entries.items)) }
+    ensures fits { IfOk result (λ found. IfSome found (λ index.
+        IsIndexFor uber.now index.entries.items)) }
+    ensures given { IfOk result (λ found. IfSome found (λ index.
+        IsFirstGiver (B.disk bank.old) silent uber.now index.entries.items index.device)) }
     ensures room { IfOk result (λ found. IfSome found (λ _.
         192 + uber.now.reflow.rows ≤ (B.disk bank.old).sectors)) }
     ensures found { IfOk result (λ found. (image : Image) → HoldsImage (B.disk bank.old) image
@@ -178,7 +199,7 @@ pub fn find_index<B: Bank>(
             continue;
         }
         if let Some(entries) = give_index(alloc, bank, uber, device)? {
-            return Ok(Some(entries));
+            return Ok(Some(GivenIndex { device, entries }));
         }
     }
     Ok(None)
@@ -196,6 +217,8 @@ fn give_index<B: Bank>(
     requires sectors { 192 ≤ (B.disk bank.old).sectors }
     ensures unchanged { Unchanged (B.disk bank.old) (B.disk bank.new) }
     ensures stopped { IfErr result (HasStoppedOn device (B.disk bank.old) (B.disk bank.new)) }
+    ensures given { IfOk result (λ found. IfSome found (λ entries.
+        IsGivenPage (B.disk bank.old) uber.now device entries.items)) }
     ensures fits { IfOk result (λ found. IfSome found (λ entries.
         IsIndexFor uber.now entries.items)) }
     ensures found { IfOk result (λ found. (image : Image) → HoldsImage (B.disk bank.old) image

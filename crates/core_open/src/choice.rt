@@ -3,7 +3,7 @@ ghost use Rattle.std.specs.Prelude.{◌≡◌, ◌↔◌, All, Contains, IfErr, 
 ghost use Rattle.bank_trait.specs.Disk.{Image, Unchanged};
 ghost use Rattle.uberblock_ring.specs.Devices.{has_device};
 ghost use Rattle.core_state.specs.Shown.{read_devices};
-ghost use Rattle.core_open.specs.Candidates.{AreChosen, AreNewest, FirstFits, FirstHasRoom};
+ghost use Rattle.core_open.specs.Candidates.{AreChosen, AreNewest, FirstFits, FirstHasRoom, FirstIsGiven};
 ghost use Rattle.core_open.specs.Copies.{AreByGroup, AreRight, AreShown};
 ghost use Rattle.core_open.specs.Failing.{HasStopped};
 ghost use Rattle.core_open.specs.Holds.{HoldsImage, shape_of};
@@ -31,6 +31,8 @@ pub fn choose<B: Bank>(alloc: Global, bank: &mut B, rings: &Rings) -> Result<Can
         FirstFits candidates.copies.items candidates.entries.items) }
     ensures room { IfOk result (λ candidates.
         FirstHasRoom (B.disk bank.old).sectors candidates.copies.items) }
+    ensures given { IfOk result (λ candidates. FirstIsGiven (B.disk bank.old) rings.now.silent
+        candidates.copies.items candidates.entries.items candidates.giver) }
     ensures chosen { IfOk result (λ candidates. (image : Image)
         → HoldsImage (B.disk bank.old) image
         → AreShown (shape_of (B.disk bank.old)) rings.now.silent image
@@ -63,6 +65,8 @@ fn newest_candidates<B: Bank>(
         FirstFits candidates.copies.items candidates.entries.items) }
     ensures room { IfOk result (λ candidates.
         FirstHasRoom (B.disk bank.old).sectors candidates.copies.items) }
+    ensures given { IfOk result (λ candidates. FirstIsGiven (B.disk bank.old) rings.now.silent
+        candidates.copies.items candidates.entries.items candidates.giver) }
     ensures newest { IfOk result (λ candidates. (image : Image)
         → HoldsImage (B.disk bank.old) image
         → AreShown (shape_of (B.disk bank.old)) rings.now.silent image

@@ -4,11 +4,12 @@ ghost use Rattle.bank_trait.specs.Disk.{Disk, Image, Unchanged};
 ghost use Rattle.uberblock_ring.specs.Devices.{IsWithin};
 ghost use Rattle.uberblock_ring.specs.Valid.{IsRightUber};
 ghost use Rattle.core_state.specs.Shown.{Shape, read_devices};
-ghost use Rattle.core_open.specs.Candidates.{AreChosen, FirstFits, FirstHasRoom, IsIndexFor};
+ghost use Rattle.core_open.specs.Candidates.{AreChosen, FirstFits, FirstHasRoom, FirstIsGiven, IsIndexFor};
 ghost use Rattle.core_open.specs.Copies.{AreByGroup, AreRight, AreShown};
 ghost use Rattle.core_open.specs.Failing.{HaveFailed, HaveFailedSince};
 ghost use Rattle.core_open.specs.Finding.{FitsOpening, IsFindCause, IsFoundIn, IsNothingFound};
 ghost use Rattle.core_open.specs.Holds.{HoldsImage, shape_of};
+ghost use Rattle.core_open.specs.Lacking.{IsFirstGiver};
 
 use crate::OpenWhy;
 use crate::candidates::Candidates;
@@ -30,6 +31,8 @@ pub struct Found {
     pub device: u32,
     pub uber: Uber,
     pub entries: Vec<IndexEntry>,
+    /// The first device that gives the index page.
+    pub giver: u32,
     /// Devices of the pool that are out.
     pub out: DeviceSet,
     /// Devices in use that show no candidate of the chosen group.
@@ -56,6 +59,8 @@ pub fn find<B: Bank>(alloc: Global, bank: &mut B) -> Result<Found, OpenWhy>
     ensures right { IfOk result (λ found. IsRightUber found.uber) }
     ensures index { IfOk result (λ found. IsIndexFor found.uber found.entries.items) }
     ensures fits { IfOk result (FitsOpening (B.disk bank.old)) }
+    ensures given { IfOk result (λ found. IsFirstGiver (B.disk bank.old)
+        found.silent found.uber found.entries.items found.giver) }
     ensures silent { IfOk result (λ found.
         HaveFailed (B.disk bank.old) (B.disk bank.new) found.silent) }
     ensures cause { IfErr result (IsFindCause (B.disk bank.old) (B.disk bank.new)) }
@@ -85,6 +90,8 @@ fn choose_anew<B: Bank>(
         FirstFits candidates.copies.items candidates.entries.items) }
     ensures room { IfOk result (λ candidates.
         FirstHasRoom (B.disk bank.old).sectors candidates.copies.items) }
+    ensures given { IfOk result (λ candidates. FirstIsGiven (B.disk bank.old) rings.new.silent
+        candidates.copies.items candidates.entries.items candidates.giver) }
     ensures chosen { IfOk result (λ candidates. (image : Image)
         → HoldsImage (B.disk bank.old) image
         → AreShown (shape_of (B.disk bank.old)) rings.new.silent image
@@ -117,11 +124,18 @@ fn conclude(devices: u32, rings: &Rings, candidates: Candidates) -> Result<Found
     ensures index { IfOk result (λ found. IsIndexFor found.uber found.entries.items) }
     ensures fits { IfOk result (λ found. (disk : Disk) → disk.devices ≡ devices
         → FirstHasRoom disk.sectors candidates.copies.items → FitsOpening disk found) }
+    ensures given { IfOk result (λ found. (disk : Disk) → FirstIsGiven disk rings.now.silent
+        candidates.copies.items candidates.entries.items candidates.giver
+        → IsFirstGiver disk found.silent found.uber found.entries.items found.giver) }
     ensures silent { IfOk result (λ found. found.silent ≡ rings.now.silent) }
     ensures none { OnErr result (candidates.copies.items ≡ []) }
     ensures cause { IfErr result (IsNothingFound rings.now.silent) }
 {
-    let Candidates { copies, entries } = candidates;
+    let Candidates {
+        copies,
+        entries,
+        giver,
+    } = candidates;
     let Some(first) = copies.first() else {
         return Err(nothing_found(rings.silent));
     };
@@ -133,6 +147,7 @@ fn conclude(devices: u32, rings: &Rings, candidates: Candidates) -> Result<Found
         device: first.device,
         uber,
         entries,
+        giver,
         out,
         lacks_uber,
     })

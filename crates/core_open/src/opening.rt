@@ -14,6 +14,7 @@ ghost use Rattle.core_open.specs.Causes.{AreOutOf, IsOpenCause};
 ghost use Rattle.core_open.specs.Failing.{HaveFailed};
 ghost use Rattle.core_open.specs.Finding.{FitsOpening};
 ghost use Rattle.core_open.specs.Holds.{HoldsImage, shape_of};
+ghost use Rattle.core_open.specs.Lacking.{IsFirstGiver};
 ghost use Rattle.core_open.specs.Opens.{EndsRenewal, HasBank, IsForMemory, IsOpenedWith, IsWithinBelow, LeavesBank, LeavesOthers, OpeningKeeps, RenewsChoice, WritesInOrder};
 ghost use Rattle.core_open.specs.OpensFound.{OpensFound};
 ghost use Rattle.core_open.specs.Regions.{IsOnBelow};
@@ -75,6 +76,8 @@ fn open_found<B: Bank>(alloc: Global, bank: &mut B, found: Found) -> Result<Open
     requires right { IsRightUber found.uber }
     requires index { IsIndexFor found.uber found.entries.items }
     requires fits { FitsOpening (B.disk bank.old) found }
+    requires given { IsFirstGiver (B.disk bank.old) found.silent found.uber
+        found.entries.items found.giver }
     ensures opens { OpensFound found (B.disk bank.old) (B.disk bank.new) result }
 {
     if found.uber.group() > MAX_GROUP - 2 {
@@ -84,7 +87,14 @@ fn open_found<B: Bank>(alloc: Global, bank: &mut B, found: Found) -> Result<Open
         return Err(OpenWhy::TooManyFailed { out: found.out });
     }
     let mut out = found.out;
-    let lack_page = devices_without_page(alloc, bank, &found.uber, &found.entries, &mut out)?;
+    let lack_page = devices_without_page(
+        alloc,
+        bank,
+        &found.uber,
+        &found.entries,
+        found.giver,
+        &mut out,
+    )?;
     let uber = renew(
         bank,
         &found.uber,

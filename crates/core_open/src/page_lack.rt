@@ -1,11 +1,11 @@
 // Which devices in use lack an index page.
-ghost use Rattle.std.specs.Prelude.{◌≡◌, ◌<◌, ◌≤◌, ◌^◌, ◌↔◌, min, IfOk, IsErrOf, IsTrue};
+ghost use Rattle.std.specs.Prelude.{◌≡◌, ◌<◌, ◌≤◌, ◌^◌, ◌↔◌, ◌==◌, min, IfOk, IsErrOf, IsTrue};
 ghost use Rattle.bank_trait.specs.Causes.{FaultCounted};
 ghost use Rattle.bank_trait.specs.Disk.{Unchanged};
 ghost use Rattle.uberblock_ring.specs.Devices.{IsWithin};
 ghost use Rattle.uberblock_ring.specs.Valid.{IsRightUber};
 ghost use Rattle.core_open.specs.Failing.{HaveFailedSince};
-ghost use Rattle.core_open.specs.Lacking.{AreLacking, GivesOrLacks, HasAllBut};
+ghost use Rattle.core_open.specs.Lacking.{AreLacking, GivesOrLacks, HasAllBut, IsFirstGiver};
 
 use crate::index_page::{PageFault, read_page};
 use bank_trait::Bank;
@@ -13,16 +13,18 @@ use block_record::IndexEntry;
 use std::alloc::{AllocError, Global};
 use uberblock_ring::{DeviceSet, Uber};
 
-/// The devices in use that don't give the index page of these entries. Each is asked once; one whose
-/// read fails is out from then on.
+/// The devices in use that don't give the index page of these entries. Those behind the first that
+/// gives it are asked, each once; one whose read fails is out from then on.
 pub(crate) fn devices_without_page<B: Bank>(
     alloc: Global,
     bank: &mut B,
     uber: &Uber,
     entries: &[IndexEntry],
+    giver: u32,
     out: &mut DeviceSet,
 ) -> Result<DeviceSet, AllocError>
     requires right { IsRightUber uber.now }
+    requires given { IsFirstGiver (B.disk bank.old) out.old uber.now entries.now giver }
     requires sectors { 192 ≤ (B.disk bank.old).sectors }
     requires devices { HasAllBut (B.disk bank.old) uber.now.reflow.to out.old }
     requires below { out.old < 2 ^ uber.now.reflow.to }
@@ -38,7 +40,7 @@ pub(crate) fn devices_without_page<B: Bank>(
         if out.has(device) {
             continue;
         }
-        match gives_page(alloc, bank, uber, entries, device) {
+        match gives_page(alloc, bank, uber, entries, giver, device) {
             Ok(true) => {}
             Ok(false) => lacking.insert(device),
             Err(PageFault::Failed) => out.insert(device),
@@ -48,15 +50,19 @@ pub(crate) fn devices_without_page<B: Bank>(
     Ok(lacking)
 }
 
-/// Whether a device gives the index page of these entries.
+/// Whether a device gives the index page of these entries. Up to the first that gives it none is
+/// read again.
 fn gives_page<B: Bank>(
     alloc: Global,
     bank: &mut B,
     uber: &Uber,
     entries: &[IndexEntry],
+    giver: u32,
     device: u32,
 ) -> Result<bool, PageFault>
     requires right { IsRightUber uber.now }
+    requires given { device ≤ giver
+        → GivesOrLacks (B.disk bank.old) uber.now device entries.now (device == giver) }
     requires device { device < min (B.disk bank.old).devices 16 }
     requires sectors { 192 ≤ (B.disk bank.old).sectors }
     ensures gives { IfOk result (GivesOrLacks (B.disk bank.old) uber.now device entries.now) }
@@ -64,6 +70,9 @@ fn gives_page<B: Bank>(
         → FaultCounted ((B.disk bank.old).faults device) ((B.disk bank.new).faults device) }
     ensures unchanged { Unchanged (B.disk bank.old) (B.disk bank.new) }
 {
+    if device <= giver {
+        return Ok(device == giver);
+    }
     match read_page(alloc, bank, uber, device)? {
         Some(listed) => Ok(are_same(&listed, entries)),
         None => Ok(false),

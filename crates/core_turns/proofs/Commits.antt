@@ -72,6 +72,42 @@ begins_right core entries next is none few limit listed same =
     (omega (arith, limit, number)) listed (sha256_is_digest (index_page entries))
     (few_below core.pool.uber core.pool.out rest.right rest.below (few_out core few)))
 
+-- A core at which the next group was begun is one.
+pub begun_core : (core : Core) (actor : ℕ) → IsCore core → core.committing ≡ None → core.begun + 1 ≤ 2 ^ 62
+    → IsCore (record core { begun = core.begun + 1; committing = Some actor })
+begun_core core actor is none limit =
+    let uber = core.pool.uber in
+    let right = (rests_pool core is none).right in
+    let number = rests core is none in
+    let one_more : uber.group + 1 ≡ core.begun + 1 = omega (arith, number) in
+    let next = right_next uber uber.count uber.digest uber.out right (omega (arith, limit, number)) right.count right.digest right.out in
+    record {
+      is = record {
+        right = subst (λ (n : ℕ). IsRightUber (record uber { group = n })) one_more (record {
+          pool = right.pool;
+          group = next.group;
+          parity = right.parity;
+          widths = right.widths;
+          rows = right.rows;
+          reflow = right.reflow;
+          area = right.area;
+          out = right.out;
+          count = right.count;
+          digest = right.digest;
+          births = next.births;
+        });
+        parity = is.is.parity;
+        births = is.is.births;
+        capacity = is.is.capacity;
+        born = λ entry listed. omega (arith, is.is.born entry listed);
+        below = is.is.below;
+        lists = is.is.lists;
+      };
+      begun = (let same = number in omega (arith, same));
+      few = limit;
+      step = is.step;
+    }
+
 -- The commit that makes it is one of the core.
 pub begun_commit : (core : Core) (actor : ℕ) → IsCore core → core.committing ≡ None
     → IsCommitOf (record core { begun = core.begun + 1; committing = Some actor }) (commit_of core.pool)

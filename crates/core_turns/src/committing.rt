@@ -10,6 +10,7 @@ ghost use Rattle.core_turns.specs.UnderWay.{TurnGoesOn};
 use crate::turn::too_many;
 use crate::{Core, Turn};
 use bank_trait::Bank;
+use block_record::encode_index;
 use core_commit::{CommitRun, CommitStep};
 use core_state::Answer;
 use open_pool::next_uber;
@@ -32,15 +33,16 @@ impl Core {
             return Turn::Done(Answer::Limit { reached: MAX_GROUP });
         }
         let entries = self.blocks.entries();
-        let Ok(next) = next_uber(alloc, &self.uber, entries, self.out) else {
+        let Ok(page) = encode_index(alloc, entries) else {
             return Turn::Done(Answer::NoMemory);
         };
+        let next = next_uber(&self.uber, entries, &page, self.out);
         let Ok(index) = Vec::from_slice(alloc, entries) else {
             return Turn::Done(Answer::NoMemory);
         };
         self.begun += 1;
         self.committing = Some(actor);
-        Turn::More(CommitRun::new(next, index))
+        Turn::More(CommitRun::new(next, index, page))
     }
 
     /// The next device call of a commit. Where none is left for the devices in use, its group is answered:

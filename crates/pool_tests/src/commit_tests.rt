@@ -1,6 +1,7 @@
 // A commit that makes one call a step, on banks in memory.
 use bank_mem::MemBank;
 use bank_trait::Bank;
+use block_record::encode_index;
 use core_commit::{CommitRun, CommitStep};
 use std::process::Abort;
 use std::test::Fail;
@@ -41,7 +42,8 @@ fn the_group_lists_a_device_that_failed_in_the_first_half(rt: HostRuntime) -> Re
     bank.fail_at(&[(1, 0)])?;
     let uber = Uber::first(9, 1, 2, 64);
     assert!(rt; uber.is_right() && uber.count() == 0);
-    let mut run = CommitRun::new(uber, Vec::new(rt.alloc()));
+    let page = encode_index(rt.alloc(), &[])?;
+    let mut run = CommitRun::new(uber, Vec::new(rt.alloc()), page);
     let mut out = DeviceSet::empty();
 
     assert!(rt; turn(&rt, &mut bank, &mut run, &mut out) == CommitStep::Called);
@@ -72,7 +74,8 @@ fn the_group_does_not_list_one_that_failed_later(rt: HostRuntime) -> Result<(), 
     bank.fail_at(&[(1, 1)])?;
     let uber = Uber::first(9, 1, 2, 64);
     assert!(rt; uber.is_right() && uber.count() == 0);
-    let mut run = CommitRun::new(uber, Vec::new(rt.alloc()));
+    let page = encode_index(rt.alloc(), &[])?;
+    let mut run = CommitRun::new(uber, Vec::new(rt.alloc()), page);
     let mut out = DeviceSet::empty();
     for _ in 0..5 {
         assert!(rt; turn(&rt, &mut bank, &mut run, &mut out) == CommitStep::Called);

@@ -210,11 +210,11 @@ fn a_device_whose_page_fails_goes_out_and_one_that_is_out_gets_none(
         show(&rt, &mut bank, &uber, device)?;
     }
     give(&rt, &mut bank, 2, &page)?;
-    // after the uberblock, the ring and the read of its page by which the group is chosen
-    bank.fail_at(&[(0, MAKING + 1 + RING + 1)])?;
+    // after the uberblock and the ring: device 2 gives the page by which the group is chosen
+    bank.fail_at(&[(3, MAKING + 1 + RING)])?;
     let opened = open(rt.alloc(), &mut bank)?;
-    assert_eq!(rt; (opened.out.bits(), opened.silent.bits()), (3, 0));
-    for (device, wanted) in [(0, false), (1, false), (2, true), (3, true)] {
+    assert_eq!(rt; (opened.out.bits(), opened.silent.bits()), (10, 0));
+    for (device, wanted) in [(0, true), (1, false), (2, true), (3, false)] {
         let stands = has(&rt, &mut bank, device, &page)?;
         assert_eq!(rt; stands, wanted, "{device}");
     }

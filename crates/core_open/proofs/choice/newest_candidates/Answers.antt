@@ -4,6 +4,7 @@ use Rattle.core_state.specs.Shown.{Shape}
 use Rattle.core_open.specs.declared.uber_copy.UberCopy.{UberCopy}
 use Rattle.core_open.specs.Candidates.{FirstHas, IsConsidered}
 use Rattle.core_open.specs.Holds.{shape_of}
+use Rattle.core_open.proofs.Givers.{first_given_after, first_given_before}
 use Rattle.core_open.proofs.Newest.{AreFrom, from_more, from_past, group_ends, newest_more, newest_past, newest_whole}
 use Rattle.core_open.proofs.Unchanged.{holds_then, room_then, shape_then, unchanged_then}
 use Rattle.core_open.proofs.choice.newest_candidates.Goals as goal
@@ -54,6 +55,7 @@ loop-copy-preserved-then-not-is_open g c =
       from = from_past all seen c.loop-copy.candidates.copies.items c.loop-copy.invariant.from;
       fits = c.loop-copy.invariant.fits;
       room = c.loop-copy.invariant.room;
+      given = c.loop-copy.invariant.given;
       newest = λ image holds. newest_past (shape_of (g.B.Bank.disk c.args.bank.now)) c.args.rings.now.silent image c.args.pool all
           seen copy below is c.loop-copy.candidates.copies.items c.loop-copy.candidates.entries.items
           (λ opens. false≢true (c.if-not-is_open.ensures.1 opens)) (c.loop-copy.invariant.newest image holds);
@@ -86,6 +88,8 @@ loop-copy-preserved g c =
           one.copies;
       fits = one.first;
       room = room_then after so_far.unchanged one.room;
+      given = first_given_before old (g.B.Bank.disk c.loop-copy.bank) silent after later c.consider.new.self.giver
+          so_far.unchanged one.given;
       newest = λ image holds.
           let found = so_far.newest image holds in
           let considered = subst (λ (shape : Shape). IsConsidered shape silent image copy before after × FirstHas shape silent image after later)
@@ -95,3 +99,8 @@ loop-copy-preserved g c =
           newest_more (shape_of old) silent image c.args.pool all seen copy below is before after entries later
           (c.if-not-is_open.ensures.0 refl) found considered.0 considered.1;
     }
+
+pub consider-requires-clause-given : goal.consider-requires-clause-given
+consider-requires-clause-given g c = first_given_after (g.B.Bank.disk c.args.bank.now) (g.B.Bank.disk c.loop-copy.bank)
+    c.args.rings.now.silent c.loop-copy.candidates.copies.items c.loop-copy.candidates.entries.items c.loop-copy.candidates.giver
+    c.loop-copy.invariant.unchanged c.loop-copy.invariant.given

@@ -6,6 +6,7 @@ use Rattle.core_open.specs.declared.stopped.Stopped.{Stopped}
 use Rattle.core_open.specs.declared.uber_copy.UberCopy.{UberCopy}
 use Rattle.core_open.specs.Failing.{HasStopped, HaveFailedSince}
 use Rattle.core_open.proofs.Failures.{since_with}
+use Rattle.core_open.proofs.Givers.{first_given_before}
 use Rattle.core_open.proofs.Unchanged.{unchanged_then}
 use Rattle.core_open.proofs.finding.choose_anew.Goals as goal
 
@@ -40,3 +41,8 @@ loop-candidates-preserved g c =
           (since_with old mid new before silent device c.loop-candidates.invariant.since c.loop-candidates.invariant.unchanged
           c.choose.ensures.unchanged stopped.0 stopped.2);
     }
+
+pub returns-in-Ok-clause-given : goal.returns-in-Ok-clause-given
+returns-in-Ok-clause-given g c = first_given_before (g.B.Bank.disk c.args.bank.now) (g.B.Bank.disk c.loop-candidates.bank)
+    c.loop-candidates.rings.silent c.in-Ok.candidates.copies.items c.in-Ok.candidates.entries.items c.in-Ok.candidates.giver
+    c.loop-candidates.invariant.unchanged c.in-Ok.ensures.given

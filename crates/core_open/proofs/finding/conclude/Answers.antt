@@ -48,3 +48,9 @@ returns-clause-right c =
     subst (λ (list : List UberCopy). slice_get list 0 ≡ Some first) c.deref.ensures.value (sym c.in-Some.ensures.value) in
     (All-contains (λ (copy : UberCopy). (copy.device < 16) × IsRightUber copy.uber) c.args.rings.now.copies.items first c.requires.right
     (All-contains (Contains c.args.rings.now.copies.items) c.args.candidates.copies.items first c.requires.listed (first_of _ first there))).1
+
+pub returns-clause-given : goal.returns-clause-given
+returns-clause-given c = λ disk given.
+    let there : slice_get c.args.candidates.copies.items 0 ≡ Some c.in-Some.first.now =
+    subst (λ (list : List UberCopy). slice_get list 0 ≡ Some c.in-Some.first.now) c.deref.ensures.value (sym c.in-Some.ensures.value) in
+    given c.in-Some.first.now there

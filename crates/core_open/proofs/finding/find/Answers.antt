@@ -7,6 +7,7 @@ use Rattle.core_open.specs.declared.why.OpenWhy.{OpenWhy}
 use Rattle.core_open.specs.Finding.{IsFindCause, IsNothingFound}
 use Rattle.core_open.specs.Holds.{shape_of}
 use Rattle.core_open.proofs.Failures.{failed_since}
+use Rattle.core_open.proofs.Givers.{first_given_before}
 use Rattle.core_open.proofs.Settled.{chosen_after, find_cause, shown_after}
 use Rattle.core_open.proofs.Unchanged.{room_then}
 use Rattle.core_open.proofs.finding.find.Goals as goal
@@ -58,3 +59,12 @@ returns-clause-cause g c = by c.conclude.result c.conclude.ensures.none c.conclu
         c.in_ok-rings.rings.silent c.choose_anew.new.rings.silent c.in_ok-candidates.ensures.within
         c.in_ok-rings.rings.copies.items c.in_ok-rings.ensures.shown c.in_ok-candidates.candidates.copies.items
         c.in_ok-candidates.candidates.entries.items c.in_ok-candidates.ensures.chosen image holds).none none)
+
+pub returns-clause-given : goal.returns-clause-given
+returns-clause-given g c =
+    let candidates = c.in_ok-candidates.candidates in
+    IfOk-weaker c.conclude.result _ _
+    (λ found told. told (g.B.Bank.disk c.args.bank.now)
+    (first_given_before (g.B.Bank.disk c.args.bank.now) (g.B.Bank.disk c.read_rings.new.bank) c.choose_anew.new.rings.silent
+    candidates.copies.items candidates.entries.items candidates.giver c.in_ok-rings.ensures.unchanged c.in_ok-candidates.ensures.given))
+    c.conclude.ensures.given

@@ -2,12 +2,19 @@ use Rattle.std.proofs.Common.{inl, rules}
 use Rattle.std.specs.Prelude.{IfErr}
 use Rattle.core_open.specs.Finding.{IsFindCause}
 use Rattle.core_open.proofs.Finishing.{opens_promises, known, refused, fits_then, untouched_all, others_of}
+use Rattle.core_open.proofs.Givers.{giver_after}
 use Rattle.core_open.proofs.Unhindered.{caused, find_memory}
 use Rattle.core_open.proofs.opening.open.Goals as goal
 
 pub open_found-requires-clause-fits : goal.open_found-requires-clause-fits
 open_found-requires-clause-fits g c = fits_then c.in_ok-found.found (g.B.Bank.disk c.args.bank.now)
     (g.B.Bank.disk c.find.new.bank) c.find.ensures.unchanged c.in_ok-found.ensures.fits
+
+pub open_found-requires-clause-given : goal.open_found-requires-clause-given
+open_found-requires-clause-given g c =
+    let found = c.in_ok-found.found in
+    giver_after (g.B.Bank.disk c.args.bank.now) (g.B.Bank.disk c.find.new.bank) found.silent found.uber found.entries.items
+    found.giver c.find.ensures.unchanged c.in_ok-found.ensures.given
 
 pub returns-in_err-found-clause-untouched : goal.returns-in_err-found-clause-untouched
 returns-in_err-found-clause-untouched g c = untouched_all c.from_residual.result (g.B.Bank.disk c.args.bank.now)

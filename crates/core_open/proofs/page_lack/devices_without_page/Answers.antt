@@ -1,7 +1,8 @@
 use Rattle.std.proofs.Common.{Err, sym, ◌∙◌, ap, subst, arith}
 use Rattle.reflow_mark.specs.declared.reflow.Reflow.{Reflow}
 use Rattle.core_open.specs.Lacking.{GivesOrLacks}
-use Rattle.core_open.proofs.Lacking.{asked_at, asked_failed, asked_given, asked_lacked, asked_past}
+use Rattle.core_open.proofs.Givers.{asked_first, giver_after}
+use Rattle.core_open.proofs.Lacking.{asked_at, asked_failed, asked_given, asked_lacked, asked_past, not_within}
 use Rattle.core_open.proofs.page_lack.devices_without_page.Goals as goal
 use Rattle.core_open.proofs.page_lack.devices_without_page.Goals.{in-Ok-true, in-Ok-false, in-Err-Failed}
 
@@ -10,6 +11,16 @@ loop-device-preserved-then-has g c =
     asked_past (g.B.Bank.disk c.args.bank.now) (g.B.Bank.disk c.loop-device.bank)
     c.args.uber.now c.args.entries.now c.args.out.now c.loop-device.device c.loop-device.out
     c.loop-device.lacking c.loop-device.invariant (sym c.if-has.ensures.value)
+
+pub gives_page-requires-clause-given : goal.gives_page-requires-clause-given
+gives_page-requires-clause-given g c low =
+    let old = g.B.Bank.disk c.args.bank.now in
+    let mid = g.B.Bank.disk c.loop-device.bank in
+    let so_far = c.loop-device.invariant in
+    asked_first mid c.args.out.now c.args.uber.now c.args.entries.now c.args.giver c.loop-device.device
+    (giver_after old mid c.args.out.now c.args.uber.now c.args.entries.now c.args.giver so_far.unchanged c.requires.given)
+    (omega (arith, c.loop-device-test.true, ap (λ (r : Reflow). r.to) c.reflow-device-end.ensures.value))
+    (not_within c.args.out.now c.loop-device.out c.loop-device.device so_far.within (sym c.if-has.ensures.value)) low
 
 pub loop-device-preserved : goal.loop-device-preserved
 loop-device-preserved g c =

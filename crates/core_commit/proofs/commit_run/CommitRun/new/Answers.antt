@@ -5,11 +5,14 @@ use Rattle.core_commit.proofs.Planned.{plan_inside}
 use Rattle.core_commit.proofs.commit_run.CommitRun.new.Goals as goal
 
 pub invariant_of-result : goal.invariant_of-result
-invariant_of-result c = record {
-  right = c.requires.right;
-  index = c.requires.index;
-  counted = c.requires.counted;
-  inside = plan_inside c.args.uber c.new-calls.result
-      (c.new-calls.ensures.value ∙ ap (λ (r : Reflow). plan_of r.to c.count.result) c.reflow.ensures.value
-      ∙ ap (plan_of c.args.uber.reflow.to) c.count.ensures.value);
-}
+invariant_of-result c = (
+  record {
+    right = c.requires.right;
+    index = c.requires.index;
+    counted = c.requires.counted;
+    inside = plan_inside c.args.uber c.new-calls.result
+        (c.new-calls.ensures.value ∙ ap (λ (r : Reflow). plan_of r.to c.count.result) c.reflow.ensures.value
+        ∙ ap (plan_of c.args.uber.reflow.to) c.count.ensures.value);
+  },
+  c.requires.page,
+)

@@ -25,7 +25,7 @@ make-requires-clause-inside g c = next_inside c.args.self.now
       stage = c.self.inside.stage;
     }) c.args.out.now
     (subst (λ (r : CommitRun). IsMadeReady c.args.out.now c.args.self.now r) (sym c.self.view_is) c.ready.ensures.ready)
-    c.self.invariant c.in-Some.call (sym c.ready.ensures.value ∙ c.in-Some.is)
+    c.self.invariant.0 c.in-Some.call (sym c.ready.ensures.value ∙ c.in-Some.is)
 
 pub make-requires-clause-in_use : goal.make-requires-clause-in_use
 make-requires-clause-in_use g c = next_used c.args.self.now
@@ -36,19 +36,22 @@ make-requires-clause-in_use g c = next_used c.args.self.now
       stage = c.self.inside.stage;
     }) c.args.out.now
     (subst (λ (r : CommitRun). IsMadeReady c.args.out.now c.args.self.now r) (sym c.self.view_is) c.ready.ensures.ready)
-    c.self.invariant c.in-Some.call (sym c.ready.ensures.value ∙ c.in-Some.is)
+    c.self.invariant.0 c.in-Some.call (sym c.ready.ensures.value ∙ c.in-Some.is)
 
 pub invariant_of-self : goal.invariant_of-self
-invariant_of-self g c = called_right c.args.self.now
-    (record {
-      uber = c.self.inside.uber;
-      entries = c.self.inside.entries.items;
-      calls = c.self.inside.calls;
-      stage = c.self.inside.stage;
-    }) c.args.out.now
-    (subst (λ (r : CommitRun). IsMadeReady c.args.out.now c.args.self.now r) (sym c.self.view_is) c.ready.ensures.ready)
-    c.self.invariant c.in-Some.call (sym c.ready.ensures.value ∙ c.in-Some.is) c.advance.new.self
-    c.advance.ensures.left
+invariant_of-self g c = (
+  called_right c.args.self.now
+      (record {
+        uber = c.self.inside.uber;
+        entries = c.self.inside.entries.items;
+        calls = c.self.inside.calls;
+        stage = c.self.inside.stage;
+      }) c.args.out.now
+      (subst (λ (r : CommitRun). IsMadeReady c.args.out.now c.args.self.now r) (sym c.self.view_is) c.ready.ensures.ready)
+      c.self.invariant.0 c.in-Some.call (sym c.ready.ensures.value ∙ c.in-Some.is) c.advance.new.self
+      c.advance.ensures.left,
+  c.self.invariant.1,
+)
 
 pub returns-clause-steps : goal.returns-clause-steps
 returns-clause-steps g c = has_called c.args.self.now
@@ -59,7 +62,7 @@ returns-clause-steps g c = has_called c.args.self.now
       stage = c.self.inside.stage;
     }) c.args.out.now
     (subst (λ (r : CommitRun). IsMadeReady c.args.out.now c.args.self.now r) (sym c.self.view_is) c.ready.ensures.ready)
-    c.self.invariant c.in-Some.call (sym c.ready.ensures.value ∙ c.in-Some.is) c.advance.new.self
+    c.self.invariant.0 c.in-Some.call (sym c.ready.ensures.value ∙ c.in-Some.is) c.advance.new.self
     c.advance.ensures.left (point_of c.args.out.now (g.B.Bank.disk c.args.bank.now))
     (point_of c.make.new.out (g.B.Bank.disk c.make.new.bank)) refl
     (subst (λ (entries : List IndexEntry). MadeOne c.self.inside.uber entries c.in-Some.call

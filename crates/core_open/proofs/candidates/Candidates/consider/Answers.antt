@@ -1,10 +1,11 @@
-use Rattle.std.proofs.Common.{◌≡◌, ◌++◌, ◌∷◌, [], inl, List, Some, Option, refl, sym, subst}
-use Rattle.std.specs.Prelude.{IfSome, Vec, slice_get}
-use Rattle.std.specs.declared.alloc.Global.{Global}
+use Rattle.std.proofs.Common.{◌≡◌, ◌++◌, ◌∷◌, [], inl, ℕ, List, Some, Option, refl, sym, subst}
+use Rattle.std.specs.Prelude.{IfSome, slice_get}
 use Rattle.block_record.specs.declared.entry.IndexEntry.{IndexEntry}
+use Rattle.core_open.specs.declared.candidates.GivenIndex.{GivenIndex}
 use Rattle.core_open.specs.declared.uber_copy.UberCopy.{UberCopy}
 use Rattle.core_open.specs.Candidates.{HasIndex, IsIndexChoice, IsIndexFor}
 use Rattle.core_open.specs.Holds.{shape_of}
+use Rattle.core_open.specs.Lacking.{IsFirstGiver}
 use Rattle.core_open.proofs.Considering.{alike_index, first_kept, first_more}
 use Rattle.core_open.proofs.candidates.Candidates.consider.Goals as goal
 
@@ -22,23 +23,48 @@ returns-then-first_is_alike-clause-considered g c = λ image holds has.
 
 pub returns-in_ok-add-clause-first : goal.returns-in_ok-add-clause-first
 returns-in_ok-add-clause-first g c =
-    let fits : IsIndexFor c.args.copy.now.uber c.in-Some.entries.items =
-    subst (λ (found : Option (Vec IndexEntry Global)). IfSome found (λ e. IsIndexFor c.args.copy.now.uber e.items)) c.in-Some.is
-    c.in_ok-entries.ensures.fits in
+    let fits : IsIndexFor c.args.copy.now.uber c.in-Some.index.entries.items =
+    subst (λ (found : Option GivenIndex). IfSome found (λ i. IsIndexFor c.args.copy.now.uber i.entries.items)) c.in-Some.is
+    c.in_ok-index.ensures.fits in
     subst (λ (list : List UberCopy). (first : UberCopy) → slice_get list 0 ≡ Some first → IsIndexFor first.uber c.add.new.self.entries.items)
     (sym c.in_ok-add.ensures.copies)
     (first_more (λ first entries. IsIndexFor first.uber entries) c.args.self.now.copies.items c.args.copy.now c.args.self.now.entries.items
-    c.in-Some.entries.items c.add.new.self.entries.items c.requires.first c.add.ensures.first c.add.ensures.others fits)
+    c.in-Some.index.entries.items c.add.new.self.entries.items c.requires.first c.add.ensures.first c.add.ensures.others fits)
 
 pub returns-in_ok-add-clause-considered : goal.returns-in_ok-add-clause-considered
 returns-in_ok-add-clause-considered g c = λ image holds has.
     let shape = shape_of (g.B.Bank.disk c.args.bank.now) in
-    let index : HasIndex shape c.args.silent image c.args.copy.now.uber c.in-Some.entries.items =
-    subst (λ (found : Option (Vec IndexEntry Global)). IsIndexChoice shape c.args.silent image c.args.copy.now.uber found) c.in-Some.is
-    (c.in_ok-entries.ensures.found image holds) in (
-      inl (c.in_ok-add.ensures.copies, (c.in-Some.entries.items, index)),
+    let index : HasIndex shape c.args.silent image c.args.copy.now.uber c.in-Some.index.entries.items =
+    subst (λ (found : Option GivenIndex). IsIndexChoice shape c.args.silent image c.args.copy.now.uber found) c.in-Some.is
+    (c.in_ok-index.ensures.found image holds) in (
+      inl (c.in_ok-add.ensures.copies, (c.in-Some.index.entries.items, index)),
       subst (λ (list : List UberCopy). (first : UberCopy) → slice_get list 0 ≡ Some first
           → HasIndex shape c.args.silent image first.uber c.add.new.self.entries.items) (sym c.in_ok-add.ensures.copies)
           (first_more (λ first entries. HasIndex shape c.args.silent image first.uber entries) c.args.self.now.copies.items c.args.copy.now
-          c.args.self.now.entries.items c.in-Some.entries.items c.add.new.self.entries.items has c.add.ensures.first c.add.ensures.others index),
+          c.args.self.now.entries.items c.in-Some.index.entries.items c.add.new.self.entries.items has c.add.ensures.first c.add.ensures.others index),
     )
+
+pub returns-then-first_is_alike-clause-given : goal.returns-then-first_is_alike-clause-given
+returns-then-first_is_alike-clause-given g c =
+    let disk = g.B.Bank.disk c.args.bank.now in
+    let copies = c.args.self.now.copies.items in
+    let there = c.if-first_is_alike.ensures.0 refl in
+    subst (λ (list : List UberCopy). (first : UberCopy) → slice_get list 0 ≡ Some first
+    → IsFirstGiver disk c.args.silent first.uber c.args.self.now.entries.items c.args.self.now.giver) (sym c.in_ok-push.ensures.items)
+    (first_kept (λ (first : UberCopy). IsFirstGiver disk c.args.silent first.uber c.args.self.now.entries.items c.args.self.now.giver)
+    copies c.args.copy.now there.0 there.1 c.requires.given)
+
+pub returns-in_ok-add-clause-given : goal.returns-in_ok-add-clause-given
+returns-in_ok-add-clause-given g c =
+    let disk = g.B.Bank.disk c.args.bank.now in
+    let given : IsFirstGiver disk c.args.silent c.args.copy.now.uber c.in-Some.index.entries.items c.in-Some.index.device =
+    subst (λ (found : Option GivenIndex). IfSome found
+    (λ i. IsFirstGiver disk c.args.silent c.args.copy.now.uber i.entries.items i.device)) c.in-Some.is
+    c.in_ok-index.ensures.given in
+    subst (λ (list : List UberCopy). (first : UberCopy) → slice_get list 0 ≡ Some first
+    → IsFirstGiver disk c.args.silent first.uber c.add.new.self.entries.items c.add.new.self.giver) (sym c.in_ok-add.ensures.copies)
+    (first_more (λ first (index : List IndexEntry × ℕ). IsFirstGiver disk c.args.silent first.uber index.0 index.1)
+    c.args.self.now.copies.items c.args.copy.now (c.args.self.now.entries.items, c.args.self.now.giver)
+    (c.in-Some.index.entries.items, c.in-Some.index.device) (c.add.new.self.entries.items, c.add.new.self.giver)
+    c.requires.given (λ none i. (c.add.ensures.first none i, c.add.ensures.giver none i))
+    (λ some i. (c.add.ensures.others some i, c.add.ensures.same some i)) given)
