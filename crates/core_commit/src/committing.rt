@@ -119,7 +119,7 @@ fn next_call(calls: &Commit, out: DeviceSet, parity: u32) -> Option<CommitCall>
     ensures few { (call : CallOf) → result ≡ Some call → count_of out ≤ parity }
     ensures none { result ≡ None → count_of out ≤ parity → calls_left out calls.now ≡ [] }
 {
-    if out.len() > parity {
+    if out.exceeds(parity) {
         return None;
     }
     calls.next(out)
@@ -190,7 +190,7 @@ pub fn copy<B: Bank>(
 {
     let mut calls = Commit::copies(uber.reflow().to, uber.count(), lack_page, lack_uber);
     make_all(bank, uber, entries, &mut calls, out);
-    if out.len() > uber.parity() {
+    if out.exceeds(uber.parity()) {
         return Err(TooManyOut);
     }
     Ok(())

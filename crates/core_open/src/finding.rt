@@ -46,7 +46,7 @@ impl Found {
     pub fn has_too_many_out(&self) -> bool
         ensures { IsTrue result ↔ (self.now.uber.parity < count_of self.now.out) }
     {
-        self.out.len() > self.uber.parity()
+        self.out.exceeds(self.uber.parity())
     }
 }
 

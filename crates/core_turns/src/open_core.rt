@@ -92,6 +92,6 @@ impl Core {
     pub fn has_too_many_out(&self) -> bool
         ensures { IsTrue result ↔ (self.now.pool.uber.parity < count_of self.now.pool.out) }
     {
-        self.out.len() > self.uber.parity()
+        self.out.exceeds(self.uber.parity())
     }
 }

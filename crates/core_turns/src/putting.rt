@@ -24,8 +24,9 @@ use core_blocks::{PutRange, PutRefused};
 use core_client::BlockWrite;
 use core_state::Answer;
 use range_locks::{Hold, HoldKind, LockRefused, Locks};
-use reflow_mark::{Reflow, State};
+use reflow_mark::Reflow;
 use sha2::{Digest, Sha256};
+use shadow_write::front_after_stop;
 use std::alloc::Global;
 
 /// A put under way. It holds its block's sectors; no other call has one of them.
@@ -43,17 +44,6 @@ pub struct PutRun {
 pub struct Filled {
     write: BlockWrite,
     digest: [u8; 32],
-}
-
-/// How far the present job has copied: nothing is copied at one width, so it stands where it stands after
-/// a stop.
-fn front(reflow: &Reflow) -> u64
-    ensures { result ≡ front_after_stop reflow.now }
-{
-    match reflow.state {
-        State::None | State::Valid => 0,
-        State::Moved => reflow.mark,
-    }
 }
 
 /// The turn of a put that is refused.
@@ -133,7 +123,8 @@ impl PutRun {
         ensures ok { OnOk result (FillsPut self.old self.new bytes.now) }
         ensures err { OnErr result (self.new ≡ self.old) }
     {
-        let done = front(&self.reflow);
+        // Nothing is copied at one width, so the front stands where it stands after a stop.
+        let done = front_after_stop(&self.reflow);
         let Ok(write) = BlockWrite::new(alloc, &self.range.layout, &self.reflow, done, bytes) else {
             return Err(OutOfMemory);
         };

@@ -6,9 +6,11 @@
 #![tactic(auto)]
 
 mod cell;
+mod front;
 mod listing;
 mod needs;
 mod write;
 
+pub use front::front_after_stop;
 pub use listing::writes;
 pub use write::Write;

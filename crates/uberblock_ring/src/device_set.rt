@@ -72,6 +72,13 @@ impl DeviceSet {
         self.bits.count_ones()
     }
 
+    /// Whether these are more devices than there are parities: then a pool of which they are out bears it no longer.
+    pub fn exceeds(&self, parity: u32) -> bool
+        ensures value { IsTrue result ↔ (parity < count_of self.now) }
+    {
+        self.len() > parity
+    }
+
     /// The lowest device of the set.
     pub fn lowest(&self) -> Option<u32>
         ensures there { MatchOption result (self.now ≡ 0)
