@@ -14,6 +14,8 @@ mod client_script_text_tests;
 #[cfg(test)]
 mod commit_job_tests;
 #[cfg(test)]
+mod file_bank_tests;
+#[cfg(test)]
 mod gf_parity_tests;
 #[cfg(test)]
 mod gf_solve_tests;

@@ -1,10 +1,11 @@
-// A bank over files, one for each device.
-ghost use Rattle.std.specs.Prelude.{◌≡◌, ◌<◌, ◌≤◌, ◌^◌, ℕ, All, length};
+// Images as files, and the bank that they are.
+ghost use Rattle.std.specs.Prelude.{◌≡◌, ◌*◌, ◌<◌, ◌≤◌, ◌^◌, length};
 
-use bank_trait::{Bank, Failed};
+use bank_trait::Failed;
+use file_bank::{BlockFile, ReadFault};
 use raidzx_top::MOST_SECTORS;
 use std::fs::{File, Files, OpenOptions, TryLockError};
-use std::io::{Seek, SeekFrom};
+use std::io::{self, ErrorKind, Seek, SeekFrom};
 use std::os::unix::fs::FileExt;
 
 const SECTOR_BYTES: u64 = 512;
@@ -43,96 +44,50 @@ fn measured(mut file: File) -> Option<Image> {
     })
 }
 
-/// Each file is opened once. One that could not be opened fails all its calls, and no file grows.
-#[derive(Drop)]
-pub struct FileBank {
-    images: Vec<Option<Image>>,
-    faults: Vec<u64>,
-    sectors: u64,
-    ghost counted: { length faults.items ≡ length images.items },
-    ghost few: { length images.items < 2 ^ 32 },
-    ghost small: { sectors ≤ 65_728 },
-}
+/// A file that is there gives no clause of what it holds, so nothing is told of it: what these calls do is
+/// trusted, and all that is made of them is proved in `file_bank`.
+impl BlockFile for Image {
+    ghost use Rattle.file_bank.specs.BlockFile.{untold};
+    ghost use Rattle.file_bank.specs.Lawful.{untold_lawful};
 
-impl FileBank {
-    /// The bank has as many sectors as the longest file; where none could be opened, as many as a device may
-    /// have, so that calls are made, and fail.
-    pub fn new(images: Vec<Option<Image>>, faults: Vec<u64>) -> FileBank
-        requires counted { length faults.items ≡ length images.items }
-        requires few { length images.items < 2 ^ 32 }
-    {
-        let mut longest: Option<u64> = None;
-        for image in images.iter() {
-            if let Some(image) = image {
-                longest = Some(longest.unwrap_or(0).max(image.sectors));
-            }
-        }
-        FileBank {
-            images,
-            faults,
-            sectors: longest.unwrap_or(MOST_SECTORS),
-        }
+    ghost contents = { λ image. untold (512 * image.sectors) };
+
+    ghost lawful = { λ image. untold_lawful (512 * image.sectors) };
+
+    fn length(&self) -> u64 {
+        self.sectors * SECTOR_BYTES
+    }
+
+    fn last_moment(&self) -> u64 {
+        0
+    }
+
+    fn read_at(&mut self, offset: u64, into: &mut [u8]) -> Result<usize, ReadFault> {
+        self.file.read_at(into, offset).map_err(fault_of)
+    }
+
+    fn write_at(&mut self, _moment: u64, offset: u64, from: &[u8; 512]) -> Result<(), Failed> {
+        self.file.write_all_at(from, offset).map_err(|_| Failed)
+    }
+
+    fn sync(&mut self, _moment: u64) -> Result<(), Failed> {
+        self.file.sync_data().map_err(|_| Failed)
     }
 }
 
-/// The file and the offset of a sector, where the file has it.
-fn place(image: &Option<Image>, sector: u64) -> Result<(&File, u64), Failed> {
-    match image {
-        Some(image) if sector < image.sectors => Ok((&image.file, sector * SECTOR_BYTES)),
-        _ => Err(Failed),
+fn fault_of(error: io::Error) -> ReadFault {
+    match error.kind() {
+        ErrorKind::Interrupted => ReadFault::Interrupted,
+        _ => ReadFault::Failed,
     }
 }
 
-impl Bank for FileBank {
-    ghost use Rattle.raidzx.specs.FileBank.{disk_of};
-    ghost use Rattle.raidzx.specs.Nothing.{lawful};
-    ghost use Rattle.std.specs.Prelude.{refl};
+pub type FileBank = file_bank::FileBank<Image>;
 
-    ghost disk = { disk_of };
-
-    ghost lawful = { λ b. lawful (disk_of b) (λ d x. refl) (λ d x. refl) };
-
-    fn devices(&self) -> u32 {
-        self.images.len() as u32
-    }
-
-    fn sectors(&self) -> u64 {
-        self.sectors
-    }
-
-    fn read(&mut self, device: u32, sector: u64, into: &mut [u8; 512]) -> Result<(), Failed> {
-        let number = device as usize;
-        let outcome = match place(&self.images[number], sector) {
-            Ok((file, offset)) => file.read_exact_at(into, offset).map_err(|_| Failed),
-            Err(failed) => Err(failed),
-        };
-        if outcome.is_err() {
-            self.faults[number] = self.faults[number].saturating_add(1);
-        }
-        outcome
-    }
-
-    fn write(&mut self, device: u32, sector: u64, from: &[u8; 512]) -> Result<(), Failed> {
-        let number = device as usize;
-        let outcome = match place(&self.images[number], sector) {
-            Ok((file, offset)) => file.write_all_at(from, offset).map_err(|_| Failed),
-            Err(failed) => Err(failed),
-        };
-        if outcome.is_err() {
-            self.faults[number] = self.faults[number].saturating_add(1);
-        }
-        outcome
-    }
-
-    fn sync(&mut self, device: u32) -> Result<(), Failed> {
-        let number = device as usize;
-        let outcome = match &self.images[number] {
-            Some(image) => image.file.sync_data().map_err(|_| Failed),
-            None => Err(Failed),
-        };
-        if outcome.is_err() {
-            self.faults[number] = self.faults[number].saturating_add(1);
-        }
-        outcome
-    }
+/// The bank whose devices are these images, each opened once.
+pub fn bank_over(images: Vec<Option<Image>>, faults: Vec<u64>) -> FileBank
+    requires counted { length faults.items ≡ length images.items }
+    requires few { length images.items < 2 ^ 32 }
+{
+    FileBank::new(images, faults, MOST_SECTORS)
 }

@@ -8,7 +8,7 @@ mod streams;
 
 use bank_mem::MemBank;
 use bank_trait::Bank;
-use files::{FileBank, Held, open_image};
+use files::{FileBank, Held, bank_over, open_image};
 use raidzx_top::{Images, Status, image_words, is_command, raidzx, write_status};
 use std::alloc::{AllocFailed, Global};
 use std::env;
@@ -49,7 +49,7 @@ fn open_files(rt: &HostRuntime, words: &[String], count: u32) -> Result<FileBank
         }
         faults.push(0)?;
     }
-    Ok(FileBank::new(images, faults))
+    Ok(bank_over(images, faults))
 }
 
 /// The status where there is no bank: an image that another program has is told as failed.

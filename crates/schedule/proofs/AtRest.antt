@@ -26,6 +26,7 @@ use Rattle.schedule.specs.Replaying.{AreIdle, HaveBegun, IsAtRest, OnlyShared, b
 use Rattle.schedule.proofs.Rooms.{room_at_first}
 use Rattle.schedule.proofs.Theirs.{none_some}
 use Rattle.schedule.proofs.Opened.{blank_is, calls_none, none_held, none_of_blank}
+use Rattle.core_turns.specs.UnderWay.{AreCallsOf}
 
 -- A core at rest, clients that have begun no call, and a journal that answers none are a schedule.
 pub schedule_at_rest : (script : Script) (core : Core) (disk : Disk) (items : List Item) (count : ℕ) → IsAtRest core

@@ -15,7 +15,7 @@ use Rattle.client_script.specs.Script.{Script, calls_of}
 use Rattle.core_turns.specs.declared.turn.Turn.TheVariants.{More, Busy, Done}
 use Rattle.core_turns.specs.Core.{Core, at_disk}
 use Rattle.core_turns.specs.Committing.{BeginsCommit, IsSyncRefused}
-use Rattle.core_turns.specs.UnderWay.{AreCallsOf, Stands, TurnGoesOn}
+use Rattle.core_turns.specs.UnderWay.{AreCallsOf, Stands, TurnGoesOn, HoldingCall}
 use Rattle.core_turns.proofs.Commits.{few_out, rests}
 use Rattle.core_turns.proofs.CommitStands.{commit_begins_calls, commit_begins_stands}
 use Rattle.schedule.specs.declared.client.Client.{Client}

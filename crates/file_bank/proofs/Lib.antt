@@ -1,0 +1,4 @@
+pub mod Joined
+pub mod Longest
+pub mod Pieces
+pub mod MemSteps

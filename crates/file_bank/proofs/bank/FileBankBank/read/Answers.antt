@@ -1,0 +1,7 @@
+use Rattle.file_bank.proofs.Joined.{read_one}
+use Rattle.file_bank.proofs.bank.FileBankBank.read.Goals as goal
+
+pub returns-clause-well : goal.returns-clause-well
+returns-clause-well g c =
+    read_one g.F.BlockFile.contents c.args.self.now.files.items _ _ _ _ _ _ _ _ c.requires.device
+    c.index_mut.ensures.value c.read_sector-outcome.ensures.same c.note.ensures.counts

@@ -1,0 +1,37 @@
+use Rattle.std.proofs.Common.{◌≡◌, ◌<◌, ◌/◌, [], ◌∷◌, ◌++◌, length, rules, arith, refl}
+use Rattle.file_bank.specs.declared.record.Call.TheVariants.{Write}
+use Rattle.file_bank.proofs.MemSteps.{by_more, wrote, wrote_leads, set_whole, write_failed}
+use Rattle.file_bank.proofs.mem_file.MemFileBlockFile.write_at.Goals as goal
+
+pub returns-then-fails_now : goal.returns-then-fails_now
+returns-then-fails_now c = write_failed _ _ _ _ _ _ _ _ _ refl c.requires.later c.args.self.now.by
+
+pub returns-then-is_err : goal.returns-then-is_err
+returns-then-is_err c =
+    let same : c.push.new.self.items ≡ c.args.self.now.calls.items = search rules in
+    write_failed _ _ _ _ _ _ _ _ _ same c.requires.later c.args.self.now.by
+
+pub invariant_of-self-2-clause-by : goal.invariant_of-self-2-clause-by
+invariant_of-self-2-clause-by c =
+    let one_more : c.push.new.self.items ≡ c.args.self.now.calls.items
+    ++ Write c.args.moment (c.args.offset / 512) c.args.from.now ∷ [] = search rules in
+    by_more _ _ _ _ _ one_more refl c.requires.later c.args.self.now.by
+
+pub invariant_of-self-2-clause-same : goal.invariant_of-self-2-clause-same
+invariant_of-self-2-clause-same c =
+    let one_more : c.push.new.self.items ≡ c.args.self.now.calls.items
+    ++ Write c.args.moment (c.args.offset / 512) c.args.from.now ∷ [] = search rules in
+    let below : c.args.offset / 512 < length c.args.self.now.present.items = omega arith in
+    wrote_leads _ _ _ _ _ _ _ _ one_more c.requires.later below c.args.self.now.by c.args.self.now.same
+
+pub invariant_of-self-2-clause-whole : goal.invariant_of-self-2-clause-whole
+invariant_of-self-2-clause-whole c =
+    let below : c.args.offset / 512 < length c.args.self.now.present.items = omega arith in
+    set_whole _ _ _ below c.told-from c.args.self.now.whole
+
+pub returns : goal.returns
+returns c =
+    let one_more : c.push.new.self.items ≡ c.args.self.now.calls.items
+    ++ Write c.args.moment (c.args.offset / 512) c.args.from.now ∷ [] = search rules in
+    let below : c.args.offset / 512 < length c.args.self.now.present.items = omega arith in
+    wrote _ _ _ _ _ _ _ _ one_more c.requires.later below c.args.self.now.by

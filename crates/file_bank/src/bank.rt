@@ -1,0 +1,157 @@
+// A bank over files, one for each device.
+ghost use Rattle.std.specs.Prelude.{◌≡◌, ◌<◌, ◌≤◌, ◌^◌, ℕ, length, max, slice_index};
+ghost use Rattle.file_bank.specs.Files.{CountsCall, IsLongest, all_shown, longer, shown};
+
+use crate::block_file::BlockFile;
+use crate::slot::{SECTOR_BYTES, read_sector, sync_file, write_sector};
+use bank_trait::{Bank, Failed};
+
+/// A file that could not be opened fails all its calls, and so does a sector past a file's end: no file
+/// grows. A write or sync is counted by one clock over all files.
+#[derive(Drop)]
+pub struct FileBank<F: BlockFile> {
+    files: Vec<Option<F>>,
+    faults: Vec<u64>,
+    sectors: u64,
+    clock: u64,
+    ghost counted: { length faults.items ≡ length files.items },
+    ghost few: { length files.items < 2 ^ 32 },
+    ghost paced: { (device : ℕ) → (all_shown F.contents files.items device).last ≤ clock },
+}
+
+/// CountsCall a call by its outcome.
+fn note(faults: &mut Vec<u64>, device: usize, outcome: Result<(), Failed>)
+    requires { device < length faults.old.items }
+    ensures counts { CountsCall (slice_index faults.old.items) (slice_index faults.new.items) device
+        outcome }
+    ensures len { length faults.new.items ≡ length faults.old.items }
+{
+    if outcome.is_err() {
+        faults[device] = faults[device].saturating_add(1);
+    }
+}
+
+/// How many whole sectors the longest has, where one more file is looked at.
+fn with_file<F: BlockFile>(longest: Option<u64>, file: &Option<F>) -> Option<u64>
+    ensures { result ≡ longer F.contents longest file.now }
+{
+    match file {
+        Some(file) => Some((file.length() / SECTOR_BYTES).max(longest.unwrap_or(0))),
+        None => longest,
+    }
+}
+
+/// How many whole sectors the longest file has; none where none was opened.
+fn longest_of<F: BlockFile>(files: &[Option<F>]) -> Option<u64>
+    ensures { IsLongest F.contents files.now (length files.now) result }
+{
+    let mut longest = None;
+    for file in files {
+        longest = with_file(longest, file);
+    }
+    longest
+}
+
+/// The last moment of a call on one more file.
+fn later_of<F: BlockFile>(latest: u64, file: &Option<F>) -> u64
+    ensures { result ≡ max latest (shown F.contents file.now).last }
+{
+    match file {
+        Some(file) => latest.max(file.last_moment()),
+        None => latest,
+    }
+}
+
+/// A moment that no call on these files is later than.
+fn latest_of<F: BlockFile>(files: &[Option<F>]) -> u64
+    ensures { (device : ℕ) → (all_shown F.contents files.now device).last ≤ result }
+{
+    let mut latest = 0;
+    for file in files {
+        latest = later_of(latest, file);
+    }
+    latest
+}
+
+impl<F: BlockFile> FileBank<F> {
+    ghost use Rattle.file_bank.specs.FileBank.{disk_of};
+    ghost use Rattle.file_bank.specs.Files.{HasLongestSectors, as_bank};
+
+    /// The bank has as many sectors as the longest file has whole ones, at most `most`; where none could
+    /// be opened `most`, so that calls are made, and fail. Its clock goes on from the files' last moment.
+    pub fn new(files: Vec<Option<F>>, faults: Vec<u64>, most: u64) -> FileBank<F>
+        requires counted { length faults.items ≡ length files.items }
+        requires few { length files.items < 2 ^ 32 }
+        ensures sectors { HasLongestSectors F.contents files.items most (disk_of F.contents result).sectors }
+        ensures disk { disk_of F.contents result ≡ as_bank (length files.items)
+            (disk_of F.contents result).sectors (all_shown F.contents files.items)
+            (slice_index faults.items) (disk_of F.contents result).clock }
+    {
+        let sectors = longest_of(&files).unwrap_or(most).min(most);
+        let clock = latest_of(&files);
+        FileBank {
+            files,
+            faults,
+            sectors,
+            clock,
+        }
+    }
+
+    /// How many calls on a device have failed, places past its file's end too.
+    pub fn faults(&self, device: u32) -> u64
+        requires { device < (disk_of F.contents self.now).devices }
+        ensures { result ≡ (disk_of F.contents self.now).faults device }
+    {
+        self.faults[device as usize]
+    }
+}
+
+impl<F: BlockFile> Bank for FileBank<F> {
+    ghost use Rattle.file_bank.specs.FileBank.{disk_of};
+    ghost use Rattle.file_bank.specs.Lawful.{all_lawful, joined_lawful};
+
+    ghost disk = { disk_of F.contents };
+
+    ghost lawful = { λ b. joined_lawful (length b.files.items) b.sectors
+        (all_shown F.contents b.files.items) (slice_index b.faults.items) b.clock
+        (all_lawful F.contents F.lawful b.files.items) b.paced };
+
+    fn devices(&self) -> u32 {
+        self.files.len() as u32
+    }
+
+    fn sectors(&self) -> u64 {
+        self.sectors
+    }
+
+    fn read(&mut self, device: u32, sector: u64, into: &mut [u8; 512]) -> Result<(), Failed> {
+        let number = device as usize;
+        let outcome = read_sector(&mut self.files[number], sector, into);
+        note(&mut self.faults, number, outcome);
+        outcome
+    }
+
+    fn write(&mut self, device: u32, sector: u64, from: &[u8; 512]) -> Result<(), Failed> {
+        let number = device as usize;
+        let Some(moment) = self.clock.checked_add(1) else {
+            note(&mut self.faults, number, Err(Failed));
+            return Err(Failed);
+        };
+        self.clock = moment;
+        let outcome = write_sector(&mut self.files[number], moment, sector, from);
+        note(&mut self.faults, number, outcome);
+        outcome
+    }
+
+    fn sync(&mut self, device: u32) -> Result<(), Failed> {
+        let number = device as usize;
+        let Some(moment) = self.clock.checked_add(1) else {
+            note(&mut self.faults, number, Err(Failed));
+            return Err(Failed);
+        };
+        self.clock = moment;
+        let outcome = sync_file(&mut self.files[number], moment);
+        note(&mut self.faults, number, outcome);
+        outcome
+    }
+}

@@ -1,0 +1,17 @@
+//! A bank of devices over files, one file a device.
+//!
+//! `BlockFile` says what one file holds and what a crash may leave of it; `FileBank` makes a bank of
+//! several, with one clock, and is proved to be the bank that its files are together. Which byte of
+//! which file a sector begins at is decided and proved here. `MemFile` is a file in memory, for tests.
+//! Read `specs/BlockFile.antt`, then `specs/Files.antt`. Stands on `bank_trait`.
+#![tactic(auto)]
+
+mod bank;
+mod block_file;
+mod mem_file;
+mod record;
+mod slot;
+
+pub use bank::FileBank;
+pub use block_file::{BlockFile, ReadFault};
+pub use mem_file::MemFile;

@@ -1,0 +1,133 @@
+// A file in memory.
+ghost use Rattle.std.specs.Prelude.{◌≡◌, ◌*◌, ◌<◌, ◌^◌, ℕ, List, Some, IfOk, length, slice_get, replicate};
+ghost use Rattle.bank_trait.specs.Regions.{zero_sector};
+ghost use Rattle.file_bank.specs.Record.{AllBy, LeadsToSectors};
+
+use crate::block_file::{BlockFile, ReadFault};
+use crate::record::{Call, Plan};
+use bank_trait::Failed;
+use std::alloc::{AllocError, Global};
+
+/// It gives what was written, in pieces, and fails where it is told to. A call that fails changes nothing.
+#[derive(Drop)]
+pub struct MemFile {
+    first: Vec<[u8; 512]>,
+    present: Vec<[u8; 512]>,
+    calls: Vec<Call>,
+    /// The moment of the last call on record.
+    last: u64,
+    /// The most bytes that a read gives.
+    piece: usize,
+    plan: Plan,
+    ghost few: { length present.items < 2 ^ 32 },
+    ghost by: { AllBy last calls.items },
+    ghost same: { LeadsToSectors first.items last calls.items present.items },
+    ghost whole: { (x : ℕ) (bytes : List ℕ) → slice_get present.items x ≡ Some bytes
+        → length bytes ≡ 512 },
+}
+
+/// Sectors of zeros.
+#[tactic(auto, unfolding(bank_trait::specs::Regions::zero_sector))]
+fn blank(alloc: Global, sectors: u32) -> Result<Vec<[u8; 512]>, AllocError>
+    ensures { IfOk result (λ all. all.items ≡ replicate sectors zero_sector) }
+{
+    let mut all = Vec::new(alloc);
+    for _sector in 0..sectors {
+        all.push([0; 512])?;
+    }
+    Ok(all)
+}
+
+impl MemFile {
+    ghost use Rattle.file_bank.specs.MemFile.{file_of};
+
+    /// A file of zeros, all of it on the disk. The calls of these numbers, from 0, fail, and a read gives
+    /// at most `piece` bytes.
+    pub fn new(
+        alloc: Global,
+        sectors: u32,
+        piece: usize,
+        fails: &[u64],
+    ) -> Result<MemFile, AllocError>
+        ensures reads { IfOk result (λ file. (x : ℕ)
+            → (file_of file).reads x ≡ slice_get (replicate sectors zero_sector) x) }
+        ensures leaves { IfOk result (λ file. (x : ℕ)
+            → (file_of file).leaves 0 x ≡ slice_get (replicate sectors zero_sector) x) }
+        ensures length { IfOk result (λ file. (file_of file).length ≡ 512 * sectors) }
+        ensures fresh { IfOk result (λ file. (file_of file).last ≡ 0) }
+    {
+        Ok(MemFile {
+            first: blank(alloc, sectors)?,
+            present: blank(alloc, sectors)?,
+            calls: Vec::new(alloc),
+            last: 0,
+            piece,
+            plan: Plan {
+                made: 0,
+                fails: Vec::from_slice(alloc, fails)?,
+            },
+        })
+    }
+}
+
+impl BlockFile for MemFile {
+    ghost use Rattle.file_bank.specs.MemFile.{file_of};
+    ghost use Rattle.file_bank.specs.MemLaws.{lawful};
+
+    ghost contents = { file_of };
+
+    ghost lawful = { λ file. lawful file.first.items file.present.items file.calls.items
+        file.last file.by file.same file.whole };
+
+    fn length(&self) -> u64 {
+        self.present.len() as u64 * 512
+    }
+
+    fn last_moment(&self) -> u64 {
+        self.last
+    }
+
+    fn read_at(&mut self, offset: u64, into: &mut [u8]) -> Result<usize, ReadFault> {
+        if self.plan.fails_now() {
+            return Err(ReadFault::Failed);
+        }
+        let sector = &self.present[(offset / 512) as usize];
+        let from = (offset % 512) as usize;
+        let count = into.len().min(self.piece);
+        into[..count].copy_from_slice(&sector[from..from + count]);
+        Ok(count)
+    }
+
+    fn write_at(&mut self, moment: u64, offset: u64, from: &[u8; 512]) -> Result<(), Failed> {
+        if self.plan.fails_now() {
+            return Err(Failed);
+        }
+        let sector = offset / 512;
+        let bytes = *from;
+        if self
+            .calls
+            .push(Call::Write {
+                moment,
+                sector,
+                bytes,
+            })
+            .is_err()
+        {
+            return Err(Failed);
+        }
+        self.last = moment;
+        self.present[sector as usize] = bytes;
+        Ok(())
+    }
+
+    fn sync(&mut self, moment: u64) -> Result<(), Failed> {
+        if self.plan.fails_now() {
+            return Err(Failed);
+        }
+        if self.calls.push(Call::Sync { moment }).is_err() {
+            return Err(Failed);
+        }
+        self.last = moment;
+        Ok(())
+    }
+}

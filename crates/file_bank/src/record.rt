@@ -1,0 +1,36 @@
+// The calls that a file in memory records, and those that fail.
+ghost use Rattle.std.specs.Prelude.{◌≡◌, ◌↔◌, IsTrue, Contains};
+ghost use Rattle.bank_trait.specs.Causes.{counted};
+
+/// A write or sync that was carried out, with its moment.
+#[derive(Clone, Copy, Debug)]
+pub enum Call {
+    Write {
+        moment: u64,
+        sector: u64,
+        bytes: [u8; 512],
+    },
+    Sync {
+        moment: u64,
+    },
+}
+
+/// Which calls fail, by number from 0, and how many were made.
+#[derive(Drop)]
+pub struct Plan {
+    pub made: u64,
+    pub fails: Vec<u64>,
+}
+
+impl Plan {
+    /// Whether the next call fails, which counts it.
+    pub fn fails_now(&mut self) -> bool
+        ensures fails { IsTrue result ↔ Contains self.old.fails.items self.old.made }
+        ensures made { self.new.made ≡ counted self.old.made }
+        ensures listed { self.new.fails.items ≡ self.old.fails.items }
+    {
+        let number = self.made;
+        self.made = number.saturating_add(1);
+        self.fails.contains(&number)
+    }
+}

@@ -1,0 +1,120 @@
+// One sector of one file, which may not have been opened.
+ghost use Rattle.std.specs.Prelude.{◌≡◌, ◌<◌, ◌≤◌, ◌+◌, ◌*◌, ◌/◌, ◌%◌, List, ℕ, Some, IfOk, OnOk, take};
+ghost use Rattle.file_bank.specs.BlockFile.{Written, Settled};
+ghost use Rattle.file_bank.specs.Files.{shown};
+
+use crate::block_file::{BlockFile, ReadFault};
+use bank_trait::Failed;
+
+pub const SECTOR_BYTES: u64 = 512;
+
+/// The byte that a sector begins at, where the file has the whole of it.
+fn offset_of(length: u64, sector: u64) -> Result<u64, Failed>
+    ensures begins { IfOk result (λ offset. offset ≡ 512 * sector) }
+    ensures inside { IfOk result (λ offset. offset + 512 ≤ length) }
+{
+    if sector < length / SECTOR_BYTES {
+        Ok(sector * SECTOR_BYTES)
+    } else {
+        Err(Failed)
+    }
+}
+
+/// Reads on from where a sector is filled, and tells up to where it is filled then. A read that was
+/// interrupted fills nothing.
+fn read_more<F: BlockFile>(
+    file: &mut F,
+    start: u64,
+    filled: usize,
+    into: &mut [u8; 512],
+) -> Result<usize, Failed>
+    requires room { filled < 512 }
+    requires whole { start % 512 ≡ 0 }
+    requires inside { start + 512 ≤ (F.contents file.old).length }
+    ensures bound { IfOk result (λ now. now ≤ 512) }
+    ensures front { IfOk result (λ now. (bytes : List ℕ)
+        → (F.contents file.old).reads (start / 512) ≡ Some bytes
+        → take filled into.old ≡ take filled bytes → take now into.new ≡ take now bytes) }
+    ensures same { F.contents file.new ≡ F.contents file.old }
+{
+    match file.read_at(start + filled as u64, &mut into[filled..]) {
+        Ok(0) => Err(Failed),
+        Ok(count) => Ok(filled + count),
+        Err(ReadFault::Interrupted) => Ok(filled),
+        Err(ReadFault::Failed) => Err(Failed),
+    }
+}
+
+/// Reads a sector: it goes on until all of it is there.
+fn read_whole<F: BlockFile>(file: &mut F, sector: u64, into: &mut [u8; 512]) -> Result<(), Failed>
+    ensures bytes { OnOk result ((bytes : List ℕ)
+        → (F.contents file.old).reads sector ≡ Some bytes → into.new ≡ bytes) }
+    ensures same { F.contents file.new ≡ F.contents file.old }
+{
+    let start = offset_of(file.length(), sector)?;
+    let mut filled = 0;
+    for _turn in 0..u64::MAX {
+        filled = read_more(file, start, filled, into)?;
+        if filled == 512 {
+            return Ok(());
+        }
+    }
+    Err(Failed)
+}
+
+/// Reads a sector, where the file is there and has it.
+pub fn read_sector<F: BlockFile>(
+    file: &mut Option<F>,
+    sector: u64,
+    into: &mut [u8; 512],
+) -> Result<(), Failed>
+    ensures bytes { OnOk result ((bytes : List ℕ)
+        → (shown F.contents file.old).reads sector ≡ Some bytes → into.new ≡ bytes) }
+    ensures same { shown F.contents file.new ≡ shown F.contents file.old }
+{
+    match file {
+        Some(file) => read_whole(file, sector, into),
+        None => Err(Failed),
+    }
+}
+
+/// Writes a sector, where the file is there and has it; makes no call else.
+pub fn write_sector<F: BlockFile>(
+    file: &mut Option<F>,
+    moment: u64,
+    sector: u64,
+    from: &[u8; 512],
+) -> Result<(), Failed>
+    requires { (shown F.contents file.old).last < moment }
+    ensures { Written (shown F.contents file.old) (shown F.contents file.new) moment sector from.now
+        result }
+{
+    match file {
+        Some(file) => write_whole(file, moment, sector, from),
+        None => Err(Failed),
+    }
+}
+
+fn write_whole<F: BlockFile>(
+    file: &mut F,
+    moment: u64,
+    sector: u64,
+    from: &[u8; 512],
+) -> Result<(), Failed>
+    requires { (F.contents file.old).last < moment }
+    ensures { Written (F.contents file.old) (F.contents file.new) moment sector from.now result }
+{
+    let offset = offset_of(file.length(), sector)?;
+    file.write_at(moment, offset, from)
+}
+
+/// Syncs a file, where it is there.
+pub fn sync_file<F: BlockFile>(file: &mut Option<F>, moment: u64) -> Result<(), Failed>
+    requires { (shown F.contents file.old).last < moment }
+    ensures { Settled (shown F.contents file.old) (shown F.contents file.new) moment result }
+{
+    match file {
+        Some(file) => file.sync(moment),
+        None => Err(Failed),
+    }
+}
