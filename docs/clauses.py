@@ -35,8 +35,8 @@ def read(path):
 
 
 def without_comments(text):
-    """Returns the text with its line comments and strings blanked out, as long as it was."""
-    pattern = re.compile(r'//[^\n]*|"(?:\\.|[^"\\])*"')
+    """Returns the text with its line comments, strings and characters blanked out, as long as it was."""
+    pattern = re.compile(r"""//[^\n]*|"(?:\\.|[^"\\])*"|'(?:\\[^\n]|[^\n'\\])'""", re.DOTALL)
     return pattern.sub(lambda found: re.sub(r"[^\n]", " ", found.group()), text)
 
 

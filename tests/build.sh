@@ -50,11 +50,12 @@ failed() {
   exit 1
 }
 
-# expect NAME STATUS TEXT WORD..: a run of the program with these words. INPUT is its standard input.
+# expect NAME STATUS TEXT WORD..: a run of the program with these words. INPUT is its standard input, and what it tells
+# on standard error stands in `told`.
 expect() {
   local name=$1 status=$2 text=$3 found found_status=0
   shift 3
-  found=$("$RAIDZX" "$@" <"${INPUT:-/dev/null}") || found_status=$?
+  found=$("$RAIDZX" "$@" <"${INPUT:-/dev/null}" 2>told) || found_status=$?
   if [ "$found_status" != "$status" ] || [ "$found" != "$text" ]; then
     failed "$name" "status $found_status, text: $found"
   fi

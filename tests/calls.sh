@@ -44,6 +44,7 @@ traced 'put 7 3 5' 'get 7' sync >found
   printf '%s\n' 'read disk0 192' 'read disk1 192' # the parity too
   group 4 64
   echo "answer $(wc -c <text) $(wc -c <text)"
+  each read 4 # whether the last group lists an image as out
   each close
 } >wanted
 same 'the calls of a first run' found wanted
@@ -54,6 +55,7 @@ traced 'get 7' >found
   group 6
   printf '%s\n' 'read disk0 192' 'read disk1 192'
   echo "answer $(wc -c <text) $(wc -c <text)"
+  each read 6
   each close
 } >wanted
 same 'the calls of a later run' found wanted
@@ -69,8 +71,8 @@ grep -c 'sync' <found >counts
 for word in write read; do grep -c "^$word" found >>counts; done
 grep -vcE '^((write|read) disk. [0-9]+|(open|lock|measure|fdatasync|close) disk.|answer .*)$' found >>counts || true
 # Syncs: 6 of the opening, 6 of the sync. Writes: 3 uberblocks, 1,200 columns, 3 pages of 13 sectors, 3 uberblocks.
-# Reads: 96 slots, 1,200 columns.
-printf '%s\n' 12 $((3 + 1200 + 39 + 3)) $((96 + 1200)) 0 >wanted
+# Reads: 96 slots, 1,200 columns, 3 uberblocks at the end.
+printf '%s\n' 12 $((3 + 1200 + 39 + 3)) $((96 + 1200 + 3)) 0 >wanted
 same 'the number of calls' counts wanted
 grep '^answer' found |
   awk 'last != "" && last < 4096 || $2 != $3 { exit } { last = $2; sum += $3 } END { print sum }' >sum

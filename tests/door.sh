@@ -66,7 +66,20 @@ later() { touch -d '1 minute' "$1"; }
 # settle: makes all sources older than the last build.
 settle() { find "$repository/crates.txt" "$sources"/{src,specs,proofs} -exec touch -d '1 minute ago' {} +; }
 
+# asks WORD TEXT: is answered without a build.
+asks() {
+  name="$1 is answered at once"
+  local status=0
+  rm -f calls
+  "$repository/raidzx" "$1" >said 2>told </dev/null || status=$?
+  [ "$status" = 1 ] && [ "$(cat said)" = usage ] && [ ! -e calls ] && grep -q "$2" told ||
+    failed "status $status, $(cat said told)"
+  printf 'ok %s\n' "$name"
+}
+
 settle
+asks --help 'IMAGE.. -- create --parity P'
+asks --version 'format 1'
 use 'the first use builds' yes "$repository/raidzx"
 use 'the second one does not' no "$repository/raidzx"
 use 'it is named from another folder' no ../repository/raidzx

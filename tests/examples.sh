@@ -39,3 +39,42 @@ bash "$ROOT/examples/500-puts.sh" | "$RAIDZX" "${IMAGES[@]}" -- run >found
 [ "$(grep -c ' put .* ok$' found)" = 500 ] && [ "$(tail -n 1 found)" = '502 a.501 sync group 4' ] ||
   failed '500 puts' "$(tail -n 1 found)"
 echo 'ok 500 puts and a sync'
+
+# A file of any kind: of no byte, of one block, of many.
+export RAIDZX
+rm disk*
+truncate -s 16M "${IMAGES[@]}"
+"$RAIDZX" "${IMAGES[@]}" -- create --parity 1 --width 3 --id 10 >/dev/null
+mkdir files
+: >files/empty
+printf 'hello' >'files/a letter'
+head -c 65536 /dev/zero | tr '\0' '\377' >files/block
+{ cat "$ROOT/crates.txt" "$RAIDZX"; head -c 7000001 /dev/zero; printf '\0\n\r\0'; } >files/many
+first=1000
+for file in files/*; do
+  bash "$ROOT/examples/store-file.sh" "$file" $first "${IMAGES[@]}" || failed store-file "$file"
+  first=$((first + 1000))
+done
+rm disk2
+first=1000
+for file in files/*; do
+  bash "$ROOT/examples/read-file.sh" $first "${IMAGES[@]}" >again 2>told || failed read-file "$(cat told)"
+  cmp -s "$file" again || failed read-file "$file differs"
+  [ "$(tail -n 1 told)" = "read-file: ${file#files/}, $(wc -c <"$file") bytes" ] || failed read-file "$(cat told)"
+  first=$((first + 1000))
+done
+echo 'ok files are stored, and read again without an image'
+if bash "$ROOT/examples/read-file.sh" 7 "${IMAGES[@]}" >again 2>told; then failed read-file 'block 7 is no file'; fi
+
+# To a whole pool, once an image is out.
+new=(new0 new1 new2)
+truncate -s 16M "${new[@]}"
+"$RAIDZX" "${new[@]}" -- create --parity 1 --width 3 --id 11 >/dev/null
+bash "$ROOT/examples/copy-pool.sh" 1000 4200 "${IMAGES[@]}" -- "${new[@]}" 2>told || failed copy-pool "$(cat told)"
+rm new0
+first=1000
+for file in files/*; do
+  bash "$ROOT/examples/read-file.sh" $first "${new[@]}" 2>told | cmp -s - "$file" || failed copy-pool "$file differs"
+  first=$((first + 1000))
+done
+echo 'ok a pool is copied into a new one, which bears a loss again'

@@ -116,7 +116,7 @@ for how in missing 'no file' 'cut off in the ring' 'cut off in the data'; do
     back made
     fails "$how" $image
     kinds >before
-    "$RAIDZX" disk0 disk1 disk2 -- run <reads | answers | cmp -s - wanted || failed "$image, $how" 'other blocks'
+    "$RAIDZX" disk0 disk1 disk2 -- run <reads 2>told | answers | cmp -s - wanted || failed "$image, $how" 'other blocks'
     kinds | cmp -s - before || failed "$image, $how" "$(kinds)"
   done
   printf 'ok all blocks are read with one image %s\n' "$how"

@@ -45,7 +45,7 @@ make_script >script
 # look FOLDER: opens the pool of its images and reads all blocks into `found`. CHOSEN is the group that was
 # chosen: the opening's group is that number plus 2.
 look() {
-  "$RAIDZX" "$1"/disk0 "$1"/disk1 "$1"/disk2 -- run <reads >text || failed 'a killed pool opens' "$(cat text)"
+  "$RAIDZX" "$1"/disk0 "$1"/disk1 "$1"/disk2 -- run <reads >text 2>told || failed 'a killed pool opens' "$(cat text)"
   answers <text >found
   read -r _ _ CHOSEN _ <text
   CHOSEN=$((CHOSEN - 2))

@@ -35,7 +35,7 @@ expect 'a new pool on images that are not there' 4 'too many failed 0' \
 calls 'get 5' sync >script
 rounds() {
   for round in $(seq 40); do
-    "$RAIDZX" "${IMAGES[@]}" -- run <script >"first$1" || grep -q '^too many failed' "first$1"
+    "$RAIDZX" "${IMAGES[@]}" -- run <script >"first$1" 2>"told$1" || grep -q '^too many failed' "first$1"
   done
 }
 rounds a &
@@ -47,6 +47,6 @@ status=0
 "$RAIDZX" "${IMAGES[@]}" -- run <script >text || status=$?
 [ $status = 0 ] && grep -q 'get 5 at 1 bytes' text || failed 'what two programs left' "$(cat text)"
 rm disk1
-"$RAIDZX" "${IMAGES[@]}" -- run <script >text || status=$?
+"$RAIDZX" "${IMAGES[@]}" -- run <script >text 2>told || status=$?
 [ $status = 0 ] && grep -q 'get 5 at 1 bytes' text || failed 'what two programs left, an image less' "$(cat text)"
 echo 'ok two programs side by side, 40 times'

@@ -46,10 +46,10 @@ check() {
     without $set
     [ ${#MISSING[@]} -le $((parity + 1)) ] || continue
     status=0
-    "$RAIDZX" "${IMAGES[@]}" -- run <reads >found || status=$?
+    "$RAIDZX" "${IMAGES[@]}" -- run <reads >found 2>told || status=$?
     if [ ${#MISSING[@]} -le "$parity" ]; then
       { [ $status = 0 ] && answers <found | cmp -s - wanted; } || failed "without ${MISSING[*]}" "$(cat found)"
-      "$RAIDZX" "${IMAGES[@]}" -- run <later | answers | cmp -s - wanted_later ||
+      "$RAIDZX" "${IMAGES[@]}" -- run <later 2>told | answers | cmp -s - wanted_later ||
         failed "a later run without ${MISSING[*]}" 'other blocks'
       sets=$((sets + 1))
     else

@@ -21,7 +21,7 @@ stops() {
   shift
   keep start
   strace -f -y -xx -s 512 -e trace=pwrite64,pwritev,pwritev2,fdatasync,fsync,sync_file_range,ftruncate,fallocate \
-    -o trace "$RAIDZX" disk0 disk1 disk2 -- run <script >/dev/null
+    -o trace "$RAIDZX" disk0 disk1 disk2 -- run <script >/dev/null 2>told
   keep end
   rm -rf stop
   mkdir stop

@@ -1,7 +1,8 @@
--- One byte more of a pattern, in its place.
-use Rattle.std.proofs.Common.{◌≡◌, ℕ, zero, suc, ◌+◌, ◌*◌, ◌-◌, ◌%◌, ◌<◌, ◌≤◌, List, [], ◌∷◌, ◌++◌, length, take, sym, ◌∙◌, ap, arith}
-use Rattle.std.proofs.lemmas.List.{take_more_set}
-use Rattle.std.proofs.Math.ListN.{set}
+-- A pattern, run by run.
+use Rattle.std.proofs.Common.{◌≡◌, ◌≢◌, ⊎_elim, ℕ, zero, suc, ◌+◌, ◌*◌, ◌%◌, ◌<◌, ◌≤◌, List, [], ◌∷◌, ◌++◌, length, get_or, take, sym, ◌∙◌, ap, arith, append_assoc}
+use Rattle.std.specs.Prelude.{slice_index_or, slice_set}
+use Rattle.std.proofs.lemmas.Bool.{cases_eq}
+use Rattle.std.proofs.lemmas.List.{append-nil, take_more, get_or-set_same, get_or-set_other}
 use Rattle.client_script.specs.Lines.{pattern_from, pattern_byte}
 
 -- A pattern grows at its end.
@@ -11,12 +12,29 @@ pattern_push seed from (suc len) =
     ap (λ (l : List ℕ). pattern_byte seed from ∷ l)
     (pattern_push seed (from + 1) len ∙ ap (λ n. pattern_from seed (from + 1) len ++ pattern_byte seed n ∷ []) (omega arith))
 
--- The next byte in its place, by the last eight bits of the first of its run.
-pub pattern_set : (bytes : List ℕ) (seed run place byte : ℕ) → place < length bytes → 256 * run ≤ place → place < 256 * run + 256
-    → byte ≡ ((seed % 256 + run % 256) % 256 + (place - 256 * run) * 7 % 256) % 256
-    → take place bytes ≡ pattern_from seed 0 place
-    → take (place + 1) (set bytes place byte) ≡ pattern_from seed 0 (place + 1)
-pattern_set bytes seed run place byte within from below is so_far =
-    let same : byte ≡ pattern_byte seed (0 + place) = omega (arith, is, from, below) in
-    let one : suc place ≡ place + 1 = omega arith in
-    take_more_set bytes place byte within ∙ (λ i. so_far i ++ same i ∷ []) ∙ sym (pattern_push seed 0 place) ∙ ap (pattern_from seed 0) one
+-- The first bytes of a run, after those of the runs before it.
+pub pattern_run : (seed run : ℕ) (row : List ℕ) → length row ≡ 256
+    → ((place : ℕ) → place < 256 → slice_index_or row place 0 ≡ ((seed + run) % 256 + 7 * place) % 256)
+    → (count : ℕ) → count ≤ 256
+    → pattern_from seed 0 (256 * run) ++ take count row ≡ pattern_from seed 0 (256 * run + count)
+pattern_run seed run row long each zero most = append-nil (pattern_from seed 0 (256 * run)) ∙ ap (pattern_from seed 0) (omega arith)
+pattern_run seed run row long each (suc count) most =
+    let here = each count (omega (arith, most)) in
+    let byte : get_or row count 0 ≡ pattern_byte seed (0 + (256 * run + count)) = here ∙ (let e : ((seed + run) % 256 + 7 * count) % 256 ≡ pattern_byte seed (0 + (256 * run + count)) = omega (arith, most) in e) in
+    let more : take (suc count) row ≡ take count row ++ get_or row count 0 ∷ [] = ap (λ n. take n row) (let one : suc count ≡ count + 1 = omega arith in one) ∙ take_more row count 0 (omega (arith, long, most)) in
+    ap (λ (l : List ℕ). pattern_from seed 0 (256 * run) ++ l) more
+    ∙ sym (append_assoc (pattern_from seed 0 (256 * run)) (take count row) (get_or row count 0 ∷ []))
+    ∙ (λ i. (pattern_run seed run row long each count (omega (arith, most))) i ++ byte i ∷ [])
+    ∙ sym (pattern_push seed 0 (256 * run + count))
+    ∙ ap (pattern_from seed 0) (let e : suc (256 * run + count) ≡ 256 * run + suc count = omega arith in e)
+
+-- One byte more of a run, in its place.
+pub row_set : (row : List ℕ) (first place : ℕ) → length row ≡ 256 → place < 256
+    → ((k : ℕ) → k < place → slice_index_or row k 0 ≡ (first + 7 * k) % 256)
+    → (k : ℕ) → k < place + 1
+    → slice_index_or (slice_set row place ((first + place * 7 % 256) % 256)) k 0 ≡ (first + 7 * k) % 256
+row_set row first place long within each k low = ⊎_elim
+    (λ (same : k ≡ place). ap (λ n. slice_index_or (slice_set row place ((first + place * 7 % 256) % 256)) n 0) same
+    ∙ get_or-set_same row place ((first + place * 7 % 256) % 256) 0 (omega (arith, long, within)) ∙ (let e : (first + place * 7 % 256) % 256 ≡ (first + 7 * k) % 256 = omega (arith, same) in e))
+    (λ (apart : k ≢ place). get_or-set_other row place k ((first + place * 7 % 256) % 256) 0 apart ∙ each k (omega (arith, low, apart)))
+    (cases_eq k place)

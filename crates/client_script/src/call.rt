@@ -1,5 +1,5 @@
 // A call as a script asks for it.
-ghost use Rattle.std.specs.Prelude.{◌≡◌, ◌+◌, ◌*◌, ◌<◌, length, take, min, IfOk};
+ghost use Rattle.std.specs.Prelude.{◌≡◌, ◌+◌, ◌*◌, ◌%◌, ◌<◌, ℕ, length, slice_index_or, IfOk};
 ghost use Rattle.client_script.specs.Lines.{fill_bytes, pattern_from};
 
 use core_state::{Bytes, Kind};
@@ -29,34 +29,34 @@ impl Fill {
 fn pattern(alloc: Global, len: u32, seed: u64) -> Result<Vec<u8>, AllocError>
     ensures { IfOk result (λ bytes. bytes.items ≡ pattern_from seed 0 len) }
 {
-    let mut bytes = vec![in alloc; 0; len as usize]?;
-    fill_all(&mut bytes, seed);
-    Ok(bytes)
-}
-
-fn fill_all(bytes: &mut [u8], seed: u64)
-    ensures { bytes.new ≡ pattern_from seed 0 (length bytes.old) }
-{
-    for run in 0..bytes.len().div_ceil(256) {
-        fill_run(bytes, run, seed);
+    let len = len as usize;
+    let mut bytes = Vec::with_capacity(alloc, len)?;
+    for run in 0..len.div_ceil(256) {
+        let row = pattern_row(first_of_run(seed, run));
+        let count = (len - 256 * run).min(256);
+        bytes.extend_from_slice(&row[..count])?;
     }
+    Ok(bytes)
 }
 
 // Byte `i` is `seed + 7 * i + i / 256`, and a byte takes no more of it than its last eight bits: so
 // in a run of 256 bytes each is the one before and 7.
-fn fill_run(bytes: &mut [u8], run: usize, seed: u64)
-    requires inside { 256 * run < length bytes.old }
-    requires before { take (256 * run) bytes.old ≡ pattern_from seed 0 (256 * run) }
-    ensures len { length bytes.new ≡ length bytes.old }
-    ensures filled { take (min (256 * (run + 1)) (length bytes.old)) bytes.new
-        ≡ pattern_from seed 0 (min (256 * (run + 1)) (length bytes.old)) }
+fn first_of_run(seed: u64, run: usize) -> u8
+    ensures { result ≡ (seed + run) % 256 }
 {
-    let start = 256 * run;
-    let end = bytes.len().min(start + 256);
-    let first = ((seed % 256 + run as u64 % 256) % 256) as u8;
-    for place in start..end {
-        bytes[place] = first.wrapping_add(((place - start) as u8).wrapping_mul(7));
+    ((seed % 256) as u8).wrapping_add((run % 256) as u8)
+}
+
+fn pattern_row(first: u8) -> [u8; 256]
+    ensures len { length result ≡ 256 }
+    ensures each { (place : ℕ) → place < 256
+        → slice_index_or result place 0 ≡ (first + 7 * place) % 256 }
+{
+    let mut row = [0; 256];
+    for place in 0..256 {
+        row[place] = first.wrapping_add((place as u8).wrapping_mul(7));
     }
+    row
 }
 
 /// `line` is the number of its line, from 1.

@@ -419,10 +419,12 @@ pub put_more : (before after : CoreState) (run : PutRun) (result : Turn PutRun) 
 put_more before after run (More next) of under_way writes =
     let core = record before.core { pool = record before.core.pool { out = after.core.pool.out } } in
     subst (λ (c : Core). IsMorePut c (More next)) (sym writes.rest)
-    (subst (λ (r : PutRun). IsMorePut core (More r)) (sym writes.next_is)
-    (put_of_stays before.core core (record run { filled = Some (written writes.filled) })
-    (widths_out before.core core refl) of.holds
-    (written_of before.core run writes.filled writes.write writes.filled_is writes.write_is of), under_way))
+    (subst (λ (r : PutRun). IsMorePut core (More r)) (sym writes.next_is) (
+      put_of_stays before.core core (record run { filled = Some (written writes.filled) })
+          (widths_out before.core core refl) of.holds
+          (written_of before.core run writes.filled writes.write writes.filled_is writes.write_is of),
+      under_way,
+    ))
 put_more before after run (Busy by) of under_way writes = tt
 put_more before after run (Done given) of under_way writes = tt
 

@@ -4,8 +4,8 @@ ghost use Rattle.std.specs.Prelude.{◌≡◌, ◌*◌, ◌<◌, ◌≤◌, ◌^
 use bank_trait::Failed;
 use file_bank::{BlockFile, ReadFault};
 use raidzx_top::MOST_SECTORS;
-use std::fs::{File, Files, OpenOptions, TryLockError};
-use std::io::{self, ErrorKind, Seek, SeekFrom};
+use std::fs::File;
+use std::io::{self, ErrorKind};
 use std::os::unix::fs::FileExt;
 
 const SECTOR_BYTES: u64 = 512;
@@ -18,30 +18,18 @@ pub struct Image {
     ghost few: { sectors ≤ 65_728 },
 }
 
-/// Another program has the image open, or this one has it under another name.
-pub struct Held;
-
-/// Opens a file for reading and writing, and locks it. None where it can't be used; `Held` where another
-/// has it: then nothing may be done to any image of its pool, for another program may be at work on it.
-pub fn open_image<R: Files<File = File>>(rt: &R, name: &str) -> Result<Option<Image>, Held> {
-    let Ok(file) = OpenOptions::new().read(true).write(true).open(rt, name) else {
-        return Ok(None);
-    };
-    match file.try_lock() {
-        Ok(()) => Ok(measured(file)),
-        Err(TryLockError::WouldBlock) => Err(Held),
-        Err(TryLockError::Error(_)) => Ok(None),
+impl Image {
+    /// A file of so many bytes: its whole sectors are used, as far as a device may have them.
+    pub fn new(file: File, bytes: u64) -> Image {
+        Image {
+            file,
+            sectors: (bytes / SECTOR_BYTES).min(MOST_SECTORS),
+        }
     }
-}
 
-/// The image with its length, where that can be told: its end is looked for, since a disk has no length
-/// among its metadata.
-fn measured(mut file: File) -> Option<Image> {
-    let length = file.seek(SeekFrom::End(0)).ok()?;
-    Some(Image {
-        file,
-        sectors: (length / SECTOR_BYTES).min(MOST_SECTORS),
-    })
+    pub fn sectors(&self) -> u64 {
+        self.sectors
+    }
 }
 
 /// A file that is there gives no clause of what it holds, so nothing is told of it: what these calls do is

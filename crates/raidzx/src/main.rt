@@ -1,25 +1,37 @@
 //! The program: `raidzx IMAGE.. -- COMMAND ..`.
 #![tactic(auto)]
 
-ghost use Rattle.std.specs.Prelude.{◌+◌, ◌<◌, ◌≤◌, ◌^◌, length};
+ghost use Rattle.std.specs.Prelude.{◌≡◌, ◌+◌, ◌<◌, ◌≤◌, ◌^◌, length};
 
+mod after;
 mod files;
+mod hints;
+mod notes;
+mod opening;
+mod seen;
 mod streams;
+mod usage;
 
+use after::tell_files;
 use bank_mem::MemBank;
 use bank_trait::Bank;
-use files::{FileBank, Held, bank_over, open_image};
-use raidzx_top::{Images, Status, image_words, is_command, raidzx, write_status};
+use files::{FileBank, bank_over};
+use hints::hint_line;
+use notes::{note_lengths, note_unopened};
+use opening::{Unopened, open_image};
+use raidzx_top::{Outcome, Status, image_words, is_command, raidzx, write_status};
 use std::alloc::{AllocFailed, Global};
 use std::env;
+use std::io::{self, ErrorKind};
 use std::process::ExitCode;
 use streams::{Input, Output, hold_standard_streams};
 use uberblock_ring::DeviceSet;
+use usage::hint_usage;
 
 /// Why there is no bank over files.
 enum NoBank {
-    /// Another program has this image.
-    Held { device: u32 },
+    /// Another program has this image, or this one is refused it.
+    Refused { device: u32 },
     NoMemory,
 }
 
@@ -34,8 +46,9 @@ impl<T: Drop> From<AllocFailed<T>> for NoBank {
     }
 }
 
-/// Opens the files that the words from the second on name, so many of them, in this order. At the first one
-/// that another program has it stops, so that of two programs that want the same images one gets them all.
+/// Opens the files that the words from the second on name, so many of them, in this order, and tells why one could not
+/// be opened. At the first one that another program has, or that this one is refused, it stops: of two programs that
+/// want the same images one gets them all.
 fn open_files(rt: &HostRuntime, words: &[String], count: u32) -> Result<FileBank, NoBank>
     requires { count + 1 < length words.now }
 {
@@ -43,79 +56,106 @@ fn open_files(rt: &HostRuntime, words: &[String], count: u32) -> Result<FileBank
     let mut images = Vec::new(alloc);
     let mut faults = Vec::new(alloc);
     for device in 0..count {
-        match open_image(rt, words[device as usize + 1].as_str()) {
-            Ok(image) => images.push(image)?,
-            Err(Held) => return Err(NoBank::Held { device }),
+        let name = words[device as usize + 1].as_str();
+        match open_image(rt, name) {
+            Ok(image) => images.push(Some(image))?,
+            Err(why) => {
+                note_unopened(rt, name, &why);
+                match why {
+                    Unopened::Failed(_) => images.push(None)?,
+                    _ => return Err(NoBank::Refused { device }),
+                }
+            }
         }
         faults.push(0)?;
     }
+    note_lengths(rt, &words[1..], &images);
     Ok(bank_over(images, faults))
 }
 
-/// The status where there is no bank: an image that another program has is told as failed.
-fn status_without_bank(why: NoBank) -> Status {
-    match why {
-        NoBank::Held { device } => {
-            let mut out = DeviceSet::empty();
-            if device < 64 {
-                out.insert(device);
-            }
-            Status::TooManyFailed { out }
-        }
-        NoBank::NoMemory => Status::NoMemory,
-    }
-}
-
-/// Carries out the command over a bank, and gives the exit status.
-fn run_over<B: Bank + Drop>(rt: &HostRuntime, words: &[String], bank: B) -> ExitCode {
+/// Carries out the command over a bank, and tells what is wrong with a script that is refused.
+fn run_over<B: Bank + Drop>(rt: &HostRuntime, words: &[String], bank: B) -> Outcome<B> {
     let mut script = Input {
         inner: rt.reader(),
         faults: 0,
+        handed: Some(Vec::new(rt.alloc())),
     };
     let mut out = Output {
-        inner: std::io::writer(rt),
+        inner: io::writer(rt),
         faults: 0,
     };
     let outcome = raidzx(rt.alloc(), words, bank, &mut script, &mut out);
-    ExitCode::from(outcome.status.code())
+    if let (Status::ScriptFault { line }, Some(text)) = (outcome.status, &script.handed) {
+        hint_line(rt, text, line);
+    }
+    outcome
 }
 
 /// Ends the program before there is a bank.
 fn end(rt: &HostRuntime, status: Status) -> ExitCode {
     let mut out = Output {
-        inner: std::io::writer(rt),
+        inner: io::writer(rt),
         faults: 0,
     };
     let _ = write_status(&mut out, &status);
     ExitCode::from(status.code())
 }
 
+/// Ends the program where the words are no command.
+fn end_misused(rt: &HostRuntime, words: &[String]) -> ExitCode {
+    hint_usage(rt, words);
+    end(rt, Status::Usage)
+}
+
+/// Ends the program where this image refuses the run. Its number may be one that no set of devices has.
+fn end_refused(rt: &HostRuntime, device: u32) -> ExitCode {
+    let status = Status::TooManyFailed {
+        out: DeviceSet::empty(),
+    };
+    let _ = println!(rt; "too many failed {device}");
+    ExitCode::from(status.code())
+}
+
 fn main(rt: HostRuntime) -> ExitCode {
     let _held = hold_standard_streams(&rt);
-    let Ok(arguments) = env::args(&rt) else {
-        return end(&rt, Status::Usage);
+    let arguments = match env::args(&rt) {
+        Ok(arguments) => arguments,
+        Err(why) if why.kind() == ErrorKind::OutOfMemory => return end(&rt, Status::NoMemory),
+        Err(_) => return end_misused(&rt, &[]),
     };
     let Ok(words) = arguments.collect::<Vec<String>>(rt.alloc()) else {
         return end(&rt, Status::NoMemory);
     };
     let Some(images) = image_words(&words) else {
-        return end(&rt, Status::Usage);
+        return end_misused(&rt, &words);
     };
     let command = &words[images.count + 1..];
     if !is_command(command) {
-        return end(&rt, Status::Usage);
+        return end_misused(&rt, &words);
     }
     let Ok(count) = u32::try_from(images.count) else {
         return end(&rt, Status::NoMemory);
     };
     match images.memory {
         Some(sectors) => match MemBank::new(rt.alloc(), count, sectors) {
-            Ok(bank) => run_over(&rt, command, bank),
+            Ok(bank) => ExitCode::from(run_over(&rt, command, bank).status.code()),
             Err(_) => end(&rt, Status::NoMemory),
         },
         None => match open_files(&rt, &words, count) {
-            Ok(bank) => run_over(&rt, command, bank),
-            Err(why) => end(&rt, status_without_bank(why)),
+            Ok(bank) => {
+                let outcome = run_over(&rt, command, bank);
+                let code = outcome.status.code();
+                tell_files(
+                    &rt,
+                    rt.alloc(),
+                    &words[1..images.count + 1],
+                    command,
+                    outcome,
+                );
+                ExitCode::from(code)
+            }
+            Err(NoBank::Refused { device }) => end_refused(&rt, device),
+            Err(NoBank::NoMemory) => end(&rt, Status::NoMemory),
         },
     }
 }

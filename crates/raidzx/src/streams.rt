@@ -1,9 +1,14 @@
 // Standard output as a sink, standard input as a source, and what stands in for one that is closed.
-ghost use Rattle.std.specs.Prelude.{◌≡◌, ◌<◌, ℕ, List, Option, Some, None};
+ghost use Rattle.std.specs.Prelude.{◌≡◌, ◌<◌, ◌≤◌, ℕ, List, Option, Some, None, IfOk, length};
+ghost use Rattle.std.specs.Io.{WritesAtMost};
+ghost use Rattle.std.specs.Io.KnownBytes.{WriteAppends};
 
 use bank_trait::{Failed, Sink, Source};
 use std::fs::{File, Files, OpenOptions};
-use std::io::{Read, Write};
+use std::io::{self, Error, ErrorKind, Read, Write};
+
+/// How often a call is made that signals interrupt.
+const MOST_TRIES: u64 = u64::MAX;
 
 /// Files on the numbers of standard streams that the program was started without.
 #[derive(Drop)]
@@ -28,11 +33,24 @@ fn open_folder<R: Files<File = File>>(rt: &R) -> Option<File> {
     OpenOptions::new().read(true).open(rt, "/").ok()
 }
 
-/// A sink over a writer.
+/// A sink over a writer. A write that a signal interrupts is made again.
 #[derive(Drop)]
 pub struct Output<W> {
     pub inner: W,
     pub faults: u64,
+}
+
+fn write_on<W: Write>(writer: &mut W, piece: &[u8]) -> io::Result<usize>
+    ensures bound { WritesAtMost result piece.now }
+    ensures bytes { WriteAppends (W.contents writer.old) (W.contents writer.new) result piece.now }
+{
+    for _ in 0..MOST_TRIES {
+        match writer.write(piece) {
+            Err(why) if why.kind() == ErrorKind::Interrupted => {}
+            outcome => return outcome,
+        }
+    }
+    Err(Error::from(ErrorKind::Interrupted))
 }
 
 impl<W: Write + Drop> Sink for Output<W> {
@@ -41,7 +59,7 @@ impl<W: Write + Drop> Sink for Output<W> {
     ghost faults = { λ s. s.faults };
 
     fn write(&mut self, piece: &[u8]) -> Result<usize, Failed> {
-        match self.inner.write(piece) {
+        match write_on(&mut self.inner, piece) {
             Ok(taken) if taken > 0 || piece.is_empty() => Ok(taken),
             _ => {
                 self.faults = self.faults.saturating_add(1);
@@ -51,11 +69,34 @@ impl<W: Write + Drop> Sink for Output<W> {
     }
 }
 
-/// A source over a reader. It tells nothing of what is left.
+/// A source over a reader, which keeps what it has handed over, as long as there is memory for it. It tells nothing of
+/// what is left. A read that a signal interrupts is made again.
 #[derive(Drop)]
 pub struct Input<R> {
     pub inner: R,
     pub faults: u64,
+    pub handed: Option<Vec<u8>>,
+}
+
+fn read_on<R: Read>(reader: &mut R, into: &mut [u8]) -> io::Result<usize>
+    ensures { IfOk result (λ count. count ≤ length into.new) }
+{
+    for _ in 0..MOST_TRIES {
+        match reader.read(into) {
+            Err(why) if why.kind() == ErrorKind::Interrupted => {}
+            outcome => return outcome,
+        }
+    }
+    Err(Error::from(ErrorKind::Interrupted))
+}
+
+/// These bytes behind those that are kept, if there is memory for them.
+fn kept(handed: Option<Vec<u8>>, more: &[u8]) -> Option<Vec<u8>> {
+    let mut bytes = handed?;
+    match bytes.extend_from_slice(more) {
+        Ok(()) => Some(bytes),
+        Err(_) => None,
+    }
 }
 
 impl<R: Read + Drop> Source for Input<R> {
@@ -64,8 +105,11 @@ impl<R: Read + Drop> Source for Input<R> {
     ghost faults = { λ s. s.faults };
 
     fn read(&mut self, into: &mut [u8]) -> Result<usize, Failed> {
-        match self.inner.read(into) {
-            Ok(count) => Ok(count),
+        match read_on(&mut self.inner, into) {
+            Ok(count) => {
+                self.handed = kept(self.handed.take(), &into[..count]);
+                Ok(count)
+            }
             Err(_) => {
                 self.faults = self.faults.saturating_add(1);
                 Err(Failed)

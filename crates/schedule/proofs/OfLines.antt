@@ -335,9 +335,10 @@ module _ (script : Script) (before after : Station) (clients news : List Client)
       (goes_on_by script before.items clients news given goes placed next after.client changes
       (ap (λ (c : Client). answered_of c.begun c.under_way) client ∙ counted)
       (λ now going.
-      let same = some_is (sym (ap (λ (c : Client). c.under_way) client) ∙ going) in
-      (ap (λ (u : UnderWay). u.at) (sym same) ∙ began,
-      let is = ap (λ (c : Client). c.begun) client in omega (arith, is, some))) at)
+      let same = some_is (sym (ap (λ (c : Client). c.under_way) client) ∙ going) in (
+        ap (λ (u : UnderWay). u.at) (sym same) ∙ began,
+        let is = ap (λ (c : Client). c.begun) client in omega (arith, is, some),
+      )) at)
 
   begins : (turn : Turn Work) (call : ScriptCall) → before.client.under_way ≡ None
       → LeavesBegun placed.actor call before after turn → Now after.items

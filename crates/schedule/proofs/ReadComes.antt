@@ -167,7 +167,7 @@ module _ (script : Script) (actor : ℕ) (before after : Station) (clients news 
               ∙ ap (λ (m : Map). m id) (map_at_end world.handed world.opening before.items) ∙ none absent)
               begins.1),
           let calls = calls_under_way runs.contents clients in
-          subst (λ (m : Map). Stands world.setting runs.last runs.begun m calls runs.commit after.state)
+              subst (λ (m : Map). Stands world.setting runs.last runs.begun m calls runs.commit after.state)
               (sym (map_read world.handed map (first_entry call actor before given) call.kind given is of))
               (subst (Stands world.setting runs.last runs.begun map calls runs.commit)
               (λ i. at_disk (sym begins.0 i) (sym disk i)) runs.stands),

@@ -78,9 +78,9 @@ module _ (world : World) (script : Script) (past : Past) (before after : CoreSta
 
     -- A put or a read goes on.
     pub goes_on : (under : UnderWay) (does : Work) → old.under_way ≡ Some under → client ≡ record {
-          begun = old.begun;
-          under_way = Some (record { at = under.at; work = does });
-        }
+      begun = old.begun;
+      under_way = Some (record { at = under.at; work = does });
+    }
         → (IsSync under.work → ⊥) → (IsSync does → ⊥)
         → ((asked : ScriptCall) → HasContent world items asked under.at (runs.contents index) under.work
         → HasContent world items asked under.at (runs.contents index) does)
@@ -172,9 +172,9 @@ module _ (world : World) (script : Script) (past : Past) (before after : CoreSta
 
     -- A put or a read begins, with these bytes of its block.
     pub begins : (content : List ℕ) (does : Work) → client ≡ record {
-          begun = old.begun + 1;
-          under_way = Some (record { at = length items; work = does });
-        }
+      begun = old.begun + 1;
+      under_way = Some (record { at = length items; work = does });
+    }
         → (IsSync does → ⊥)
         → ((asked : ScriptCall) → slice_get (calls_of script index) old.begun ≡ Some asked
         → HasContent world items asked (length items) content does)
@@ -272,7 +272,11 @@ module _ (world : World) (script : Script) (past : Past) (before after : CoreSta
       here = record {
         at = (some_items, omega arith);
         after = λ place entry there caller. slice_get_within items place (CallItem entry) there;
-        sync = (next, refl, subst (λ (g : GroupItem). IsBegunAt world items g (length items) next)
-            (one_latest runs.recorded.latest runs.latest) is_begun);
+        sync = (
+          next,
+          refl,
+          subst (λ (g : GroupItem). IsBegunAt world items g (length items) next)
+              (one_latest runs.recorded.latest runs.latest) is_begun,
+        );
         content = λ asked is. tt;
       }

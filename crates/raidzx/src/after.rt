@@ -1,0 +1,107 @@
+// What a user is told once a command over files has ended.
+ghost use Rattle.bank_trait.specs.Disk.{Unchanged};
+
+use crate::files::FileBank;
+use crate::notes::{note_failed_calls, note_further, note_out, note_seen};
+use crate::seen::{out_for_good, seen_anywhere, seen_in_place};
+use bank_trait::Bank;
+use core_state::Journal;
+use raidzx_top::{Outcome, Status};
+use std::alloc::Global;
+
+/// The width that the words of a `create` name.
+fn width_of(command: &[String]) -> Option<usize> {
+    let [_, name, _, _, _, width, ..] = command else {
+        return None;
+    };
+    if name.as_str() != "create" {
+        return None;
+    }
+    width.as_str().parse::<usize>().ok()
+}
+
+/// The images that a new pool of this width has not.
+#[tactic(auto, using(core_open::proofs::Unchanged::unchanged_none, core_open::proofs::Unchanged::unchanged_then))]
+fn tell_further<R: Eprint, B: Bank>(rt: &R, names: &[String], width: usize, bank: &mut B)
+    ensures { Unchanged (B.disk bank.old) (B.disk bank.new) }
+{
+    for device in 0..bank.devices() {
+        let Some(name) = names.get(device as usize) else {
+            return;
+        };
+        if device as usize >= width {
+            note_further(rt, name, width, seen_in_place(bank, device));
+        }
+    }
+}
+
+/// What the images show that are not in their places.
+#[tactic(auto, using(core_open::proofs::Unchanged::unchanged_none, core_open::proofs::Unchanged::unchanged_then))]
+fn tell_seen<R: Eprint, B: Bank>(rt: &R, names: &[String], bank: &mut B)
+    ensures { Unchanged (B.disk bank.old) (B.disk bank.new) }
+{
+    for device in 0..bank.devices() {
+        let Some(name) = names.get(device as usize) else {
+            return;
+        };
+        match seen_anywhere(bank, device) {
+            Some(seen) if seen.place != device => note_seen(rt, name, seen),
+            _ => {}
+        }
+    }
+}
+
+/// What a status leaves to tell, where the command was a `create`.
+fn tell_of_create<R: Eprint>(
+    rt: &R,
+    names: &[String],
+    width: usize,
+    status: Status,
+    bank: &mut FileBank,
+) {
+    if status == Status::Done {
+        tell_further(rt, names, width, bank);
+    }
+}
+
+/// What a run has left to tell: what images show, where no pool was opened, or which are out for good.
+fn tell_of_run<R: Eprint>(
+    rt: &R,
+    alloc: Global,
+    names: &[String],
+    status: Status,
+    journal: &Journal,
+    bank: &mut FileBank,
+) {
+    if !journal.is_empty() {
+        note_out(rt, names, out_for_good(alloc, bank, journal));
+        return;
+    }
+    match status {
+        Status::NotPool | Status::TooManyFailed { out: _ } => tell_seen(rt, names, bank),
+        _ => {}
+    }
+}
+
+/// Tells of each image whose calls failed, and what else a user has to know after this ending of a command.
+pub fn tell_files<R: Eprint>(
+    rt: &R,
+    alloc: Global,
+    names: &[String],
+    command: &[String],
+    outcome: Outcome<FileBank>,
+) {
+    let mut bank = outcome.bank;
+    note_failed_calls(rt, names, &bank);
+    match width_of(command) {
+        Some(width) => tell_of_create(rt, names, width, outcome.status, &mut bank),
+        None => tell_of_run(
+            rt,
+            alloc,
+            names,
+            outcome.status,
+            &outcome.journal,
+            &mut bank,
+        ),
+    }
+}

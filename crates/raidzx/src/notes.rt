@@ -1,0 +1,98 @@
+// What a user is told of each image, on standard error: one line each. A line that can't be written changes nothing.
+
+use crate::files::{FileBank, Image};
+use crate::opening::Unopened;
+use crate::seen::Seen;
+use bank_trait::Bank;
+use uberblock_ring::DeviceSet;
+
+/// Why an image could not be opened, and what that means.
+pub fn note_unopened<R: Eprint>(rt: &R, name: &str, why: &Unopened) {
+    let _ = match why {
+        Unopened::Held => eprintln!(rt;
+            "raidzx: {name}: another program has it, or it is named twice; nothing was done"
+        ),
+        Unopened::Refused(error) => eprintln!(rt;
+            "raidzx: {name}: cannot be opened: {error}; nothing was done, as the disk may be whole"
+        ),
+        Unopened::Failed(error) => eprintln!(rt;
+            "raidzx: {name}: cannot be opened: {error}; its disk counts as failed"
+        ),
+    };
+}
+
+/// The sectors of the longest image; none where no image could be opened.
+fn longest(images: &[Option<Image>]) -> u64 {
+    let mut most = 0;
+    for image in images {
+        if let Some(image) = image {
+            most = image.sectors().max(most);
+        }
+    }
+    most
+}
+
+/// Which images are shorter than the longest.
+pub fn note_lengths<R: Eprint>(rt: &R, names: &[String], images: &[Option<Image>]) {
+    let most = longest(images);
+    for (name, image) in names.iter().zip(images.iter()) {
+        if let Some(image) = image {
+            let sectors = image.sectors();
+            if sectors < most {
+                let _ = eprintln!(rt;
+                    "raidzx: {name}: has {sectors} sectors and the longest image {most}; it goes out where it ends"
+                );
+            }
+        }
+    }
+}
+
+/// The images whose calls failed.
+pub fn note_failed_calls<R: Eprint>(rt: &R, names: &[String], bank: &FileBank) {
+    for device in 0..bank.devices() {
+        let Some(name) = names.get(device as usize) else {
+            return;
+        };
+        let _ = match bank.faults(device) {
+            0 => Ok(()),
+            1 => eprintln!(rt; "raidzx: {name}: 1 call failed in this run"),
+            count => eprintln!(rt; "raidzx: {name}: {count} calls failed in this run"),
+        };
+    }
+}
+
+/// The images that a group lists as out.
+pub fn note_out<R: Eprint>(rt: &R, names: &[String], out: DeviceSet) {
+    for device in 0..64u32 {
+        if out.has(device) {
+            let _ = match names.get(device as usize) {
+                Some(name) => eprintln!(rt; "raidzx: {name}: out of the pool for good"),
+                None => eprintln!(rt;
+                    "raidzx: image {device}, which is not named: out of the pool for good"
+                ),
+            };
+        }
+    }
+}
+
+/// An image that a new pool of this width does not have, and the pool that stands there.
+pub fn note_further<R: Eprint>(rt: &R, name: &str, width: usize, seen: Option<Seen>) {
+    let _ = match seen {
+        None => eprintln!(rt;
+            "raidzx: {name}: not of the new pool, which has the first {width} images"
+        ),
+        Some(seen) => eprintln!(rt;
+            "raidzx: {name}: not of the new pool, which has the first {width} images; it shows pool {}, \
+            which a run over all of them may open in its place",
+            seen.pool
+        ),
+    };
+}
+
+/// What an image shows that a run could not take it for.
+pub fn note_seen<R: Eprint>(rt: &R, name: &str, seen: Seen) {
+    let _ = eprintln!(rt;
+        "raidzx: {name}: shows image {} of pool {}",
+        seen.place, seen.pool
+    );
+}

@@ -1,0 +1,58 @@
+// The form of a command, where the words are none.
+
+/// Which command was meant, by the first word behind the dashes.
+#[derive(Clone, Copy, Debug, PartialEq, Eq)]
+pub enum Meant {
+    Create,
+    Run,
+    Replay,
+    Unknown,
+}
+
+/// Which command words mean.
+fn meant_by(words: &[String]) -> Meant {
+    let mut behind = false;
+    for word in words {
+        if behind {
+            return named(word.as_str());
+        }
+        behind = word.as_str() == "--";
+    }
+    Meant::Unknown
+}
+
+fn named(word: &str) -> Meant {
+    match word {
+        "create" => Meant::Create,
+        "run" => Meant::Run,
+        "replay" => Meant::Replay,
+        _ => Meant::Unknown,
+    }
+}
+
+const CREATE: &str = "raidzx IMAGE.. -- create --parity P --width W --id N";
+
+const RUN: &str = "raidzx IMAGE.. -- run <SCRIPT";
+
+const REPLAY: &str = "raidzx IMAGE.. -- replay <SCRIPT";
+
+/// Shows the form of the command that was meant, or of all.
+pub fn hint_usage<R: Eprint>(rt: &R, words: &[String]) {
+    let meant = meant_by(words);
+    let wants_all = meant == Meant::Unknown;
+    if wants_all || meant == Meant::Create {
+        let _ = eprintln!(rt; "raidzx: usage: {CREATE}");
+        let _ = eprintln!(rt;
+            "raidzx: P from 1 to 3, W above P and at most 16, N below 2^64; no leading zeros"
+        );
+    }
+    if wants_all || meant == Meant::Run {
+        let _ = eprintln!(rt; "raidzx: usage: {RUN}");
+    }
+    if wants_all || meant == Meant::Replay {
+        let _ = eprintln!(rt; "raidzx: usage: {REPLAY}");
+    }
+    let _ = eprintln!(rt;
+        "raidzx: each IMAGE is a file or a disk; or each is mem:SECTORS, one number for all, from 1 to 65728"
+    );
+}
