@@ -1,7 +1,6 @@
 -- Which devices go out in a run of calls.
 use Rattle.std.specs.Prelude.{◌≡◌, ℕ, true, false}
 use Rattle.bank_trait.specs.Causes.{FaultCounted}
-use Rattle.bank_trait.specs.Disk.{Disk}
 use Rattle.uberblock_ring.specs.Devices.{has_device, IsWithin}
 use Rattle.core_state.specs.Committing.{Point}
 

@@ -10,8 +10,6 @@ use Rattle.block_record.specs.Page.{index_page, IsIndex}
 use Rattle.block_table.specs.Table.{IsTable}
 use Rattle.uberblock_ring.specs.Devices.{IsWithin}
 use Rattle.uberblock_ring.specs.Uberblock.{Uber}
-use Rattle.core_state.specs.declared.answer.Answer.{Answer}
-use Rattle.core_state.specs.declared.answer.Answer.TheVariants as answer
 use Rattle.core_state.specs.Map.{Map}
 use Rattle.core_state.specs.Index.{layout_of}
 use Rattle.core_state.specs.Keeps.{Kept, Setting}
@@ -35,15 +33,13 @@ use Rattle.open_pool.specs.HoldsGroup.{HoldsGroup}
 use Rattle.open_pool.proofs.NextGroup.{IsReady, ready}
 use Rattle.open_pool.proofs.Committing.{may_commit}
 use Rattle.core_turns.specs.declared.putting.PutRun.{PutRun}
-use Rattle.core_turns.specs.declared.getting.GetRun.{GetRun}
-use Rattle.core_turns.specs.declared.turn.Turn.{Turn}
-use Rattle.core_turns.specs.declared.turn.Turn.TheVariants.{More, Busy, Done}
+use Rattle.core_turns.specs.declared.turn.Turn.TheVariants.{More}
 use Rattle.core_turns.specs.Core.{Core, IsCore, CoreState, at_disk, pool_at}
-use Rattle.core_turns.specs.Getting.{HasTooManyOut, IsGetOf}
+use Rattle.core_turns.specs.Getting.{HasTooManyOut}
 use Rattle.core_turns.specs.Committing.{IsCommitOf, commit_of, uber_for, BeginsCommit, StepsCommit, AnswersGroup, answered_by}
 use Rattle.core_turns.specs.UnderWay.{HoldingCall, Putting, Reading, layout_of_call, ranges_of, PutsSpare, Stands, AreCallsOf}
 use Rattle.core_turns.proofs.Commits.{few_out, rests, rests_pool, begun_commit, step_uber}
-use Rattle.core_turns.proofs.Frames.{Leaves, KeepsWidths, widths_out, get_of_stays, off_nowhere, leaves_spared, call_stays, calls_keep, calls_stay, map_stays, stands_frame}
+use Rattle.core_turns.proofs.Frames.{Leaves, KeepsWidths, off_nowhere, leaves_spared, call_stays, calls_keep, calls_stay, map_stays, stands_frame}
 
 -- The range of a put that is under way is one of those of all.
 put_listed : (calls : List HoldingCall) (run : PutRun) (content : List ℕ) → Contains calls (Putting run content)

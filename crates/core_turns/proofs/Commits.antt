@@ -1,5 +1,5 @@
 -- Commits, turn by turn: that a pool stays one, and what each turn comes to.
-use Rattle.std.proofs.Common.{◌≡◌, ◌⊎◌, inl, inr, ⊎_elim, ℕ, ◌+◌, ◌^◌, ◌<◌, ◌≤◌, List, [], ◌∷◌, ◌++◌, length, None, Some, Option, refl, sym, ◌∙◌, ap, subst, arith}
+use Rattle.std.proofs.Common.{◌≡◌, ◌⊎◌, inl, inr, ⊎_elim, ℕ, ◌+◌, ◌^◌, ◌<◌, ◌≤◌, List, length, None, Some, Option, refl, sym, ◌∙◌, ap, subst, arith}
 use Rattle.std.proofs.lemmas.Bool.{true≢false, cases_lt}
 use Rattle.sha2.specs.Sha256.{sha256}
 use Rattle.bank_trait.specs.Disk.{Disk, Lawful}
@@ -17,7 +17,6 @@ use Rattle.uberblock_ring.specs.Valid.{IsRightUber}
 use Rattle.uberblock_ring.proofs.Digest.{sha256_is_digest}
 use Rattle.core_state.specs.declared.answer.Answer.{Answer}
 use Rattle.core_state.specs.declared.answer.Answer.TheVariants as answer
-use Rattle.core_state.specs.declared.answer.Kind.{Kind}
 use Rattle.core_state.specs.Committing.{Point, point_of}
 use Rattle.core_blocks.specs.Blocks.{Blocks, AreInStep}
 use Rattle.core_client.specs.Outs.{OnlyFailedGoOut}
@@ -35,11 +34,9 @@ use Rattle.open_pool.proofs.Banks.{bank_later}
 use Rattle.open_pool.proofs.NextGroup.{few_below}
 use Rattle.core_turns.specs.declared.turn.Turn.{Turn}
 use Rattle.core_turns.specs.declared.turn.Turn.TheVariants.{More, Busy, Done}
-use Rattle.core_turns.specs.declared.getting.GetRun.{GetRun}
 use Rattle.core_turns.specs.Core.{Core, CoreState, IsCore, groups_begun}
-use Rattle.core_turns.specs.Getting.{HasTooManyOut, BeginsGet, ReadsTurn}
-use Rattle.core_turns.specs.Committing.{IsCommitOf, BeginsCommit, StepsCommit, commit_of, answered_by}
-use Rattle.core_turns.specs.Freeing.{FreesBlock}
+use Rattle.core_turns.specs.Getting.{HasTooManyOut}
+use Rattle.core_turns.specs.Committing.{IsCommitOf, StepsCommit, commit_of, answered_by}
 use Rattle.core_turns.specs.UnderWay.{TurnGoesOn}
 use Rattle.core_turns.proofs.Cores.{core_out}
 

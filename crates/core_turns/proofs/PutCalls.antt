@@ -1,24 +1,19 @@
 -- Which calls are under way over each turn of a put.
-use Rattle.std.proofs.Common.{◌≡◌, ◌≢◌, ⊎_elim, ℕ, ◌+◌, List, [], ◌∷◌, ◌++◌, length, Option, Some, refl, sym, ◌∙◌, ap, subst, arith}
+use Rattle.std.proofs.Common.{◌≡◌, ◌≢◌, ℕ, ◌+◌, List, [], ◌∷◌, ◌++◌, length, Option, Some, refl, sym, ◌∙◌, ap, subst, arith}
 use Rattle.std.specs.Prelude.{Contains}
 use Rattle.std.proofs.lemmas.List.Elements.{Contains-append_left}
-use Rattle.std.proofs.lemmas.Option.{slice_get_within}
 use Rattle.range_locks.specs.declared.hold.Hold.{Hold}
 use Rattle.range_locks.specs.declared.hold.HoldKind.TheVariants.{Shared}
-use Rattle.range_locks.specs.Holds.{EndsHold, Overlaps}
+use Rattle.range_locks.specs.Holds.{Overlaps}
 use Rattle.space_alloc.specs.Space.{Gains, IsIn}
 use Rattle.row_layout.specs.Layout.{Layout, allocated_of}
-use Rattle.reflow_mark.specs.declared.reflow.Reflow.{Reflow}
-use Rattle.shadow_write.specs.Required.{front_after_stop}
-use Rattle.shadow_write.specs.Writes.{writes_of}
-use Rattle.core_blocks.specs.Blocks.{AreUnderWay, layout_run, put_run}
+use Rattle.core_blocks.specs.Blocks.{AreUnderWay, put_run}
 use Rattle.core_blocks.proofs.Lists.{gains_item}
-use Rattle.core_blocks.proofs.Runs.{clear_turned, free_of_taken}
-use Rattle.core_client.specs.Writing.{IsPlanOf}
+use Rattle.core_blocks.proofs.Runs.{free_of_taken}
 use Rattle.core_turns.specs.declared.putting.Filled.{Filled}
 use Rattle.core_turns.specs.declared.putting.PutRun.{PutRun}
 use Rattle.core_turns.specs.Core.{Core, CoreState}
-use Rattle.core_turns.specs.Putting.{BeginsPutSo, FillsPut, GivesUp, IsFilledWith, IsPutOf, LeavesBlocks, StoresBlock, WritesOne}
+use Rattle.core_turns.specs.Putting.{BeginsPutSo, FillsPut, GivesUp, IsPutOf, LeavesBlocks, StoresBlock, WritesOne}
 use Rattle.core_turns.specs.UnderWay.{HoldingCall, Putting, Reading, AreBeside, AreCallsOf, HaveNoneInCommon, IsCallOfCore, hold_of_call, ranges_of}
 use Rattle.core_turns.proofs.Calls.{calls_gain, calls_lose, calls_swap, range_listed}
 use Rattle.core_turns.proofs.Frames.{KeepsWidths, calls_keep, calls_stay}

@@ -10,7 +10,7 @@ use Rattle.core_blocks.specs.Runs.{AreClear}
 use Rattle.core_blocks.proofs.Lists.{gains_item, gains_old, gains_cases, pairs_gain, pairs_lose, pairs_beside}
 use Rattle.core_blocks.proofs.Runs.{clear_turned}
 use Rattle.core_turns.specs.declared.putting.PutRun.{PutRun}
-use Rattle.core_turns.specs.UnderWay.{HoldingCall, Putting, Reading, range_in, ranges_of}
+use Rattle.core_turns.specs.UnderWay.{HoldingCall, Putting, range_in, ranges_of}
 
 module _ {T : Type 0} (left one other : List T) (x : T) (there : Gains left one x) (here : Gains left other x) where
   -- Two lists that gained the same item contain the same,

@@ -2,7 +2,7 @@
 use Rattle.std.proofs.Common.{◌≡◌, ◌≢◌, ⊎_elim, ℕ, ◌+◌, ◌<◌, ◌≤◌, ◌^◌, List, ◌∷◌, [], ◌++◌, length, true, Option, Some, None, Result, Ok, Err, append-nil, refl, sym, ◌∙◌, ap, subst, arith}
 use Rattle.std.specs.Prelude.{All, Contains, OnOk, OnErr, slice_get, slice_index_or}
 use Rattle.std.proofs.lemmas.Option.{slice_get-get_or, slice_get_within}
-use Rattle.std.proofs.lemmas.List.Elements.{Contains-append_left, Contains-append_right}
+use Rattle.std.proofs.lemmas.List.Elements.{Contains-append_right}
 use Rattle.bank_trait.specs.Disk.{Disk}
 use Rattle.bank_trait.specs.Regions.{TouchesOnly}
 use Rattle.bank_trait.proofs.Moments.{later_refl}
@@ -37,7 +37,7 @@ use Rattle.core_client.specs.Outs.{OnlyFailedGoOut}
 use Rattle.core_client.specs.Pool.{IsInPool}
 use Rattle.core_client.specs.BlockTurns.{BlockWrite}
 use Rattle.core_client.specs.Writing.{IsOnBank, IsMade, IsPassedOrMade, IsPlanOf}
-use Rattle.core_client.proofs.BlockTurns.{listed_at, numbered}
+use Rattle.core_client.proofs.BlockTurns.{listed_at}
 use Rattle.core_client.proofs.Below.{below_by_write}
 use Rattle.core_client.proofs.Outs.{outs_none, outs_called}
 use Rattle.core_client.proofs.Stored.{plan_below, plan_inside}
@@ -45,15 +45,14 @@ use Rattle.core_commit.specs.Spared.{IsOnInUse}
 use Rattle.open_pool.specs.Pool.{HasBank}
 use Rattle.open_pool.proofs.Banks.{bank_later}
 use Rattle.open_pool.proofs.PutRanges.{entry_range, range_in_pool}
-use Rattle.core_turns.specs.declared.getting.GetRun.{GetRun}
 use Rattle.core_turns.specs.declared.getting.OutOfMemory.{OutOfMemory}
 use Rattle.core_turns.specs.declared.putting.Filled.{Filled}
 use Rattle.core_turns.specs.declared.putting.PutRun.{PutRun}
 use Rattle.core_turns.specs.declared.turn.Turn.{Turn}
 use Rattle.core_turns.specs.declared.turn.Turn.TheVariants.{More, Busy, Done}
 use Rattle.core_turns.specs.Core.{Core, CoreState, IsCore, as_begun, at_disk}
-use Rattle.core_turns.specs.Getting.{HasTooManyOut, IsGetOf}
-use Rattle.core_turns.specs.Putting.{BeginsPutSo, BeginsPutTurn, FillsPut, IsFilledWith, IsMorePut, IsPutOf, LeavesBlocks, StoresBlock, WritesOne, WritesTurn, filled_entry, hold_on, refused_turn}
+use Rattle.core_turns.specs.Getting.{HasTooManyOut}
+use Rattle.core_turns.specs.Putting.{BeginsPutTurn, FillsPut, IsFilledWith, IsMorePut, IsPutOf, LeavesBlocks, StoresBlock, WritesOne, WritesTurn, filled_entry, hold_on, refused_turn}
 use Rattle.core_turns.specs.UnderWay.{TurnGoesOn}
 use Rattle.core_turns.proofs.Cores.{bank_has, core_blocks}
 use Rattle.core_turns.proofs.Frames.{put_of_stays, widths_out}

@@ -40,7 +40,6 @@ use Rattle.core_client.specs.Pool.{IsInPool}
 use Rattle.core_client.specs.Writing.{IsMade, IsPassedOrMade, IsPlaceOf}
 use Rattle.core_client.specs.BlockTurns.{IsWrittenSoFar}
 use Rattle.core_client.proofs.BlockTurns.{listed_at, written_more}
-use Rattle.core_client.proofs.Outs.{outs_none, outs_called}
 use Rattle.core_commit.specs.declared.commit_run.Stage.{Stage}
 use Rattle.core_commit.specs.declared.commit_run.Stage.TheVariants.{Lays, Signs}
 use Rattle.core_commit.specs.CommitTurns.{CommitRun, shown_at, shown_by}

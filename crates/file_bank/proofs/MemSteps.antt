@@ -94,7 +94,7 @@ module _ (first present new : List (List ℕ)) (calls later : List Call) (last m
       → LeadsToSectors first moment later new
   leads_on reads x = ap (λ (h : FileHeld). h.reads x) now ∙ reads x
 
--- What is read after_call a write.
+-- What is read after a write.
 set_here : (present : List (List ℕ)) (x : ℕ) (bytes : List ℕ) → x < length present
     → slice_get (slice_set present x bytes) x ≡ Some bytes
 set_here present x bytes below =

@@ -38,7 +38,7 @@ abbrev pub moment_of : Call → ℕ
 moment_of (Write moment x bytes) = moment
 moment_of (Sync moment) = moment
 
--- after_call those of these calls that came by moment t, the first of them first
+-- after those of these calls that came by moment t, the first of them first
 abbrev pub replayed_to : ℕ → FileHeld → List Call → FileHeld
 replayed_to t held [] = held
 replayed_to t held (call ∷ calls) = replayed_to t (if nat_lt t (moment_of call) then held else after_call held call) calls

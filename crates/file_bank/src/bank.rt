@@ -19,7 +19,7 @@ pub struct FileBank<F: BlockFile> {
     ghost paced: { (device : ℕ) → (all_shown F.contents files.items device).last ≤ clock },
 }
 
-/// CountsCall a call by its outcome.
+/// Counts a call by its outcome.
 fn note(faults: &mut Vec<u64>, device: usize, outcome: Result<(), Failed>)
     requires { device < length faults.old.items }
     ensures counts { CountsCall (slice_index faults.old.items) (slice_index faults.new.items) device

@@ -15,3 +15,4 @@ mod slot;
 pub use bank::FileBank;
 pub use block_file::{BlockFile, ReadFault};
 pub use mem_file::MemFile;
+pub use slot::SECTOR_BYTES;

@@ -6,6 +6,7 @@ ghost use Rattle.file_bank.specs.Files.{shown};
 use crate::block_file::{BlockFile, ReadFault};
 use bank_trait::Failed;
 
+/// The bytes of a sector.
 pub const SECTOR_BYTES: u64 = 512;
 
 /// The byte that a sector begins at, where the file has the whole of it.

@@ -1,4 +1,4 @@
-//! What pools on banks in memory show: tests alone, of the crates from a bank in memory to the top call.
+//! What pools on banks in memory, and on files there, show: tests alone, of the crates from a bank to the top call.
 //!
 //! They stand here together, since a crate with tests is proved twice. `banks` makes new pools, `runs` and
 //! `calls` carry scripts and commands out on them, `plans` draws scripts from a number, and `legal_check` is
@@ -19,6 +19,8 @@ mod create_tests;
 mod drawn_order_tests;
 #[cfg(test)]
 mod failing_tests;
+#[cfg(test)]
+mod files_tests;
 #[cfg(test)]
 mod first_run_tests;
 #[cfg(test)]

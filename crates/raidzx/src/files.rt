@@ -2,13 +2,11 @@
 ghost use Rattle.std.specs.Prelude.{◌≡◌, ◌*◌, ◌<◌, ◌≤◌, ◌^◌, length};
 
 use bank_trait::Failed;
-use file_bank::{BlockFile, ReadFault};
+use file_bank::{BlockFile, ReadFault, SECTOR_BYTES};
 use raidzx_top::MOST_SECTORS;
 use std::fs::File;
 use std::io::{self, ErrorKind};
 use std::os::unix::fs::FileExt;
-
-const SECTOR_BYTES: u64 = 512;
 
 /// An open file, and how many whole sectors of it may be used.
 #[derive(Drop)]

@@ -1,5 +1,5 @@
 -- Lists into which an item is put.
-use Rattle.std.proofs.Common.{◌≡◌, List, [], ◌∷◌, refl}
+use Rattle.std.proofs.Common.{List, [], ◌∷◌, refl}
 use Rattle.space_alloc.specs.Space.{Gains}
 
 -- An item comes first.

@@ -1,24 +1,19 @@
 -- The groups of a journal stay numbered, turn by turn.
-use Rattle.std.proofs.Common.{◌≡◌, inl, inr, ℕ, zero, suc, ◌+◌, ◌<◌, ◌≤◌, List, [], ◌∷◌, ◌++◌, length, Option, Some, sym, ◌∙◌, ap, subst, arith, refl}
+use Rattle.std.proofs.Common.{◌≡◌, inl, inr, ℕ, zero, suc, ◌+◌, ◌<◌, List, [], ◌∷◌, ◌++◌, length, Some, sym, ◌∙◌, ap, subst, arith, refl}
 use Rattle.std.specs.Prelude.{slice_get}
 use Rattle.uberblock_ring.specs.Uberblock.{Uber}
-use Rattle.core_state.specs.declared.answer.Answer.{Answer}
 use Rattle.core_state.specs.declared.item.Entry.{Entry}
 use Rattle.core_state.specs.declared.item.Group.{Group as GroupItem}
 use Rattle.core_state.specs.declared.item.Item.{Item}
 use Rattle.core_state.specs.declared.item.Item.TheVariants.{Group, Call as CallItem}
 use Rattle.core_state.specs.Legal.{GroupAt, IsGroupBefore}
-use Rattle.core_commit.specs.CommitTurns.{CommitRun}
 use Rattle.client_script.specs.Script.{Script, calls_of}
 use Rattle.journal_law.proofs.Grown.{group_before_first, new_or_before}
 use Rattle.journal_law.proofs.GrownGroups.{latest_alone, latest_grown_call, latest_grown_group}
 use Rattle.open_pool.specs.Pool.{Pool, first_item}
 use Rattle.core_turns.specs.declared.turn.Turn.TheVariants.{More, Busy, Done}
 use Rattle.core_turns.specs.Core.{Core, IsCore}
-use Rattle.core_turns.specs.Committing.{IsCommitOf}
 use Rattle.schedule.specs.declared.client.Client.{Client}
-use Rattle.schedule.specs.declared.client.UnderWay.{UnderWay}
-use Rattle.schedule.specs.declared.client.Work.TheVariants as work
 use Rattle.schedule.specs.Numbered.{GroupsAreNumbered, IsNumbered}
 use Rattle.schedule.specs.Running.{AreGoing}
 use Rattle.schedule.specs.Turned.{Station, Turned, Nothing, Began, Went, entry_for, group_for, listed_for}

@@ -27,7 +27,7 @@ use Rattle.schedule.specs.declared.client.Work.{Work}
 use Rattle.schedule.specs.declared.whole_run.Ended.{Ended}
 use Rattle.schedule.specs.declared.whole_run.Ended.TheVariants.{Whole, NoMemory, Limit}
 use Rattle.schedule.specs.Clients.{Changes, answered_of}
-use Rattle.schedule.specs.InTurn.{Cursor, Goes, HasGone, InOrder, InRest, InRound, IsCallOfScript, IsStepOf, IsTurnOf, Replay, ReplaySteps, cursor_after, has_left_at, is_any_busy, is_busy_at, is_under_way, replay_at, rest_after, turn_at, turn_in_rest}
+use Rattle.schedule.specs.InTurn.{Cursor, Goes, InOrder, InRest, InRound, IsCallOfScript, IsStepOf, IsTurnOf, Replay, ReplaySteps, cursor_after, has_left_at, is_any_busy, is_busy_at, is_under_way, replay_at, rest_after, turn_at, turn_in_rest}
 use Rattle.schedule.specs.OfLines.{FollowsLines, actors_in, callers_in}
 use Rattle.schedule.specs.Playing.{EndsAs}
 use Rattle.schedule.specs.Replaying.{AreIdle, blank_client, blank_clients}

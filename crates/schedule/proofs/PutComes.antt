@@ -19,7 +19,7 @@ use Rattle.core_turns.specs.declared.putting.PutRun.{PutRun}
 use Rattle.core_turns.specs.declared.turn.Turn.TheVariants.{More, Busy, Done}
 use Rattle.core_turns.specs.Core.{Core, at_disk}
 use Rattle.core_turns.specs.Putting.{BeginsPutTurn, IsPutRefused, LeavesBlocks}
-use Rattle.core_turns.specs.UnderWay.{HoldingCall, Putting, Stands}
+use Rattle.core_turns.specs.UnderWay.{Putting, Stands}
 use Rattle.core_turns.proofs.PutCalls.{begins_rearranges, leaves_rearranges, put_begins_calls, put_refused_calls}
 use Rattle.core_turns.proofs.PutStands.{put_begins_stands, put_refused_stands}
 use Rattle.schedule.specs.declared.client.Client.{Client}

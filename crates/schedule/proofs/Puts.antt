@@ -1,7 +1,6 @@
 -- A client's put among the calls under way, what its turns leave of the core, and what its answers mean.
-use Rattle.std.proofs.Common.{◌≡◌, ℕ, List, [], ◌∷◌, ◌++◌, Some, refl, sym, ◌∙◌, ap, subst}
-use Rattle.std.specs.Prelude.{Contains, slice_get, ⊤}
-use Rattle.space_alloc.specs.Space.{Gains}
+use Rattle.std.proofs.Common.{◌≡◌, ℕ, List, [], ◌∷◌, ◌++◌, refl, sym, ◌∙◌, subst}
+use Rattle.std.specs.Prelude.{⊤}
 use Rattle.core_state.specs.declared.answer.Answer.{Answer}
 use Rattle.core_state.specs.declared.answer.Answer.TheVariants as answer
 use Rattle.core_state.specs.declared.answer.Kind.TheVariants as kind
@@ -15,10 +14,7 @@ use Rattle.core_turns.specs.declared.putting.PutRun.{PutRun}
 use Rattle.core_turns.specs.Core.{Core}
 use Rattle.core_turns.specs.Getting.{HasTooManyOut}
 use Rattle.core_turns.specs.Putting.{IsPutRefused, LeavesBlocks}
-use Rattle.core_turns.specs.UnderWay.{HoldingCall, Putting, Reading}
 use Rattle.core_turns.proofs.PutCalls.{Rearranges}
-use Rattle.schedule.specs.declared.client.Client.{Client}
-use Rattle.schedule.specs.declared.client.UnderWay.{UnderWay}
 use Rattle.schedule.specs.declared.client.Work.{Work}
 use Rattle.schedule.specs.declared.client.Work.TheVariants as work
 use Rattle.schedule.specs.Running.{IsSync}

@@ -1,7 +1,6 @@
 -- What stood before a turn of one client stands after it, where its call is answered.
-use Rattle.std.proofs.Common.{◌≡◌, ◌≢◌, ℕ, List, [], ◌∷◌, ◌++◌, Some, None, sym, ◌∙◌, ap, subst, length, ◌+◌, ◌<◌, arith, ◌≤◌, length-append, Option}
-use Rattle.std.specs.Prelude.{Contains, slice_get}
-use Rattle.space_alloc.specs.Space.{Gains}
+use Rattle.std.proofs.Common.{◌≡◌, ℕ, List, [], ◌∷◌, ◌++◌, Some, None, sym, ◌∙◌, ap, subst, length, ◌+◌, ◌<◌, arith, ◌≤◌, length-append, Option}
+use Rattle.std.specs.Prelude.{slice_get}
 use Rattle.uberblock_ring.specs.Uberblock.{Uber}
 use Rattle.core_state.specs.declared.answer.Answer.TheVariants as answer
 use Rattle.core_state.specs.declared.answer.Kind.TheVariants as kind
@@ -14,7 +13,6 @@ use Rattle.core_state.specs.Legal.{IsAnswerOf}
 use Rattle.core_state.specs.Keeps.{Kept}
 use Rattle.core_state.specs.Certain.{Knows}
 use Rattle.core_state.specs.World.{World}
-use Rattle.core_blocks.proofs.Lists.{gains_old}
 use Rattle.core_commit.specs.CommitTurns.{CommitRun}
 use Rattle.client_script.specs.Script.{Script}
 use Rattle.journal_law.proofs.Grown.{map_grown_call, map_grown_group}

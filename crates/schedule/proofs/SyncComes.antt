@@ -25,7 +25,7 @@ use Rattle.schedule.specs.Running.{IsGoing, IsSync, AreGoing, calls_under_way, h
 use Rattle.schedule.specs.Turned.{Station, LeavesBegun}
 use Rattle.schedule.specs.Comes.{TakesTurn, Comes}
 use Rattle.schedule.proofs.Fitting.{sync_no_free}
-use Rattle.schedule.proofs.Theirs.{none_some, none_going, calls_stay, held_is}
+use Rattle.schedule.proofs.Theirs.{none_some, calls_stay, held_is}
 use Rattle.schedule.proofs.Answered.{answered, answered_idle}
 use Rattle.schedule.proofs.Begun.{begun_now}
 use Rattle.schedule.proofs.Going.{commits_on, run_of}

@@ -34,7 +34,7 @@ use Rattle.schedule.specs.Turns.{turns_of}
 use Rattle.schedule.specs.Turned.{Station, LeavesGoing, entry_for, group_for}
 use Rattle.schedule.specs.Comes.{TakesTurn, Comes}
 use Rattle.schedule.proofs.RightNext.{sync_cut_right, same_out}
-use Rattle.schedule.proofs.Theirs.{some_is, none_some, going_under, calls_stay, held_is}
+use Rattle.schedule.proofs.Theirs.{some_is, none_some, calls_stay, held_is}
 use Rattle.schedule.proofs.Answered.{answered, answers_call, answers_group, answered_going}
 use Rattle.schedule.specs.Fitting.{FitsCall}
 use Rattle.schedule.proofs.Fitting.{FitSince, fits, sync_no_free}

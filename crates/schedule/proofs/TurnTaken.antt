@@ -6,12 +6,8 @@ use Rattle.std.proofs.lemmas.Option.{get_or_from_slice_get, slice_get-get_or, sl
 use Rattle.bank_trait.specs.Disk.{Lawful}
 use Rattle.client_script.specs.declared.call.ScriptCall.{ScriptCall}
 use Rattle.client_script.specs.Script.{Placed, Script, IsAllowed, calls_of}
-use Rattle.core_turns.specs.declared.getting.GetRun.{GetRun}
-use Rattle.core_turns.specs.declared.putting.PutRun.{PutRun}
 use Rattle.core_turns.specs.Core.{Core, IsCore}
-use Rattle.core_blocks.specs.Blocks.{IsUnderWay}
-use Rattle.core_turns.specs.Getting.{HasTooManyOut, IsGetOf, IsReadKind}
-use Rattle.core_turns.specs.Putting.{IsPutOf}
+use Rattle.core_turns.specs.Getting.{HasTooManyOut}
 use Rattle.core_turns.specs.UnderWay.{HoldingCall, Putting, Reading}
 use Rattle.core_turns.proofs.Calls.{range_listed}
 use Rattle.schedule.specs.declared.client.Client.{Client}

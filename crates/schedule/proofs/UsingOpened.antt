@@ -20,7 +20,6 @@ use Rattle.open_pool.specs.Opening.{AreLoaded}
 use Rattle.open_pool.specs.Pool.{Pool}
 use Rattle.journal_law.specs.NoSpace.{largest_size}
 use Rattle.open_pool.specs.Pool.{first_item}
-use Rattle.journal_law.proofs.GrownGroups.{latest_alone}
 use Rattle.journal_law.proofs.NoSpace.{largest, no_space_alone}
 use Rattle.schedule.specs.declared.client.Client.{Client}
 use Rattle.schedule.specs.Replaying.{blank_clients}

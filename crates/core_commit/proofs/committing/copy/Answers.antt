@@ -1,5 +1,7 @@
-use Rattle.std.proofs.Common.{ℕ, ◌∙◌, ap, arith}
+use Rattle.std.proofs.Common.{ℕ, ◌<◌, ◌≤◌, ◌∙◌, IsTrue, false, ap, subst, arith, ⊎_elim}
+use Rattle.std.proofs.lemmas.Bool.{cases_lt}
 use Rattle.reflow_mark.specs.declared.reflow.Reflow.{Reflow}
+use Rattle.uberblock_ring.specs.Devices.{count_of}
 use Rattle.commit_job.specs.Stages.{copies_of}
 use Rattle.core_state.specs.Committing.{point_of}
 use Rattle.core_commit.proofs.Copying.{copies_all_inside, copy_gone, copy_spares, copy_short, copy_whole}
@@ -12,24 +14,24 @@ make_all-requires-clause-inside g c = copies_all_inside c.args.uber.now c.args.l
     ∙ ap (λ (r : Reflow). copies_of r.to c.count.result c.args.lack_page c.args.lack_uber) c.reflow.ensures.value
     ∙ ap (λ (n : ℕ). copies_of c.args.uber.now.reflow.to n c.args.lack_page c.args.lack_uber) c.count.ensures.value)
 
-pub returns-then-len-parity-clause-gone : goal.returns-then-len-parity-clause-gone
-returns-then-len-parity-clause-gone g c = copy_gone c.args.uber.now c.args.entries.now c.args.lack_page c.args.lack_uber
+pub returns-then-exceeds-clause-gone : goal.returns-then-exceeds-clause-gone
+returns-then-exceeds-clause-gone g c = copy_gone c.args.uber.now c.args.entries.now c.args.lack_page c.args.lack_uber
     (point_of c.args.out.now (g.B.Bank.disk c.args.bank.now)) c.requires.right c.requires.index
     c.requires.fits.counted c.copies-calls.result c.make_all.new.calls
     (point_of c.make_all.new.out (g.B.Bank.disk c.make_all.new.bank)) (c.copies-calls.ensures.value
     ∙ ap (λ (r : Reflow). copies_of r.to c.count.result c.args.lack_page c.args.lack_uber) c.reflow.ensures.value
     ∙ ap (λ (n : ℕ). copies_of c.args.uber.now.reflow.to n c.args.lack_page c.args.lack_uber) c.count.ensures.value) c.make_all.ensures.ran
 
-pub returns-then-len-parity-clause-spares : goal.returns-then-len-parity-clause-spares
-returns-then-len-parity-clause-spares g c = copy_spares c.args.uber.now c.args.entries.now c.args.lack_page c.args.lack_uber
+pub returns-then-exceeds-clause-spares : goal.returns-then-exceeds-clause-spares
+returns-then-exceeds-clause-spares g c = copy_spares c.args.uber.now c.args.entries.now c.args.lack_page c.args.lack_uber
     (point_of c.args.out.now (g.B.Bank.disk c.args.bank.now)) c.requires.right c.requires.index
     c.requires.fits.counted c.copies-calls.result c.make_all.new.calls
     (point_of c.make_all.new.out (g.B.Bank.disk c.make_all.new.bank)) (c.copies-calls.ensures.value
     ∙ ap (λ (r : Reflow). copies_of r.to c.count.result c.args.lack_page c.args.lack_uber) c.reflow.ensures.value
     ∙ ap (λ (n : ℕ). copies_of c.args.uber.now.reflow.to n c.args.lack_page c.args.lack_uber) c.count.ensures.value) c.make_all.ensures.ran
 
-pub returns-then-len-parity-clause-keeps : goal.returns-then-len-parity-clause-keeps
-returns-then-len-parity-clause-keeps g c = copy_short c.args.uber.now c.args.entries.now c.args.lack_page c.args.lack_uber
+pub returns-then-exceeds-clause-keeps : goal.returns-then-exceeds-clause-keeps
+returns-then-exceeds-clause-keeps g c = copy_short c.args.uber.now c.args.entries.now c.args.lack_page c.args.lack_uber
     (point_of c.args.out.now (g.B.Bank.disk c.args.bank.now)) c.requires.right c.requires.index
     c.requires.fits.counted c.copies-calls.result c.make_all.new.calls
     (point_of c.make_all.new.out (g.B.Bank.disk c.make_all.new.bank)) (c.copies-calls.ensures.value
@@ -61,10 +63,14 @@ returns-clause-keeps g c = copy_whole c.args.uber.now c.args.entries.now c.args.
     ∙ ap (λ (r : Reflow). copies_of r.to c.count.result c.args.lack_page c.args.lack_uber) c.reflow.ensures.value
     ∙ ap (λ (n : ℕ). copies_of c.args.uber.now.reflow.to n c.args.lack_page c.args.lack_uber) c.count.ensures.value) c.make_all.ensures.ran
     (g.met.B.Bank.lawful c.args.bank.now) _
-    (c.make_all.ensures.ends (omega (arith, c.if-len-parity.false, c.len.ensures.value, c.parity.ensures.value)))
+    (c.make_all.ensures.ends (⊎_elim
+    (λ (over : c.parity.result < count_of c.make_all.new.out).
+    let never : IsTrue false = subst IsTrue c.if-exceeds.false (c.exceeds.ensures.value.1 over) in absurd cc)
+    (λ (few : count_of c.make_all.new.out ≤ c.parity.result). omega (arith, few, c.parity.ensures.value))
+    (cases_lt c.parity.result (count_of c.make_all.new.out))))
 
-pub returns-then-len-parity-clause-writes : goal.returns-then-len-parity-clause-writes
-returns-then-len-parity-clause-writes g c = ran_writes c.args.uber.now c.args.entries.now c.args.lack_page c.args.lack_uber
+pub returns-then-exceeds-clause-writes : goal.returns-then-exceeds-clause-writes
+returns-then-exceeds-clause-writes g c = ran_writes c.args.uber.now c.args.entries.now c.args.lack_page c.args.lack_uber
     c.copies-calls.result c.make_all.new.calls (point_of c.args.out.now (g.B.Bank.disk c.args.bank.now))
     (point_of c.make_all.new.out (g.B.Bank.disk c.make_all.new.bank)) (g.met.B.Bank.lawful c.args.bank.now)
     (c.copies-calls.ensures.value

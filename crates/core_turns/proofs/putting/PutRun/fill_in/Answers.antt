@@ -9,9 +9,9 @@ returns-clause-ok c = record {
   rest = refl;
   next = c.in-Ok.ensures.next;
   plan = subst (λ (done : ℕ). IsPlanOf c.args.self.now.range.layout c.args.self.now.reflow done c.args.bytes.now
-      c.in-Ok.write.rows c.in-Ok.write.writes) c.front-done.ensures c.in-Ok.ensures.plan;
+      c.in-Ok.write.rows c.in-Ok.write.writes) c.front_after_stop-done.ensures c.in-Ok.ensures.plan;
   writes = subst
       (λ (done : ℕ). c.in-Ok.write.writes ≡ writes_of c.args.self.now.range.layout c.args.self.now.reflow done)
-      c.front-done.ensures c.in-Ok.ensures.writes;
+      c.front_after_stop-done.ensures c.in-Ok.ensures.writes;
   digest_is = c.digest.ensures;
 }
