@@ -20,6 +20,8 @@ mod gf_parity_tests;
 #[cfg(test)]
 mod gf_solve_tests;
 #[cfg(test)]
+mod mark_choice_tests;
+#[cfg(test)]
 mod plain_solving;
 #[cfg(test)]
 mod pool_status_tests;
