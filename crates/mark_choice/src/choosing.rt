@@ -1,6 +1,9 @@
 // Which reflow a commit records, and what it holds.
 ghost use Rattle.std.specs.Prelude.{◌≡◌, ◌≤◌, ◌↔◌, IsTrue};
 ghost use Rattle.core_state.specs.CommitChoice.{IsCommitChoice, IsFilledOrDrained, IsNextMark, moved_to, range_of_commit};
+ghost use Rattle.reflow_band.specs.Band.{IsFrontOf, IsWidening, StaysIn, copied_of};
+ghost use Rattle.shadow_write.specs.Required.{front_after_stop};
+ghost use Rattle.mark_choice.specs.Advance.{AsksNoMore};
 ghost use Rattle.mark_choice.specs.Clear.{HasNoShared};
 
 use range_locks::{HoldKind, Locks};
@@ -53,13 +56,18 @@ fn moved_to(reflow: &Reflow, mark: u64) -> Reflow
 }
 
 /// The reflow that a commit records, where sectors below `done` were filled, drained or copied.
-#[tactic(auto, using(crate::proofs::Clear::choice_clear))]
+#[tactic(auto, using(crate::proofs::Clear::choice_clear, crate::proofs::Advance::choice_asks_no_more, crate::proofs::Advance::choice_within))]
 pub fn choose(reflow: &Reflow, done: u64, locks: &Locks) -> Reflow
     requires rows { reflow.now.rows ≤ 65536 }
     ensures choice { IsCommitChoice reflow.now done locks.now result }
 
     // The sectors whose standing changes are under no shared hold.
     ensures clear { HasNoShared locks.now (range_of_commit reflow.now result) }
+
+    // What the group asks for after a stop is right already, and stays in the band of the present mark.
+    ensures right { IsWidening reflow.now → IsFrontOf reflow.now done → AsksNoMore reflow.now done result }
+    ensures within { IsWidening reflow.now → IsFrontOf reflow.now done
+        → StaysIn reflow.now (copied_of reflow.now done) result (front_after_stop result) }
 {
     let state = match reflow.state {
         State::None => State::Valid,

@@ -1,8 +1,9 @@
 //! Which reflow a commit records in a pool that is being widened, and which sectors it holds meanwhile.
 //!
 //! A commit moves the mark towards the front up to which sectors were copied, but never past a sector that
-//! somebody reads or writes. Read `specs/CommitChoice.antt` of `core_state`, then `specs/Clear.antt`. Stands on
-//! `range_locks` and `reflow_mark`.
+//! somebody reads or writes, and all that its group asks for after a stop is right already. Read
+//! `specs/CommitChoice.antt` of `core_state`, then `specs/Clear.antt` and `specs/Advance.antt`. Stands on `reflow_band`
+//! and `range_locks`.
 #![tactic(auto)]
 
 mod choosing;
