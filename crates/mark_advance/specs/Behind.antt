@@ -1,0 +1,42 @@
+-- Where a pool stands behind the answer of a commit, in the middle of an expansion or at its end.
+use Rattle.std.specs.Prelude.{◌≡◌, ◌⊎◌, ◌↔◌, ℕ, ◌<◌, ◌≤◌}
+use Rattle.reflow_mark.specs.declared.reflow.State.{State}
+use Rattle.reflow_mark.specs.declared.reflow.State.TheVariants.{None, Valid, Moved}
+use Rattle.reflow_mark.specs.declared.reflow.Reflow.{Reflow}
+use Rattle.reflow_mark.specs.Reflow.{sectors_of}
+use Rattle.shadow_write.specs.Required.{IsRequiredPlace}
+use Rattle.reflow_band.specs.Band.{IsWidening, IsFrontOf}
+
+-- the front behind a commit that turned one state into another
+abbrev pub front_in : State → State → ℕ → ℕ → ℕ
+front_in None None done mark = done
+front_in Valid Valid done mark = done
+front_in Moved Moved done mark = done
+front_in Valid Moved done mark = mark
+front_in state other done mark = 0
+
+abbrev pub front_behind : Reflow → ℕ → Reflow → ℕ
+front_behind reflow done chosen = front_in reflow.state chosen.state done chosen.mark
+
+-- What a reflow asks for at a front is asked for already at another reflow and front.
+abbrev pub AsksNoMoreAt : Reflow → ℕ → Reflow → ℕ → Type 0
+AsksNoMoreAt reflow done chosen front = (row_end sector device device_sector : ℕ) → sector < sectors_of reflow
+    → IsRequiredPlace chosen front row_end sector device device_sector
+    → IsRequiredPlace reflow done row_end sector device device_sector
+
+-- The row from `first` to `row_end` is outside a range of sectors.
+abbrev pub IsOutside : ℕ → ℕ → ℕ → ℕ → Type 0
+IsOutside lo hi first row_end = (hi ≤ lo) ⊎ ((row_end ≤ lo) ⊎ (hi ≤ first))
+
+-- A row is asked for at the same places at both.
+abbrev pub AsksSame : Reflow → ℕ → Reflow → ℕ → ℕ → ℕ → Type 0
+AsksSame reflow done chosen front row_end sector = (device device_sector : ℕ)
+    → IsRequiredPlace reflow done row_end sector device device_sector
+    ↔ IsRequiredPlace chosen front row_end sector device device_sector
+
+-- What a choice comes to: the expansion goes on, with its front where it may be, or it has ended.
+pub data Goes (reflow : Reflow) (done : ℕ) (chosen : Reflow) : Type 0 where
+  GoesOn : (widening : IsWidening chosen) (front : IsFrontOf chosen (front_behind reflow done chosen)) → Goes reflow done chosen
+  HasEnded : (all : sectors_of reflow ≤ done)
+      (is : chosen ≡ record { from = reflow.to; to = reflow.to; rows = reflow.rows; mark = 0; state = None })
+      → Goes reflow done chosen
