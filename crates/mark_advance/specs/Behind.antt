@@ -1,11 +1,15 @@
 -- Where a pool stands behind the answer of a commit, in the middle of an expansion or at its end.
-use Rattle.std.specs.Prelude.{◌≡◌, ◌⊎◌, ◌↔◌, ℕ, ◌<◌, ◌≤◌}
+use Rattle.std.specs.Prelude.{◌≡◌, ◌⊎◌, ◌↔◌, ℕ, ◌+◌, ◌<◌, ◌≤◌}
 use Rattle.reflow_mark.specs.declared.reflow.State.{State}
 use Rattle.reflow_mark.specs.declared.reflow.State.TheVariants.{None, Valid, Moved}
 use Rattle.reflow_mark.specs.declared.reflow.Reflow.{Reflow}
 use Rattle.reflow_mark.specs.Reflow.{sectors_of}
 use Rattle.shadow_write.specs.Required.{IsRequiredPlace}
 use Rattle.reflow_band.specs.Band.{IsWidening, IsFrontOf}
+
+-- the reflow of an expansion that has just begun, from this width to one more
+abbrev pub begun : ℕ → ℕ → Reflow
+begun from rows = record { from = from; to = from + 1; rows = rows; mark = 0; state = None }
 
 -- the front behind a commit that turned one state into another
 abbrev pub front_in : State → State → ℕ → ℕ → ℕ

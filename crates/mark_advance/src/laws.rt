@@ -3,7 +3,7 @@ ghost use Rattle.std.specs.Prelude.{◌≡◌, ◌≤◌, ◌<◌, ℕ, List, []
 ghost use Rattle.bank_trait.specs.Disk.{Image, Known};
 ghost use Rattle.width_map.specs.declared.birth.Birth.{Birth};
 ghost use Rattle.reflow_mark.specs.declared.reflow.Reflow.{Reflow};
-ghost use Rattle.reflow_mark.specs.Reflow.{scratch_end, sectors_of};
+ghost use Rattle.reflow_mark.specs.Reflow.{at_rest, scratch_end, sectors_of};
 ghost use Rattle.range_locks.specs.declared.hold.Hold.{Hold};
 ghost use Rattle.shadow_write.specs.Required.{front_after_stop};
 ghost use Rattle.block_record.specs.declared.entry.IndexEntry.{IndexEntry};
@@ -15,7 +15,7 @@ ghost use Rattle.core_state.specs.Certain.{CellsOn};
 ghost use Rattle.core_state.specs.CommitChoice.{IsCommitChoice, births_of_commit};
 ghost use Rattle.reflow_band.specs.Band.{IsFrontOf, IsWidening, copied_of};
 ghost use Rattle.spare_write.specs.Around.{IsCellIn, IsClose, StandAround};
-ghost use Rattle.mark_advance.specs.Behind.{Goes, front_behind};
+ghost use Rattle.mark_advance.specs.Behind.{Goes, begun, front_behind};
 
 /// Each cell that is right at the front is right as the chosen reflow asks for it: after a stop in the commit, and
 /// behind its answer.
@@ -50,7 +50,8 @@ pub fn group_is_whole()
         → IsWhole devices excepted image next.uber next.entries next.map }
 {}
 
-/// The groups that a stop may leave stand around the mark: while the commit runs, and once it is answered.
+/// The groups that a stop may leave stand around the mark: while the commit runs, and once it is answered. So do the
+/// last group at one width and that of the attach which begins an expansion, around the mark 0.
 pub fn groups_stand_around()
     ensures begins { (reflow : Reflow) (done : ℕ) (holds : List Hold) (last next : Kept) → IsWidening reflow
         → IsFrontOf reflow done → IsCommitChoice reflow done holds next.uber.reflow
@@ -61,6 +62,11 @@ pub fn groups_stand_around()
         → IsFrontOf next.uber.reflow done
         → ((cell : Cell) → IsCellIn next cell → IsClose next.uber.reflow cell)
         → StandAround next.uber.reflow (copied_of next.uber.reflow done) (next ∷ []) }
+    ensures attached { (from rows : ℕ) (last next : Kept) → 0 < from → from ≤ 15
+        → last.uber.reflow ≡ at_rest from rows → next.uber.reflow ≡ begun from rows
+        → ((kept : Kept) (cell : Cell) → Contains (last ∷ next ∷ []) kept → IsCellIn kept cell
+        → IsClose next.uber.reflow cell)
+        → StandAround next.uber.reflow 0 (last ∷ next ∷ []) }
 {}
 
 /// Behind the answer the front is where it may be, or the expansion has ended and all was copied.

@@ -112,20 +112,15 @@ fill_is_spare setting first later reflow sector device device_sector paged widen
     by from to rows mark Valid row_end other is required low = absurd (cc)
     by from to rows mark Moved row_end other is required low = absurd (cc)
 
--- A sector is copied: all that is certain of the groups stays, whether the write is carried out or not.
-pub copy_knows : (setting : Setting) (first : Kept) (later : List Kept) (reflow : Reflow) (copied sector device device_sector : ℕ)
-    (bytes : List ℕ) (result : Result (Unit {0}) Failed) (old new : Disk)
-    → IsPaged first → IsWidening reflow → StandAround reflow copied (first ∷ later)
-    → copied ≤ sector → sector < reach_of reflow
-    → IsAt (new_place reflow sector) first_data_sector device device_sector
+-- All that is certain of the groups stays where a write is to a spare sector, whether it is carried out or not.
+pub spare_knows : (setting : Setting) (first : Kept) (later : List Kept) (device device_sector : ℕ) (bytes : List ℕ)
+    (result : Result (Unit {0}) Failed) (old new : Disk) → IsSpare setting first later device device_sector
     → Lawful old → Wrote old new device device_sector bytes result
-    → Knows setting first later old
-    → Knows setting first later new
-copy_knows setting first later reflow copied sector device device_sector bytes result old new paged widening around low high at lawful wrote knows =
+    → Knows setting first later old → Knows setting first later new
+spare_knows setting first later device device_sector bytes result old new spare lawful wrote knows =
     knows_frame (IsPlace device device_sector) none_lost setting first later old new lawful (wrote_frames wrote)
     (λ d x h. subst (λ a. IsSpare setting first later a x) (sym h.0)
-    (subst (λ b. IsSpare setting first later device b) (sym h.1)
-    (copy_is_spare setting first later reflow copied sector device device_sector paged widening around low high at)))
+    (subst (λ b. IsSpare setting first later device b) (sym h.1) spare))
     knows
 
 -- And each cell that was right, of a block of any map, is right.

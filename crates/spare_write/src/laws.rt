@@ -48,18 +48,16 @@ pub fn put_is_spare()
         → IsSpare setting first later device device_sector }
 {}
 
-/// All that is certain of a row of groups stays where a sector is copied, whether the write came off or not.
-pub fn copy_keeps_groups()
-    ensures { (setting : Setting) (first : Kept) (later : List Kept) (reflow : Reflow)
-        (copied sector device device_sector : ℕ) (bytes : List ℕ) (result : Result (Unit {0}) Fault)
-        (old new : Disk) → IsPaged first → IsWidening reflow
-        → StandAround reflow copied (first ∷ later) → copied ≤ sector → sector < reach_of reflow
-        → IsAt (new_place reflow sector) first_data_sector device device_sector
+/// All that is certain of a row of groups stays where a write is to a spare sector, whether it came off or not.
+pub fn spare_write_keeps_groups()
+    ensures { (setting : Setting) (first : Kept) (later : List Kept) (device device_sector : ℕ)
+        (bytes : List ℕ) (result : Result (Unit {0}) Fault) (old new : Disk)
+        → IsSpare setting first later device device_sector
         → Lawful old → Wrote old new device device_sector bytes result
         → Knows setting first later old → Knows setting first later new }
 {}
 
-/// And each cell that was right at the front, of a block of any map, is right.
+/// Each cell that was right at the front, of a block of any map, is right where a sector is copied.
 pub fn copy_keeps_blocks()
     ensures { (reflow : Reflow) (done sector device device_sector : ℕ) (bytes : List ℕ)
         (result : Result (Unit {0}) Fault) (old new : Disk) (out : ℕ) (excepted : Excepted)

@@ -7,4 +7,6 @@
 
 mod laws;
 
-pub use laws::{copy_is_spare, copy_keeps_blocks, copy_keeps_groups, fill_is_spare, put_is_spare};
+pub use laws::{
+    copy_is_spare, copy_keeps_blocks, fill_is_spare, put_is_spare, spare_write_keeps_groups,
+};
