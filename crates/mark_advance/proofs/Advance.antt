@@ -25,7 +25,7 @@ use Rattle.core_state.specs.Certain.{CellsOn}
 use Rattle.core_state.specs.CommitChoice.{IsChoiceIn, IsCommitChoice, births_of_commit}
 use Rattle.core_state.proofs.Listed.{contains_cases}
 use Rattle.reflow_band.specs.Band.{IsWidening, StaysIn, IsFrontOf, copied_of, copied_in}
-use Rattle.mark_advance.specs.Behind.{Goes, GoesOn, HasEnded, AsksNoMoreAt, front_behind}
+use Rattle.mark_advance.specs.Behind.{GoesOnOrEnds, GoesOn, HasEnded, AsksNoMoreAt, front_behind}
 use Rattle.spare_write.specs.Around.{IsClose, IsCellIn, StandAround}
 use Rattle.reflow_band.proofs.Within.{near_within, now_near, stop_front, before_within}
 use Rattle.mark_choice.proofs.Advance.{choice_asks_no_more, choice_within}
@@ -196,21 +196,21 @@ module _ (from to rows mark : ℕ) (done : ℕ) (expands : to ≡ from + 1) (som
       differ : Moved ≡ None → ⊥
       differ same = cc
 
-  same_goes : (state : State) → IsMark state (at state) → IsFrontOf (at state) done → Goes (at state) done (at state)
+  same_goes : (state : State) → IsMark state (at state) → IsFrontOf (at state) done → GoesOnOrEnds (at state) done (at state)
   same_goes None is front = GoesOn (record { expands = expands; some = some; narrow = narrow; mark = is }) front
   same_goes Valid is front = GoesOn (record { expands = expands; some = some; narrow = narrow; mark = is }) front
   same_goes Moved is front = GoesOn (record { expands = expands; some = some; narrow = narrow; mark = is }) front
 
-  valid_goes : Goes (at None) done (record { from = from; to = to; rows = rows; mark = 32 * to; state = Valid })
+  valid_goes : GoesOnOrEnds (at None) done (record { from = from; to = to; rows = rows; mark = 32 * to; state = Valid })
   valid_goes = GoesOn (record { expands = expands; some = some; narrow = narrow; mark = refl })
       (record { front = inl refl; limit = λ is. omega arith })
 
-  drained_goes : 32 * to < rows * from → Goes (at Valid) done (record { from = from; to = to; rows = rows; mark = 32 * to; state = Moved })
+  drained_goes : 32 * to < rows * from → GoesOnOrEnds (at Valid) done (record { from = from; to = to; rows = rows; mark = 32 * to; state = Moved })
   drained_goes room = GoesOn (record { expands = expands; some = some; narrow = narrow; mark = (omega arith, room) })
       (record { front = (omega arith, omega (arith, room)); limit = λ is. omega arith })
 
   moved_goes : (next : ℕ) → IsMark Moved (at Moved) → IsFrontOf (at Moved) done → mark ≤ next → next ≤ done → next < rows * from
-      → Goes (at Moved) done (record { from = from; to = to; rows = rows; mark = next; state = Moved })
+      → GoesOnOrEnds (at Moved) done (record { from = from; to = to; rows = rows; mark = next; state = Moved })
   moved_goes next is front low high inside = GoesOn
       (record { expands = expands; some = some; narrow = narrow; mark = (omega (arith, is.0, low), inside) })
       (record {
@@ -220,7 +220,7 @@ module _ (from to rows mark : ℕ) (done : ℕ) (expands : to ≡ from + 1) (som
 
   moved_to_goes : (next : ℕ) (ends : Bool) → (next == rows * from) ≡ ends → IsMark Moved (at Moved) → IsFrontOf (at Moved) done
       → mark ≤ next → next ≤ done
-      → Goes (at Moved) done (if ends then record { from = to; to = to; rows = rows; mark = 0; state = None }
+      → GoesOnOrEnds (at Moved) done (if ends then record { from = to; to = to; rows = rows; mark = 0; state = None }
       else record (at Moved) { state = Moved; mark = next })
   moved_to_goes next true test is front low high = HasEnded (let end : next ≡ rows * from = grind (arith, nat_tests, test) in omega (arith, end, high)) refl
   moved_to_goes next false test is front low high = moved_goes next is front low high
@@ -228,23 +228,23 @@ module _ (from to rows mark : ℕ) (done : ℕ) (expands : to ≡ from + 1) (som
       let at = front.front in omega (arith, not_end, high, at.1))
 
   in_state : (state : State) (holds : List Hold) (chosen : Reflow) → 32 * to < rows * from → IsMark state (at state) → IsFrontOf (at state) done
-      → IsChoiceIn state (at state) done holds chosen → Goes (at state) done chosen
+      → IsChoiceIn state (at state) done holds chosen → GoesOnOrEnds (at state) done chosen
   in_state None holds chosen room is front choice = ⊎_elim
-      (λ ready. subst (λ (c : Reflow). Goes (at None) done c) (sym ready.1) valid_goes)
-      (λ stays. subst (λ (c : Reflow). Goes (at None) done c) (sym stays.1) (same_goes None is front))
+      (λ ready. subst (λ (c : Reflow). GoesOnOrEnds (at None) done c) (sym ready.1) valid_goes)
+      (λ stays. subst (λ (c : Reflow). GoesOnOrEnds (at None) done c) (sym stays.1) (same_goes None is front))
       choice
   in_state Valid holds chosen room is front choice = ⊎_elim
-      (λ ready. subst (λ (c : Reflow). Goes (at Valid) done c) (sym ready.1) (drained_goes room))
-      (λ stays. subst (λ (c : Reflow). Goes (at Valid) done c) (sym stays.1) (same_goes Valid is front))
+      (λ ready. subst (λ (c : Reflow). GoesOnOrEnds (at Valid) done c) (sym ready.1) (drained_goes room))
+      (λ stays. subst (λ (c : Reflow). GoesOnOrEnds (at Valid) done c) (sym stays.1) (same_goes Valid is front))
       choice
   in_state Moved holds chosen room is front choice =
       let between = next_mark_between holds mark done choice.0 choice.1 front.front.0 in
-      subst (λ (c : Reflow). Goes (at Moved) done c) (sym choice.2)
+      subst (λ (c : Reflow). GoesOnOrEnds (at Moved) done c) (sym choice.2)
       (moved_to_goes choice.0 (choice.0 == rows * from) refl is front between.0 between.1)
 
 pub choice_goes : (reflow : Reflow) (done : ℕ) (holds : List Hold) (chosen : Reflow) → IsWidening reflow → IsFrontOf reflow done
     → scratch_end reflow < sectors_of reflow → IsCommitChoice reflow done holds chosen
-    → Goes reflow done chosen
+    → GoesOnOrEnds reflow done chosen
 choice_goes reflow done holds chosen widening front room choice =
     in_state reflow.from reflow.to reflow.rows reflow.mark done widening.expands widening.some widening.narrow reflow.state holds chosen room
     widening.mark front choice

@@ -39,8 +39,8 @@ AsksSame reflow done chosen front row_end sector = (device device_sector : ℕ)
     ↔ IsRequiredPlace chosen front row_end sector device device_sector
 
 -- What a choice comes to: the expansion goes on, with its front where it may be, or it has ended.
-pub data Goes (reflow : Reflow) (done : ℕ) (chosen : Reflow) : Type 0 where
-  GoesOn : (widening : IsWidening chosen) (front : IsFrontOf chosen (front_behind reflow done chosen)) → Goes reflow done chosen
+pub data GoesOnOrEnds (reflow : Reflow) (done : ℕ) (chosen : Reflow) : Type 0 where
+  GoesOn : (widening : IsWidening chosen) (front : IsFrontOf chosen (front_behind reflow done chosen)) → GoesOnOrEnds reflow done chosen
   HasEnded : (all : sectors_of reflow ≤ done)
       (is : chosen ≡ record { from = reflow.to; to = reflow.to; rows = reflow.rows; mark = 0; state = None })
-      → Goes reflow done chosen
+      → GoesOnOrEnds reflow done chosen

@@ -15,7 +15,7 @@ ghost use Rattle.core_state.specs.Certain.{CellsOn};
 ghost use Rattle.core_state.specs.CommitChoice.{IsCommitChoice, births_of_commit};
 ghost use Rattle.reflow_band.specs.Band.{IsFrontOf, IsWidening, copied_of};
 ghost use Rattle.spare_write.specs.Around.{IsCellIn, IsClose, StandAround};
-ghost use Rattle.mark_advance.specs.Behind.{Goes, begun, front_behind};
+ghost use Rattle.mark_advance.specs.Behind.{GoesOnOrEnds, begun, front_behind};
 
 /// Each cell that is right at the front is right as the chosen reflow asks for it: after a stop in the commit, and
 /// behind its answer.
@@ -73,5 +73,5 @@ pub fn groups_stand_around()
 pub fn front_goes_on()
     ensures { (reflow : Reflow) (done : ℕ) (holds : List Hold) (chosen : Reflow) → IsWidening reflow
         → IsFrontOf reflow done → scratch_end reflow < sectors_of reflow
-        → IsCommitChoice reflow done holds chosen → Goes reflow done chosen }
+        → IsCommitChoice reflow done holds chosen → GoesOnOrEnds reflow done chosen }
 {}
