@@ -14,7 +14,8 @@ use Rattle.shadow_write.proofs.Whole.{are_required}
 use Rattle.reconstruct.specs.Columns.{column_bytes}
 use Rattle.core_state.specs.Whole.{Cell, IsCell}
 use Rattle.core_client.specs.Pool.{IsInPool}
-use Rattle.core_client.proofs.Places.{widths_of, in_pool, scratch_below}
+use Rattle.reflow_band.proofs.Within.{scratch_within}
+use Rattle.core_client.proofs.Places.{widths_of, in_pool}
 use Rattle.core_client.proofs.Stored.{place_on_pool}
 use Rattle.core_client.proofs.Spots.{IsOnPool, on_pool}
 
@@ -67,7 +68,7 @@ places_inside layout reflow done bytes cell device device_sector pool front is r
     in_scratch needs there =
         let low : sector / reflow.to < 32 =
         (div-lt_iff_lt-mul {k = reflow.to} {x = sector} {y = 32} (widths_of layout reflow pool).to_some).1
-        (scratch_below reflow.state reflow done sector front needs) in
+        (scratch_within reflow.state reflow done sector front needs) in
         (omega (arith, there.sector_is), omega (arith, there.sector_is, low))
 
 -- ---- what the writes of a block go to

@@ -1,7 +1,7 @@
 -- No place has to hold two columns of a block.
-use Rattle.std.proofs.Common.{◌≡◌, ◌≢◌, ⊎_elim, ℕ, ◌+◌, ◌*◌, ◌/◌, ◌%◌, ◌<◌, ◌≤◌, refl, sym, ◌∙◌, ap, subst, arith}
+use Rattle.std.proofs.Common.{◌≡◌, ◌≢◌, ⊎_elim, ℕ, ◌+◌, ◌*◌, ◌/◌, ◌<◌, ◌≤◌, refl, sym, ◌∙◌, subst, arith}
 use Rattle.std.specs.Prelude.{max}
-use Rattle.std.proofs.Math.Nat.{div-add-mod, div-lt_iff_lt-mul}
+use Rattle.std.proofs.Math.Nat.{div-lt_iff_lt-mul}
 use Rattle.std.proofs.lemmas.Nat.{same_from_place}
 use Rattle.std.proofs.lemmas.Bool.{cases_lt}
 use Rattle.width_map.specs.declared.position.Place.{Place}
@@ -18,22 +18,10 @@ use Rattle.row_layout.specs.Layout.{Layout, IsColumn, columns_in, columns_of, se
 use Rattle.row_layout.proofs.Parts.{columns_few, row_few}
 use Rattle.row_layout.proofs.Laws.{inside}
 use Rattle.shadow_write.specs.Required.{IsAt, NeedsScratch, NeedsNew, IsRequiredPlace, IsFrontIn}
-use Rattle.core_client.specs.Pool.{IsInPool, IsFrontOf}
-
--- A place at a width is that of one sector alone.
-same_sector : (width sector other : ℕ) → place_of width sector ≡ place_of width other → sector ≡ other
-same_sector width sector other same =
-    let device : sector % width ≡ other % width = ap (λ (p : Place). p.device) same in
-    let row : sector / width ≡ other / width = ap (λ (p : Place). p.row) same in
-    let rows : width * (sector / width) ≡ width * (other / width) = ap (λ (r : ℕ). width * r) row in
-    omega (arith, div-add-mod sector width, div-add-mod other width, rows, device)
-
--- Places at one device and device sector, with rows from one sector on, are one.
-same_place : (one other : Place) (first device device_sector : ℕ) → IsAt one first device device_sector
-    → IsAt other first device device_sector → one ≡ other
-same_place one other first device device_sector at also =
-    let row : one.row ≡ other.row = omega (arith, at.sector_is, also.sector_is) in
-    λ i. record { device = (sym at.device_is ∙ also.device_is) i; row = row i }
+use Rattle.core_client.specs.Pool.{IsInPool}
+use Rattle.reflow_band.specs.Band.{IsFrontOf}
+use Rattle.reflow_band.proofs.Apart.{same_place, one_sector as same_at}
+use Rattle.reflow_band.proofs.Within.{scratch_within}
 
 -- The scratch rows end before the data rows begin.
 scratch_apart : (to sector : ℕ) (place : Place) (device device_sector : ℕ) → 0 < to → sector < 32 * to
@@ -42,16 +30,6 @@ scratch_apart : (to sector : ℕ) (place : Place) (device device_sector : ℕ) �
 scratch_apart to sector place device device_sector some below at also =
     let row : sector / to < 32 = (div-lt_iff_lt-mul {k = to} {x = sector} {y = 32} some).1 below in
     omega (arith, row, at.sector_is, also.sector_is)
-
--- What stands in the scratch area is among the sectors that go through it.
-pub scratch_below : (state : State) (reflow : Reflow) (done sector : ℕ) → IsFrontIn state reflow done
-    → NeedsScratch state reflow done sector → sector < scratch_end reflow
-scratch_below None reflow done sector front needs = ⊎_elim
-    (λ (none : done ≡ 0). absurd (omega (arith, none, needs.1)))
-    (λ (filled : Expands reflow × (done ≡ scratch_end reflow)). omega (arith, filled.1, needs.1))
-    front
-scratch_below Valid reflow done sector front needs = needs
-scratch_below Moved reflow done sector front needs = absurd needs
 
 -- Below the mark the limit is no nearer than the mark.
 limit_far : (from mark done : ℕ) → 0 < from → from ≤ 16 → 32 * from ≤ mark → done ≤ max mark (limit_of from mark)
@@ -104,21 +82,21 @@ one_sector reflow done sector other row_end other_end device device_sector from_
     ⊎_elim
     (λ (old : NeedsOld reflow.state reflow.mark row_end × IsAt (old_place reflow sector) first_data_sector device device_sector). ⊎_elim
     (λ (old' : NeedsOld reflow.state reflow.mark other_end × IsAt (old_place reflow other) first_data_sector device device_sector).
-    same_sector reflow.from sector other (same_place _ _ first_data_sector device device_sector old.1 old'.1))
+    same_at reflow.from sector other (same_place _ _ first_data_sector device device_sector old.1 old'.1))
     (λ rest. ⊎_elim
     (λ (scratch : NeedsScratch reflow.state reflow done other × IsAt (scratch_place reflow.to other) first_scratch_sector device device_sector).
-    absurd (scratch_apart reflow.to other _ device device_sector to_some (scratch_below reflow.state reflow done other front.front scratch.0) scratch.1 old.1))
+    absurd (scratch_apart reflow.to other _ device device_sector to_some (scratch_within reflow.state reflow done other front.front scratch.0) scratch.1 old.1))
     (λ (new : NeedsNew reflow.state done other × IsAt (new_place reflow other) first_data_sector device device_sector).
     absurd (apart other sector row_end close new.0 old.0 (same_place _ _ first_data_sector device device_sector new.1 old.1)))
     rest) also)
     (λ rest. ⊎_elim
     (λ (scratch : NeedsScratch reflow.state reflow done sector × IsAt (scratch_place reflow.to sector) first_scratch_sector device device_sector).
-    let below : sector < 32 * reflow.to = scratch_below reflow.state reflow done sector front.front scratch.0 in ⊎_elim
+    let below : sector < 32 * reflow.to = scratch_within reflow.state reflow done sector front.front scratch.0 in ⊎_elim
     (λ (old : NeedsOld reflow.state reflow.mark other_end × IsAt (old_place reflow other) first_data_sector device device_sector).
     absurd (scratch_apart reflow.to sector _ device device_sector to_some below scratch.1 old.1))
     (λ rest'. ⊎_elim
     (λ (scratch' : NeedsScratch reflow.state reflow done other × IsAt (scratch_place reflow.to other) first_scratch_sector device device_sector).
-    same_sector reflow.to sector other (same_place _ _ first_scratch_sector device device_sector scratch.1 scratch'.1))
+    same_at reflow.to sector other (same_place _ _ first_scratch_sector device device_sector scratch.1 scratch'.1))
     (λ (new : NeedsNew reflow.state done other × IsAt (new_place reflow other) first_data_sector device device_sector).
     absurd (scratch_apart reflow.to sector _ device device_sector to_some below scratch.1 new.1))
     rest') also)
@@ -127,9 +105,9 @@ one_sector reflow done sector other row_end other_end device device_sector from_
     absurd (apart sector other other_end other_close new.0 old.0 (same_place _ _ first_data_sector device device_sector new.1 old.1)))
     (λ rest'. ⊎_elim
     (λ (scratch : NeedsScratch reflow.state reflow done other × IsAt (scratch_place reflow.to other) first_scratch_sector device device_sector).
-    absurd (scratch_apart reflow.to other _ device device_sector to_some (scratch_below reflow.state reflow done other front.front scratch.0) scratch.1 new.1))
+    absurd (scratch_apart reflow.to other _ device device_sector to_some (scratch_within reflow.state reflow done other front.front scratch.0) scratch.1 new.1))
     (λ (new' : NeedsNew reflow.state done other × IsAt (new_place reflow other) first_data_sector device device_sector).
-    same_sector reflow.to sector other (same_place _ _ first_data_sector device device_sector new.1 new'.1))
+    same_at reflow.to sector other (same_place _ _ first_data_sector device device_sector new.1 new'.1))
     rest') also)
     rest) one
   where

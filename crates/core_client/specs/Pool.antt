@@ -1,13 +1,11 @@
 -- A block in its pool, the bank that the pool stands on, and when the block is right there.
-use Rattle.std.specs.Prelude.{◌≡◌, ℕ, ◌+◌, ◌<◌, ◌≤◌, false, max, List, []}
+use Rattle.std.specs.Prelude.{◌≡◌, ℕ, ◌+◌, ◌<◌, ◌≤◌, false, List, []}
 use Rattle.bank_trait.specs.Disk.{Known, Disk}
-use Rattle.width_map.specs.Place.{first_data_sector, limit_of}
-use Rattle.reflow_mark.specs.declared.reflow.State.TheVariants.{Moved}
+use Rattle.width_map.specs.Place.{first_data_sector}
 use Rattle.reflow_mark.specs.declared.reflow.Reflow.{Reflow}
 use Rattle.reflow_mark.specs.Reflow.{sectors_of, IsRightReflow}
 use Rattle.row_layout.specs.Layout.{Layout, total_of}
 use Rattle.row_layout.specs.Standing.{IsWithinLimits}
-use Rattle.shadow_write.specs.Required.{IsFrontIn}
 use Rattle.uberblock_ring.specs.Devices.{has_device}
 use Rattle.core_state.specs.Whole.{Cell, IsCell, RightAt}
 
@@ -25,11 +23,6 @@ pub record HasPool (reflow : Reflow) (out : ℕ) (disk : Disk) : Type 0 where
   pub devices : (device : ℕ) → device < reflow.to → has_device out device ≡ false
       → device < disk.devices
   pub sectors : first_data_sector + reflow.rows ≤ disk.sectors
-
--- The front is where it may be: no job has copied over what may still be read.
-pub record IsFrontOf (reflow : Reflow) (done : ℕ) : Type 0 where
-  pub front : IsFrontIn reflow.state reflow done
-  pub limit : reflow.state ≡ Moved → done ≤ max reflow.mark (limit_of reflow.from reflow.mark)
 
 -- Each sector of a block of these bytes is right wherever it may be read, but for devices that are
 -- out.

@@ -18,7 +18,8 @@ use Rattle.reconstruct.specs.Rows.{sectors_for}
 use Rattle.core_state.proofs.Places.{right_widths}
 use Rattle.core_blocks.specs.Blocks.{layout_run}
 use Rattle.core_blocks.specs.Runs.{AreClear}
-use Rattle.core_client.specs.Pool.{IsInPool, IsFrontOf}
+use Rattle.core_client.specs.Pool.{IsInPool}
+use Rattle.reflow_band.specs.Band.{IsFrontOf}
 use Rattle.core_client.proofs.Places.{one_sector, widths_of, close_to_end}
 use Rattle.core_open.proofs.BlockSpans.{births_between}
 

@@ -8,7 +8,7 @@ use Rattle.reflow_mark.specs.declared.reflow.Reflow.{Reflow}
 use Rattle.reflow_mark.specs.Reflow.{Expands, IsMark, scratch_end, sectors_of}
 use Rattle.reflow_mark.specs.Standing.{NeedsOld}
 use Rattle.scratch_area.specs.Scratch.{old_place, new_place, scratch_place, first_scratch_sector}
-use Rattle.shadow_write.specs.Required.{IsAt, NeedsScratch, NeedsNew, IsFrontIn, front_after_stop}
+use Rattle.shadow_write.specs.Required.{IsAt, IsRequiredPlace, NeedsScratch, NeedsNew, IsFrontIn, front_after_stop}
 use Rattle.reflow_band.specs.Band.{reach_of, reach_in, copied_of, copied_in, IsWidening, StaysIn, IsFrontOf, IsNear}
 
 -- An old place that is needed is one of a row that may end above the mark.
@@ -20,7 +20,7 @@ old_within Valid mark base row_end sector from low some still close needs = omeg
 old_within Moved mark base row_end sector from low some still close needs = omega (arith, low, close, needs)
 
 -- A scratch place that is needed is one of a sector that goes through the scratch area.
-scratch_within : (state : State) (reflow : Reflow) (done sector : ℕ) → IsFrontIn state reflow done
+pub scratch_within : (state : State) (reflow : Reflow) (done sector : ℕ) → IsFrontIn state reflow done
     → NeedsScratch state reflow done sector → sector < scratch_end reflow
 scratch_within None reflow done sector front needs = ⊎_elim
     (λ (none : done ≡ 0). absurd (omega (arith, none, needs.1)))
@@ -97,50 +97,45 @@ stop_front reflow widening = record {
     limit from to rows mark Valid is = omega arith
     limit from to rows mark Moved is = omega arith
 
+-- A pool at rest asks for old places alone.
+rest_old : (other : Reflow) (done row_end sector device device_sector : ℕ) → other.to ≡ other.from → other.state ≡ None
+    → IsRequiredPlace other done row_end sector device device_sector
+    → IsAt (old_place other sector) first_data_sector device device_sector
+rest_old other done row_end sector device device_sector rests is required = ⊎_elim
+    (λ (old : NeedsOld other.state other.mark row_end × IsAt (old_place other sector) first_data_sector device device_sector). old.1)
+    (λ rest. absurd (⊎_elim (λ scratch. no_scratch other.state is scratch.0) (λ new. no_new other.state is new.0) rest))
+    required
+  where
+    no_scratch : (state : State) → state ≡ None → NeedsScratch state other done sector → ⊥
+    no_scratch None still needs = omega (arith, rests, needs.0)
+    no_scratch Valid still needs = absurd (cc)
+    no_scratch Moved still needs = needs
+
+    no_new : (state : State) → state ≡ None → NeedsNew state done sector → ⊥
+    no_new None still needs = needs
+    no_new Valid still needs = absurd (cc)
+    no_new Moved still needs = absurd (cc)
+
 -- The pool at rest before the expansion, and the one at rest behind it.
 pub before_within : (reflow : Reflow) (copied : ℕ) (other : Reflow) (done : ℕ) → IsWidening reflow → reflow.mark ≡ 0
     → other.from ≡ reflow.from → other.to ≡ other.from → other.state ≡ None
     → StaysIn reflow copied other done
-before_within reflow copied other done widening zero from_is rests is row_end sector device device_sector close inside required = ⊎_elim
-    (λ (old : NeedsOld other.state other.mark row_end × IsAt (old_place other sector) first_data_sector device device_sector).
+before_within reflow copied other done widening zero from_is rests is row_end sector device device_sector close inside required =
     inl (
       (let some = widening.some in omega (arith, zero, some)),
-      subst (λ (from : ℕ). IsAt (place_of from sector) first_data_sector device device_sector) from_is old.1,
-    ))
-    (λ rest. absurd (⊎_elim (λ scratch. no_scratch other.state is scratch.0) (λ new. no_new other.state is new.0) rest))
-    required
-  where
-    no_scratch : (state : State) → state ≡ None → NeedsScratch state other done sector → ⊥
-    no_scratch None still needs = omega (arith, rests, needs.0)
-    no_scratch Valid still needs = absurd (cc)
-    no_scratch Moved still needs = needs
-
-    no_new : (state : State) → state ≡ None → NeedsNew state done sector → ⊥
-    no_new None still needs = needs
-    no_new Valid still needs = absurd (cc)
-    no_new Moved still needs = absurd (cc)
+      subst (λ (from : ℕ). IsAt (place_of from sector) first_data_sector device device_sector) from_is
+          (rest_old other done row_end sector device device_sector rests is required),
+    )
 
 pub after_within : (reflow : Reflow) (copied : ℕ) (other : Reflow) (done : ℕ) → sectors_of reflow ≤ copied
     → other.from ≡ reflow.to → other.to ≡ other.from → other.state ≡ None
     → StaysIn reflow copied other done
-after_within reflow copied other done all from_is rests is row_end sector device device_sector close inside required = ⊎_elim
-    (λ (old : NeedsOld other.state other.mark row_end × IsAt (old_place other sector) first_data_sector device device_sector).
+after_within reflow copied other done all from_is rests is row_end sector device device_sector close inside required =
     inr (inr (
       omega (arith, inside, all),
-      subst (λ (to : ℕ). IsAt (place_of to sector) first_data_sector device device_sector) from_is old.1,
-    )))
-    (λ rest. absurd (⊎_elim (λ scratch. no_scratch other.state is scratch.0) (λ new. no_new other.state is new.0) rest))
-    required
-  where
-    no_scratch : (state : State) → state ≡ None → NeedsScratch state other done sector → ⊥
-    no_scratch None still needs = omega (arith, rests, needs.0)
-    no_scratch Valid still needs = absurd (cc)
-    no_scratch Moved still needs = needs
-
-    no_new : (state : State) → state ≡ None → NeedsNew state done sector → ⊥
-    no_new None still needs = needs
-    no_new Valid still needs = absurd (cc)
-    no_new Moved still needs = absurd (cc)
+      subst (λ (to : ℕ). IsAt (place_of to sector) first_data_sector device device_sector) from_is
+          (rest_old other done row_end sector device device_sector rests is required),
+    ))
 
 -- What is in use at a front stays in the band, and so does what is asked for after a stop.
 pub front_stays : (reflow : Reflow) (done : ℕ) → IsWidening reflow → IsFrontOf reflow done

@@ -78,7 +78,7 @@ MissesBand reflow copied sector = (other device device_sector : ℕ)
     → IsInBand reflow copied other device device_sector → ⊥
 
 -- The pool at rest with the widths that an expansion begins with, or ends with.
-pub record IsAtRest (other : Reflow) (width : ℕ) : Type 0 where
+pub record HasWidthAtRest (other : Reflow) (width : ℕ) : Type 0 where
   pub from_is : other.from ≡ width
   pub to_is : other.to ≡ other.from
   pub state_is : other.state ≡ None

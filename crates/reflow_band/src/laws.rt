@@ -3,7 +3,7 @@ ghost use Rattle.std.specs.Prelude.{◌≡◌, ◌≤◌, ◌<◌, ℕ};
 ghost use Rattle.reflow_mark.specs.declared.reflow.Reflow.{Reflow};
 ghost use Rattle.reflow_mark.specs.Reflow.{sectors_of};
 ghost use Rattle.shadow_write.specs.Required.{front_after_stop};
-ghost use Rattle.reflow_band.specs.Band.{IsAtRest, IsFrontOf, IsNear, IsWidening, MissesBand, ServesOne, StaysIn, copied_of, reach_of};
+ghost use Rattle.reflow_band.specs.Band.{HasWidthAtRest, IsFrontOf, IsNear, IsWidening, MissesBand, ServesOne, StaysIn, copied_of, reach_of};
 
 /// A place of the band serves one sector.
 pub fn place_serves_one_sector()
@@ -36,7 +36,7 @@ pub fn later_mark_stays_in_band()
 /// The pool at rest before the expansion, and behind it, asks for places of the band.
 pub fn rest_stays_in_band()
     ensures before { (reflow : Reflow) (copied : ℕ) (other : Reflow) (done : ℕ) → IsWidening reflow
-        → reflow.mark ≡ 0 → IsAtRest other reflow.from → StaysIn reflow copied other done }
+        → reflow.mark ≡ 0 → HasWidthAtRest other reflow.from → StaysIn reflow copied other done }
     ensures behind { (reflow : Reflow) (copied : ℕ) (other : Reflow) (done : ℕ)
-        → sectors_of reflow ≤ copied → IsAtRest other reflow.to → StaysIn reflow copied other done }
+        → sectors_of reflow ≤ copied → HasWidthAtRest other reflow.to → StaysIn reflow copied other done }
 {}
