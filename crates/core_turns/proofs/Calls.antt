@@ -1,5 +1,5 @@
 -- Calls under way that come, go on and end.
-use Rattle.std.proofs.Common.{◌≡◌, ⊎_elim, ℕ, List, [], ◌∷◌, sym, ◌∙◌, ap, subst}
+use Rattle.std.proofs.Common.{◌≡◌, ⊎_elim, List, [], ◌∷◌, sym, ◌∙◌, ap, subst}
 use Rattle.std.specs.Prelude.{Contains}
 use Rattle.std.proofs.lemmas.List.Elements.{filter_map-append}
 use Rattle.range_locks.specs.declared.hold.Hold.{Hold}
@@ -16,10 +16,10 @@ use Rattle.core_turns.proofs.Frames.{KeepsWidths, call_of_stays, hold_listed, en
 
 -- Beside each other are calls in either order.
 none_in_common_turn : (one other : HoldingCall) → HaveNoneInCommon one other → HaveNoneInCommon other one
-none_in_common_turn (Putting run content) (Putting other held) clear = λ sector there here. clear sector here there
-none_in_common_turn (Putting run content) (Reading other held) clear = λ sector there here. clear sector here there
-none_in_common_turn (Reading run content) (Putting other held) clear = λ sector there here. clear sector here there
-none_in_common_turn (Reading run content) (Reading other held) clear = clear
+none_in_common_turn (Putting run) (Putting other) clear = λ sector there here. clear sector here there
+none_in_common_turn (Putting run) (Reading other) clear = λ sector there here. clear sector here there
+none_in_common_turn (Reading run) (Putting other) clear = λ sector there here. clear sector here there
+none_in_common_turn (Reading run) (Reading other) clear = clear
 
 pub beside_turn : (one other : HoldingCall) → AreBeside one other → AreBeside other one
 beside_turn one other beside = record {
@@ -28,24 +28,24 @@ beside_turn one other beside = record {
 }
 
 -- The range of a put is one of the ranges,
-pub range_listed : (calls : List HoldingCall) (run : PutRun) (content : List ℕ) → Contains calls (Putting run content)
+pub range_listed : (calls : List HoldingCall) (run : PutRun) → Contains calls (Putting run)
     → Contains (ranges_of calls) run.range
-range_listed [] run content listed = absurd (contains_none (Putting run content) listed)
-range_listed (call ∷ calls) run content listed = ⊎_elim
-    (λ (same : Putting run content ≡ call). subst (λ (c : HoldingCall). Contains (ranges_of (c ∷ calls)) run.range) same
+range_listed [] run listed = absurd (contains_none (Putting run) listed)
+range_listed (call ∷ calls) run listed = ⊎_elim
+    (λ (same : Putting run ≡ call). subst (λ (c : HoldingCall). Contains (ranges_of (c ∷ calls)) run.range) same
     (contains_head run.range (ranges_of calls)))
-    (λ rest. behind call (range_listed calls run content rest))
-    (contains_cases call calls (Putting run content) listed)
+    (λ rest. behind call (range_listed calls run rest))
+    (contains_cases call calls (Putting run) listed)
   where
     behind : (call : HoldingCall) → Contains (ranges_of calls) run.range → Contains (ranges_of (call ∷ calls)) run.range
-    behind (Putting other held) there = contains_tail other.range (ranges_of calls) run.range there
-    behind (Reading other held) there = there
+    behind (Putting other) there = contains_tail other.range (ranges_of calls) run.range there
+    behind (Reading other) there = there
 
 -- and a read has none.
-pub ranges_read : (left calls : List HoldingCall) (run : GetRun) (content : List ℕ) → Gains left calls (Reading run content)
+pub ranges_read : (left calls : List HoldingCall) (run : GetRun) → Gains left calls (Reading run)
     → ranges_of calls ≡ ranges_of left
-ranges_read left calls run content gains = ap ranges_of gains.is
-    ∙ filter_map-append range_in gains.before (Reading run content ∷ gains.after)
+ranges_read left calls run gains = ap ranges_of gains.is
+    ∙ filter_map-append range_in gains.before (Reading run ∷ gains.after)
     ∙ sym (filter_map-append range_in gains.before gains.after) ∙ ap ranges_of (sym gains.was)
 
 -- A call comes.

@@ -1,6 +1,6 @@
 -- A commit beside the calls that are under way: how it begins, goes on, and ends.
 use Rattle.std.specs.Prelude.{Contains}
-use Rattle.std.proofs.Common.{◌≡◌, ⊎_elim, ℕ, ◌+◌, ◌^◌, ◌<◌, ◌≤◌, List, [], ◌∷◌, length, Some, None, refl, sym, ◌∙◌, ap, subst, arith}
+use Rattle.std.proofs.Common.{◌≡◌, ℕ, ◌+◌, ◌^◌, ◌<◌, ◌≤◌, List, [], ◌∷◌, length, Some, None, refl, sym, ◌∙◌, ap, subst, arith}
 use Rattle.sha2.specs.Sha256.{sha256}
 use Rattle.bank_trait.specs.Disk.{Disk, Lawful}
 use Rattle.reflow_mark.specs.declared.reflow.Reflow.{Reflow}
@@ -17,8 +17,7 @@ use Rattle.core_state.specs.Certain.{Knows}
 use Rattle.core_state.specs.Committing.{Point, point_of}
 use Rattle.core_state.specs.Moment.{IsRowOf, KeepsSince}
 use Rattle.core_state.proofs.Frames.{Nowhere}
-use Rattle.core_state.proofs.Listed.{contains_head, contains_tail, contains_cases, contains_none}
-use Rattle.core_blocks.specs.Blocks.{Blocks, AreInStep, put_run}
+use Rattle.core_blocks.specs.Blocks.{Blocks, put_run}
 use Rattle.core_blocks.specs.Kept.{NoneFree, SparesAll}
 use Rattle.core_blocks.proofs.Fitting.{fits}
 use Rattle.core_blocks.proofs.Keeping.{kept_where, in_use_after, blocks_kept}
@@ -37,30 +36,17 @@ use Rattle.core_turns.specs.declared.turn.Turn.TheVariants.{More}
 use Rattle.core_turns.specs.Core.{Core, IsCore, CoreState, at_disk, pool_at}
 use Rattle.core_turns.specs.Getting.{HasTooManyOut}
 use Rattle.core_turns.specs.Committing.{IsCommitOf, commit_of, uber_for, BeginsCommit, StepsCommit, AnswersGroup, answered_by}
-use Rattle.core_turns.specs.UnderWay.{HoldingCall, Putting, Reading, layout_of_call, ranges_of, PutsSpare, Stands, AreCallsOf}
+use Rattle.core_turns.specs.UnderWay.{HoldingCall, Putting, actor_of, layout_of_call, ranges_of, PutsSpare, Stands, AreCallsOf}
+use Rattle.core_turns.proofs.Calls.{range_listed}
 use Rattle.core_turns.proofs.Commits.{few_out, rests, rests_pool, begun_commit, step_uber}
 use Rattle.core_turns.proofs.Frames.{Leaves, KeepsWidths, off_nowhere, leaves_spared, call_stays, calls_keep, calls_stay, map_stays, stands_frame}
 
--- The range of a put that is under way is one of those of all.
-put_listed : (calls : List HoldingCall) (run : PutRun) (content : List ℕ) → Contains calls (Putting run content)
-    → Contains (ranges_of calls) run.range
-put_listed [] run content has = absurd (contains_none (Putting run content) has)
-put_listed (call ∷ calls) run content has = ⊎_elim
-    (λ same. subst (λ (c : HoldingCall). Contains (ranges_of (c ∷ calls)) run.range) same
-    (contains_head run.range (ranges_of calls)))
-    (λ later. more call (put_listed calls run content later))
-    (contains_cases call calls (Putting run content) has)
-  where
-    more : (call : HoldingCall) → Contains (ranges_of calls) run.range → Contains (ranges_of (call ∷ calls)) run.range
-    more (Putting other held) there = contains_tail other.range (ranges_of calls) run.range there
-    more (Reading other held) there = there
-
 -- No put has a sector of a block that stands in the table.
-spare_table : (core : Core) (calls : List HoldingCall) (run : PutRun) (content : List ℕ) → AreCallsOf core calls
-    → IsIndex core.pool.blocks.table.entries → Contains calls (Putting run content)
+spare_table : (core : Core) (calls : List HoldingCall) (run : PutRun) → AreCallsOf core calls
+    → IsIndex core.pool.blocks.table.entries → Contains calls (Putting run)
     → SparesAll core.pool.blocks.parity core.pool.blocks.births core.pool.blocks.table.entries (put_run run.range)
-spare_table core calls run content are index has entry listed =
-    (are.under.each run.range (put_listed calls run content has)).clear entry
+spare_table core calls run are index has entry listed =
+    (are.under.each run.range (range_listed calls run has)).clear entry
     (among_listed core.pool.blocks.table.entries entry index listed)
 
 -- ---- a commit begins
@@ -81,10 +67,10 @@ commit_begins_calls old new calls actor run begins are = subst (λ (core : Core)
       begun = omega arith;
     }) (λ hold has. has) are.under are)
 
-module _ (setting : Setting) (last : Kept) (map : Map) (calls : List HoldingCall) (old : Core) (disk : Disk) (actor : ℕ)
-    (lawful : Lawful disk) (is : IsCore old) (table : IsTable old.pool.blocks.table) (step : AreInStep old.pool.blocks)
+module _ (setting : Setting) (last : Kept) (map : Map) (contents : ℕ → List ℕ) (calls : List HoldingCall) (old : Core)
+    (disk : Disk) (actor : ℕ) (lawful : Lawful disk) (is : IsCore old) (table : IsTable old.pool.blocks.table)
     (few : HasTooManyOut old → ⊥) (none : old.committing ≡ None) (limit : old.begun + 1 ≤ 2 ^ 62)
-    (stands : Stands setting last [] map calls None (at_disk old disk)) where
+    (are : AreCallsOf old calls) (stands : Stands setting last [] map contents calls None (at_disk old disk)) where
   abbrev entries : List IndexEntry
   entries = old.pool.blocks.table.entries
 
@@ -103,7 +89,7 @@ module _ (setting : Setting) (last : Kept) (map : Map) (calls : List HoldingCall
   }
 
   is_ready : IsReady old.pool entries
-  is_ready = ready old.pool entries (rests_pool old is none) refl table (fits old.pool.blocks step table.index)
+  is_ready = ready old.pool entries (rests_pool old is none) refl table (fits old.pool.blocks is.step table.index)
       (let same = rests old is none in omega (arith, limit, same)) (few_out old few)
 
   come : IsCommitting setting last begun_group (commit_of old.pool) (point_of old.pool.out disk)
@@ -113,16 +99,16 @@ module _ (setting : Setting) (last : Kept) (map : Map) (calls : List HoldingCall
       is_ready.fitting is_ready.right [])
 
   -- The commit has begun, and the rest stands as it did.
-  begun_stands : AreCallsOf (begun_by old actor) calls
-      → Stands setting last (begun_group ∷ []) map calls (Some (commit_of old.pool)) (at_disk (begun_by old actor) disk)
-  begun_stands are = record {
+  begun_stands : Stands setting last (begun_group ∷ []) map contents calls (Some (commit_of old.pool))
+      (at_disk (begun_by old actor) disk)
+  begun_stands = record {
     groups = record {
       next = begun_group;
       begun_is = refl;
       of = begun_commit old actor is none;
       come = come;
-      kept = blocks_kept old.pool.blocks (old.begun + 1) step table.index;
-      spared = λ run content has. spare_table old calls run content stands.are table.index has;
+      kept = blocks_kept old.pool.blocks (old.begun + 1) is.step table.index;
+      spared = λ run has. spare_table old calls run are table.index has;
     };
     alike = stands.alike;
     kept = stands.kept;
@@ -132,8 +118,7 @@ module _ (setting : Setting) (last : Kept) (map : Map) (calls : List HoldingCall
     tells = stands.tells;
     bank = stands.bank;
     holds = stands.holds;
-    are = are;
-    each = λ call listed. call_stays Nowhere (at_disk old disk) (at_disk (begun_by old actor) disk) call (record {
+    each = λ call listed. call_stays Nowhere (contents (actor_of call)) (at_disk old disk) (at_disk (begun_by old actor) disk) call (record {
       parity = refl;
       births = refl;
       reflow = refl;
@@ -143,30 +128,29 @@ module _ (setting : Setting) (last : Kept) (map : Map) (calls : List HoldingCall
   }
 
 -- A commit begins: it makes the group of the map as it is.
-pub commit_begins_stands : (setting : Setting) (last : Kept) (begun : List Kept) (map : Map) (calls : List HoldingCall)
-    (old new : Core) (disk : Disk) (actor : ℕ) (run : CommitRun)
-    → Lawful disk → IsCore old → IsTable old.pool.blocks.table → AreInStep old.pool.blocks
-    → BeginsCommit old new actor (More run)
-    → Stands setting last begun map calls None (at_disk old disk)
+pub commit_begins_stands : {setting : Setting} {last : Kept} {begun : List Kept} {map : Map} {contents : ℕ → List ℕ}
+    {calls : List HoldingCall} {old new : Core} {disk : Disk} {actor : ℕ} {run : CommitRun}
+    → Lawful disk → IsCore old → IsTable old.pool.blocks.table → BeginsCommit old new actor (More run)
+    → AreCallsOf old calls → Stands setting last begun map contents calls None (at_disk old disk)
     → (next : Kept) × (next.map ≡ map) × (next.uber.group ≡ new.begun) × (next.uber.reflow ≡ old.pool.uber.reflow)
     × (next.uber.parity ≡ old.pool.uber.parity)
-    × Stands setting last (next ∷ []) map calls (Some run) (at_disk new disk)
-commit_begins_stands setting last begun map calls old new disk actor run lawful is table step begins stands = (
-  next,
-  refl,
-  (let same = rests old is begins.1 in
-      let later = ap (λ (core : Core). core.begun) begins.4 in
-      omega (arith, same, later)),
-  refl,
-  refl,
-  subst (λ (core : Core). Stands setting last (next ∷ []) map calls (Some run) (at_disk core disk)) (sym begins.4)
-      (subst (λ (r : CommitRun). Stands setting last (next ∷ []) map calls (Some r) (at_disk (begun_by old actor) disk))
-      (sym begins.3)
-      (begun_stands setting last map calls old disk actor lawful is table step begins.0 begins.1
-      (let low = begins.2 in omega (arith, low)) alone
-      (subst (λ (core : Core). AreCallsOf core calls) begins.4
-      (commit_begins_calls old new calls actor run begins stands.are)))),
-)
+    × Stands setting last (next ∷ []) map contents calls (Some run) (at_disk new disk)
+commit_begins_stands {setting} {last} {begun} {map} {contents} {calls} {old} {new} {disk} {actor} {run} lawful is table begins
+    are stands = (
+      next,
+      refl,
+      (let same = rests old is begins.1 in
+          let later = ap (λ (core : Core). core.begun) begins.4 in
+          omega (arith, same, later)),
+      refl,
+      refl,
+      subst (λ (core : Core). Stands setting last (next ∷ []) map contents calls (Some run) (at_disk core disk))
+          (sym begins.4)
+          (subst (λ (r : CommitRun). Stands setting last (next ∷ []) map contents calls (Some r)
+          (at_disk (begun_by old actor) disk)) (sym begins.3)
+          (begun_stands setting last map contents calls old disk actor lawful is table begins.0 begins.1
+          (let low = begins.2 in omega (arith, low)) are alone)),
+    )
   where
     next : Kept
     next = record {
@@ -175,8 +159,8 @@ commit_begins_stands setting last begun map calls old new disk actor run lawful 
       map = map;
     }
 
-    alone : Stands setting last [] map calls None (at_disk old disk)
-    alone = subst (λ (l : List Kept). Stands setting last l map calls None (at_disk old disk))
+    alone : Stands setting last [] map contents calls None (at_disk old disk)
+    alone = subst (λ (l : List Kept). Stands setting last l map contents calls None (at_disk old disk))
         (stands.groups.whole (few_out old begins.0)).0 stands
 
 -- ---- a step of it
@@ -185,45 +169,39 @@ pub commit_steps_calls : (before after : CoreState) (calls : List HoldingCall) (
     → StepsCommit before run after (More next) → AreCallsOf before.core calls → AreCallsOf after.core calls
 commit_steps_calls before after calls run next steps are = calls_stay before.core after.core calls steps.2 are
 
--- A step of a commit leaves the rest as it stands.
-pub commit_steps_stands : (setting : Setting) (last : Kept) (begun : List Kept) (map : Map) (calls : List HoldingCall)
-    (before after : CoreState) (run next : CommitRun)
-    → StepsCommit before run after (More next) → IsWithin before.core.pool.out setting.failed
-    → Stands setting last begun map calls (Some run) before
-    → Stands setting last begun map calls (Some next) after
-commit_steps_stands setting last begun map calls before after run next steps within stands =
-    let was = stands.groups in
-    let old = point_of before.core.pool.out before.disk in
-    let new = point_of after.core.pool.out after.disk in
-    let went = steps_went Called run next old new steps.1 in
-    stands_frame Nowhere setting last begun map calls (Some run) (Some next) before after
-    (leaves_spared before after steps.2 went.stay went.spares)
-    (λ call listed. off_nowhere before.core.pool.uber.reflow (layout_of_call call))
-    (λ entry listed. off_nowhere before.core.pool.uber.reflow
-    (layout_of before.core.pool.uber.parity before.core.pool.uber.births entry))
-    steps.2 went.spares.later
-    (record {
-      next = was.next;
-      begun_is = was.begun_is;
-      of = steps.3;
-      come = committing_steps setting last was.next Called run next old new within steps.1 was.come;
-      kept = subst (λ (core : Core). NoneFree core.pool.blocks core.begun was.next.entries) (sym steps.2) was.kept;
-      spared = λ run content has. subst (λ (core : Core). SparesAll core.pool.blocks.parity core.pool.blocks.births
-          was.next.entries (put_run run.range)) (sym steps.2) (was.spared run content has);
-    })
-    stands
+module _ {setting : Setting} {last : Kept} {begun : List Kept} {map : Map} {contents : ℕ → List ℕ}
+    {calls : List HoldingCall} {before after : CoreState} {run next : CommitRun}
+    (steps : StepsCommit before run after (More next)) (within : IsWithin before.core.pool.out setting.failed)
+    (stands : Stands setting last begun map contents calls (Some run) before) where
+  -- A step of a commit leaves the rest as it stands.
+  pub commit_steps_stands : Stands setting last begun map contents calls (Some next) after
+  commit_steps_stands =
+      let was = stands.groups in
+      let old = point_of before.core.pool.out before.disk in
+      let new = point_of after.core.pool.out after.disk in
+      let went = steps_went Called run next old new steps.1 in
+      stands_frame Nowhere before after (leaves_spared before after steps.2 went.stay went.spares)
+      (λ call listed. off_nowhere before.core.pool.uber.reflow (layout_of_call call))
+      (λ entry listed. off_nowhere before.core.pool.uber.reflow
+      (layout_of before.core.pool.uber.parity before.core.pool.uber.births entry))
+      steps.2 went.spares.later
+      (record {
+        next = was.next;
+        begun_is = was.begun_is;
+        of = steps.3;
+        come = committing_steps setting last was.next Called run next old new within steps.1 was.come;
+        kept = subst (λ (core : Core). NoneFree core.pool.blocks core.begun was.next.entries) (sym steps.2) was.kept;
+        spared = λ put has. subst (λ (core : Core). SparesAll core.pool.blocks.parity core.pool.blocks.births
+            was.next.entries (put_run put.range)) (sym steps.2) (was.spared put has);
+      })
+      stands
 
--- What images keep since a moment they keep over a step.
-pub commit_steps_since : (setting : Setting) (last : Kept) (begun : List Kept) (map : Map) (calls : List HoldingCall)
-    (before after : CoreState) (run next : CommitRun) (groups : List Kept) (time : ℕ)
-    → IsRowOf groups last begun → StepsCommit before run after (More next)
-    → IsWithin before.core.pool.out setting.failed
-    → Stands setting last begun map calls (Some run) before
-    → KeepsSince setting groups time before.disk → KeepsSince setting groups time after.disk
-commit_steps_since setting last begun map calls before after run next groups time row steps within stands kept =
-    committing_since setting last stands.groups.next Called run next
-    (point_of before.core.pool.out before.disk) (point_of after.core.pool.out after.disk) groups time
-    (subst (IsRowOf groups last) stands.groups.begun_is row) within steps.1 stands.groups.come kept
+  -- What images keep since a moment they keep over a step.
+  pub commit_steps_since : (groups : List Kept) (time : ℕ) → IsRowOf groups last begun
+      → KeepsSince setting groups time before.disk → KeepsSince setting groups time after.disk
+  commit_steps_since groups time row kept = committing_since setting last stands.groups.next Called run next
+      (point_of before.core.pool.out before.disk) (point_of after.core.pool.out after.disk) groups time
+      (subst (IsRowOf groups last) stands.groups.begun_is row) within steps.1 stands.groups.come kept
 
 -- ---- its end
 
@@ -280,12 +258,12 @@ module _ (core : Core) (run ended : CommitRun) (out : ℕ) (old new : Disk) (of 
       (steps_same Ended run ended (point_of core.pool.out old) (point_of out new) did).0 ∙ of.number
 
   -- The group is the last one, and no commit is under way.
-  ended_stands : (setting : Setting) (last next : Kept) (map : Map) (calls : List HoldingCall)
+  ended_stands : (setting : Setting) (last next : Kept) (map : Map) (contents : ℕ → List ℕ) (calls : List HoldingCall)
       → IsWithin core.pool.out setting.failed → IsCommitting setting last next run (point_of core.pool.out old)
       → NoneFree core.pool.blocks core.begun next.entries → PutsSpare (at_disk core old) calls next
-      → Stands setting last (next ∷ []) map calls (Some run) (at_disk core old)
-      → Stands setting next [] map calls None (at_disk answered old)
-  ended_stands setting last next map calls within come kept spared stands = record {
+      → Stands setting last (next ∷ []) map contents calls (Some run) (at_disk core old)
+      → Stands setting next [] map contents calls None (at_disk answered old)
+  ended_stands setting last next map contents calls within come kept spared stands = record {
     groups = record {
       knows = subst (λ (p : Point). Knows setting next [] p.disk) did.same
           (committing_done setting last next run ended (point_of core.pool.out old) (point_of out new) within did come);
@@ -308,8 +286,7 @@ module _ (core : Core) (run ended : CommitRun) (out : ℕ) (old new : Disk) (of 
         (λ entry listed. off_nowhere core.pool.uber.reflow
         (layout_of core.pool.uber.parity core.pool.uber.births entry))
         stands.holds;
-    are = answered_calls calls stands.are;
-    each = λ call listed. call_stays Nowhere (at_disk core old) (at_disk answered old) call (answered_leaves old)
+    each = λ call listed. call_stays Nowhere (contents (actor_of call)) (at_disk core old) (at_disk answered old) call (answered_leaves old)
         (off_nowhere core.pool.uber.reflow (layout_of_call call)) (stands.each call listed);
   }
 
@@ -321,32 +298,32 @@ commit_ends_calls before after calls run group of answers are = subst (λ (core 
     (answered_calls before.core run answers.ended after.core.pool.out before.disk after.disk of answers.ends calls are)
 
 -- A commit ends: its group is the last one.
-pub commit_ends_stands : (setting : Setting) (last next : Kept) (map : Map) (calls : List HoldingCall)
-    (before after : CoreState) (run : CommitRun) (group : ℕ)
+pub commit_ends_stands : {setting : Setting} {last next : Kept} {map : Map} {contents : ℕ → List ℕ}
+    {calls : List HoldingCall} {before after : CoreState} {run : CommitRun} {group : ℕ}
     → AnswersGroup before run after group → IsWithin before.core.pool.out setting.failed
-    → Stands setting last (next ∷ []) map calls (Some run) before
-    → Stands setting next [] map calls None after
-commit_ends_stands setting last next map calls before after run group answers within stands =
+    → Stands setting last (next ∷ []) map contents calls (Some run) before
+    → Stands setting next [] map contents calls None after
+commit_ends_stands {setting} {last} {next} {map} {contents} {calls} {before} {after} {run} answers within stands =
     let was = stands.groups in
     let same : next ≡ was.next = cc in
-    subst (λ (core : Core). Stands setting next [] map calls None (at_disk core after.disk)) (sym answers.rest)
-    (subst (λ (p : Point). Stands setting next [] map calls None
+    subst (λ (core : Core). Stands setting next [] map contents calls None (at_disk core after.disk)) (sym answers.rest)
+    (subst (λ (p : Point). Stands setting next [] map contents calls None
     (at_disk (answered before.core run answers.ended after.core.pool.out before.disk after.disk was.of answers.ends)
     p.disk))
     (sym answers.ends.same)
     (ended_stands before.core run answers.ended after.core.pool.out before.disk after.disk was.of answers.ends
-    setting last next map calls within
+    setting last next map contents calls within
     (subst (λ (k : Kept). IsCommitting setting last k run (point_of before.core.pool.out before.disk)) (sym same)
     was.come)
     (subst (λ (k : Kept). NoneFree before.core.pool.blocks before.core.begun k.entries) (sym same) was.kept)
     (subst (λ (k : Kept). PutsSpare before calls k) (sym same) was.spared) stands))
 
 -- A commit that is cut short, since too many devices are out.
-pub commit_is_cut : (setting : Setting) (last : Kept) (begun : List Kept) (map : Map) (calls : List HoldingCall)
-    (state : CoreState) (run : CommitRun) → HasTooManyOut state.core
-    → Stands setting last begun map calls (Some run) state
-    → Stands setting last begun map calls None state
-commit_is_cut setting last begun map calls state run many stands = record {
+pub commit_is_cut : {setting : Setting} {last : Kept} {begun : List Kept} {map : Map} {contents : ℕ → List ℕ}
+    {calls : List HoldingCall} {state : CoreState} {run : CommitRun} → HasTooManyOut state.core
+    → Stands setting last begun map contents calls (Some run) state
+    → Stands setting last begun map contents calls None state
+commit_is_cut {setting} {last} {state = state} {run} many stands = record {
   groups = record {
     knows = subst (λ (l : List Kept). Knows setting last l state.disk) (sym stands.groups.begun_is)
         (committing_cut setting last stands.groups.next run (point_of state.core.pool.out state.disk)
@@ -361,6 +338,5 @@ commit_is_cut setting last begun map calls state run many stands = record {
   tells = stands.tells;
   bank = stands.bank;
   holds = stands.holds;
-  are = stands.are;
   each = stands.each;
 }

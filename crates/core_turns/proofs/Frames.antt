@@ -46,7 +46,7 @@ use Rattle.core_turns.specs.Core.{Core, CoreState, pool_at}
 use Rattle.core_turns.specs.Getting.{IsGetOf, HoldsGet}
 use Rattle.core_turns.specs.Putting.{IsPutOf, HoldsPut}
 use Rattle.core_turns.specs.Committing.{IsCommitOf}
-use Rattle.core_turns.specs.UnderWay.{HoldingCall, Putting, Reading, hold_of_call, layout_of_call, ranges_of, IsCallOfCore, HoldsCall, AreCallsOf, PutsSpare, GroupsStand, Stands}
+use Rattle.core_turns.specs.UnderWay.{HoldingCall, Putting, Reading, actor_of, hold_of_call, layout_of_call, ranges_of, IsCallOfCore, HoldsCall, AreCallsOf, PutsSpare, GroupsStand, Stands}
 use Rattle.core_turns.proofs.Beside.{IsWrittenTo, never_both, written_cell}
 use Rattle.core_turns.proofs.GetLaws.{get_stays}
 
@@ -164,11 +164,11 @@ get_block_stays P content before after run leaves off holds = get_stays content 
     (off content cell device device_sector is place) ∙ read)
     holds
 
-pub call_stays : (P : ℕ → ℕ → Type 0) (before after : CoreState) (call : HoldingCall) → Leaves P before after
-    → IsOff P before.core.pool.uber.reflow (layout_of_call call) → HoldsCall before call → HoldsCall after call
-call_stays P before after (Putting run content) leaves off holds = put_stays P content before after run leaves off holds
-call_stays P before after (Reading run content) leaves off holds = get_block_stays P content before after run leaves
-    off holds
+pub call_stays : (P : ℕ → ℕ → Type 0) (content : List ℕ) (before after : CoreState) (call : HoldingCall)
+    → Leaves P before after → IsOff P before.core.pool.uber.reflow (layout_of_call call)
+    → HoldsCall before content call → HoldsCall after content call
+call_stays P content before after (Putting run) = put_stays P content before after run
+call_stays P content before after (Reading run) = get_block_stays P content before after run
 
 -- The widths of a core and of its blocks stay, and the group begun last is no earlier one.
 pub record KeepsWidths (old new : Core) : Type 0 where
@@ -240,13 +240,13 @@ get_of_stays old new run widths listed of = record {
 
 pub call_of_stays : (old new : Core) (call : HoldingCall) → KeepsWidths old new → Contains new.holds (hold_of_call call)
     → IsCallOfCore old call → IsCallOfCore new call
-call_of_stays old new (Putting run content) widths listed of = put_of_stays old new run widths listed of
-call_of_stays old new (Reading run content) widths listed of = (of.0, get_of_stays old new run widths listed of.1)
+call_of_stays old new (Putting run) widths listed of = put_of_stays old new run widths listed of
+call_of_stays old new (Reading run) widths listed of = (of.0, get_of_stays old new run widths listed of.1)
 
 -- The hold of a call is there,
 pub hold_listed : (core : Core) (call : HoldingCall) → IsCallOfCore core call → Contains core.holds (hold_of_call call)
-hold_listed core (Putting run content) of = of.holds
-hold_listed core (Reading run content) of = of.1.holds
+hold_listed core (Putting run) of = of.holds
+hold_listed core (Reading run) of = of.1.holds
 
 -- also once that of another actor has ended.
 pub ends_other : (old new : List Hold) (gone hold : Hold) → EndsHold old new gone → Contains old hold
@@ -358,8 +358,8 @@ groups_read setting last begun calls (Some run) before after core same outs lawf
   come = committing_unchanged setting last groups.next run (point_of before.core.pool.out before.disk)
       (point_of after.core.pool.out after.disk) same outs.still lawful groups.come;
   kept = subst (λ (c : Core). NoneFree c.pool.blocks c.begun groups.next.entries) (sym core) groups.kept;
-  spared = λ run content listed. subst (λ (c : Core). SparesAll c.pool.blocks.parity c.pool.blocks.births
-      groups.next.entries (put_run run.range)) (sym core) (groups.spared run content listed);
+  spared = λ run listed. subst (λ (c : Core). SparesAll c.pool.blocks.parity c.pool.blocks.births
+      groups.next.entries (put_run run.range)) (sym core) (groups.spared run listed);
 }
 
 -- and each image since a moment keeps what it kept: no moment is new.
@@ -376,53 +376,51 @@ since_read setting groups time old new same since = record {
 -- ---- all that stands
 
 -- What stands, where uberblock and blocks are as they were: the groups and the calls are told anew.
-pub stands_still : (P : ℕ → ℕ → Type 0) (setting : Setting) (last : Kept) (begun : List Kept) (map : Map)
-    (calls nexts : List HoldingCall) (commit next : Option CommitRun) (before after : CoreState)
+pub stands_still : {setting : Setting} {last : Kept} {begun : List Kept} {map : Map} {contents nows : ℕ → List ℕ}
+    {calls nexts : List HoldingCall} {commit next : Option CommitRun} (P : ℕ → ℕ → Type 0) (before after : CoreState)
     → Leaves P before after → AreOff P before.core → after.core.pool.uber ≡ before.core.pool.uber
     → after.core.pool.blocks ≡ before.core.pool.blocks → Later before.disk after.disk
-    → GroupsStand setting last begun nexts next after → PutsSpare after nexts last → AreCallsOf after.core nexts
-    → ((call : HoldingCall) → Contains nexts call → HoldsCall after call)
-    → Stands setting last begun map calls commit before → Stands setting last begun map nexts next after
-stands_still P setting last begun map calls nexts commit next before after leaves off uber blocks later groups spared
-    are each stands = record {
-      groups = groups;
-      alike = ap (λ (u : Uber). record u { out = 0 }) uber ∙ stands.alike;
-      kept = subst (λ (u : Uber). NoneFree after.core.pool.blocks u.group last.entries) (sym uber)
-          (subst (λ (b : Blocks). NoneFree b before.core.pool.uber.group last.entries) (sym blocks) stands.kept);
-      spared = spared;
-      excepted = stands.excepted;
-      shape = stands.shape ∙ (λ i. record { devices = sym later.devices i; sectors = sym later.sectors i });
-      tells = tells_later later stands.tells;
-      bank = subst (λ (u : Uber). HasBank u after.core.pool.out after.disk) (sym uber)
-          (bank_later before.core.pool.uber before.disk after.disk before.core.pool.out after.core.pool.out later
-          leaves.within stands.bank);
-      holds = map_stays P map before after leaves (ap (λ (b : Blocks). b.table.entries) blocks) off stands.holds;
-      are = are;
-      each = each;
-    }
+    → GroupsStand setting last begun nexts next after → PutsSpare after nexts last
+    → ((call : HoldingCall) → Contains nexts call → HoldsCall after (nows (actor_of call)) call)
+    → Stands setting last begun map contents calls commit before → Stands setting last begun map nows nexts next after
+stands_still {last = last} {map = map} P before after leaves off uber blocks later groups spared each stands = record {
+  groups = groups;
+  alike = ap (λ (u : Uber). record u { out = 0 }) uber ∙ stands.alike;
+  kept = subst (λ (u : Uber). NoneFree after.core.pool.blocks u.group last.entries) (sym uber)
+      (subst (λ (b : Blocks). NoneFree b before.core.pool.uber.group last.entries) (sym blocks) stands.kept);
+  spared = spared;
+  excepted = stands.excepted;
+  shape = stands.shape ∙ (λ i. record { devices = sym later.devices i; sectors = sym later.sectors i });
+  tells = tells_later later stands.tells;
+  bank = subst (λ (u : Uber). HasBank u after.core.pool.out after.disk) (sym uber)
+      (bank_later before.core.pool.uber before.disk after.disk before.core.pool.out after.core.pool.out later
+      leaves.within stands.bank);
+  holds = map_stays P map before after leaves (ap (λ (b : Blocks). b.table.entries) blocks) off stands.holds;
+  each = each;
+}
 
 -- So it is where only devices went out.
-pub stands_anew : (P : ℕ → ℕ → Type 0) (setting : Setting) (last : Kept) (begun : List Kept) (map : Map)
-    (calls nexts : List HoldingCall) (commit next : Option CommitRun) (before after : CoreState)
+pub stands_anew : {setting : Setting} {last : Kept} {begun : List Kept} {map : Map} {contents nows : ℕ → List ℕ}
+    {calls nexts : List HoldingCall} {commit next : Option CommitRun} (P : ℕ → ℕ → Type 0) (before after : CoreState)
     → Leaves P before after → AreOff P before.core → OnlyOut before.core after.core → Later before.disk after.disk
-    → GroupsStand setting last begun nexts next after → PutsSpare after nexts last → AreCallsOf after.core nexts
-    → ((call : HoldingCall) → Contains nexts call → HoldsCall after call)
-    → Stands setting last begun map calls commit before → Stands setting last begun map nexts next after
-stands_anew P setting last begun map calls nexts commit next before after leaves off core = stands_still P setting last
-    begun map calls nexts commit next before after leaves off (ap (λ (c : Core). c.pool.uber) core)
+    → GroupsStand setting last begun nexts next after → PutsSpare after nexts last
+    → ((call : HoldingCall) → Contains nexts call → HoldsCall after (nows (actor_of call)) call)
+    → Stands setting last begun map contents calls commit before → Stands setting last begun map nows nexts next after
+stands_anew P before after leaves off core = stands_still P before after leaves off (ap (λ (c : Core). c.pool.uber) core)
     (ap (λ (c : Core). c.pool.blocks) core)
 
 -- What stands, over a turn that is none of these calls', as a step of a commit.
-pub stands_frame : (P : ℕ → ℕ → Type 0) (setting : Setting) (last : Kept) (begun : List Kept) (map : Map)
-    (calls : List HoldingCall) (commit next : Option CommitRun) (before after : CoreState) → Leaves P before after
+pub stands_frame : {setting : Setting} {last : Kept} {begun : List Kept} {map : Map} {contents : ℕ → List ℕ}
+    {calls : List HoldingCall} {commit next : Option CommitRun} (P : ℕ → ℕ → Type 0) (before after : CoreState)
+    → Leaves P before after
     → ((call : HoldingCall) → Contains calls call → IsOff P before.core.pool.uber.reflow (layout_of_call call))
     → AreOff P before.core → OnlyOut before.core after.core → Later before.disk after.disk
     → GroupsStand setting last begun calls next after
-    → Stands setting last begun map calls commit before → Stands setting last begun map calls next after
-stands_frame P setting last begun map calls commit next before after leaves calls_off off core later groups stands =
-    stands_anew P setting last begun map calls calls commit next before after leaves off core later groups
-    (λ run content listed. subst (λ (c : Core). SparesAll c.pool.blocks.parity c.pool.blocks.births last.entries
-    (put_run run.range)) (sym core) (stands.spared run content listed))
-    (calls_stay before.core after.core calls core stands.are)
-    (λ call listed. call_stays P before after call leaves (calls_off call listed) (stands.each call listed))
+    → Stands setting last begun map contents calls commit before → Stands setting last begun map contents calls next after
+stands_frame {last = last} {contents = contents} P before after leaves calls_off off core later groups stands =
+    stands_anew P before after leaves off core later groups
+    (λ run listed. subst (λ (c : Core). SparesAll c.pool.blocks.parity c.pool.blocks.births last.entries
+    (put_run run.range)) (sym core) (stands.spared run listed))
+    (λ call listed. call_stays P (contents (actor_of call)) before after call leaves (calls_off call listed)
+    (stands.each call listed))
     stands

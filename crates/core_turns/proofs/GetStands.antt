@@ -33,15 +33,15 @@ use Rattle.open_pool.specs.Pool.{HasBank, HoldsMap}
 use Rattle.open_pool.proofs.Frees.{freed_holds, none_freed_holds}
 use Rattle.core_turns.specs.declared.getting.GetRun.{GetRun}
 use Rattle.core_turns.specs.declared.putting.PutRun.{PutRun}
-use Rattle.core_turns.specs.declared.turn.Turn.TheVariants.{More, Done}
+use Rattle.core_turns.specs.declared.turn.Turn.TheVariants.{More}
 use Rattle.core_turns.specs.Core.{Core, IsCore, CoreState, at_disk, pool_at}
 use Rattle.core_turns.specs.Freeing.{FreesBlock}
-use Rattle.core_turns.specs.Getting.{IsReadKind, BeginsGet, ReadsTurn, SolvesGet, EndsGet, TellsGet}
+use Rattle.core_turns.specs.Getting.{IsReadKind, IsGetOf, BeginsGet, HoldsGet, ReadsTurn, SolvesGet}
 use Rattle.core_turns.specs.Committing.{IsCommitOf}
-use Rattle.core_turns.specs.UnderWay.{HoldingCall, Putting, Reading, hold_of_call, layout_of_call, ranges_of, HoldsCall, HaveNoneInCommon, AreCallsOf, PutsSpare, CommitStands, NoCommitStands, GroupsStand, Stands}
+use Rattle.core_turns.specs.UnderWay.{HoldingCall, Putting, Reading, SetsContent, actor_of, layout_of_call, ranges_of, HoldsCall, HaveNoneInCommon, AreCallsOf, PutsSpare, CommitStands, NoCommitStands, GroupsStand, Stands}
 use Rattle.core_turns.proofs.Calls.{range_listed, ranges_read, calls_gain, calls_lose, calls_swap}
 use Rattle.core_turns.proofs.Frames.{Leaves, KeepsWidths, off_nowhere, leaves_read, call_stays, calls_keep, calls_stay, groups_read, stands_still, stands_anew}
-use Rattle.core_turns.proofs.GetLaws.{get_finds, get_reads, get_solves, get_tells}
+use Rattle.core_turns.proofs.GetLaws.{get_finds, get_reads, get_solves}
 use Rattle.core_turns.proofs.GetTurns.{get_of_more, begins_holds, solved_of}
 
 -- ---- the calls
@@ -65,12 +65,12 @@ widths_held old new core = record {
 }
 
 -- The ranges of the puts beside a read are those of all.
-under_read : (old new : Core) (left calls : List HoldingCall) (run : GetRun) (content : List ℕ)
-    → new.pool.blocks ≡ old.pool.blocks → Gains left calls (Reading run content)
+under_read : {left calls : List HoldingCall} {run : GetRun} (old new : Core) → new.pool.blocks ≡ old.pool.blocks
+    → Gains left calls (Reading run)
     → (AreUnderWay old.pool.blocks (ranges_of left) → AreUnderWay new.pool.blocks (ranges_of calls))
     × (AreUnderWay old.pool.blocks (ranges_of calls) → AreUnderWay new.pool.blocks (ranges_of left))
-under_read old new left calls run content blocks gains =
-    let same = ranges_read left calls run content gains in (
+under_read {left} {calls} {run} old new blocks gains =
+    let same = ranges_read left calls run gains in (
       (λ under. subst (λ (b : Blocks). AreUnderWay b (ranges_of calls)) (sym blocks)
           (subst (λ (l : List PutRange). AreUnderWay old.pool.blocks l) (sym same) under)),
       (λ under. subst (λ (b : Blocks). AreUnderWay b (ranges_of left)) (sym blocks)
@@ -78,14 +78,14 @@ under_read old new left calls run content blocks gains =
     )
 
 -- A read begins: no put has a sector of its block, which stands in the table.
-pub get_begins_calls : (old new : Core) (actor id : ℕ) (asked : Kind) (run : GetRun) (content : List ℕ)
-    (left calls : List HoldingCall) → IsReadKind asked → IsCore old → BeginsGet old new actor asked id (More run)
-    → ((call : HoldingCall) → Contains left call → (hold_of_call call).actor ≢ actor) → Gains left calls (Reading run content)
+pub get_begins_calls : {old new : Core} {run : GetRun} {left calls : List HoldingCall} (actor id : ℕ) (asked : Kind)
+    → IsReadKind asked → IsCore old → BeginsGet old new actor asked id (More run)
+    → ((call : HoldingCall) → Contains left call → actor_of call ≢ actor) → Gains left calls (Reading run)
     → AreCallsOf old left → AreCallsOf new calls
-get_begins_calls old new actor id asked run content left calls reads is begins apart gains are =
-    calls_gain old new left calls (Reading run content) gains (widths_held old new (begins_held old new _ begins.6))
+get_begins_calls {old} {new} {run} {left} {calls} actor id asked reads is begins apart gains are =
+    calls_gain old new left calls (Reading run) gains (widths_held old new (begins_held old new _ begins.6))
     (λ hold listed. begins_holds old new actor id asked (More run) hold begins listed)
-    ((under_read old new left calls run content (ap (λ (c : Core). c.pool.blocks) begins.6) gains).0 are.under)
+    ((under_read old new (ap (λ (c : Core). c.pool.blocks) begins.6) gains).0 are.under)
     (subst IsReadKind (sym begins.2) reads, begins.7)
     (λ other listed. record {
       actors = λ same. apart other listed (sym same ∙ ap (λ (h : Hold). h.actor) begins.4);
@@ -96,71 +96,54 @@ get_begins_calls old new actor id asked run content left calls reads is begins a
     its_layout : layout_of old.pool.blocks.parity old.pool.blocks.births run.entry ≡ run.read.layout
     its_layout = (λ i. layout_of (is.is.parity i) (is.is.births i) run.entry) ∙ sym begins.5.layout_is
 
-    none_in_common : (other : HoldingCall) → Contains left other → HaveNoneInCommon (Reading run content) other
-    none_in_common (Reading other held) listed = tt
-    none_in_common (Putting put held) listed =
+    none_in_common : (other : HoldingCall) → Contains left other → HaveNoneInCommon (Reading run) other
+    none_in_common (Reading other) listed = tt
+    none_in_common (Putting put) listed =
         subst (λ (l : Layout). AreClear (layout_run l) (put_run put.range)) its_layout
-        (λ sector here there. (are.under.each put.range (range_listed left put held listed)).clear run.entry
+        (λ sector here there. (are.under.each put.range (range_listed left put listed)).clear run.entry
         (found_listed old.pool.blocks.table.entries id run.entry begins.1) sector there here)
 
 -- One that goes on with its block has no more in common with others than before.
-read_apart : (run next : GetRun) (content : List ℕ) (other : HoldingCall) → next.read.layout ≡ run.read.layout
-    → HaveNoneInCommon (Reading run content) other → HaveNoneInCommon (Reading next content) other
-read_apart run next content (Reading other held) same apart = tt
-read_apart run next content (Putting put held) same apart =
+read_apart : (run next : GetRun) (other : HoldingCall) → next.read.layout ≡ run.read.layout
+    → HaveNoneInCommon (Reading run) other → HaveNoneInCommon (Reading next) other
+read_apart run next (Reading other) same apart = tt
+read_apart run next (Putting put) same apart =
     subst (λ (l : Layout). AreClear (layout_run l) (layout_run put.range.layout)) (sym same) apart
 
--- A column more is read.
-pub get_reads_calls : (before after : CoreState) (run next : GetRun) (content : List ℕ) (left calls nexts : List HoldingCall)
-    → ReadsTurn before run after (More next) → Gains left calls (Reading run content)
-    → Gains left nexts (Reading next content) → AreCallsOf before.core calls → AreCallsOf after.core nexts
-get_reads_calls before after run next content left calls nexts reads gains again are =
-    let of = are.each (Reading run content) (gains_item left calls (Reading run content) gains) in
-    let stay = calls_stay before.core after.core calls reads.2 are in
-    calls_swap after.core left calls nexts (Reading run content) (Reading next content) gains again
-    (ap (λ (r : GetRun). r.hold) reads.1)
-    (λ other apart. read_apart run next content other reads.3.on.layout_is apart)
+-- Its hold is the one that it had,
+read_swaps : {core : Core} {run next : GetRun} {left calls nexts : List HoldingCall} → next.hold ≡ run.hold
+    → next.read.layout ≡ run.read.layout → IsReadKind next.kind × IsGetOf core next → Gains left calls (Reading run)
+    → Gains left nexts (Reading next) → AreCallsOf core calls → AreCallsOf core nexts
+read_swaps {core} {run} {next} {left} {calls} {nexts} hold layout of gains again are =
+    calls_swap core left calls nexts (Reading run) (Reading next) gains again hold
+    (λ other apart. read_apart run next other layout apart) of
+    ((under_read core core refl again).0 ((under_read core core refl gains).1 are.under)) are
+
+-- when a column more is read,
+pub get_reads_calls : {before after : CoreState} {run next : GetRun} {left calls nexts : List HoldingCall}
+    → ReadsTurn before run after (More next) → Gains left calls (Reading run) → Gains left nexts (Reading next)
+    → AreCallsOf before.core calls → AreCallsOf after.core nexts
+get_reads_calls {before} {after} {run} {next} {left} {calls} reads gains again are =
+    let of = are.each (Reading run) (gains_item left calls (Reading run) gains) in
+    read_swaps (ap (λ (r : GetRun). r.hold) reads.1) reads.3.on.layout_is
     (subst IsReadKind (sym (ap (λ (r : GetRun). r.kind) reads.1)) of.0, get_of_more before after run (More next) of.1 reads)
-    ((under_read after.core after.core left nexts next content refl again).0
-    ((under_read after.core after.core left calls run content refl gains).1 stay.under))
-    stay
+    gains again (calls_stay before.core after.core calls reads.2 are)
 
--- The block is solved.
-pub get_solves_calls : (core : Core) (run next : GetRun) (content : List ℕ) (left calls nexts : List HoldingCall)
-    → SolvesGet run next → Gains left calls (Reading run content) → Gains left nexts (Reading next content)
-    → AreCallsOf core calls → AreCallsOf core nexts
-get_solves_calls core run next content left calls nexts solves gains again are =
-    let of = are.each (Reading run content) (gains_item left calls (Reading run content) gains) in
-    calls_swap core left calls nexts (Reading run content) (Reading next content) gains again
-    (ap (λ (r : GetRun). r.hold) solves.rest)
-    (λ other apart. read_apart run next content other (ap (λ (r : GetRun). r.read.layout) solves.rest) apart)
+-- and when the block is solved.
+pub get_solves_calls : {core : Core} {run next : GetRun} {left calls nexts : List HoldingCall} → SolvesGet run next
+    → Gains left calls (Reading run) → Gains left nexts (Reading next) → AreCallsOf core calls → AreCallsOf core nexts
+get_solves_calls {core} {run} {next} {left} {calls} solves gains again are =
+    let of = are.each (Reading run) (gains_item left calls (Reading run) gains) in
+    read_swaps (ap (λ (r : GetRun). r.hold) solves.rest) (ap (λ (r : GetRun). r.read.layout) solves.rest)
     (subst IsReadKind (sym (ap (λ (r : GetRun). r.kind) solves.rest)) of.0, solved_of core run next solves of.1)
-    ((under_read core core left nexts next content refl again).0
-    ((under_read core core left calls run content refl gains).1 are.under))
-    are
+    gains again are
 
--- A read's hold ends, and the read with it:
-read_lost_calls : (old new : Core) (run : GetRun) (content : List ℕ) (left calls : List HoldingCall) → OnlyHolds old new
-    → EndsHold old.holds new.holds run.hold → Gains left calls (Reading run content) → AreCallsOf old calls
-    → AreCallsOf new left
-read_lost_calls old new run content left calls core ends gains are =
-    calls_lose old new left calls (Reading run content) gains (widths_held old new core) ends
-    ((under_read old new left calls run content (ap (λ (c : Core). c.pool.blocks) core) gains).1 are.under) are
-
--- too many devices are out,
-pub get_stops_calls : (before after : CoreState) (run : GetRun) (content : List ℕ) (given : Answer)
-    (left calls : List HoldingCall)
-    → ReadsTurn before run after (Done given) → Gains left calls (Reading run content) → AreCallsOf before.core calls
-    → AreCallsOf after.core left
-get_stops_calls before after run content given left calls stops gains are =
-    read_lost_calls before.core after.core run content left calls stops.0.rest stops.0.ends gains are
-
--- or it is answered.
-pub get_ends_calls : (old new : Core) (run : GetRun) (content : List ℕ) (given : Answer) (left calls : List HoldingCall)
-    → EndsGet old run new (Done given) → Gains left calls (Reading run content) → AreCallsOf old calls
-    → AreCallsOf new left
-get_ends_calls old new run content given left calls ends gains are =
-    read_lost_calls old new run content left calls ends.rest ends.ends gains are
+-- A read's hold ends, and the read with it.
+pub get_ends_calls : {old new : Core} {run : GetRun} {left calls : List HoldingCall} → OnlyHolds old new
+    → EndsHold old.holds new.holds run.hold → Gains left calls (Reading run) → AreCallsOf old calls → AreCallsOf new left
+get_ends_calls {old} {new} {run} {left} {calls} core ends gains are =
+    calls_lose old new left calls (Reading run) gains (widths_held old new core) ends
+    ((under_read old new (ap (λ (c : Core). c.pool.blocks) core) gains).1 are.under) are
 
 -- What a free leaves, whatever it comes to, and the map after it.
 record Freed (old new : Core) (id : ℕ) (given : Answer) : Type 0 where
@@ -215,25 +198,21 @@ frees_calls old new id given calls frees under are =
 
 -- No put is among these calls that was not among those.
 abbrev AddsNoPut : List HoldingCall → List HoldingCall → Type 0
-AddsNoPut calls nexts =
-    (run : PutRun) (content : List ℕ) → Contains nexts (Putting run content) → Contains calls (Putting run content)
+AddsNoPut calls nexts = (run : PutRun) → Contains nexts (Putting run) → Contains calls (Putting run)
 
-reading_putting : {read : GetRun} {put : PutRun} {content held : List ℕ} → Reading read content ≡ Putting put held → ⊥
+reading_putting : {read : GetRun} {put : PutRun} → Reading read ≡ Putting put → ⊥
 reading_putting same = cc
 
 -- A read that comes adds none,
-read_adds : (left calls : List HoldingCall) (run : GetRun) (content : List ℕ) → Gains left calls (Reading run content)
-    → AddsNoPut left calls
-read_adds left calls run content gains put held listed = ⊎_elim
-    (λ (same : Reading run content ≡ Putting put held). absurd (reading_putting same))
+read_adds : {left calls : List HoldingCall} {run : GetRun} → Gains left calls (Reading run) → AddsNoPut left calls
+read_adds {left} {calls} {run} gains put listed = ⊎_elim
+    (λ (same : Reading run ≡ Putting put). absurd (reading_putting same))
     (λ was. was)
-    (gains_cases left calls (Reading run content) (Putting put held) gains listed)
+    (gains_cases left calls (Reading run) (Putting put) gains listed)
 
 -- one that ends too.
-read_loses : (left calls : List HoldingCall) (run : GetRun) (content : List ℕ) → Gains left calls (Reading run content)
-    → AddsNoPut calls left
-read_loses left calls run content gains put held listed =
-    gains_old left calls (Reading run content) (Putting put held) gains listed
+read_loses : {left calls : List HoldingCall} {run : GetRun} → Gains left calls (Reading run) → AddsNoPut calls left
+read_loses {left} {calls} {run} gains put listed = gains_old left calls (Reading run) (Putting put) gains listed
 
 -- The groups stand beside other calls where no put is added and only holds came or went.
 groups_held : (setting : Setting) (last : Kept) (begun : List Kept) (calls nexts : List HoldingCall)
@@ -256,17 +235,19 @@ groups_held setting last begun calls nexts (Some run) old new disk core adds gro
       };
       come = groups.come;
       kept = groups.kept;
-      spared = λ put held listed. groups.spared put held (adds put held listed);
+      spared = λ put listed. groups.spared put (adds put listed);
     })
 
-module _ (setting : Setting) (last : Kept) (begun : List Kept) (map : Map) (commit : Option CommitRun) where
+module _ {setting : Setting} {last : Kept} {begun : List Kept} {map : Map} {contents : ℕ → List ℕ}
+    {commit : Option CommitRun} where
   -- What stands, where only holds came or went and reads are told anew.
-  stands_held : (calls nexts : List HoldingCall) (old new : Core) (disk : Disk) → OnlyHolds old new → AddsNoPut calls nexts
-      → AreCallsOf new nexts
-      → ((call : HoldingCall) → Contains nexts call → HoldsCall (at_disk new disk) call ⊎ Contains calls call)
-      → Stands setting last begun map calls commit (at_disk old disk)
-      → Stands setting last begun map nexts commit (at_disk new disk)
-  stands_held calls nexts old new disk core adds are each stands =
+  stands_held : {nows : ℕ → List ℕ} {calls nexts : List HoldingCall} (old new : Core) (disk : Disk) → OnlyHolds old new
+      → AddsNoPut calls nexts
+      → ((call : HoldingCall) → Contains nexts call → HoldsCall (at_disk new disk) (nows (actor_of call)) call
+      ⊎ HoldsCall (at_disk old disk) (nows (actor_of call)) call)
+      → Stands setting last begun map contents calls commit (at_disk old disk)
+      → Stands setting last begun map nows nexts commit (at_disk new disk)
+  stands_held {nows} {calls} {nexts} old new disk core adds each stands =
       let leaves : Leaves Nowhere (at_disk old disk) (at_disk new disk) = record {
         parity = ap (λ (c : Core). c.pool.uber.parity) core;
         births = ap (λ (c : Core). c.pool.uber.births) core;
@@ -274,125 +255,101 @@ module _ (setting : Setting) (last : Kept) (begun : List Kept) (map : Map) (comm
         within = λ device has. subst (λ (c : Core). has_device c.pool.out device ≡ true) (sym core) has;
         reads = λ device device_sector used in_data away. refl;
       } in
-      stands_still Nowhere setting last begun map calls nexts commit commit (at_disk old disk) (at_disk new disk) leaves
+      stands_still Nowhere (at_disk old disk) (at_disk new disk) leaves
       (λ entry listed. off_nowhere old.pool.uber.reflow (layout_of old.pool.uber.parity old.pool.uber.births entry))
       (ap (λ (c : Core). c.pool.uber) core) (ap (λ (c : Core). c.pool.blocks) core) (later_refl disk)
       (groups_held setting last begun calls nexts commit old new disk core adds stands.groups)
-      (λ put held listed. subst (λ (c : Core). SparesAll c.pool.blocks.parity c.pool.blocks.births last.entries
-      (put_run put.range)) (sym core) (stands.spared put held (adds put held listed)))
-      are
+      (λ put listed. subst (λ (c : Core). SparesAll c.pool.blocks.parity c.pool.blocks.births last.entries
+      (put_run put.range)) (sym core) (stands.spared put (adds put listed)))
       (λ call listed. ⊎_elim (λ now. now)
-      (λ was. call_stays Nowhere (at_disk old disk) (at_disk new disk) call leaves
-      (off_nowhere old.pool.uber.reflow (layout_of_call call)) (stands.each call was))
+      (λ was. call_stays Nowhere (nows (actor_of call)) (at_disk old disk) (at_disk new disk) call leaves
+      (off_nowhere old.pool.uber.reflow (layout_of_call call)) was)
       (each call listed))
       stands
 
   -- A read that begins is of the block that the map has at its id.
-  pub get_begins_stands : (old new : Core) (disk : Disk) (actor id : ℕ) (asked : Kind) (run : GetRun) (left : List HoldingCall)
-      → IsReadKind asked → IsCore old → BeginsGet old new actor asked id (More run)
-      → ((call : HoldingCall) → Contains left call → (hold_of_call call).actor ≢ actor)
-      → Stands setting last begun map left commit (at_disk old disk)
+  pub get_begins_stands : {old new : Core} {disk : Disk} {run : GetRun} {left : List HoldingCall} (actor id : ℕ)
+      (asked : Kind) → BeginsGet old new actor asked id (More run)
+      → ((call : HoldingCall) → Contains left call → actor_of call ≢ actor)
+      → Stands setting last begun map contents left commit (at_disk old disk)
       → (content : List ℕ) × (map id ≡ Some content)
-      × ((calls : List HoldingCall) → Gains left calls (Reading run content)
-      → Stands setting last begun map calls commit (at_disk new disk))
-  get_begins_stands old new disk actor id asked run left reads is begins apart stands =
+      × ((nows : ℕ → List ℕ) (calls : List HoldingCall) → SetsContent contents nows actor content
+      → Gains left calls (Reading run) → Stands setting last begun map nows calls commit (at_disk new disk))
+  get_begins_stands {old} {new} {disk} {run} {left} actor id asked begins apart stands =
       let found = get_finds map old new disk actor id asked (More run) stands.holds begins in (
         found.0,
         found.1,
-        λ calls gains. stands_held left calls old new disk (begins_held old new _ begins.6)
-            (read_adds left calls run found.0 gains)
-            (get_begins_calls old new actor id asked run found.0 left calls reads is begins apart gains stands.are)
+        λ nows calls sets gains. stands_held old new disk (begins_held old new _ begins.6) (read_adds gains)
             (λ call listed. ⊎_elim
-            (λ (same : Reading run found.0 ≡ call). inl (subst (HoldsCall (at_disk new disk)) same found.2))
-            (λ was. inr was)
-            (gains_cases left calls (Reading run found.0) call gains listed))
+            (λ (same : Reading run ≡ call). inl (subst (λ (c : HoldingCall). HoldsCall (at_disk new disk) (nows (actor_of c)) c) same
+            (subst (λ (bytes : List ℕ). HoldsGet bytes (at_disk new disk) run)
+            (sym (ap nows (ap (λ (h : Hold). h.actor) begins.4) ∙ sets.own)) found.2)))
+            (λ was. inr (subst (λ (bytes : List ℕ). HoldsCall (at_disk old disk) bytes call)
+            (sym (sets.others (actor_of call) (apart call was))) (stands.each call was)))
+            (gains_cases left calls (Reading run) call gains listed))
             stands,
       )
 
   -- It reads a column more,
-  pub get_reads_stands : (before after : CoreState) (run next : GetRun) (content : List ℕ)
-      (left calls nexts : List HoldingCall) → IsAtColumn run.read → run.read.row < rows_of run.read.layout
+  pub get_reads_stands : {before after : CoreState} {run next : GetRun} {left calls nexts : List HoldingCall}
+      → IsAtColumn run.read → run.read.row < rows_of run.read.layout
       → ReadsTurn before run after (More next) → Unchanged before.disk after.disk
       → OnlyFailedGoOut (point_of before.core.pool.out before.disk) (point_of after.core.pool.out after.disk)
-      → Lawful after.disk → Gains left calls (Reading run content) → Gains left nexts (Reading next content)
-      → Stands setting last begun map calls commit before → Stands setting last begun map nexts commit after
-  get_reads_stands before after run next content left calls nexts place low reads unchanged outs lawful gains again
+      → Lawful after.disk → Gains left calls (Reading run) → Gains left nexts (Reading next)
+      → AreCallsOf before.core calls → Stands setting last begun map contents calls commit before
+      → Stands setting last begun map contents nexts commit after
+  get_reads_stands {before} {after} {run} {next} {left} {calls} {nexts} place low reads unchanged outs lawful gains again are
       stands =
-      let listed = gains_item left calls (Reading run content) gains in
+      let listed = gains_item left calls (Reading run) gains in
       let leaves = leaves_read before after reads.2 outs.still unchanged in
-      stands_anew Nowhere setting last begun map calls nexts commit commit before after leaves
+      stands_anew Nowhere before after leaves
       (λ entry has. off_nowhere before.core.pool.uber.reflow
       (layout_of before.core.pool.uber.parity before.core.pool.uber.births entry))
       reads.2 unchanged.goes_on.later
       (groups_held setting last begun calls nexts commit after.core after.core after.disk refl adds
       (groups_read setting last begun calls commit before after reads.2 unchanged outs lawful stands.groups))
-      (λ put held has. subst (λ (c : Core). SparesAll c.pool.blocks.parity c.pool.blocks.births last.entries
-      (put_run put.range)) (sym reads.2) (stands.spared put held (adds put held has)))
-      (get_reads_calls before after run next content left calls nexts reads gains again stands.are)
+      (λ put has. subst (λ (c : Core). SparesAll c.pool.blocks.parity c.pool.blocks.births last.entries
+      (put_run put.range)) (sym reads.2) (stands.spared put (adds put has)))
       (λ call has. ⊎_elim
-      (λ (same : Reading next content ≡ call). subst (HoldsCall after) same
-      (get_reads content before after run (More next) (stands.are.each (Reading run content) listed).1 place low
-      unchanged outs (stands.each (Reading run content) listed) reads))
-      (λ was. call_stays Nowhere before after call leaves
+      (λ (same : Reading next ≡ call). subst (λ (c : HoldingCall). HoldsCall after (contents (actor_of c)) c) same
+      (subst (λ (actor : ℕ). HoldsGet (contents actor) after next) (sym (ap (λ (r : GetRun). r.hold.actor) reads.1))
+      (get_reads (contents run.hold.actor) before after run (More next) (are.each (Reading run) listed).1 place low
+      unchanged outs (stands.each (Reading run) listed) reads)))
+      (λ was. call_stays Nowhere (contents (actor_of call)) before after call leaves
       (off_nowhere before.core.pool.uber.reflow (layout_of_call call))
-      (stands.each call (gains_old left calls (Reading run content) call gains was)))
-      (gains_cases left nexts (Reading next content) call again has))
+      (stands.each call (gains_old left calls (Reading run) call gains was)))
+      (gains_cases left nexts (Reading next) call again has))
       stands
     where
       adds : AddsNoPut calls nexts
-      adds put held has = read_loses left calls run content gains put held
-          (read_adds left nexts next content again put held has)
+      adds put has = read_loses gains put (read_adds again put has)
 
   -- and is solved.
-  pub get_solves_stands : (state : CoreState) (run next : GetRun) (content : List ℕ) (left calls nexts : List HoldingCall)
-      → SolvesGet run next → run.read.row ≡ rows_of run.read.layout → Gains left calls (Reading run content)
-      → Gains left nexts (Reading next content) → Stands setting last begun map calls commit state
-      → Stands setting last begun map nexts commit state
-  get_solves_stands state run next content left calls nexts solves whole gains again stands =
-      let listed = gains_item left calls (Reading run content) gains in
-      stands_held calls nexts state.core state.core state.disk refl
-      (λ put held has. read_loses left calls run content gains put held
-      (read_adds left nexts next content again put held has))
-      (get_solves_calls state.core run next content left calls nexts solves gains again stands.are)
+  pub get_solves_stands : {state : CoreState} {run next : GetRun} {left calls nexts : List HoldingCall}
+      → SolvesGet run next → run.read.row ≡ rows_of run.read.layout → Gains left calls (Reading run)
+      → Gains left nexts (Reading next) → AreCallsOf state.core calls
+      → Stands setting last begun map contents calls commit state
+      → Stands setting last begun map contents nexts commit state
+  get_solves_stands {state} {run} {next} {left} {calls} {nexts} solves whole gains again are stands =
+      let listed = gains_item left calls (Reading run) gains in
+      stands_held state.core state.core state.disk refl (λ put has. read_loses gains put (read_adds again put has))
       (λ call has. ⊎_elim
-      (λ (same : Reading next content ≡ call). inl (subst (HoldsCall state) same
-      (get_solves content state run next whole (stands.are.each (Reading run content) listed).1
-      (stands.each (Reading run content) listed) solves)))
-      (λ was. inr (gains_old left calls (Reading run content) call gains was))
-      (gains_cases left nexts (Reading next content) call again has))
+      (λ (same : Reading next ≡ call). inl (subst (λ (c : HoldingCall). HoldsCall state (contents (actor_of c)) c) same
+      (subst (λ (actor : ℕ). HoldsGet (contents actor) state next) (sym (ap (λ (r : GetRun). r.hold.actor) solves.rest))
+      (get_solves (contents run.hold.actor) state run next whole (are.each (Reading run) listed).1
+      (stands.each (Reading run) listed) solves))))
+      (λ was. inr (stands.each call (gains_old left calls (Reading run) call gains was)))
+      (gains_cases left nexts (Reading next) call again has))
       stands
 
-  -- A read is gone, and its hold with it:
-  read_lost_stands : (old new : Core) (disk : Disk) (run : GetRun) (content : List ℕ) (left calls : List HoldingCall)
-      → OnlyHolds old new → EndsHold old.holds new.holds run.hold → Gains left calls (Reading run content)
-      → Stands setting last begun map calls commit (at_disk old disk)
-      → Stands setting last begun map left commit (at_disk new disk)
-  read_lost_stands old new disk run content left calls core ends gains stands =
-      stands_held calls left old new disk core (read_loses left calls run content gains)
-      (read_lost_calls old new run content left calls core ends gains stands.are)
-      (λ call listed. inr (gains_old left calls (Reading run content) call gains listed))
+  -- A read is gone, and its hold with it.
+  pub get_ends_stands : {old new : Core} {disk : Disk} {run : GetRun} {left calls : List HoldingCall} → OnlyHolds old new
+      → Gains left calls (Reading run) → Stands setting last begun map contents calls commit (at_disk old disk)
+      → Stands setting last begun map contents left commit (at_disk new disk)
+  get_ends_stands {old} {new} {disk} {run} {left} {calls} core gains stands =
+      stands_held old new disk core (read_loses gains)
+      (λ call listed. inr (stands.each call (gains_old left calls (Reading run) call gains listed)))
       stands
-
-  -- too many devices are out,
-  pub get_stops_stands : (before after : CoreState) (run : GetRun) (content : List ℕ) (given : Answer)
-      (left calls : List HoldingCall) → ReadsTurn before run after (Done given) → Gains left calls (Reading run content)
-      → Stands setting last begun map calls commit before → Stands setting last begun map left commit after
-  get_stops_stands before after run content given left calls stops gains stands =
-      subst (λ (d : Disk). Stands setting last begun map left commit (at_disk after.core d)) (sym stops.1)
-      (read_lost_stands before.core after.core before.disk run content left calls stops.0.rest stops.0.ends gains
-      stands)
-
-  -- or it is answered by its block.
-  pub get_ends_stands : (old new : Core) (disk : Disk) (run : GetRun) (content : List ℕ) (given : Answer)
-      (left calls : List HoldingCall) → EndsGet old run new (Done given) → Gains left calls (Reading run content)
-      → Stands setting last begun map calls commit (at_disk old disk)
-      → Stands setting last begun map left commit (at_disk new disk) × TellsGet content run (Done given)
-  get_ends_stands old new disk run content given left calls ends gains stands =
-      let listed = gains_item left calls (Reading run content) gains in (
-        read_lost_stands old new disk run content left calls ends.rest ends.ends gains stands,
-        get_tells content old new disk run (Done given) (stands.are.each (Reading run content) listed).0
-            (stands.each (Reading run content) listed) ends,
-      )
 
 -- ---- frees
 
@@ -400,10 +357,10 @@ module _ (setting : Setting) (last : Kept) (begun : List Kept) (map : Map) (comm
 spared_still : (old new : Core) (disk : Disk) (calls : List HoldingCall) (kept : Kept)
     → new.pool.blocks.parity ≡ old.pool.blocks.parity → new.pool.blocks.births ≡ old.pool.blocks.births
     → PutsSpare (at_disk old disk) calls kept → PutsSpare (at_disk new disk) calls kept
-spared_still old new disk calls kept parity births spared = λ put held listed.
+spared_still old new disk calls kept parity births spared = λ put listed.
     subst (λ (p : ℕ). SparesAll p new.pool.blocks.births kept.entries (put_run put.range)) (sym parity)
     (subst (λ (b : List Birth). SparesAll old.pool.blocks.parity b kept.entries (put_run put.range)) (sym births)
-    (spared put held listed))
+    (spared put listed))
 
 -- A free leaves the groups.
 frees_groups : (setting : Setting) (last : Kept) (begun : List Kept) (calls : List HoldingCall) (commit : Option CommitRun)
@@ -433,15 +390,14 @@ frees_groups setting last begun calls (Some run) old new disk id given left kept
 }
 
 -- A free leaves what stands, and the map without its block.
-pub frees_stands : (setting : Setting) (last : Kept) (begun : List Kept) (map : Map) (calls : List HoldingCall)
-    (commit : Option CommitRun) (old new : Core) (disk : Disk) (id : ℕ) (given : Answer) → IsCore old
-    → FreesBlock old new id given
-    → ((ranges : List PutRange) → AreUnderWay old.pool.blocks ranges → AreUnderWay new.pool.blocks ranges)
+pub frees_stands : {setting : Setting} {last : Kept} {begun : List Kept} {map : Map} {contents : ℕ → List ℕ}
+    {calls : List HoldingCall} {commit : Option CommitRun} {old new : Core} {disk : Disk} (id : ℕ) (given : Answer)
+    → IsCore old → FreesBlock old new id given
     → ((past : ℕ) (kept : List IndexEntry) → past < old.begun + 1 → NoneFree old.pool.blocks past kept
     → NoneFree new.pool.blocks past kept)
-    → Stands setting last begun map calls commit (at_disk old disk)
-    → Stands setting last begun (map_after_free map id given) calls commit (at_disk new disk)
-frees_stands setting last begun map calls commit old new disk id given is frees under kept stands =
+    → Stands setting last begun map contents calls commit (at_disk old disk)
+    → Stands setting last begun (map_after_free map id given) contents calls commit (at_disk new disk)
+frees_stands {setting} {last} {begun} {map} {contents} {calls} {commit} {old} {new} {disk} id given is frees kept stands =
     let left = freed old new id given frees in
     let uber : new.pool.uber ≡ old.pool.uber = ap (λ (c : Core). c.pool.uber) left.rest in
     let out : new.pool.out ≡ old.pool.out = ap (λ (c : Core). c.pool.out) left.rest in
@@ -456,8 +412,7 @@ frees_stands setting last begun map calls commit old new disk id given is frees 
       tells = stands.tells;
       bank = subst (λ (c : Core). HasBank c.pool.uber c.pool.out disk) (sym left.rest) stands.bank;
       holds = left.holds map disk stands.holds;
-      are = frees_calls old new id given calls frees under stands.are;
-      each = λ call listed. call_stays Nowhere (at_disk old disk) (at_disk new disk) call
+      each = λ call listed. call_stays Nowhere (contents (actor_of call)) (at_disk old disk) (at_disk new disk) call
           (record {
             parity = ap (λ (u : Uber). u.parity) uber;
             births = ap (λ (u : Uber). u.births) uber;

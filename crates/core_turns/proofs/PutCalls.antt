@@ -14,7 +14,7 @@ use Rattle.core_turns.specs.declared.putting.Filled.{Filled}
 use Rattle.core_turns.specs.declared.putting.PutRun.{PutRun}
 use Rattle.core_turns.specs.Core.{Core, CoreState}
 use Rattle.core_turns.specs.Putting.{BeginsPutSo, FillsPut, GivesUp, IsPutOf, LeavesBlocks, StoresBlock, WritesOne}
-use Rattle.core_turns.specs.UnderWay.{HoldingCall, Putting, Reading, AreBeside, AreCallsOf, HaveNoneInCommon, IsCallOfCore, hold_of_call, ranges_of}
+use Rattle.core_turns.specs.UnderWay.{HoldingCall, Putting, Reading, AreBeside, AreCallsOf, HaveNoneInCommon, IsCallOfCore, actor_of, ranges_of}
 use Rattle.core_turns.proofs.Calls.{calls_gain, calls_lose, calls_swap, range_listed}
 use Rattle.core_turns.proofs.Frames.{KeepsWidths, calls_keep, calls_stay}
 use Rattle.core_turns.proofs.PutRanges.{at_end, ranges_gain, under_moved}
@@ -57,16 +57,15 @@ begins_rearranges old new actor id len run begins = record {
 }
 
 -- It takes sectors that no call under way has.
-begins_beside : (old new : Core) (left : List HoldingCall) (actor id len : ℕ) (run : PutRun) (content : List ℕ)
+begins_beside : {old new : Core} {actor id len : ℕ} {run : PutRun} (left : List HoldingCall)
     → BeginsPutSo old new actor id len run → AreUnderWay old.pool.blocks (ranges_of left) → (other : HoldingCall)
-    → Contains left other → (hold_of_call other).actor ≢ actor → IsCallOfCore old other
-    → AreBeside (Putting run content) other
-begins_beside old new left actor id len run content begins under (Putting other bytes) listed differs of = record {
+    → Contains left other → actor_of other ≢ actor → IsCallOfCore old other → AreBeside (Putting run) other
+begins_beside {old} {run = run} left begins under (Putting other) listed differs of = record {
   actors = λ same. differs (sym same ∙ ap (λ (hold : Hold). hold.actor) begins.hold_is);
   apart = free_of_taken old.pool.blocks.space old.holds (put_run run.range) begins.begins.first.free
-      (put_run other.range) (under.each other.range (range_listed left other bytes listed)).taken;
+      (put_run other.range) (under.each other.range (range_listed left other listed)).taken;
 }
-begins_beside old new left actor id len run content begins under (Reading other bytes) listed differs of = record {
+begins_beside {old} left begins under (Reading other) listed differs of = record {
   actors = λ same. differs (sym same ∙ ap (λ (hold : Hold). hold.actor) begins.hold_is);
   apart = λ sector in_put in_read.
       let inside = subst (λ (l : Layout). IsIn l.start (allocated_of l) sector) of.1.layout_is in_read in
@@ -77,22 +76,20 @@ begins_beside old new left actor id len run content begins under (Reading other 
 }
 
 -- So it is under way beside them.
-pub put_begins_calls : (left calls : List HoldingCall) (old new : Core) (actor id len : ℕ) (run : PutRun) (content : List ℕ)
-    → AreCallsOf old left → BeginsPutSo old new actor id len run
-    → ((call : HoldingCall) → Contains left call → (hold_of_call call).actor ≢ actor)
-    → Gains left calls (Putting run content) → AreCallsOf new calls
-put_begins_calls left calls old new actor id len run content are begins differs gains =
-    calls_gain old new left calls (Putting run content) gains
+pub put_begins_calls : {old new : Core} {actor id len : ℕ} {run : PutRun} {left calls : List HoldingCall}
+    → BeginsPutSo old new actor id len run
+    → ((call : HoldingCall) → Contains left call → actor_of call ≢ actor) → Gains left calls (Putting run)
+    → AreCallsOf old left → AreCallsOf new calls
+put_begins_calls {old} {new} {actor} {id} {len} {run} {left} {calls} begins differs gains are =
+    calls_gain old new left calls (Putting run) gains
     (rearranged_widths old new (begins_rearranges old new actor id len run begins))
     (λ hold listed. subst (λ (holds : List Hold). Contains holds hold)
     (sym (begins_holds old new actor id len run begins))
     (Contains-append_left old.holds (run.hold ∷ []) hold listed))
     (under_moved new.pool.blocks (ranges_of left) (ranges_of left ++ run.range ∷ []) (ranges_of calls) run.range
-    (at_end (ranges_of left) run.range) (ranges_gain left calls run content gains)
-    (begins.under (ranges_of left) are.under))
+    (at_end (ranges_of left) run.range) (ranges_gain gains) (begins.under (ranges_of left) are.under))
     begins.of
-    (λ other there. begins_beside old new left actor id len run content begins are.under other there
-    (differs other there) (are.each other there))
+    (λ other there. begins_beside left begins are.under other there (differs other there) (are.each other there))
     are
 
 -- One that is refused calls no device,
@@ -122,63 +119,59 @@ pub ends_rearranges : (old new : Core) (run : PutRun) → StoresBlock old new ru
 ends_rearranges old new run ends = record { rest = ends.rest; parity = ends.parity; births = ends.births }
 
 -- and leaves the others under way;
-pub put_ends_calls : (left calls : List HoldingCall) (old new : Core) (run : PutRun) (content : List ℕ)
-    → StoresBlock old new run → AreCallsOf old calls → Gains left calls (Putting run content) → AreCallsOf new left
-put_ends_calls left calls old new run content ends are gains =
-    calls_lose old new left calls (Putting run content) gains
+pub put_ends_calls : {old new : Core} {run : PutRun} {left calls : List HoldingCall} → StoresBlock old new run
+    → Gains left calls (Putting run) → AreCallsOf old calls → AreCallsOf new left
+put_ends_calls {old} {new} {run} {left} {calls} ends gains are =
+    calls_lose old new left calls (Putting run) gains
     (rearranged_widths old new (ends_rearranges old new run ends)) ends.ends
-    (ends.under (ranges_of left) (ranges_of calls) (ranges_gain left calls run content gains) are.under) are
+    (ends.under (ranges_of left) (ranges_of calls) (ranges_gain gains) are.under) are
 
 -- so does one that is given up.
 pub gives_up_rearranges : (old new : Core) (run : PutRun) → GivesUp old new run → Rearranges old new
 gives_up_rearranges old new run gives_up =
     record { rest = gives_up.rest; parity = gives_up.parity; births = gives_up.births }
 
-pub put_gives_up_calls : (left calls : List HoldingCall) (old new : Core) (run : PutRun) (content : List ℕ)
-    → GivesUp old new run → AreCallsOf old calls → Gains left calls (Putting run content) → AreCallsOf new left
-put_gives_up_calls left calls old new run content gives_up are gains =
-    calls_lose old new left calls (Putting run content) gains
+pub put_gives_up_calls : {old new : Core} {run : PutRun} {left calls : List HoldingCall} → GivesUp old new run
+    → Gains left calls (Putting run) → AreCallsOf old calls → AreCallsOf new left
+put_gives_up_calls {old} {new} {run} {left} {calls} gives_up gains are =
+    calls_lose old new left calls (Putting run) gains
     (rearranged_widths old new (gives_up_rearranges old new run gives_up)) gives_up.ends
-    (gives_up.under (ranges_of left) (ranges_of calls) (ranges_gain left calls run content gains) are.under) are
+    (gives_up.under (ranges_of left) (ranges_of calls) (ranges_gain gains) are.under) are
 
 -- ---- a put goes on
 
 -- A put of which more is filled in or written has the sectors and the hold that it had.
-next_calls : (left calls nexts : List HoldingCall) (core : Core) (run : PutRun) (filled : Option Filled) (content : List ℕ)
-    → Gains left calls (Putting run content) → Gains left nexts (Putting (record run { filled = filled }) content)
-    → IsPutOf core (record run { filled = filled }) → AreCallsOf core calls → AreCallsOf core nexts
-next_calls left calls nexts core run filled content gains gains_next of are =
-    calls_swap core left calls nexts (Putting run content) (Putting (record run { filled = filled }) content) gains
-    gains_next refl same_apart of
+next_calls : {core : Core} {run : PutRun} {left calls nexts : List HoldingCall} (filled : Option Filled)
+    → IsPutOf core (record run { filled = filled }) → Gains left calls (Putting run)
+    → Gains left nexts (Putting (record run { filled = filled })) → AreCallsOf core calls → AreCallsOf core nexts
+next_calls {core} {run} {left} {calls} {nexts} filled of gains again are =
+    calls_swap core left calls nexts (Putting run) (Putting (record run { filled = filled })) gains again refl same_apart of
     (under_moved core.pool.blocks (ranges_of left) (ranges_of calls) (ranges_of nexts) run.range
-    (ranges_gain left calls run content gains)
-    (ranges_gain left nexts (record run { filled = filled }) content gains_next) are.under)
+    (ranges_gain gains) (ranges_gain {run = record run { filled = filled }} again) are.under)
     are
   where
-    same_apart : (other : HoldingCall) → HaveNoneInCommon (Putting run content) other
-        → HaveNoneInCommon (Putting (record run { filled = filled }) content) other
-    same_apart (Putting other bytes) apart = apart
-    same_apart (Reading other bytes) apart = apart
+    same_apart : (other : HoldingCall) → HaveNoneInCommon (Putting run) other
+        → HaveNoneInCommon (Putting (record run { filled = filled })) other
+    same_apart (Putting other) apart = apart
+    same_apart (Reading other) apart = apart
 
 -- Bytes are filled in.
-pub put_fills_calls : (left calls nexts : List HoldingCall) (core : Core) (run next : PutRun) (bytes content : List ℕ)
-    → FillsPut run next bytes → length bytes ≡ run.len → AreCallsOf core calls → Gains left calls (Putting run content)
-    → Gains left nexts (Putting next content) → AreCallsOf core nexts
-put_fills_calls left calls nexts core run next bytes content fills len_is are gains gains_next =
-    next_calls left calls nexts core run (Some fills.filled) content gains
-    (subst (λ (r : PutRun). Gains left nexts (Putting r content)) fills.rest gains_next)
+pub put_fills_calls : {core : Core} {run next : PutRun} {bytes : List ℕ} {left calls nexts : List HoldingCall}
+    → FillsPut run next bytes → length bytes ≡ run.len → Gains left calls (Putting run) → Gains left nexts (Putting next)
+    → AreCallsOf core calls → AreCallsOf core nexts
+put_fills_calls {core} {run} {next} {bytes} {left} {calls} {nexts} fills len_is gains again are =
+    next_calls (Some fills.filled)
     (subst (IsPutOf core) fills.rest (fills_of core run next bytes fills len_is
-    (are.each (Putting run content) (gains_item left calls (Putting run content) gains))))
-    are
+    (are.each (Putting run) (gains_item left calls (Putting run) gains))))
+    gains (subst (λ (r : PutRun). Gains left nexts (Putting r)) fills.rest again) are
 
 -- One write more is made or passed over.
-pub put_writes_calls : (left calls nexts : List HoldingCall) (before after : CoreState) (run next : PutRun) (content : List ℕ)
-    → WritesOne before run after next → AreCallsOf before.core calls → Gains left calls (Putting run content)
-    → Gains left nexts (Putting next content) → AreCallsOf after.core nexts
-put_writes_calls left calls nexts before after run next content writes are gains gains_next =
+pub put_writes_calls : {before after : CoreState} {run next : PutRun} {left calls nexts : List HoldingCall}
+    → WritesOne before run after next → Gains left calls (Putting run) → Gains left nexts (Putting next)
+    → AreCallsOf before.core calls → AreCallsOf after.core nexts
+put_writes_calls {before} {after} {run} {next} {left} {calls} {nexts} writes gains again are =
     calls_stay before.core after.core nexts writes.rest
-    (next_calls left calls nexts before.core run (Some (written writes.filled)) content gains
-    (subst (λ (r : PutRun). Gains left nexts (Putting r content)) writes.next_is gains_next)
+    (next_calls (Some (written writes.filled))
     (written_of before.core run writes.filled writes.write writes.filled_is writes.write_is
-    (are.each (Putting run content) (gains_item left calls (Putting run content) gains)))
-    are)
+    (are.each (Putting run) (gains_item left calls (Putting run) gains)))
+    gains (subst (λ (r : PutRun). Gains left nexts (Putting r)) writes.next_is again) are)

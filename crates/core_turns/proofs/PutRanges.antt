@@ -67,15 +67,15 @@ pub at_end : {T : Type 0} (left : List T) (x : T) → Gains left (left ++ x ∷ 
 at_end left x = record { before = left; after = []; was = sym (append-nil left); is = refl }
 
 -- A list of calls that gains a put gains its range.
-pub ranges_gain : (left calls : List HoldingCall) (run : PutRun) (content : List ℕ) → Gains left calls (Putting run content)
+pub ranges_gain : {left calls : List HoldingCall} {run : PutRun} → Gains left calls (Putting run)
     → Gains (ranges_of left) (ranges_of calls) run.range
-ranges_gain left calls run content gains = record {
+ranges_gain {run = run} gains = record {
   before = ranges_of gains.before;
   after = ranges_of gains.after;
   was = ap ranges_of gains.was ∙ filter_map-append range_in gains.before gains.after;
-  is = ap ranges_of gains.is ∙ filter_map-append range_in gains.before (Putting run content ∷ gains.after);
+  is = ap ranges_of gains.is ∙ filter_map-append range_in gains.before (Putting run ∷ gains.after);
 }
 
 -- Two calls that are the same are of the same put.
-pub same_put : (one other : PutRun) (bytes content : List ℕ) → Putting one bytes ≡ Putting other content → one ≡ other
-same_put one other bytes content same = cc
+pub same_put : {one other : PutRun} → Putting one ≡ Putting other → one ≡ other
+same_put same = cc

@@ -1,10 +1,11 @@
 -- What stands between two turns stands over each turn of a put that calls no device.
-use Rattle.std.proofs.Common.{◌≡◌, ◌≢◌, ◌⊎◌, inl, inr, ⊎_elim, ℕ, ◌+◌, ◌<◌, List, length, Option, Some, None, refl, sym, ◌∙◌, subst, arith}
+use Rattle.std.proofs.Common.{◌≡◌, ◌≢◌, ◌⊎◌, inl, inr, ⊎_elim, ℕ, ◌+◌, ◌<◌, List, length, Option, Some, None, refl, sym, ◌∙◌, ap, subst, arith}
 use Rattle.std.specs.Prelude.{Contains}
 use Rattle.sha2.specs.Sha256.{sha256}
 use Rattle.bank_trait.specs.Disk.{Disk}
 use Rattle.bank_trait.proofs.Touches.{touches_none}
 use Rattle.width_map.specs.declared.birth.Birth.{Birth}
+use Rattle.range_locks.specs.declared.hold.Hold.{Hold}
 use Rattle.space_alloc.specs.Space.{Gains}
 use Rattle.row_layout.specs.Layout.{Layout}
 use Rattle.reflow_mark.specs.declared.reflow.Reflow.{Reflow}
@@ -15,7 +16,7 @@ use Rattle.core_state.specs.Map.{Map, with_block}
 use Rattle.core_state.specs.Index.{layout_of}
 use Rattle.core_state.specs.Keeps.{Kept, Setting}
 use Rattle.core_blocks.specs.declared.range.PutRange.{PutRange}
-use Rattle.core_blocks.specs.Blocks.{AreInStep, IsListed, IsUnderWay, layout_run, put_run, run_of}
+use Rattle.core_blocks.specs.Blocks.{IsListed, IsUnderWay, layout_run, put_run, run_of}
 use Rattle.core_blocks.specs.Kept.{NoneFree, SparesAll}
 use Rattle.core_blocks.specs.Runs.{AreClear}
 use Rattle.core_blocks.proofs.Lists.{gains_item, gains_old, gains_cases}
@@ -31,11 +32,11 @@ use Rattle.core_turns.specs.declared.putting.Filled.{Filled}
 use Rattle.core_turns.specs.declared.putting.PutRun.{PutRun}
 use Rattle.core_turns.specs.Core.{Core, CoreState, IsCore, as_begun, at_disk, pool_at}
 use Rattle.core_turns.specs.Putting.{BeginsPutSo, FillsPut, GivesUp, HoldsPut, IsPutOf, LeavesBlocks, StoresBlock, filled_entry}
-use Rattle.core_turns.specs.UnderWay.{HoldingCall, Putting, Reading, AreCallsOf, GroupsStand, HoldsCall, PutsSpare, Stands, hold_of_call}
+use Rattle.core_turns.specs.UnderWay.{HoldingCall, Putting, Reading, AreCallsOf, GroupsStand, HoldsCall, PutsSpare, SetsContent, Stands, actor_of}
 use Rattle.core_turns.proofs.Beside.{IsWrittenTo}
 use Rattle.core_turns.proofs.Calls.{range_listed}
 use Rattle.core_turns.proofs.PutRanges.{same_put}
-use Rattle.core_turns.proofs.PutCalls.{Rearranges, begins_rearranges, ends_rearranges, gives_up_rearranges, leaves_rearranges, put_begins_calls, put_ends_calls, put_fills_calls, put_gives_up_calls, put_refused_calls}
+use Rattle.core_turns.proofs.PutCalls.{Rearranges, begins_rearranges, ends_rearranges, gives_up_rearranges, leaves_rearranges}
 
 -- The groups whose blocks are kept: the last answered one, and the last one begun.
 abbrev IsKeptPast : Core → ℕ → Type 0
@@ -71,19 +72,20 @@ module _ (setting : Setting) (last : Kept) (begun : List Kept) (calls nexts : Li
   -- No put has a sector of a group's blocks,
   spares_on : (past : ℕ) (group : Kept) → NoneFree old.pool.blocks past group.entries
       → PutsSpare (at_disk old disk) calls group → PutsSpare (at_disk on disk) nexts group
-  spares_on past group none spares run content listed =
+  spares_on past group none spares run listed =
       subst (λ (p : ℕ). SparesAll p new.pool.blocks.births group.entries (put_run run.range)) (sym change.parity)
       (subst (λ (b : List Birth). SparesAll old.pool.blocks.parity b group.entries (put_run run.range))
-      (sym change.births) (spared past group none spares run content listed))
+      (sym change.births) (spared past group none spares run listed))
 
   -- what a call has written or read is its block's,
-  holds_on : (call : HoldingCall) → HoldsCall (at_disk old disk) call → HoldsCall (at_disk on disk) call
-  holds_on (Putting run content) held = record {
+  holds_on : (content : List ℕ) (call : HoldingCall) → HoldsCall (at_disk old disk) content call
+      → HoldsCall (at_disk on disk) content call
+  holds_on content (Putting run) held = record {
     len_is = held.len_is;
     are_bytes = held.are_bytes;
     so_far = held.so_far;
   }
-  holds_on (Reading run content) held = record {
+  holds_on content (Reading run) held = record {
     right = held.right;
     len_is = held.len_is;
     are_bytes = held.are_bytes;
@@ -112,14 +114,15 @@ module _ (setting : Setting) (last : Kept) (begun : List Kept) (calls nexts : Li
   }
 
   -- and so all does that stood.
-  stands_on : (commit : Option CommitRun) (map other : Map) → HoldsMap other (pool_at (at_disk new disk))
-      → AreCallsOf new nexts → ((call : HoldingCall) → Contains nexts call → HoldsCall (at_disk old disk) call)
-      → Stands setting last begun map calls commit (at_disk old disk)
-      → Stands setting last begun other nexts commit (at_disk new disk)
-  stands_on commit map other held are each stands =
-      subst (λ (core : Core). HoldsMap other (pool_at (at_disk core disk)) → AreCallsOf core nexts
-      → Stands setting last begun other nexts commit (at_disk core disk)) (sym change.rest)
-      (λ held are. record {
+  stands_on : {contents nows : ℕ → List ℕ} (commit : Option CommitRun) (map other : Map)
+      → HoldsMap other (pool_at (at_disk new disk))
+      → ((call : HoldingCall) → Contains nexts call → HoldsCall (at_disk old disk) (nows (actor_of call)) call)
+      → Stands setting last begun map contents calls commit (at_disk old disk)
+      → Stands setting last begun other nows nexts commit (at_disk new disk)
+  stands_on {nows = nows} commit map other held each stands =
+      subst (λ (core : Core). HoldsMap other (pool_at (at_disk core disk))
+      → Stands setting last begun other nows nexts commit (at_disk core disk)) (sym change.rest)
+      (λ held. record {
         groups = groups_on commit stands.groups;
         alike = stands.alike;
         kept = kept old.pool.uber.group last (inl refl) stands.spared stands.kept;
@@ -129,75 +132,73 @@ module _ (setting : Setting) (last : Kept) (begun : List Kept) (calls nexts : Li
         tells = stands.tells;
         bank = stands.bank;
         holds = held;
-        are = are;
-        each = λ call listed. holds_on call (each call listed);
+        each = λ call listed. holds_on (nows (actor_of call)) call (each call listed);
       })
-      held are
+      held
 
--- A put begins, beside all others, with its bytes.
-pub put_begins_stands : (setting : Setting) (last : Kept) (begun : List Kept) (map : Map) (left calls : List HoldingCall)
-    (commit : Option CommitRun) (old new : Core) (disk : Disk) (actor id len : ℕ) (run : PutRun) (content : List ℕ)
-    → Stands setting last begun map left commit (at_disk old disk) → BeginsPutSo old new actor id len run
-    → length content ≡ len → AreBytes content
-    → ((call : HoldingCall) → Contains left call → (hold_of_call call).actor ≢ actor)
-    → Gains left calls (Putting run content)
-    → Stands setting last begun map calls commit (at_disk new disk)
-put_begins_stands setting last begun map left calls commit old new disk actor id len run content stands begins len_is
-    bytes differs gains =
-    let change = begins_rearranges old new actor id len run begins in
-    stands_on setting last begun left calls old new disk change
-    (λ past group is spared none. begins.kept past group.entries none)
-    (λ past group none spared one given listed. ⊎_elim
-    (λ same. subst
-    (λ (r : PutRun). SparesAll old.pool.blocks.parity old.pool.blocks.births group.entries (put_run r.range))
-    (same_put run one content given same) (begins.spares past group.entries none))
-    (λ there. spared one given there)
-    (gains_cases left calls (Putting run content) (Putting one given) gains listed))
-    commit map map (map_on map old new disk change begins.begins.entries stands.holds)
-    (put_begins_calls left calls old new actor id len run content stands.are begins differs gains)
-    (λ call listed. ⊎_elim
-    (λ same. subst (HoldsCall (at_disk old disk)) same (record {
-      len_is = len_is ∙ sym begins.len_is;
-      are_bytes = bytes;
-      so_far = λ filled is. absurd (unfilled filled (sym begins.unfilled ∙ is));
-    }))
-    (λ there. stands.each call there)
-    (gains_cases left calls (Putting run content) call gains listed))
-    stands
-  where
-    unfilled : (filled : Filled) → None ≡ Some filled → ⊥
-    unfilled filled same = cc
+module _ {setting : Setting} {last : Kept} {begun : List Kept} {map : Map} {contents : ℕ → List ℕ}
+    {commit : Option CommitRun} where
+  -- A put begins, beside all others, with its bytes.
+  pub put_begins_stands : {nows : ℕ → List ℕ} {left calls : List HoldingCall} {old new : Core} {disk : Disk}
+      {actor id len : ℕ} {run : PutRun} {content : List ℕ} → BeginsPutSo old new actor id len run → length content ≡ len
+      → AreBytes content → ((call : HoldingCall) → Contains left call → actor_of call ≢ actor)
+      → SetsContent contents nows actor content → Gains left calls (Putting run)
+      → Stands setting last begun map contents left commit (at_disk old disk)
+      → Stands setting last begun map nows calls commit (at_disk new disk)
+  put_begins_stands {nows} {left} {calls} {old} {new} {disk} {actor} {id} {len} {run} {content} begins len_is bytes differs
+      sets gains stands =
+      let change = begins_rearranges old new actor id len run begins in
+      stands_on setting last begun left calls old new disk change
+      (λ past group is spared none. begins.kept past group.entries none)
+      (λ past group none spared one listed. ⊎_elim
+      (λ same. subst
+      (λ (r : PutRun). SparesAll old.pool.blocks.parity old.pool.blocks.births group.entries (put_run r.range))
+      (same_put same) (begins.spares past group.entries none))
+      (λ there. spared one there)
+      (gains_cases left calls (Putting run) (Putting one) gains listed))
+      commit map map (map_on map old new disk change begins.begins.entries stands.holds)
+      (λ call listed. ⊎_elim
+      (λ same. subst (λ (c : HoldingCall). HoldsCall (at_disk old disk) (nows (actor_of c)) c) same
+      (subst (λ (l : List ℕ). HoldsPut l (at_disk old disk) run)
+      (sym (ap nows (ap (λ (h : Hold). h.actor) begins.hold_is) ∙ sets.own)) (record {
+        len_is = len_is ∙ sym begins.len_is;
+        are_bytes = bytes;
+        so_far = λ filled is. absurd (unfilled filled (sym begins.unfilled ∙ is));
+      })))
+      (λ there. subst (λ (l : List ℕ). HoldsCall (at_disk old disk) l call)
+      (sym (sets.others (actor_of call) (differs call there))) (stands.each call there))
+      (gains_cases left calls (Putting run) call gains listed))
+      stands
+    where
+      unfilled : (filled : Filled) → None ≡ Some filled → ⊥
+      unfilled filled same = cc
 
--- A refusal leaves all calls.
-pub put_refused_stands : (setting : Setting) (last : Kept) (begun : List Kept) (map : Map) (calls : List HoldingCall)
-    (commit : Option CommitRun) (old new : Core) (disk : Disk) → LeavesBlocks old new
-    → Stands setting last begun map calls commit (at_disk old disk)
-    → Stands setting last begun map calls commit (at_disk new disk)
-put_refused_stands setting last begun map calls commit old new disk leaves stands =
-    let change = leaves_rearranges old new leaves in
-    stands_on setting last begun calls calls old new disk change
-    (λ past group is spared none. leaves.kept past group.entries none)
-    (λ past group none spared. spared)
-    commit map map (map_on map old new disk change leaves.entries stands.holds)
-    (put_refused_calls calls old new leaves stands.are) stands.each stands
+  -- A refusal leaves all calls.
+  pub put_refused_stands : {calls : List HoldingCall} {old new : Core} {disk : Disk} → LeavesBlocks old new
+      → Stands setting last begun map contents calls commit (at_disk old disk)
+      → Stands setting last begun map contents calls commit (at_disk new disk)
+  put_refused_stands {calls} {old} {new} {disk} leaves stands =
+      let change = leaves_rearranges old new leaves in
+      stands_on setting last begun calls calls old new disk change
+      (λ past group is spared none. leaves.kept past group.entries none)
+      (λ past group none spared. spared)
+      commit map map (map_on map old new disk change leaves.entries stands.holds) stands.each stands
 
--- A put that is given up leaves the others.
-pub put_gives_up_stands : (setting : Setting) (last : Kept) (begun : List Kept) (map : Map) (left calls : List HoldingCall)
-    (commit : Option CommitRun) (old new : Core) (disk : Disk) (run : PutRun) (content : List ℕ)
-    → GivesUp old new run → Stands setting last begun map calls commit (at_disk old disk)
-    → Gains left calls (Putting run content)
-    → Stands setting last begun map left commit (at_disk new disk)
-put_gives_up_stands setting last begun map left calls commit old new disk run content gives_up stands gains =
-    let change = gives_up_rearranges old new run gives_up in
-    stands_on setting last begun calls left old new disk change
-    (λ past group is spared none. gives_up.kept past group.entries
-    (spared run content (gains_item left calls (Putting run content) gains)) none)
-    (λ past group none spared one given listed.
-    spared one given (gains_old left calls (Putting run content) (Putting one given) gains listed))
-    commit map map (map_on map old new disk change gives_up.entries stands.holds)
-    (put_gives_up_calls left calls old new run content gives_up stands.are gains)
-    (λ call listed. stands.each call (gains_old left calls (Putting run content) call gains listed))
-    stands
+  -- A put that is given up leaves the others.
+  pub put_gives_up_stands : {left calls : List HoldingCall} {old new : Core} {disk : Disk} {run : PutRun}
+      → GivesUp old new run → Gains left calls (Putting run)
+      → Stands setting last begun map contents calls commit (at_disk old disk)
+      → Stands setting last begun map contents left commit (at_disk new disk)
+  put_gives_up_stands {left} {calls} {old} {new} {disk} {run} gives_up gains stands =
+      let change = gives_up_rearranges old new run gives_up in
+      stands_on setting last begun calls left old new disk change
+      (λ past group is spared none. gives_up.kept past group.entries
+      (spared run (gains_item left calls (Putting run) gains)) none)
+      (λ past group none spared one listed.
+      spared one (gains_old left calls (Putting run) (Putting one) gains listed))
+      commit map map (map_on map old new disk change gives_up.entries stands.holds)
+      (λ call listed. stands.each call (gains_old left calls (Putting run) call gains listed))
+      stands
 
 -- A put has no sector in common with a block that the table lists.
 pub listed_clear : (core : Core) (range : PutRange) (entry : IndexEntry) → IsCore core
@@ -209,30 +210,35 @@ listed_clear core range entry is under listed =
     (under.clear entry listed))
 
 -- A put that ends brings its block into the map; a read of the block that it replaces goes on.
-pub put_ends_stands : (setting : Setting) (last : Kept) (begun : List Kept) (map : Map) (left calls : List HoldingCall)
-    (commit : Option CommitRun) (old new : Core) (disk : Disk) (run : PutRun) (content : List ℕ) → IsCore old
-    → AreInStep old.pool.blocks → StoresBlock old new run
+pub put_ends_stands : {setting : Setting} {last : Kept} {begun : List Kept} {map : Map} {contents : ℕ → List ℕ}
+    {commit : Option CommitRun} {left calls : List HoldingCall} {old new : Core} {disk : Disk} {run : PutRun} → IsCore old
+    → StoresBlock old new run
     → (filled : Filled) × (run.filled ≡ Some filled) × (filled.write.next ≡ length filled.write.writes)
-    → Stands setting last begun map calls commit (at_disk old disk) → Gains left calls (Putting run content)
-    → Stands setting last begun (with_block map (Some run.range.id) (Some content)) left commit (at_disk new disk)
-put_ends_stands setting last begun map left calls commit old new disk run content is step ends whole stands gains =
+    → Gains left calls (Putting run) → AreCallsOf old calls
+    → Stands setting last begun map contents calls commit (at_disk old disk)
+    → Stands setting last begun (with_block map (Some run.range.id) (Some (contents run.hold.actor))) contents left commit
+    (at_disk new disk)
+put_ends_stands {setting} {last} {begun} {map} {contents} {commit} {left} {calls} {old} {new} {disk} {run} is ends whole
+    gains are stands =
     stands_on setting last begun calls left old new disk (ends_rearranges old new run ends)
     (λ past group kept spared none. ends.kept past group.entries (past_below old past is kept) none)
-    (λ past group none spared one given listed.
-    spared one given (gains_old left calls (Putting run content) (Putting one given) gains listed))
+    (λ past group none spared one listed.
+    spared one (gains_old left calls (Putting run) (Putting one) gains listed))
     commit map (with_block map (Some run.range.id) (Some content)) held
-    (put_ends_calls left calls old new run content ends stands.are gains)
-    (λ call listed. stands.each call (gains_old left calls (Putting run content) call gains listed))
+    (λ call listed. stands.each call (gains_old left calls (Putting run) call gains listed))
     stands
   where
-    its_calls : Contains calls (Putting run content)
-    its_calls = gains_item left calls (Putting run content) gains
+    content : List ℕ
+    content = contents run.hold.actor
+
+    its_calls : Contains calls (Putting run)
+    its_calls = gains_item left calls (Putting run) gains
 
     of : IsPutOf old run
-    of = stands.are.each (Putting run content) its_calls
+    of = are.each (Putting run) its_calls
 
     holds : HoldsPut content (at_disk old disk) run
-    holds = stands.each (Putting run content) its_calls
+    holds = stands.each (Putting run) its_calls
 
     so_far : (ends.filled.digest ≡ sha256 content)
         × IsWrittenSoFar run.range.layout content old.pool.uber.reflow (front_after_stop old.pool.uber.reflow)
@@ -264,10 +270,10 @@ put_ends_stands setting last begun map left calls commit old new disk run conten
           right = stands.holds.right;
         } in
         let now = put_holds (state_of (as_begun old) disk)
-        (state_of (record (as_begun old) { blocks = new.pool.blocks }) disk) is.is step run.range.layout refl
+        (state_of (record (as_begun old) { blocks = new.pool.blocks }) disk) is.is is.step run.range.layout refl
         (λ device out. out) of.pool
         (λ other listed. listed_clear old run.range other is
-        (stands.are.under.each run.range (range_listed calls run content its_calls)) listed)
+        (are.under.each run.range (range_listed calls run its_calls)) listed)
         (touches_none (IsWrittenTo run.range.layout old.pool.uber.reflow old.pool.out) disk) map
         (filled_entry run ends.filled) content ends.change (record { len = sym holds.len_is; digest = so_far.0 })
         holds.are_bytes read was in
@@ -276,16 +282,15 @@ put_ends_stands setting last begun map left calls commit old new disk run conten
         (record { table = now.table; bytes = now.bytes; right = now.right })
 
 -- A put of which more is filled in or written has no more sectors of blocks.
-pub next_spares : (left calls nexts : List HoldingCall) (run : PutRun) (filled : Option Filled) (content : List ℕ)
-    (state : CoreState) (group : Kept) → Gains left calls (Putting run content)
-    → Gains left nexts (Putting (record run { filled = filled }) content)
+pub next_spares : {left calls nexts : List HoldingCall} {run : PutRun} (state : CoreState) (group : Kept)
+    (filled : Option Filled) → Gains left calls (Putting run) → Gains left nexts (Putting (record run { filled = filled }))
     → PutsSpare state calls group → PutsSpare state nexts group
-next_spares left calls nexts run filled content state group gains gains_next spared one bytes listed = ⊎_elim
+next_spares {left} {calls} {nexts} {run} state group filled gains again spared one listed = ⊎_elim
     (λ same. subst (λ (r : PutRun). SparesAll state.core.pool.blocks.parity state.core.pool.blocks.births group.entries
-    (put_run r.range)) (same_put (record run { filled = filled }) one content bytes same)
-    (spared run content (gains_item left calls (Putting run content) gains)))
-    (λ there. spared one bytes (gains_old left calls (Putting run content) (Putting one bytes) gains there))
-    (gains_cases left nexts (Putting (record run { filled = filled }) content) (Putting one bytes) gains_next listed)
+    (put_run r.range)) (same_put {one = record run { filled = filled }} same)
+    (spared run (gains_item left calls (Putting run) gains)))
+    (λ there. spared one (gains_old left calls (Putting run) (Putting one) gains there))
+    (gains_cases left nexts (Putting (record run { filled = filled })) (Putting one) again listed)
 
 -- A group that stands stands with other calls where their puts have no more sectors of its blocks.
 pub groups_with : (setting : Setting) (last : Kept) (begun : List Kept) (calls nexts : List HoldingCall)
@@ -303,13 +308,13 @@ groups_with setting last begun calls nexts (Some commit) state spared groups = r
 }
 
 -- A put whose bytes are filled in holds them, none of them written yet.
-pub put_fills_stands : (setting : Setting) (last : Kept) (begun : List Kept) (map : Map) (left calls nexts : List HoldingCall)
-    (commit : Option CommitRun) (state : CoreState) (run next : PutRun) (content : List ℕ) → FillsPut run next content
-    → Stands setting last begun map calls commit state → Gains left calls (Putting run content)
-    → Gains left nexts (Putting next content)
-    → Stands setting last begun map nexts commit state
-put_fills_stands setting last begun map left calls nexts commit state run next content fills stands gains
-    gains_next = record {
+pub put_fills_stands : {setting : Setting} {last : Kept} {begun : List Kept} {map : Map} {contents : ℕ → List ℕ}
+    {commit : Option CommitRun} {left calls nexts : List HoldingCall} {state : CoreState} {run next : PutRun}
+    → FillsPut run next (contents run.hold.actor) → Gains left calls (Putting run) → Gains left nexts (Putting next)
+    → AreCallsOf state.core calls → Stands setting last begun map contents calls commit state
+    → Stands setting last begun map contents nexts commit state
+put_fills_stands {setting} {last} {begun} {contents = contents} {commit} {left} {calls} {nexts} {state} {run} {next} fills
+    gains again are stands = record {
       groups = groups_with setting last begun calls nexts commit state spared stands.groups;
       alike = stands.alike;
       kept = stands.kept;
@@ -319,26 +324,28 @@ put_fills_stands setting last begun map left calls nexts commit state run next c
       tells = stands.tells;
       bank = stands.bank;
       holds = stands.holds;
-      are = put_fills_calls left calls nexts state.core run next content content fills was.len_is stands.are gains
-          gains_next;
       each = λ call listed. ⊎_elim
-          (λ same. subst (HoldsCall state) same (subst (HoldsPut content state) (sym fills.rest) filled))
-          (λ there. stands.each call (gains_old left calls (Putting run content) call gains there))
-          (gains_cases left nexts (Putting next content) call gains_next listed);
+          (λ same. subst (λ (c : HoldingCall). HoldsCall state (contents (actor_of c)) c) same
+          (subst (λ (r : PutRun). HoldsPut (contents r.hold.actor) state r) (sym fills.rest) filled))
+          (λ there. stands.each call (gains_old left calls (Putting run) call gains there))
+          (gains_cases left nexts (Putting next) call again listed);
     }
   where
-    its_calls : Contains calls (Putting run content)
-    its_calls = gains_item left calls (Putting run content) gains
+    content : List ℕ
+    content = contents run.hold.actor
+
+    its_calls : Contains calls (Putting run)
+    its_calls = gains_item left calls (Putting run) gains
 
     of : IsPutOf state.core run
-    of = stands.are.each (Putting run content) its_calls
+    of = are.each (Putting run) its_calls
 
     was : HoldsPut content state run
-    was = stands.each (Putting run content) its_calls
+    was = stands.each (Putting run) its_calls
 
     spared : (group : Kept) → PutsSpare state calls group → PutsSpare state nexts group
-    spared group = next_spares left calls nexts run (Some fills.filled) content state group gains
-        (subst (λ (r : PutRun). Gains left nexts (Putting r content)) fills.rest gains_next)
+    spared group = next_spares state group (Some fills.filled) gains
+        (subst (λ (r : PutRun). Gains left nexts (Putting r)) fills.rest again)
 
     filled : HoldsPut content state (record run { filled = Some fills.filled })
     filled = record {

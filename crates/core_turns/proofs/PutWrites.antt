@@ -54,11 +54,10 @@ use Rattle.core_turns.specs.declared.putting.PutRun.{PutRun}
 use Rattle.core_turns.specs.Core.{Core, CoreState, IsCore, as_begun, at_disk}
 use Rattle.core_turns.specs.Putting.{IsPutOf, HoldsPut, WritesOne}
 use Rattle.core_turns.specs.Committing.{IsCommitOf}
-use Rattle.core_turns.specs.UnderWay.{HoldingCall, Putting, Reading, AreBeside, AreCallsOf, CommitStands, GroupsStand, HoldsCall, IsCallOfCore, NoCommitStands, PutsSpare, Stands, layout_of_call}
+use Rattle.core_turns.specs.UnderWay.{HoldingCall, Putting, Reading, AreBeside, AreCallsOf, CommitStands, GroupsStand, HoldsCall, IsCallOfCore, NoCommitStands, PutsSpare, Stands, actor_of, layout_of_call}
 use Rattle.core_turns.proofs.Beside.{IsWrittenTo, AreInPool, never_asked, put_beside_commit}
 use Rattle.core_turns.proofs.Frames.{AreOff, IsOff, Leaves, call_stays, leaves_touched, off_written, stands_anew}
 use Rattle.core_turns.proofs.Calls.{beside_turn, range_listed}
-use Rattle.core_turns.proofs.PutCalls.{put_writes_calls}
 use Rattle.core_turns.proofs.PutStands.{groups_with, listed_clear, next_spares}
 use Rattle.core_turns.proofs.PutTurns.{outs_by_write}
 
@@ -147,10 +146,8 @@ row_shown groups last next Lays row = record {
 
 -- ---- one write
 
-module _ (setting : Setting) (last : Kept) (begun : List Kept) (map : Map) (left calls : List HoldingCall)
-    (before after : CoreState) (run next : PutRun) (content : List ℕ) (is : IsCore before.core)
-    (lawful : Lawful before.disk) (writes : WritesOne before run after next)
-    (gains : Gains left calls (Putting run content)) where
+module _ {left calls : List HoldingCall} {before after : CoreState} {run next : PutRun} (is : IsCore before.core)
+    (lawful : Lawful before.disk) (writes : WritesOne before run after next) (gains : Gains left calls (Putting run)) where
   abbrev reflow : Reflow
   reflow = before.core.pool.uber.reflow
 
@@ -199,11 +196,11 @@ module _ (setting : Setting) (last : Kept) (begun : List Kept) (map : Map) (left
     leaves = leaves_touched places before written refl outs.still touched
 
     -- Blocks that have no sector of the put are off it: those of other calls,
-    calls_off : (call : HoldingCall) → AreBeside (Putting run content) call → IsCallOfCore before.core call
+    calls_off : (call : HoldingCall) → AreBeside (Putting run) call → IsCallOfCore before.core call
         → IsOff places reflow (layout_of_call call)
-    calls_off (Putting other bytes) beside other_of =
+    calls_off (Putting other) beside other_of =
         off_written reflow layout other.range.layout before.core.pool.out of.pool other_of.pool beside.apart
-    calls_off (Reading other bytes) beside other_of =
+    calls_off (Reading other) beside other_of =
         off_written reflow layout other.read.layout before.core.pool.out of.pool other_of.1.pool beside.apart
 
     -- and those of the table.
@@ -215,9 +212,9 @@ module _ (setting : Setting) (last : Kept) (begun : List Kept) (map : Map) (left
         (listed_clear before.core run.range entry is under listed)
 
     -- One write more of the put's block stands there.
-    holds_further : Tells before.disk → HasBank before.core.pool.uber before.core.pool.out before.disk
+    holds_further : (content : List ℕ) → Tells before.disk → HasBank before.core.pool.uber before.core.pool.out before.disk
         → HoldsPut content before run → HoldsPut content written next
-    holds_further tells bank holds = subst (HoldsPut content written) (sym writes.next_is) (record {
+    holds_further content tells bank holds = subst (HoldsPut content written) (sym writes.next_is) (record {
       len_is = holds.len_is;
       are_bytes = holds.are_bytes;
       so_far = λ filled same. subst (λ (f : Filled). (f.digest ≡ sha256 content)
@@ -239,141 +236,143 @@ module _ (setting : Setting) (last : Kept) (begun : List Kept) (map : Map) (left
         same_filled : (filled : Filled) → Some further ≡ Some filled → further ≡ filled
         same_filled filled same = cc
 
-    -- The put is clear of a group where it has no sector of its blocks:
-    clear_of : (group : Kept) → IsSound setting group
-        → (before.core.pool.uber.parity ≡ group.uber.parity) × (before.core.pool.uber.births ≡ group.uber.births)
-        × (reflow ≡ group.uber.reflow)
-        → PutsSpare before calls group → IsClearOf layout reflow group
-    clear_of group sound widths spared = record {
-      inside = sound_in_pool setting group reflow sound widths.2;
-      spares = subst (λ (p : ℕ). SparesAll p group.uber.births group.entries (put_run run.range))
-          (is.is.parity ∙ widths.0)
-          (subst (λ (b : List Birth). SparesAll before.core.pool.blocks.parity b group.entries (put_run run.range))
-          (is.is.births ∙ widths.1) (spared run content (gains_item left calls (Putting run content) gains)));
-    }
-
-    module _ (alike : AreAlike before.core.pool.uber last.uber) (spared : PutsSpare before calls last) where
-      -- of the last one,
-      last_clear : IsSound setting last → IsClearOf layout reflow last
-      last_clear sound = clear_of last sound
-          (ap (λ (u : Uber). u.parity) alike, ap (λ (u : Uber). u.births) alike, ap (λ (u : Uber). u.reflow) alike)
-          spared
-
-      -- and of the one that a commit makes.
-      next_clear : (commit : CommitRun) (groups : CommitStands setting last begun calls commit before)
-          → IsClearOf layout reflow groups.next
-      next_clear commit groups = clear_of groups.next groups.come.sound
-          (next_widths before.core commit groups.next groups.of groups.come.alike) groups.spared
-
-      -- So it writes to spare sectors without a commit
-      spare_alone : NoCommitStands setting last begun before → (device device_sector : ℕ) → places device device_sector
-          → IsSpare setting last begun device device_sector
-      spare_alone groups device device_sector place =
-          subst (λ (later : List Kept). IsSpare setting last later device device_sector) (sym (groups.whole few).0)
-          (written_spare setting last [] reflow layout before.core.pool.out groups.knows.sound of.pool
-          (λ kept listed. ⊎_elim
-          (λ same. subst (IsClearOf layout reflow) (sym same) (last_clear groups.knows.sound))
-          (λ none. absurd (contains_none kept none))
-          (contains_cases last [] kept listed))
-          device device_sector place)
-
-      -- and beside one.
-      spare_beside : (commit : CommitRun) (groups : CommitStands setting last begun calls commit before)
-          → (device device_sector : ℕ) → places device device_sector
-          → IsSpare setting last (shown_by groups.next commit) device device_sector
-      spare_beside commit groups = written_spare setting last (shown_by groups.next commit) reflow layout
-          before.core.pool.out groups.come.sound_first of.pool
-          (λ kept listed. ⊎_elim
-          (λ same. subst (IsClearOf layout reflow) (sym same) (last_clear groups.come.sound_first))
-          (λ later. subst (IsClearOf layout reflow) (sym (shown_next commit.stage kept later))
-          (next_clear commit groups))
-          (contains_cases last (shown_by groups.next commit) kept listed))
-        where
-          shown_next : (stage : Stage) (kept : Kept) → Contains (shown_at groups.next stage) kept → kept ≡ groups.next
-          shown_next Lays kept listed = absurd (contains_none kept listed)
-          shown_next Signs kept listed = ⊎_elim (λ same. same) (λ none. absurd (contains_none kept none))
-              (contains_cases groups.next [] kept listed)
-
-      -- What is known of the groups stays,
-      groups_on : (commit : Option CommitRun) → Lawful after.disk → GroupsStand setting last begun calls commit before
-          → GroupsStand setting last begun calls commit written
-      groups_on None still_lawful groups = record {
-        knows = touched_knows places touched setting last begun lawful (spare_alone groups) groups.knows;
-        whole = λ few_after. groups.whole few;
+    module _ (setting : Setting) (last : Kept) (begun : List Kept) where
+      -- The put is clear of a group where it has no sector of its blocks:
+      clear_of : (group : Kept) → IsSound setting group
+          → (before.core.pool.uber.parity ≡ group.uber.parity) × (before.core.pool.uber.births ≡ group.uber.births)
+          × (reflow ≡ group.uber.reflow)
+          → PutsSpare before calls group → IsClearOf layout reflow group
+      clear_of group sound widths spared = record {
+        inside = sound_in_pool setting group reflow sound widths.2;
+        spares = subst (λ (p : ℕ). SparesAll p group.uber.births group.entries (put_run run.range))
+            (is.is.parity ∙ widths.0)
+            (subst (λ (b : List Birth). SparesAll before.core.pool.blocks.parity b group.entries (put_run run.range))
+            (is.is.births ∙ widths.1) (spared run (gains_item left calls (Putting run) gains)));
       }
-      groups_on (Some commit) still_lawful groups =
-          let first = last_clear groups.come.sound_first in
-          let next = next_clear commit groups in
-          record {
-            next = groups.next;
-            begun_is = groups.begun_is;
-            of = record {
-              actor = groups.of.actor;
-              under_way = groups.of.under_way;
-              number = groups.of.number;
-              uber_is = groups.of.uber_is;
-              lists = λ device listed. outs.still device (groups.of.lists device listed);
-            };
-            come = committing_touched setting last groups.next places commit here there
-                (put_beside_commit setting last groups.next reflow layout before.core.pool.out first.inside next.inside
-                of.pool first.spares next.spares)
-                touched outs.still still_lawful groups.come;
-            kept = groups.kept;
-            spared = groups.spared;
-          }
 
-      -- and what each image keeps.
-      since_on : (commit : Option CommitRun) (groups : List Kept) (time : ℕ) → IsRowOf groups last begun
-          → GroupsStand setting last begun calls commit before → KeepsSince setting groups time before.disk
-          → KeepsSince setting groups time after.disk
-      since_on None groups time row stands kept =
-          touched_since places touched setting last begun lawful (spare_alone stands) stands.knows groups time row kept
-      since_on (Some commit) groups time row stands kept =
-          touched_since places touched setting last (shown_by stands.next commit) lawful (spare_beside commit stands)
-          (committing_knows setting last stands.next commit here stands.come) groups time
-          (row_shown groups last stands.next commit.stage
-          (subst (λ (later : List Kept). IsRowOf groups last later) stands.begun_is row)) kept
+      module _ (alike : AreAlike before.core.pool.uber last.uber) (spared : PutsSpare before calls last) where
+        -- of the last one,
+        last_clear : IsSound setting last → IsClearOf layout reflow last
+        last_clear sound = clear_of last sound
+            (ap (λ (u : Uber). u.parity) alike, ap (λ (u : Uber). u.births) alike, ap (λ (u : Uber). u.reflow) alike)
+            spared
 
-  module _ (commit : Option CommitRun) (stands : Stands setting last begun map calls commit before) where
-    its_calls : Contains calls (Putting run content)
-    its_calls = gains_item left calls (Putting run content) gains
+        -- and of the one that a commit makes.
+        next_clear : (commit : CommitRun) (groups : CommitStands setting last begun calls commit before)
+            → IsClearOf layout reflow groups.next
+        next_clear commit groups = clear_of groups.next groups.come.sound
+            (next_widths before.core commit groups.next groups.of groups.come.alike) groups.spared
+
+        -- So it writes to spare sectors without a commit
+        spare_alone : NoCommitStands setting last begun before → (device device_sector : ℕ) → places device device_sector
+            → IsSpare setting last begun device device_sector
+        spare_alone groups device device_sector place =
+            subst (λ (later : List Kept). IsSpare setting last later device device_sector) (sym (groups.whole few).0)
+            (written_spare setting last [] reflow layout before.core.pool.out groups.knows.sound of.pool
+            (λ kept listed. ⊎_elim
+            (λ same. subst (IsClearOf layout reflow) (sym same) (last_clear groups.knows.sound))
+            (λ none. absurd (contains_none kept none))
+            (contains_cases last [] kept listed))
+            device device_sector place)
+
+        -- and beside one.
+        spare_beside : (commit : CommitRun) (groups : CommitStands setting last begun calls commit before)
+            → (device device_sector : ℕ) → places device device_sector
+            → IsSpare setting last (shown_by groups.next commit) device device_sector
+        spare_beside commit groups = written_spare setting last (shown_by groups.next commit) reflow layout
+            before.core.pool.out groups.come.sound_first of.pool
+            (λ kept listed. ⊎_elim
+            (λ same. subst (IsClearOf layout reflow) (sym same) (last_clear groups.come.sound_first))
+            (λ later. subst (IsClearOf layout reflow) (sym (shown_next commit.stage kept later))
+            (next_clear commit groups))
+            (contains_cases last (shown_by groups.next commit) kept listed))
+          where
+            shown_next : (stage : Stage) (kept : Kept) → Contains (shown_at groups.next stage) kept → kept ≡ groups.next
+            shown_next Lays kept listed = absurd (contains_none kept listed)
+            shown_next Signs kept listed = ⊎_elim (λ same. same) (λ none. absurd (contains_none kept none))
+                (contains_cases groups.next [] kept listed)
+
+        -- What is known of the groups stays,
+        groups_on : (commit : Option CommitRun) → Lawful after.disk → GroupsStand setting last begun calls commit before
+            → GroupsStand setting last begun calls commit written
+        groups_on None still_lawful groups = record {
+          knows = touched_knows places touched setting last begun lawful (spare_alone groups) groups.knows;
+          whole = λ few_after. groups.whole few;
+        }
+        groups_on (Some commit) still_lawful groups =
+            let first = last_clear groups.come.sound_first in
+            let next = next_clear commit groups in
+            record {
+              next = groups.next;
+              begun_is = groups.begun_is;
+              of = record {
+                actor = groups.of.actor;
+                under_way = groups.of.under_way;
+                number = groups.of.number;
+                uber_is = groups.of.uber_is;
+                lists = λ device listed. outs.still device (groups.of.lists device listed);
+              };
+              come = committing_touched setting last groups.next places commit here there
+                  (put_beside_commit setting last groups.next reflow layout before.core.pool.out first.inside next.inside
+                  of.pool first.spares next.spares)
+                  touched outs.still still_lawful groups.come;
+              kept = groups.kept;
+              spared = groups.spared;
+            }
+
+        -- and what each image keeps.
+        since_on : (commit : Option CommitRun) (groups : List Kept) (time : ℕ) → IsRowOf groups last begun
+            → GroupsStand setting last begun calls commit before → KeepsSince setting groups time before.disk
+            → KeepsSince setting groups time after.disk
+        since_on None groups time row stands kept =
+            touched_since places touched setting last begun lawful (spare_alone stands) stands.knows groups time row kept
+        since_on (Some commit) groups time row stands kept =
+            touched_since places touched setting last (shown_by stands.next commit) lawful (spare_beside commit stands)
+            (committing_knows setting last stands.next commit here stands.come) groups time
+            (row_shown groups last stands.next commit.stage
+            (subst (λ (later : List Kept). IsRowOf groups last later) stands.begun_is row)) kept
+
+  module _ {setting : Setting} {last : Kept} {begun : List Kept} {map : Map} {contents : ℕ → List ℕ}
+      {commit : Option CommitRun} (are : AreCallsOf before.core calls)
+      (stands : Stands setting last begun map contents calls commit before) where
+    its_calls : Contains calls (Putting run)
+    its_calls = gains_item left calls (Putting run) gains
 
     its_of : IsPutOf before.core run
-    its_of = stands.are.each (Putting run content) its_calls
+    its_of = are.each (Putting run) its_calls
 
     -- A write of a put leaves what stands, and is one more of its block.
-    pub put_writes_stands : (nexts : List HoldingCall) → AreInStep before.core.pool.blocks → Lawful after.disk
-        → Gains left nexts (Putting next content)
-        → Stands setting last begun map nexts commit after
-    put_writes_stands nexts step still_lawful gains_next =
-        subst (λ (core : Core). Stands setting last begun map nexts commit (at_disk core after.disk)) (sym writes.rest)
-        (stands_anew places setting last begun map calls nexts commit commit before written (leaves its_of)
-        (table_off its_of step (stands.are.under.each run.range (range_listed calls run content its_calls)))
+    pub put_writes_stands : {nexts : List HoldingCall} → Lawful after.disk → Gains left nexts (Putting next)
+        → Stands setting last begun map contents nexts commit after
+    put_writes_stands {nexts} still_lawful again =
+        subst (λ (core : Core). Stands setting last begun map contents nexts commit (at_disk core after.disk))
+        (sym writes.rest)
+        (stands_anew places before written (leaves its_of)
+        (table_off its_of is.step (are.under.each run.range (range_listed calls run its_calls)))
         refl (touched its_of).later
         (groups_with setting last begun calls nexts commit written spared
-        (groups_on its_of stands.alike stands.spared commit still_lawful stands.groups))
+        (groups_on its_of setting last begun stands.alike stands.spared commit still_lawful stands.groups))
         (spared last stands.spared)
-        (subst (λ (core : Core). AreCallsOf core nexts) writes.rest
-        (put_writes_calls left calls nexts before after run next content writes stands.are gains gains_next))
         (λ call listed. ⊎_elim
-        (λ same. subst (HoldsCall written) same
-        (holds_further its_of stands.tells stands.bank (stands.each (Putting run content) its_calls)))
+        (λ same. subst (λ (c : HoldingCall). HoldsCall written (contents (actor_of c)) c) same
+        (subst (λ (actor : ℕ). HoldsPut (contents actor) written next)
+        (sym (ap (λ (r : PutRun). r.hold.actor) writes.next_is))
+        (holds_further its_of (contents run.hold.actor) stands.tells stands.bank (stands.each (Putting run) its_calls))))
         (λ other.
-        let was = gains_old left calls (Putting run content) call gains other in
-        let beside =
-        pairs_beside AreBeside beside_turn calls left (Putting run content) call gains stands.are.beside other in
-        call_stays places before written call (leaves its_of)
-        (calls_off its_of call beside (stands.are.each call was)) (stands.each call was))
-        (gains_cases left nexts (Putting next content) call gains_next listed))
+        let was = gains_old left calls (Putting run) call gains other in
+        let beside = pairs_beside AreBeside beside_turn calls left (Putting run) call gains are.beside other in
+        call_stays places (contents (actor_of call)) before written call (leaves its_of)
+        (calls_off its_of call beside (are.each call was)) (stands.each call was))
+        (gains_cases left nexts (Putting next) call again listed))
         stands)
       where
         spared : (group : Kept) → PutsSpare written calls group → PutsSpare written nexts group
-        spared group = next_spares left calls nexts run (Some further) content written group gains
-            (subst (λ (r : PutRun). Gains left nexts (Putting r content)) writes.next_is gains_next)
+        spared group = next_spares written group (Some further) gains
+            (subst (λ (r : PutRun). Gains left nexts (Putting r)) writes.next_is again)
 
     -- Each image keeps what it kept, at each moment of it.
     pub put_writes_since : (groups : List Kept) (time : ℕ) → IsRowOf groups last begun
         → KeepsSince setting groups time before.disk
         → KeepsSince setting groups time after.disk
     put_writes_since groups time row kept =
-        since_on its_of stands.alike stands.spared commit groups time row stands.groups kept
+        since_on its_of setting last begun stands.alike stands.spared commit groups time row stands.groups kept

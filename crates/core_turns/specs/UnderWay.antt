@@ -27,50 +27,59 @@ use Rattle.core_turns.specs.Getting.{IsReadKind, IsGetOf, HoldsGet}
 use Rattle.core_turns.specs.Putting.{IsPutOf, HoldsPut}
 use Rattle.core_turns.specs.Committing.{IsCommitOf}
 
--- a call under way that holds sectors, and the bytes of its block: those that a put is handed, those that a read
--- is to find
+-- a call under way that holds sectors
 pub data HoldingCall : Type 0 where
-  Putting : (run : PutRun) (content : List ℕ) → HoldingCall
-  Reading : (run : GetRun) (content : List ℕ) → HoldingCall
+  Putting : (run : PutRun) → HoldingCall
+  Reading : (run : GetRun) → HoldingCall
 
 abbrev pub hold_of_call : HoldingCall → Hold
-hold_of_call (Putting run content) = run.hold
-hold_of_call (Reading run content) = run.hold
+hold_of_call (Putting run) = run.hold
+hold_of_call (Reading run) = run.hold
 
 abbrev pub layout_of_call : HoldingCall → Layout
-layout_of_call (Putting run content) = run.range.layout
-layout_of_call (Reading run content) = run.read.layout
+layout_of_call (Putting run) = run.range.layout
+layout_of_call (Reading run) = run.read.layout
+
+-- whose call it is
+abbrev pub actor_of : HoldingCall → ℕ
+actor_of call = (hold_of_call call).actor
 
 -- the range of a put
 abbrev pub range_in : HoldingCall → Option PutRange
-range_in (Putting run content) = Some run.range
-range_in (Reading run content) = None
+range_in (Putting run) = Some run.range
+range_in (Reading run) = None
 
 abbrev pub ranges_of : List HoldingCall → List PutRange
 ranges_of calls = filter_map range_in calls
 
 -- The call is one of this core.
 abbrev pub IsCallOfCore : Core → HoldingCall → Type 0
-IsCallOfCore core (Putting run content) = IsPutOf core run
-IsCallOfCore core (Reading run content) = IsReadKind run.kind × IsGetOf core run
+IsCallOfCore core (Putting run) = IsPutOf core run
+IsCallOfCore core (Reading run) = IsReadKind run.kind × IsGetOf core run
 
--- What a call has written or read so far is its block's.
-abbrev pub HoldsCall : CoreState → HoldingCall → Type 0
-HoldsCall state (Putting run content) = HoldsPut content state run
-HoldsCall state (Reading run content) = HoldsGet content state run
+-- What a call has written or read so far is its block's, of these bytes: those that a put is handed, those that a read is
+-- to find.
+abbrev pub HoldsCall : CoreState → List ℕ → HoldingCall → Type 0
+HoldsCall state content (Putting run) = HoldsPut content state run
+HoldsCall state content (Reading run) = HoldsGet content state run
+
+-- The bytes of one actor's block are these now, and the others' are what they were.
+pub record SetsContent (old new : ℕ → List ℕ) (actor : ℕ) (content : List ℕ) : Type 0 where
+  pub own : new actor ≡ content
+  pub others : (other : ℕ) → other ≢ actor → new other ≡ old other
 
 -- Two reads may be of one block; a put has no sector in common with another call.
 abbrev pub HaveNoneInCommon : HoldingCall → HoldingCall → Type 0
-HaveNoneInCommon (Reading run content) (Reading other held) = ⊤
+HaveNoneInCommon (Reading run) (Reading other) = ⊤
 HaveNoneInCommon one other = AreClear (layout_run (layout_of_call one)) (layout_run (layout_of_call other))
 
 -- Two calls are of two actors.
 pub record AreBeside (one other : HoldingCall) : Type 0 where
-  pub actors : (hold_of_call one).actor ≢ (hold_of_call other).actor
+  pub actors : actor_of one ≢ actor_of other
   pub apart : HaveNoneInCommon one other
 
--- The calls under way that hold sectors are these, whatever their blocks' bytes: each is one of this core, the
--- puts among them have all ranges that are taken and no block's, and they are beside each other.
+-- The calls under way that hold sectors are these: each is one of this core, the puts among them have all ranges that
+-- are taken and no block's, and they are beside each other.
 pub record AreCallsOf (core : Core) (calls : List HoldingCall) : Type 0 where
   pub each : (call : HoldingCall) → Contains calls call → IsCallOfCore core call
   pub under : AreUnderWay core.pool.blocks (ranges_of calls)
@@ -78,7 +87,7 @@ pub record AreCallsOf (core : Core) (calls : List HoldingCall) : Type 0 where
 
 -- No put has a sector of these blocks.
 abbrev pub PutsSpare : CoreState → List HoldingCall → Kept → Type 0
-PutsSpare state calls kept = (run : PutRun) (content : List ℕ) → Contains calls (Putting run content)
+PutsSpare state calls kept = (run : PutRun) → Contains calls (Putting run)
     → SparesAll state.core.pool.blocks.parity state.core.pool.blocks.births kept.entries (put_run run.range)
 
 -- The group after the last answered one is under way: it has come so far, and no sector of its blocks is free or
@@ -104,10 +113,10 @@ GroupsStand setting last begun calls None state = NoCommitStands setting last be
 GroupsStand setting last begun calls (Some run) state = CommitStands setting last begun calls run state
 
 -- Between two turns: the last answered group is certain on the devices, and what is known of one that was begun
--- after it; the map is held; each call under way goes on as it should, and they are beside each other. No sector
--- of the last group's blocks is free or a put's.
-pub record Stands (setting : Setting) (last : Kept) (begun : List Kept) (map : Map) (calls : List HoldingCall)
-    (commit : Option CommitRun) (state : CoreState) : Type 0 where
+-- after it; the map is held; each call under way goes on as it should, with the bytes of its actor's block. No sector of
+-- the last group's blocks is free or a put's.
+pub record Stands (setting : Setting) (last : Kept) (begun : List Kept) (map : Map) (contents : ℕ → List ℕ)
+    (calls : List HoldingCall) (commit : Option CommitRun) (state : CoreState) : Type 0 where
   pub groups : GroupsStand setting last begun calls commit state
   pub alike : AreAlike state.core.pool.uber last.uber
   pub kept : NoneFree state.core.pool.blocks state.core.pool.uber.group last.entries
@@ -117,8 +126,7 @@ pub record Stands (setting : Setting) (last : Kept) (begun : List Kept) (map : M
   pub tells : Tells state.disk
   pub bank : HasBank state.core.pool.uber state.core.pool.out state.disk
   pub holds : HoldsMap map (pool_at state)
-  pub are : AreCallsOf state.core calls
-  pub each : (call : HoldingCall) → Contains calls call → HoldsCall state call
+  pub each : (call : HoldingCall) → Contains calls call → HoldsCall state (contents (actor_of call)) call
 
 -- What each turn does: the bank goes on, devices go out where they failed, and none is touched but those of the
 -- pool that were in use. The pool's widths stay.
