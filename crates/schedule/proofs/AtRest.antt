@@ -35,10 +35,8 @@ pub schedule_at_rest : (script : Script) (core : Core) (disk : Disk) (items : Li
     → IsSchedule script (turns_of (at_disk core disk) items (blank_clients count))
 schedule_at_rest script core disk items count rest bank none = record {
   going = record {
-    are = λ contents. subst (AreCallsOf core) (sym (none_held contents count)) (calls_none core rest.blocks);
-    holds = λ index client under going. absurd (none_of_blank count index client under going);
-    asked = λ index client under going. absurd (none_of_blank count index client under going);
-    syncs = λ index client under run going is. absurd (none_of_blank count index client under going);
+    are = subst (AreCallsOf core) (sym (none_held count)) (calls_none core rest.blocks);
+    each = λ index client under going. absurd (none_of_blank count index client under going);
     one = λ actor is. absurd (none_some (sym rest.committing ∙ is));
   };
   answered = record {

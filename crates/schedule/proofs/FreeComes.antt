@@ -69,7 +69,7 @@ frees_map old new handed map entry id answer.Absent id_is frees = refl
 frees_map old new handed map entry id (answer.TooManyFailed out) id_is frees = refl
 frees_map old new handed map entry id other id_is frees = absurd frees
 
-module _ (script : Script) (actor : ℕ) (before after : Station) (clients news : List Client)
+module _ {script : Script} {actor : ℕ} {before after : Station} {clients news : List Client}
     (takes : TakesTurn script actor before after clients news) (call : ScriptCall) (id : ℕ) (given : Answer)
     (asked : call.kind ≡ kind.Free) (id_is : call.id ≡ Some id) (idle : before.client.under_way ≡ None)
     (next : slice_get (calls_of script actor) before.client.begun ≡ Some call)
@@ -83,8 +83,7 @@ module _ (script : Script) (actor : ℕ) (before after : Station) (clients news 
   pub free_at_once : Comes script actor before after clients news
   free_at_once =
       let of = frees_of before.state.core after.state.core id given frees.frees in
-      comes_at_once script actor before after clients news takes call given idle next
-      (frees_pool before.state.core after.state.core id given frees.frees) disk left
+      comes_at_once takes call idle (frees_pool before.state.core after.state.core id given frees.frees) disk given next left
       (record {
         of_kind = subst (λ (k : Kind). IsAnswerOf k given) (sym asked) of.0;
         tells = λ out told. let many = subst (FreesBlock before.state.core after.state.core id) told frees.frees in
@@ -93,20 +92,19 @@ module _ (script : Script) (actor : ℕ) (before after : Station) (clients news 
         memory = λ wanting. absurd (subst (FreesBlock before.state.core after.state.core id) wanting frees.frees);
       })
       (λ full. absurd (put_alone kind.Free given free_no_put of.0 full))
-      (λ contents. frees_calls before.state.core after.state.core id given (calls_under_way contents clients) frees.frees
-      frees.under (takes.schedule.going.are contents))
+      (frees_calls before.state.core after.state.core id given (calls_under_way clients) frees.frees frees.under
+      takes.schedule.going.are)
       (λ world past runs.
       let map = map_of world.handed world.opening before.items in
-      let calls = calls_under_way runs.contents clients in
       let entry = first_entry call actor before given in (
         free_right world before.items entry asked of.1
             (subst (λ (held : Option (List ℕ)). IsRightFree held given) (sym (ap (option_and_then map) id_is))
             (frees_right before.state.core after.state.core before.state.disk map id given runs.stands.holds
             frees.frees)),
-        subst (λ (m : Map). Stands world.setting runs.last runs.begun m calls runs.commit after.state)
+        subst (λ (m : Map). Stands world.setting runs.last runs.begun m runs.contents (calls_under_way clients)
+            runs.commit after.state)
             (sym (frees_map before.state.core after.state.core world.handed map entry id given id_is frees.frees))
-            (subst (λ (d : Disk). Stands world.setting runs.last runs.begun (map_after_free map id given) calls
-            runs.commit (at_disk after.state.core d)) (sym disk)
-            (frees_stands world.setting runs.last runs.begun map calls runs.commit before.state.core
-            after.state.core before.state.disk id given takes.is frees.frees frees.under frees.kept runs.stands)),
+            (subst (λ (d : Disk). Stands world.setting runs.last runs.begun (map_after_free map id given) runs.contents
+            (calls_under_way clients) runs.commit (at_disk after.state.core d)) (sym disk)
+            (frees_stands id given takes.is frees.frees frees.kept runs.stands)),
       ))

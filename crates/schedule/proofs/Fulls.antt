@@ -59,56 +59,52 @@ member_counted (first ∷ ids) id there =
 
 -- An id that puts under way are counted of is one of theirs.
 put_counted : (calls : List HoldingCall) (id : ℕ) → 0 < puts_of (ranges_of calls) id
-    → (run : PutRun) × (content : List ℕ) × Contains calls (Putting run content) × (run.range.id ≡ id)
+    → (run : PutRun) × Contains calls (Putting run) × (run.range.id ≡ id)
 put_counted [] id some = absurd (omega (arith, some))
-put_counted (Reading read held ∷ calls) id some =
+put_counted (Reading read ∷ calls) id some =
     let found = put_counted calls id some in
-    (found.0, found.1, rest_listed (Reading read held) (Putting found.0 found.1) calls found.2, found.3)
-put_counted (Putting run content ∷ calls) id some =
+    (found.0, rest_listed (Reading read) (Putting found.0) calls found.1, found.2)
+put_counted (Putting run ∷ calls) id some =
     by (id == run.range.id) (λ same. eqb-true id run.range.id same)
     (sum_by-cons (λ range. cond (id == range.id) 1 0) run.range (ranges_of calls)) (put_counted calls id)
   where
     Found : List HoldingCall → Type 0
-    Found list = (other : PutRun) × (held : List ℕ) × Contains list (Putting other held) × (other.range.id ≡ id)
+    Found list = (other : PutRun) × Contains list (Putting other) × (other.range.id ≡ id)
 
     by : (same : Bool) → (same ≡ true → id ≡ run.range.id)
         → puts_of (run.range ∷ ranges_of calls) id ≡ cond same 1 0 + puts_of (ranges_of calls) id
         → (0 < puts_of (ranges_of calls) id → Found calls)
-        → Found (Putting run content ∷ calls)
-    by true is counted rest = (run, content, first_listed (Putting run content) calls, sym (is refl))
+        → Found (Putting run ∷ calls)
+    by true is counted rest = (run, first_listed (Putting run) calls, sym (is refl))
     by false is counted rest =
         let found = rest (omega (arith, some, counted)) in
-        (found.0, found.1, rest_listed (Putting run content) (Putting found.0 found.1) calls found.2, found.3)
+        (found.0, rest_listed (Putting run) (Putting found.0) calls found.1, found.2)
 
 -- The script asks for a put that is a client's work.
-put_asked : (does : Work) (bytes : List ℕ) (run : PutRun) (content : List ℕ) (call : ScriptCall)
-    → Contains (held_by bytes does) (Putting run content) → IsWorkFor call does
-    → (call.kind ≡ kind.Put) × (call.id ≡ Some run.range.id)
-put_asked (work.Put other) bytes run content call held asked = (
+put_asked : (does : Work) (run : PutRun) (call : ScriptCall) → Contains (held_by does) (Putting run)
+    → IsWorkFor call does → (call.kind ≡ kind.Put) × (call.id ≡ Some run.range.id)
+put_asked (work.Put other) run call held asked = (
   asked.0,
-  asked.1 ∙ ap (λ (r : PutRun). Some r.range.id)
-      (same_put other run bytes content (only_one (Putting other bytes) (Putting run content) held)),
+  asked.1 ∙ ap (λ (r : PutRun). Some r.range.id) (same_put (only_one (Putting other) (Putting run) held)),
 )
-put_asked (work.Read other) bytes run content call held asked =
-    absurd (apart (only_one (Reading other bytes) (Putting run content) held))
+put_asked (work.Read other) run call held asked = absurd (apart (only_one (Reading other) (Putting run) held))
   where
-    apart : Reading other bytes ≡ Putting run content → ⊥
+    apart : Reading other ≡ Putting run → ⊥
     apart same = cc
-put_asked (work.Sync other) bytes run content call held asked = absurd (none_listed (Putting run content) held)
+put_asked (work.Sync other) run call held asked = absurd (none_listed (Putting run) held)
 
 -- An id that is reserved is one that a call of the script puts.
 reserved_put : (script : Script) (core : Core) (clients : List Client) (opening : Map) (id : ℕ)
     → AreGoing script core clients → is_member nat_eq core.pool.blocks.table.reserved id ≡ true
     → IsHeldOrPut script opening id
 reserved_put script core clients opening id going there =
-    let contents : (index : ℕ) → List ℕ = λ index. [] in
     let some = member_counted core.pool.blocks.table.reserved id there in
-    let counted = (going.are contents).under.reserved id in
-    let found = put_counted (calls_under_way contents clients) id (omega (arith, some, counted)) in
-    let its = whose contents clients (Putting found.0 found.1) found.2 in
-    let asked = going.asked its.index its.client its.under its.going in
-    let puts = put_asked its.under.work [] found.0 found.1 asked.0 its.held asked.2 in
-    call_puts script opening its.index (its.client.begun - 1) asked.0 id asked.1 puts.0 (puts.1 ∙ ap Some found.3)
+    let counted = going.are.under.reserved id in
+    let found = put_counted (calls_under_way clients) id (omega (arith, some, counted)) in
+    let its = whose clients (Putting found.0) found.1 in
+    let mine = going.each its.index its.client its.under its.going in
+    let puts = put_asked its.under.work found.0 mine.call its.held mine.asked in
+    call_puts script opening its.index (its.client.begun - 1) mine.call id mine.there puts.0 (puts.1 ∙ ap Some found.2)
 
 -- ---- a put that is refused
 

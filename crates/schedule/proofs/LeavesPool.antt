@@ -1,5 +1,5 @@
 -- Turns that call no device, and leave all of the core but blocks and holds.
-use Rattle.std.proofs.Common.{◌≡◌, ℕ, ◌<◌, List, sym, ◌∙◌, ap, subst}
+use Rattle.std.proofs.Common.{◌≡◌, ℕ, ◌<◌, List, sym, ◌∙◌, ap, subst, arith}
 use Rattle.bank_trait.specs.Disk.{Later}
 use Rattle.bank_trait.specs.Regions.{TouchesOnly}
 use Rattle.range_locks.specs.declared.hold.Hold.{Hold}
@@ -14,7 +14,9 @@ use Rattle.core_turns.specs.Core.{Core, CoreState}
 use Rattle.core_turns.specs.Getting.{HasTooManyOut}
 use Rattle.core_turns.specs.Committing.{IsCommitOf}
 use Rattle.core_turns.specs.UnderWay.{TurnGoesOn}
+use Rattle.open_pool.proofs.Banks.{count_grows}
 use Rattle.core_turns.proofs.Commits.{turn_nowhere}
+use Rattle.core_turns.proofs.Frames.{OnlyOut}
 
 -- A turn leaves the uberblock, the devices that are out, and the commit that is under way.
 pub record LeavesPool (old new : Core) : Type 0 where
@@ -34,7 +36,7 @@ leaves_pool old new blocks holds core = record {
 }
 
 -- The commit under way is one of the core still, as devices go out.
-pub commit_still : (old new : Core) (run : CommitRun) → new.pool.uber ≡ old.pool.uber → new.begun ≡ old.begun
+commit_still : (old new : Core) (run : CommitRun) → new.pool.uber ≡ old.pool.uber → new.begun ≡ old.begun
     → new.committing ≡ old.committing → IsWithin old.pool.out new.pool.out
     → IsCommitOf old run → IsCommitOf new run
 commit_still old new run uber begun committing within of = record {
@@ -51,16 +53,33 @@ commit_still old new run uber begun committing within of = record {
   lists = λ device has. within device (of.lists device has);
 }
 
-module _ (old new : Core) (leaves : LeavesPool old new) where
-  -- So it is where none does,
-  pub leaves_commit : (run : CommitRun) → IsCommitOf old run → IsCommitOf new run
-  leaves_commit run = commit_still old new run leaves.uber leaves.begun leaves.committing
-      (subst (IsWithin old.pool.out) (sym leaves.out) (λ device out. out))
+-- What a turn leaves of the commit that is under way.
+pub record KeepsCommit (old new : Core) : Type 0 where
+  pub committing : new.committing ≡ old.committing
+  pub commits : (run : CommitRun) → IsCommitOf old run → IsCommitOf new run
+  pub many : HasTooManyOut old → HasTooManyOut new
 
-  -- and as many are out.
-  pub leaves_many : HasTooManyOut old → HasTooManyOut new
-  leaves_many many = subst (λ (u : Uber). u.parity < count_of new.pool.out) (sym leaves.uber)
-      (subst (λ (out : ℕ). old.pool.uber.parity < count_of out) (sym leaves.out) many)
+-- It is kept where the pool is left,
+pub leaves_commit : {old new : Core} → LeavesPool old new → KeepsCommit old new
+leaves_commit {old} {new} leaves = record {
+  committing = leaves.committing;
+  commits = λ run. commit_still old new run leaves.uber leaves.begun leaves.committing
+      (subst (IsWithin old.pool.out) (sym leaves.out) (λ device out. out));
+  many = λ many. subst (λ (u : Uber). u.parity < count_of new.pool.out) (sym leaves.uber)
+      (subst (λ (out : ℕ). old.pool.uber.parity < count_of out) (sym leaves.out) many);
+}
+
+-- and where only devices go out.
+pub out_keeps : {old new : Core} → OnlyOut old new → IsWithin old.pool.out new.pool.out → KeepsCommit old new
+out_keeps {old} {new} rest within = record {
+  committing = ap (λ (c : Core). c.committing) rest;
+  commits = λ run. commit_still old new run (ap (λ (c : Core). c.pool.uber) rest) (ap (λ (c : Core). c.begun) rest)
+      (ap (λ (c : Core). c.committing) rest) within;
+  many = λ many.
+      let more = count_grows old.pool.out new.pool.out within in
+      let parity : new.pool.uber.parity ≡ old.pool.uber.parity = ap (λ (c : Core). c.pool.uber.parity) rest in
+      omega (arith, many, more, parity);
+}
 
 -- Where the disk is as it was, no device was called.
 pub turn_still : (before after : CoreState) → after.core.pool.uber ≡ before.core.pool.uber

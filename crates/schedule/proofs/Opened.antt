@@ -47,9 +47,9 @@ pub none_of_blank : (count index : ℕ) (client : Client) (under : UnderWay)
 none_of_blank count index client under going =
     none_some (sym (ap (λ (c : Client). c.under_way) (blank_is count index client going.there)) ∙ going.under_way)
 
-pub none_held : (contents : ℕ → List ℕ) (count : ℕ) → calls_under_way contents (blank_clients count) ≡ []
-none_held contents zero = refl
-none_held contents (suc count) = none_held (λ (n : ℕ). contents (suc n)) count
+pub none_held : (count : ℕ) → calls_under_way (blank_clients count) ≡ []
+none_held zero = refl
+none_held (suc count) = none_held count
 
 -- No call of a core is under way.
 pub calls_none : (core : Core) → AreUnderWay core.pool.blocks [] → AreCallsOf core []
@@ -69,37 +69,36 @@ module _ {setting : Setting} {first : Kept} {later : List Kept} {pool : Pool} {s
   opened_world = record { setting = setting; known = first ∷ later; opening = chosen_map; handed = handed }
 
   -- The pool stands, and holds the map of the group that was chosen.
-  stands_first : HasBank pool.uber pool.out mid → AreUnderWay pool.blocks []
-      → Stands setting begins.opened.next [] chosen_map [] None (at_disk (resting pool) mid)
-  stands_first bank rest = record {
+  stands_first : HasBank pool.uber pool.out mid
+      → Stands setting begins.opened.next [] chosen_map (λ actor. []) [] None (at_disk (resting pool) mid)
+  stands_first bank = record {
     groups = record { knows = begins.group.knows; whole = λ few. (refl, refl) };
     alike = begins.group.alike;
     kept = begins.group.kept;
-    spared = λ run content has. absurd (contains_none (Putting run content) has);
+    spared = λ run has. absurd (contains_none (Putting run) has);
     excepted = begins.group.excepted;
     shape = begins.group.shape;
     tells = begins.group.tells;
     bank = bank;
     holds = subst (λ (map : Map). HoldsMap map (state_of pool mid)) (λ i id. begins.opened.renews.map id i)
         begins.holds;
-    are = calls_none (resting pool) rest;
     each = λ call has. absurd (contains_none call has);
   }
 
   -- So a run of turns begins, with its journal's first group.
-  pub runs_first : (past : Past) → past.origin ≡ old → past.banks 1 ≡ mid → Later old mid → HasBank pool.uber pool.out mid → AreUnderWay pool.blocks []
+  pub runs_first : (past : Past) → past.origin ≡ old → past.banks 1 ≡ mid → Later old mid → HasBank pool.uber pool.out mid
       → (script : Script) (count : ℕ)
       → Runs opened_world script past (at_disk (resting pool) mid) (Group (first_item pool) ∷ []) (blank_clients count)
-  runs_first past origin here opened_later bank rest script count = record {
+  runs_first past origin here opened_later bank script count = record {
     last = begins.opened.next;
     begun = [];
-    contents = λ index. [];
+    contents = λ actor. [];
     commit = None;
     item = first_item pool;
     latest = latest_alone (first_item pool);
     recorded = recorded_first handed may begins past origin here opened_later;
-    stands = subst (λ (calls : List HoldingCall). Stands setting begins.opened.next [] chosen_map calls None
-        (at_disk (resting pool) mid)) (sym (none_held (λ index. []) count)) (stands_first bank rest);
+    stands = subst (λ (calls : List HoldingCall). Stands setting begins.opened.next [] chosen_map (λ actor. []) calls None
+        (at_disk (resting pool) mid)) (sym (none_held count)) (stands_first bank);
     sync = λ index client under going. absurd (none_of_blank count index client under going);
     each = λ index client under going. absurd (none_of_blank count index client under going);
   }

@@ -30,39 +30,35 @@ fills_same call run filled (inl same) = subst (λ (r : PutRun). r ≡ record run
 fills_same call run filled (inr (none, fills)) = fills.rest
     ∙ (λ i. record run { filled = sym (ap (λ (r : PutRun). r.filled) fills.rest) i })
 
--- is under way like any put of so many bytes,
-pub fills_calls : (left calls : List HoldingCall) (core : Core) (call : ScriptCall) (run filled : PutRun) (content : List ℕ)
-    → IsFilledIn call run filled → length (fill_bytes call.fill) ≡ run.len → AreCallsOf core calls
-    → Gains left calls (Putting run content)
-    → (nexts : List HoldingCall) × Gains left nexts (Putting filled content) × AreCallsOf core nexts
-fills_calls left calls core call run filled content (inl same) len_is are gains =
-    (calls, subst (λ (r : PutRun). Gains left calls (Putting r content)) (sym same) gains, are)
-fills_calls left calls core call run filled content (inr (none, fills)) len_is are gains =
-    let nexts : List HoldingCall = Putting filled content ∷ left in
-    let first = gains_first (Putting filled content) left in (
-      nexts,
-      first,
-      put_fills_calls left calls nexts core run filled (fill_bytes call.fill) content fills len_is are gains
-          first,
-    )
+-- and stands among the calls in its place, with its bytes.
+pub record FilledAmong (state : CoreState) (content : List ℕ) (left calls : List HoldingCall) (run filled : PutRun) : Type 0
+  where
+    pub nexts : List HoldingCall
+    pub gains : Gains left nexts (Putting filled)
+    pub are : AreCallsOf state.core nexts
+    pub stands : (setting : Setting) (last : Kept) (begun : List Kept) (map : Map) (contents : ℕ → List ℕ)
+        (commit : Option CommitRun) → contents run.hold.actor ≡ content
+        → Stands setting last begun map contents calls commit state
+        → Stands setting last begun map contents nexts commit state
 
--- and holds its bytes.
-pub fills_stands : (setting : Setting) (last : Kept) (begun : List Kept) (map : Map) (left calls : List HoldingCall)
-    (commit : Option CommitRun) (state : CoreState) (call : ScriptCall) (run filled : PutRun) (content : List ℕ)
-    → IsFilledIn call run filled → content ≡ fill_bytes call.fill
-    → Stands setting last begun map calls commit state → Gains left calls (Putting run content)
-    → (nexts : List HoldingCall) × Gains left nexts (Putting filled content) × Stands setting last begun map nexts commit state
-fills_stands setting last begun map left calls commit state call run filled content (inl same) is stands gains =
-    (calls, subst (λ (r : PutRun). Gains left calls (Putting r content)) (sym same) gains, stands)
-fills_stands setting last begun map left calls commit state call run filled content (inr (none, fills)) is stands
-    gains =
-    let nexts : List HoldingCall = Putting filled content ∷ left in
-    let first = gains_first (Putting filled content) left in (
-      nexts,
-      first,
-      put_fills_stands setting last begun map left calls nexts commit state run filled content
-          (subst (FillsPut run filled) (sym is) fills) stands gains first,
-    )
+pub fills_among : {state : CoreState} {left calls : List HoldingCall} {run filled : PutRun} (call : ScriptCall)
+    → IsFilledIn call run filled → length (fill_bytes call.fill) ≡ run.len → Gains left calls (Putting run)
+    → AreCallsOf state.core calls → FilledAmong state (fill_bytes call.fill) left calls run filled
+fills_among {left = left} {calls} call (inl same) len_is gains are = record {
+  nexts = calls;
+  gains = subst (λ (r : PutRun). Gains left calls (Putting r)) (sym same) gains;
+  are = are;
+  stands = λ setting last begun map contents commit is stands. stands;
+}
+fills_among {left = left} {run = run} {filled} call (inr (none, fills)) len_is gains are =
+    let first = gains_first (Putting filled) left in
+    record {
+      nexts = Putting filled ∷ left;
+      gains = first;
+      are = put_fills_calls fills len_is gains first are;
+      stands = λ setting last begun map contents commit is stands.
+          put_fills_stands (subst (FillsPut run filled) (sym is) fills) gains first are stands;
+    }
 
 -- ---- how it ends
 

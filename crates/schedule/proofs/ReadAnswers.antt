@@ -28,7 +28,9 @@ use Rattle.core_turns.specs.declared.turn.Turn.TheVariants.{Done}
 use Rattle.core_turns.specs.Core.{Core, CoreState, at_disk}
 use Rattle.core_turns.specs.Getting.{IsReadKind, HasTooManyOut, IsGetRefused, ReadsTurn, SolvesGet, AnswersSolved, EndsGet, answer_of}
 use Rattle.core_turns.specs.UnderWay.{HoldingCall, Reading, AreCallsOf, Stands}
-use Rattle.core_turns.proofs.GetStands.{get_solves_calls, get_stops_calls, get_ends_calls, get_solves_stands, get_stops_stands, get_ends_stands}
+use Rattle.core_blocks.proofs.Lists.{gains_item}
+use Rattle.core_turns.proofs.GetLaws.{get_tells}
+use Rattle.core_turns.proofs.GetStands.{get_ends_calls, get_ends_stands, get_solves_calls, get_solves_stands}
 use Rattle.schedule.specs.Recorded.{IsRightNext, AllBelow}
 use Rattle.schedule.specs.Turned.{EndsReading, entry_for, listed_for}
 use Rattle.schedule.proofs.Fitting.{NoLimit}
@@ -124,30 +126,33 @@ solved_of run solved given is answers = by solved answers
 -- ---- the end of a read
 
 -- What a read's end leaves: the pool, the other calls, and all that stands; and what it is answered.
-pub record EndsRead (before after : CoreState) (run : GetRun) (given : Answer) : Type 0 where
-  pub leaves : LeavesPool before.core after.core
-  pub answer_is : IsAnswerOf run.kind given
-  pub too_many : (out : ℕ) → given ≡ answer.TooManyFailed out → HasTooManyOut before.core × (out ≡ before.core.pool.out)
-  pub no_limit : NoLimit given
-  pub calls : (content : List ℕ) (left calls : List HoldingCall) → Gains left calls (Reading run content)
-      → AreCallsOf before.core calls → AreCallsOf after.core left
-  pub stands : (setting : Setting) (last : Kept) (begun : List Kept) (map : Map) (commit : Option CommitRun)
-      (content : List ℕ) (left calls : List HoldingCall) → Gains left calls (Reading run content)
-      → Stands setting last begun map calls commit before
-      → Stands setting last begun map left commit after × IsReadRight (Some content) run.kind given
+pub record EndsRead (before after : CoreState) (run : GetRun) (given : Answer) (left calls : List HoldingCall) : Type 0
+  where
+    pub leaves : LeavesPool before.core after.core
+    pub answer_is : IsAnswerOf run.kind given
+    pub too_many : (out : ℕ) → given ≡ answer.TooManyFailed out
+        → HasTooManyOut before.core × (out ≡ before.core.pool.out)
+    pub no_limit : NoLimit given
+    pub calls_are : AreCallsOf after.core left
+    pub stands : (setting : Setting) (last : Kept) (begun : List Kept) (map : Map) (contents : ℕ → List ℕ)
+        (commit : Option CommitRun) → Stands setting last begun map contents calls commit before
+        → Stands setting last begun map contents left commit after
+        × IsReadRight (Some (contents run.hold.actor)) run.kind given
 
 -- Too many devices are out,
-stopped_ends : (before after : CoreState) (run : GetRun) (given : Answer) → ReadsTurn before run after (Done given)
-    → EndsRead before after run given
-stopped_ends before after run given stops = record {
+stopped_ends : {before after : CoreState} {run : GetRun} {given : Answer} {left calls : List HoldingCall}
+    → ReadsTurn before run after (Done given) → Gains left calls (Reading run) → AreCallsOf before.core calls
+    → EndsRead before after run given left calls
+stopped_ends {before} {after} {run} {given} {left} {calls} stops gains are = record {
   leaves = leaves_pool before.core after.core before.core.pool.blocks after.core.holds stops.0.rest;
   answer_is = subst (IsAnswerOf run.kind) (sym stops.0.given_is) tt;
   too_many = λ out tells. (stops.0.many, same_out (sym tells ∙ stops.0.given_is));
   no_limit = λ reached told. none_told reached (sym stops.0.given_is ∙ told);
-  calls = λ content left calls gains are. get_stops_calls before after run content given left calls stops gains are;
-  stands = λ setting last begun map commit content left calls gains stands. (
-    get_stops_stands setting last begun map commit before after run content given left calls stops gains stands,
-    subst (IsReadRight (Some content) run.kind) (sym stops.0.given_is) tt,
+  calls_are = get_ends_calls stops.0.rest stops.0.ends gains are;
+  stands = λ setting last begun map contents commit stands. (
+    subst (λ (d : Disk). Stands setting last begun map contents left commit (at_disk after.core d)) (sym stops.1)
+        (get_ends_stands stops.0.rest gains stands),
+    subst (IsReadRight (Some (contents run.hold.actor)) run.kind) (sym stops.0.given_is) tt,
   );
 }
   where
@@ -155,9 +160,10 @@ stopped_ends before after run given stops = record {
     none_told reached same = cc
 
 -- or it is answered as it was solved,
-answered_ends : (before after : CoreState) (run : GetRun) (given : Answer) → IsReadKind run.kind
-    → EndsGet before.core run after.core (Done given) → after.disk ≡ before.disk → EndsRead before after run given
-answered_ends before after run given is ends disk = record {
+answered_ends : {before after : CoreState} {run : GetRun} {given : Answer} {left calls : List HoldingCall}
+    → IsReadKind run.kind → EndsGet before.core run after.core (Done given) → after.disk ≡ before.disk
+    → Gains left calls (Reading run) → AreCallsOf before.core calls → EndsRead before after run given left calls
+answered_ends {before} {after} {run} {given} {left} {calls} is ends disk gains are = record {
   leaves = leaves_pool before.core after.core before.core.pool.blocks after.core.holds ends.rest;
   answer_is = ⊎_elim
       (λ many. subst (IsAnswerOf run.kind) (sym (ends.too_many many)) tt)
@@ -171,14 +177,13 @@ answered_ends before after run given is ends disk = record {
       (λ many. none_told reached (sym (ends.too_many many) ∙ told))
       (λ low. (solved_of run run.solved given is (ends.solved (few low))).2 reached told)
       (cases_lt before.core.pool.uber.parity (count_of before.core.pool.out));
-  calls = λ content left calls gains are.
-      get_ends_calls before.core after.core run content given left calls ends gains are;
-  stands = λ setting last begun map commit content left calls gains stands.
-      let done = get_ends_stands setting last begun map commit before.core after.core before.disk run content given left
-      calls ends gains stands in (
-        subst (λ (d : Disk). Stands setting last begun map left commit (at_disk after.core d)) (sym disk) done.0,
-        done.1,
-      );
+  calls_are = get_ends_calls ends.rest ends.ends gains are;
+  stands = λ setting last begun map contents commit stands. (
+    subst (λ (d : Disk). Stands setting last begun map contents left commit (at_disk after.core d)) (sym disk)
+        (get_ends_stands ends.rest gains stands),
+    get_tells (contents run.hold.actor) before.core after.core before.disk run (Done given) is
+        (stands.each (Reading run) (gains_item left calls (Reading run) gains)) ends,
+  );
 }
   where
     few : count_of before.core.pool.out ≤ before.core.pool.uber.parity → HasTooManyOut before.core → ⊥
@@ -188,38 +193,41 @@ answered_ends before after run given is ends disk = record {
     none_told reached same = cc
 
 -- where it may be solved just then.
-solved_ends : (before after : CoreState) (run solved : GetRun) (given : Answer) → SolvesGet run solved
-    → run.read.row ≡ rows_of run.read.layout → EndsRead before after solved given → EndsRead before after run given
-solved_ends before after run solved given solves whole ends = record {
+solved_ends : {before after : CoreState} {run solved : GetRun} {given : Answer} {left calls : List HoldingCall}
+    → SolvesGet run solved → run.read.row ≡ rows_of run.read.layout → Gains left calls (Reading run)
+    → AreCallsOf before.core calls → EndsRead before after solved given left (Reading solved ∷ left)
+    → EndsRead before after run given left calls
+solved_ends {before} {run = run} {solved} {given} {left} solves whole gains are ends = record {
   leaves = ends.leaves;
   answer_is = subst (λ (k : Kind). IsAnswerOf k given) same_kind ends.answer_is;
   too_many = ends.too_many;
   no_limit = ends.no_limit;
-  calls = λ content left calls gains are.
-      ends.calls content left (Reading solved content ∷ left) (gains_first (Reading solved content) left)
-      (get_solves_calls before.core run solved content left calls (Reading solved content ∷ left) solves gains
-      (gains_first (Reading solved content) left) are);
-  stands = λ setting last begun map commit content left calls gains stands.
-      let done = ends.stands setting last begun map commit content left (Reading solved content ∷ left)
-      (gains_first (Reading solved content) left)
-      (get_solves_stands setting last begun map commit before run solved content left calls
-      (Reading solved content ∷ left) solves whole gains (gains_first (Reading solved content) left) stands) in
-      (done.0, subst (λ (k : Kind). IsReadRight (Some content) k given) same_kind done.1);
+  calls_are = ends.calls_are;
+  stands = λ setting last begun map contents commit stands.
+      let done = ends.stands setting last begun map contents commit
+      (get_solves_stands solves whole gains (gains_first (Reading solved) left) are stands) in (
+        done.0,
+        subst (λ (k : Kind). IsReadRight (Some (contents run.hold.actor)) k given) same_kind
+            (subst (λ (actor : ℕ). IsReadRight (Some (contents actor)) solved.kind given)
+            (ap (λ (r : GetRun). r.hold.actor) solves.rest) done.1),
+      );
 }
   where
     same_kind : solved.kind ≡ run.kind
     same_kind = ap (λ (r : GetRun). r.kind) solves.rest
 
 -- However it ends.
-pub read_ends_so : (before after : CoreState) (run : GetRun) (given : Answer) → IsReadKind run.kind
-    → EndsReading before after run given → EndsRead before after run given
-read_ends_so before after run given is ending = elim ending.ends [
-  | inl stops ↦ stopped_ends before after run given stops
+pub read_ends_so : {before after : CoreState} {run : GetRun} {given : Answer} {left calls : List HoldingCall}
+    → IsReadKind run.kind → EndsReading before after run given → Gains left calls (Reading run)
+    → AreCallsOf before.core calls → EndsRead before after run given left calls
+read_ends_so {before} {after} {run} {given} {left} {calls} is ending gains are = elim ending.ends [
+  | inl stops ↦ stopped_ends stops gains are
   | inr ended ↦ ⊎_elim
-      (λ same. answered_ends before after run given is
-      (subst (λ (r : GetRun). EndsGet before.core r after.core (Done given)) same ended.3) ending.disk)
-      (λ solves. solved_ends before after run ended.0 given solves ended.2
-      (answered_ends before after ended.0 given
-      (subst IsReadKind (sym (ap (λ (r : GetRun). r.kind) solves.rest)) is) ended.3 ending.disk))
+      (λ same. answered_ends is (subst (λ (r : GetRun). EndsGet before.core r after.core (Done given)) same ended.3)
+      ending.disk gains are)
+      (λ solves. let first = gains_first (Reading ended.0) left in
+      solved_ends solves ended.2 gains are
+      (answered_ends (subst IsReadKind (sym (ap (λ (r : GetRun). r.kind) solves.rest)) is) ended.3 ending.disk first
+      (get_solves_calls solves gains first are)))
       ended.1
 ]

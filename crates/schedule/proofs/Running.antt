@@ -12,6 +12,7 @@ use Rattle.core_state.specs.World.{World}
 use Rattle.client_script.specs.declared.call.ScriptCall.{ScriptCall}
 use Rattle.client_script.specs.Script.{Script}
 use Rattle.journal_law.proofs.Grown.{map_before, new_or_before}
+use Rattle.core_turns.specs.UnderWay.{SetsContent}
 use Rattle.schedule.specs.declared.client.Client.{Client}
 use Rattle.schedule.specs.declared.client.UnderWay.{UnderWay}
 use Rattle.schedule.specs.declared.client.Work.{Work}
@@ -83,6 +84,11 @@ pub with_other : (contents : ℕ → List ℕ) (index : ℕ) (content : List ℕ
     → with_content contents index content other ≡ contents other
 with_other contents index content other apart =
     ap (λ (own : Bool). if own then content else contents other) (ne_eqb other index apart)
+
+pub sets_content : (contents : ℕ → List ℕ) (index : ℕ) (content : List ℕ)
+    → SetsContent contents (with_content contents index content) index content
+sets_content contents index content =
+    record { own = with_own contents index content; others = with_other contents index content }
 
 -- A new entry is none of another caller's.
 pub entry_apart : (items : List Item) (entry : Entry) (index : ℕ) → entry.caller ≢ index → (place : ℕ) (other : Entry)

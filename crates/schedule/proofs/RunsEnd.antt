@@ -25,16 +25,16 @@ use Rattle.schedule.specs.declared.client.Work.TheVariants as work
 use Rattle.schedule.specs.Clients.{Changes}
 use Rattle.schedule.specs.Recorded.{Recorded, IsRightNext, IsBegunAt}
 use Rattle.schedule.specs.Running.{IsClient, IsGoing, IsSync, IsSyncOf, IsTheirs, Runs, calls_under_way}
-use Rattle.schedule.proofs.Theirs.{each_going, none_some, sync_gone, sync_stays}
+use Rattle.schedule.proofs.Theirs.{IsNoSync, OnlyIt, each_going, idle_no_sync, no_one, sync_gone, sync_stays}
 use Rattle.schedule.proofs.Running.{head_is, client_grown, entry_apart, group_apart, sync_grown, sync_free}
 use Rattle.schedule.proofs.Recording.{recorded_answers, recorded_ends}
 use Rattle.schedule.proofs.Begun.{one_latest}
 use Rattle.schedule.specs.Moments.{Past}
 use Rattle.schedule.specs.Turns.{IsListedWith}
 
-module _ (world : World) (script : Script) (past : Past) (before after : CoreState) (items : List Item)
-    (clients news : List Client) (index : ℕ) (old client : Client)
-    (changes : Changes clients news index client) (was : slice_get clients index ≡ Some old)
+module _ {world : World} {script : Script} {past : Past} {before : CoreState} {items : List Item}
+    {clients news : List Client} {index : ℕ} {old client : Client} (after : CoreState)
+    (was : slice_get clients index ≡ Some old) (changes : Changes clients news index client)
     (runs : Runs world script past before items clients) where
   abbrev map : Map
   map = map_of world.handed world.opening items
@@ -54,14 +54,11 @@ module _ (world : World) (script : Script) (past : Past) (before after : CoreSta
         (recorded_answers runs.recorded entry (with (length items + 1) (omega arith)
         (omega (arith, length-append items (CallItem entry ∷ []))) ∙ disk) knows right answers))
 
-    its_none : (its_under : UnderWay) → client.under_way ≡ Some its_under → ⊥
-    its_none its_under is = none_some (sym ended ∙ is)
-
     each_left : (other : ℕ) (its_client : Client) (its_under : UnderWay) → IsGoing news other its_client its_under
         → IsClient world script grown runs.item runs.begun (runs.contents other) other its_client its_under
-    each_left = each_going clients news index client changes {T = λ other its its_under.
+    each_left = each_going was changes {T = λ other its its_under.
         IsClient world script grown runs.item runs.begun (runs.contents other) other its its_under}
-        (λ its_under is. absurd (its_none its_under is))
+        (no_one (IsClient world script grown runs.item runs.begun (runs.contents index) index client) ended)
         (λ other its its_under apart is.
         client_grown world script items (CallItem entry ∷ []) runs.item runs.item runs.begun runs.begun
         (runs.contents other) other its its_under
@@ -75,7 +72,7 @@ module _ (world : World) (script : Script) (past : Past) (before after : CoreSta
     -- what stands with this commit under way
     abbrev StandsWith : Option CommitRun → Type 0
     StandsWith commit = Stands world.setting runs.last runs.begun (map_after_answer world.handed map entry entry.answer)
-        (calls_under_way runs.contents news) commit after
+        runs.contents (calls_under_way news) commit after
 
     answered_with : (commit : Option CommitRun) → IsTheirs news commit → StandsWith commit
         → Runs world script past after grown news
@@ -87,32 +84,27 @@ module _ (world : World) (script : Script) (past : Past) (before after : CoreSta
       item = runs.item;
       latest = latest_grown_call items entry runs.item runs.latest;
       recorded = recorded_entry;
-      stands = subst (λ (m : Map). Stands world.setting runs.last runs.begun m (calls_under_way runs.contents news)
-          commit after) (sym map_is) stands;
+      stands = subst (λ (m : Map). Stands world.setting runs.last runs.begun m runs.contents (calls_under_way news) commit
+          after) (sym map_is) stands;
       sync = sync;
       each = each_left;
     }
 
     -- A put or a read ends, or a call is answered in its first turn.
-    pub answers_call : ((its : Client) (under : UnderWay) → IsGoing clients index its under → IsSync under.work → ⊥)
-        → StandsWith runs.commit → Runs world script past after grown news
-    answers_call was_none = answered_with runs.commit (sync_stays clients news index client changes runs.commit was_none
-        (λ its_under is sync. its_none its_under is) runs.sync)
+    pub answers_call : IsNoSync old.under_way → StandsWith runs.commit → Runs world script past after grown news
+    answers_call was_none =
+        answered_with runs.commit (sync_stays was changes runs.commit was_none (idle_no_sync ended) runs.sync)
 
     -- A commit is cut short.
-    pub commit_is_cut : ((other : ℕ) (its : Client) (its_under : UnderWay) → IsGoing clients other its its_under
-        → IsSync its_under.work → other ≡ index)
-        → StandsWith None → Runs world script past after grown news
-    commit_is_cut only = answered_with None (sync_gone clients news index client changes ended only)
+    pub commit_is_cut : OnlyIt clients index → StandsWith None → Runs world script past after grown news
+    commit_is_cut only = answered_with None (sync_gone was changes ended only)
 
   -- A commit ends its group, whose item is listed before its entry.
   module _ (under : UnderWay) (run : CommitRun) (next : Kept) (group : GroupItem) (entry : Entry)
       (caller : entry.caller ≡ index) (ended : client.under_way ≡ None)
       (old_is : old.under_way ≡ Some under) (does_is : under.work ≡ work.Sync run)
       (begun_is : runs.begun ≡ next ∷ [])
-      (only : (other : ℕ) (its : Client) (its_under : UnderWay) → IsGoing clients other its its_under
-      → IsSync its_under.work → other ≡ index)
-      (disk : after.disk ≡ before.disk) (to_is : after.core.pool.uber.reflow.to ≡ before.core.pool.uber.reflow.to)
+      (only : OnlyIt clients index) (disk : after.disk ≡ before.disk) (to_is : after.core.pool.uber.reflow.to ≡ before.core.pool.uber.reflow.to)
       (parity_is : after.core.pool.uber.parity ≡ before.core.pool.uber.parity)
       (group_is : group ≡ record {
         group = next.uber.group;
@@ -123,7 +115,7 @@ module _ (world : World) (script : Script) (past : Past) (before after : CoreSta
       (asked : entry.kind ≡ kind.Sync) (answer_is : entry.answer ≡ answer.Synced group.group)
       (knows : Knows world.setting next [] before.disk)
       (with : IsListedWith past.banks items ((items ++ Group group ∷ []) ++ CallItem entry ∷ []) after.disk)
-      (stands : Stands world.setting next [] map (calls_under_way runs.contents news) None after) where
+      (stands : Stands world.setting next [] map runs.contents (calls_under_way news) None after) where
     -- Both were listed with this bank.
     both_with : (count : ℕ) → length items < count → count ≤ length items + 1 + 1 → past.banks count ≡ before.disk
     both_with count from until = with count from (omega (
@@ -162,9 +154,6 @@ module _ (world : World) (script : Script) (past : Past) (before after : CoreSta
         (both_with (length (items ++ Group group ∷ []) + 1) (omega (arith, length-append items (Group group ∷ [])))
         (omega (arith, length-append items (Group group ∷ [])))))
 
-    end_none : (its_under : UnderWay) → client.under_way ≡ Some its_under → ⊥
-    end_none its_under is = none_some (sym ended ∙ is)
-
     map_both : map_of world.handed world.opening with_both ≡ map
     map_both = map_grown_call world.handed world.opening (items ++ Group group ∷ []) entry
         ∙ ap (map_after_answer world.handed (map_of world.handed world.opening (items ++ Group group ∷ [])) entry)
@@ -173,9 +162,9 @@ module _ (world : World) (script : Script) (past : Past) (before after : CoreSta
 
     each_end : (other : ℕ) (its_client : Client) (its_under : UnderWay) → IsGoing news other its_client its_under
         → IsClient world script with_both group [] (runs.contents other) other its_client its_under
-    each_end = each_going clients news index client changes {T = λ other its its_under.
+    each_end = each_going was changes {T = λ other its its_under.
         IsClient world script with_both group [] (runs.contents other) other its its_under}
-        (λ its_under is. absurd (end_none its_under is))
+        (no_one (IsClient world script with_both group [] (runs.contents index) index client) ended)
         (λ other its its_under apart is.
         let not_sync : IsSync its_under.work → ⊥ = λ sync. apart (only other its its_under is sync) in
         client_grown world script (items ++ Group group ∷ []) (CallItem entry ∷ []) group group [] []
@@ -197,8 +186,8 @@ module _ (world : World) (script : Script) (past : Past) (before after : CoreSta
       item = group;
       latest = latest_grown_call (items ++ Group group ∷ []) entry group (latest_grown_group items group);
       recorded = recorded_end;
-      stands = subst (λ (m : Map). Stands world.setting next [] m (calls_under_way runs.contents news) None after)
+      stands = subst (λ (m : Map). Stands world.setting next [] m runs.contents (calls_under_way news) None after)
           (sym map_both) stands;
-      sync = sync_gone clients news index client changes ended only;
+      sync = sync_gone was changes ended only;
       each = each_end;
     }

@@ -19,25 +19,29 @@ use Rattle.core_commit.proofs.Beside.{committing_cut}
 use Rattle.core_turns.specs.Core.{Core, CoreState}
 use Rattle.core_turns.specs.Getting.{HasTooManyOut}
 use Rattle.core_turns.specs.Committing.{IsSyncRefused}
-use Rattle.core_turns.specs.UnderWay.{HoldingCall, GroupsStand}
+use Rattle.core_turns.specs.UnderWay.{HoldingCall, GroupsStand, Stands}
 use Rattle.schedule.specs.declared.client.Client.{Client}
 use Rattle.schedule.specs.declared.client.UnderWay.{UnderWay}
 use Rattle.schedule.specs.declared.client.Work.TheVariants as work
 use Rattle.schedule.specs.Recorded.{IsRightNext}
 use Rattle.schedule.specs.Running.{IsGoing, IsSync, IsTheirs}
 use Rattle.schedule.proofs.RightNext.{IsStopped, sync_cut_right, sync_limit_right, same_out}
-use Rattle.schedule.proofs.Theirs.{some_is, none_some}
+use Rattle.schedule.proofs.Theirs.{OnlyIt, some_is, none_some}
 use Rattle.schedule.proofs.Going.{run_is}
 
 -- ---- the core's commit
 
 -- What is certain of the last group, whether a commit is under way or not.
-pub groups_know : (setting : Setting) (last : Kept) (begun : List Kept) (calls : List HoldingCall) (commit : Option CommitRun)
-    (state : CoreState) → GroupsStand setting last begun calls commit state → Knows setting last begun state.disk
-groups_know setting last begun calls None state groups = groups.knows
-groups_know setting last begun calls (Some run) state groups =
-    subst (λ (l : List Kept). Knows setting last l state.disk) (sym groups.begun_is)
-    (committing_cut setting last groups.next run (point_of state.core.pool.out state.disk) groups.come)
+pub stands_know : {setting : Setting} {last : Kept} {begun : List Kept} {map : Map} {contents : ℕ → List ℕ}
+    {calls : List HoldingCall} {commit : Option CommitRun} {state : CoreState}
+    → Stands setting last begun map contents calls commit state → Knows setting last begun state.disk
+stands_know {setting} {last} {begun} {calls = calls} {commit} {state} stands = by commit stands.groups
+  where
+    by : (commit : Option CommitRun) → GroupsStand setting last begun calls commit state
+        → Knows setting last begun state.disk
+    by None groups = groups.knows
+    by (Some run) groups = subst (λ (l : List Kept). Knows setting last l state.disk) (sym groups.begun_is)
+        (committing_cut setting last groups.next run (point_of state.core.pool.out state.disk) groups.come)
 
 -- Where the core has no commit under way, none stands;
 pub no_commit : (setting : Setting) (last : Kept) (begun : List Kept) (calls : List HoldingCall) (commit : Option CommitRun)
@@ -49,9 +53,7 @@ no_commit setting last begun calls (Some run) state none groups = absurd (none_s
 -- and the one that stands is that of the client who syncs.
 pub its_commit : (clients : List Client) (index : ℕ) (client : Client) (under : UnderWay) (run : CommitRun)
     (commit : Option CommitRun) → IsGoing clients index client under → under.work ≡ work.Sync run
-    → ((other : ℕ) (its : Client) (its_under : UnderWay) → IsGoing clients other its its_under
-    → IsSync its_under.work → other ≡ index)
-    → IsTheirs clients commit → commit ≡ Some run
+    → OnlyIt clients index → IsTheirs clients commit → commit ≡ Some run
 its_commit clients index client under run None going does_is only none =
     absurd (none index client under going (subst IsSync (sym does_is) tt))
 its_commit clients index client under run (Some found) going does_is only (other, its, its_under, its_going, its_does) =

@@ -1,41 +1,45 @@
 -- What a turn comes to, once it is known what it did to the calls under way and to what stood.
-use Rattle.std.proofs.Common.{◌≡◌, ⊎_elim, ℕ, ◌+◌, ◌≤◌, List, [], ◌∷◌, ◌++◌, length, Some, None, refl, sym, ◌∙◌, ap, subst, arith}
+use Rattle.std.proofs.Common.{◌≡◌, ◌≢◌, ⊎_elim, ℕ, ◌+◌, ◌-◌, ◌≤◌, List, [], ◌∷◌, ◌++◌, length, Some, None, refl, sym, ◌∙◌, ap, subst, arith}
 use Rattle.std.specs.Prelude.{slice_get}
 use Rattle.std.proofs.lemmas.Bool.{cases_eq}
 use Rattle.std.proofs.lemmas.List.{append-nil}
 use Rattle.std.proofs.lemmas.Option.{slice_get_within}
+use Rattle.space_alloc.specs.Space.{Gains}
 use Rattle.uberblock_ring.specs.Devices.{count_of, IsWithin}
 use Rattle.core_state.specs.declared.answer.Answer.{Answer}
 use Rattle.core_state.specs.declared.answer.Answer.TheVariants as answer
 use Rattle.core_state.specs.declared.item.Entry.{Entry}
 use Rattle.core_state.specs.declared.item.Item.{Item}
 use Rattle.core_state.specs.declared.item.Item.TheVariants.{Call as CallItem}
-use Rattle.core_state.specs.Map.{map_of, map_after_answer}
+use Rattle.core_state.specs.Map.{Map, map_of, map_after_answer}
 use Rattle.core_state.specs.World.{World}
 use Rattle.client_script.specs.declared.call.ScriptCall.{ScriptCall}
 use Rattle.client_script.specs.Script.{Script, calls_of, handed_by}
+use Rattle.core_turns.specs.Core.{Core}
 use Rattle.core_turns.specs.UnderWay.{HoldingCall, AreCallsOf, Stands, TurnGoesOn}
-use Rattle.core_turns.specs.declared.turn.Turn.TheVariants.{Done}
+use Rattle.core_turns.specs.declared.turn.Turn.TheVariants.{More, Done}
 use Rattle.core_turns.proofs.Commits.{turn_bank}
 use Rattle.schedule.specs.declared.client.Client.{Client}
 use Rattle.schedule.specs.declared.client.UnderWay.{UnderWay}
+use Rattle.schedule.specs.declared.client.Work.{Work}
 use Rattle.schedule.specs.Clients.{ClientsAreAnswered}
 use Rattle.schedule.specs.Coming.{LeadTo}
 use Rattle.schedule.specs.Turns.{turns_of, Turns, taken_by, IsListedWith}
-use Rattle.schedule.specs.Running.{AreGoing, IsGoing, IsSync, Runs, calls_under_way, held_under}
+use Rattle.schedule.specs.Running.{AreGoing, HasContent, IsGoing, IsHoldOf, IsSync, IsWorkFor, IsWorkOf, Runs, call_of_client, calls_under_way, held_by, held_under}
 use Rattle.schedule.specs.Recorded.{IsRightNext}
-use Rattle.schedule.specs.Turned.{Station, LeavesBegun, entry_for}
+use Rattle.schedule.specs.Turned.{Station, LeavesBegun, LeavesGoing, entry_for}
 use Rattle.schedule.specs.Comes.{TakesTurn, Comes}
-use Rattle.schedule.proofs.Theirs.{calls_stay, none_going, none_some, same_list}
-use Rattle.schedule.proofs.Answered.{answered, answers_same, answers_call, answered_idle}
-use Rattle.schedule.proofs.Going.{rests as going_rests}
+use Rattle.schedule.proofs.Theirs.{call_begins, call_ends, call_goes, calls_stay, idle_no_sync, no_one, same_list, some_is, the_one, work_no_sync}
+use Rattle.schedule.proofs.Answered.{answered, answers_same, answers_call, answered_going, answered_idle}
+use Rattle.schedule.proofs.Going.{goes as going_goes, is_sync}
+use Rattle.schedule.proofs.Running.{with_content}
 use Rattle.schedule.proofs.RunsEnd.{answers_call as runs_answer}
-use Rattle.schedule.proofs.RunsGoOn.{waits as runs_waits}
+use Rattle.schedule.proofs.RunsGoOn.{GoesOnSince, begins as runs_begins, goes_on as runs_goes_on, waits as runs_waits}
 use Rattle.schedule.proofs.Fulls.{full_same, HasManyAt, full_answer, FullStays}
 use Rattle.schedule.proofs.Coming.{came_nowhere, came_turn}
 use Rattle.schedule.proofs.Fitting.{Fits, FitSince, fit_same, fit_entry}
-use Rattle.schedule.proofs.Syncs.{groups_know}
-use Rattle.schedule.proofs.LeavesPool.{LeavesPool, leaves_commit, leaves_many, turn_still}
+use Rattle.schedule.proofs.Syncs.{stands_know}
+use Rattle.schedule.proofs.LeavesPool.{KeepsCommit, LeavesPool, leaves_commit, turn_still}
 use Rattle.schedule.specs.Moments.{Past}
 
 -- What stood between two turns stands after this one with these items.
@@ -51,20 +55,34 @@ RunsOn script before after clients news items = (world : World) (past : Past) �
 abbrev pub first_entry : ScriptCall → ℕ → Station → Answer → Entry
 first_entry call actor before given = entry_for call actor (before.client.begun + 1) (length before.items) given
 
-module _ (script : Script) (actor : ℕ) (before after : Station) (clients news : List Client)
+module _ {script : Script} {actor : ℕ} {before after : Station} {clients news : List Client}
     (takes : TakesTurn script actor before after clients news) where
+  abbrev old : Core
+  old = before.state.core
+
+  abbrev now : Core
+  now = after.state.core
+
   abbrev was : Turns
   was = turns_of before.state before.items clients
 
-  abbrev now : Turns
-  now = turns_of after.state after.items news
+  abbrev left : Turns
+  left = turns_of after.state after.items news
+
+  abbrev ItComes : Type 0
+  ItComes = Comes script actor before after clients news
+
+  -- what stands with these bytes and this map
+  abbrev StandsNow : (world : World) (past : Past) → Runs world script past before.state before.items clients → (ℕ → List ℕ)
+      → Map → Type 0
+  StandsNow world past runs contents map =
+      Stands world.setting runs.last runs.begun map contents (calls_under_way news) runs.commit after.state
 
   -- A turn that does nothing.
-  pub comes_nowhere : after ≡ before → Comes script actor before after clients news
+  pub comes_nowhere : after ≡ before → ItComes
   comes_nowhere same = subst (λ (s : Station). Comes script actor before s clients news) (sym same)
       (subst (Comes script actor before before clients) (same_list clients news at) (record {
-        come = came_nowhere script (turns_of before.state before.items clients)
-            (taken_by actor (turns_of before.state before.items clients) ∷ []) refl;
+        come = came_nowhere script was (taken_by actor was ∷ []) refl;
         schedule = takes.schedule;
       }))
     where
@@ -77,10 +95,9 @@ module _ (script : Script) (actor : ℕ) (before after : Station) (clients news 
 
   -- A turn that lists these items.
   pub came_listed : (more : List Item) → TurnGoesOn before.state after.state → after.items ≡ before.items ++ more
-      → FitSince was now
-      → RunsOn script before after clients news (before.items ++ more) → FullStays script was now
-      → LeadTo script was (taken_by actor now ∷ []) now
-  came_listed more goes items fit runs full = came_turn script actor was now goes takes.space takes.numbers more items fit
+      → FitSince was left → RunsOn script before after clients news (before.items ++ more) → FullStays script was left
+      → LeadTo script was (taken_by actor left ∷ []) left
+  came_listed more goes items fit runs full = came_turn script actor was left goes takes.space takes.numbers more items fit
       (λ world past handed within listed stood.
       subst (λ (l : List Item). Runs world script past after.state l news) (sym items)
       (runs world past handed within
@@ -91,12 +108,11 @@ module _ (script : Script) (actor : ℕ) (before after : Station) (clients news 
   pub comes_on : TurnGoesOn before.state after.state → after.items ≡ before.items
       → answered after.client ≡ answered before.client → after.client.begun ≤ length (calls_of script actor)
       → ((under : UnderWay) → after.client.under_way ≡ Some under → 1 ≤ after.client.begun)
-      → AreGoing script after.state.core news → RunsOn script before after clients news before.items
-      → Comes script actor before after clients news
+      → AreGoing script now news → RunsOn script before after clients news before.items → ItComes
   comes_on goes items same few some going runs = record {
-    come = came_listed [] goes (items ∙ sym (append-nil before.items)) (fit_same was now items)
+    come = came_listed [] goes (items ∙ sym (append-nil before.items)) (fit_same was left items)
         (subst (RunsOn script before after clients news) (sym (append-nil before.items)) runs)
-        (full_same script was now items);
+        (full_same script was left items);
     schedule = record {
       going = going;
       answered = subst (ClientsAreAnswered script news) (sym items)
@@ -108,110 +124,258 @@ module _ (script : Script) (actor : ℕ) (before after : Station) (clients news 
 
   -- A turn that lists the answer of the client's next call. Where that is that the table is full, there are too many
   -- ids.
-  module _ (call : ScriptCall) (number at : ℕ) (given : Answer) (number_is : number ≡ answered before.client + 1)
-      (next : slice_get (calls_of script actor) (answered before.client) ≡ Some call) where
-    abbrev its_entry : Entry
-    its_entry = entry_for call actor number at given
+  pub comes_answered : (call : ScriptCall) (number at : ℕ) (given : Answer) → number ≡ answered before.client + 1
+      → slice_get (calls_of script actor) (answered before.client) ≡ Some call → TurnGoesOn before.state after.state
+      → after.items ≡ before.items ++ CallItem (entry_for call actor number at given) ∷ []
+      → after.client ≡ record { begun = number; under_way = None }
+      → Fits old call.kind given → (given ≡ answer.Full → HasManyAt script was) → AreGoing script now news
+      → RunsOn script before after clients news (before.items ++ CallItem (entry_for call actor number at given) ∷ [])
+      → ItComes
+  comes_answered call number at given number_is next goes items client_is fit full going runs = record {
+    come = came_listed (CallItem its_entry ∷ []) goes items (fit_entry was left its_entry items fit goes.out.still) runs
+        (full_answer script was left its_entry items full);
+    schedule = record {
+      going = going;
+      answered = subst (ClientsAreAnswered script news) (sym items)
+          (answers_call script clients news actor before.client after.client before.items takes.changes takes.was few
+          (no_one (λ under. 1 ≤ after.client.begun) (ap (λ (c : Client). c.under_way) client_is))
+          takes.schedule.answered call its_entry (ap answered client_is ∙ number_is) next refl number_is refl refl);
+      bank = turn_bank before.state after.state goes takes.schedule.bank;
+    };
+  }
+    where
+      its_entry : Entry
+      its_entry = entry_for call actor number at given
 
-    pub comes_answered : TurnGoesOn before.state after.state → after.items ≡ before.items ++ CallItem its_entry ∷ []
-        → after.client ≡ record { begun = number; under_way = None }
-        → Fits before.state.core call.kind given
-        → (given ≡ answer.Full → HasManyAt script was)
-        → AreGoing script after.state.core news
-        → RunsOn script before after clients news (before.items ++ CallItem its_entry ∷ [])
-        → Comes script actor before after clients news
-    comes_answered goes items client_is fit full going runs = record {
-      come = came_listed (CallItem its_entry ∷ []) goes items
-          (fit_entry was now its_entry items fit goes.out.still) runs
-          (full_answer script was now its_entry items full);
-      schedule = record {
-        going = going;
-        answered = subst (ClientsAreAnswered script news) (sym items)
-            (answers_call script clients news actor before.client after.client before.items takes.changes takes.was few
-            (λ under is. absurd (none_some (sym (ap (λ (c : Client). c.under_way) client_is) ∙ is)))
-            takes.schedule.answered call its_entry (ap answered client_is ∙ number_is) next refl number_is refl refl);
-        bank = turn_bank before.state after.state goes takes.schedule.bank;
-      };
-    }
-      where
-        few : after.client.begun ≤ length (calls_of script actor)
-        few =
-            let low = slice_get_within (calls_of script actor) (answered before.client) call next in
-            let begun : after.client.begun ≡ number = ap (λ (c : Client). c.begun) client_is in
-            omega (arith, low, begun, number_is)
+      few : after.client.begun ≤ length (calls_of script actor)
+      few =
+          let low = slice_get_within (calls_of script actor) (answered before.client) call next in
+          let begun : after.client.begun ≡ number = ap (λ (c : Client). c.begun) client_is in
+          omega (arith, low, begun, number_is)
 
-  -- ---- first turns that leave the calls under way
+  -- ---- first turns
 
-  module _ (call : ScriptCall) (idle : before.client.under_way ≡ None) (still : after.client.under_way ≡ None)
-      (leaves : LeavesPool before.state.core after.state.core) (disk : after.state.disk ≡ before.state.disk)
-      (are : (contents : ℕ → List ℕ) → AreCallsOf after.state.core (calls_under_way contents clients)) where
-    was_idle : (its : Client) (its_under : UnderWay) → IsGoing clients actor its its_under → IsSync its_under.work → ⊥
-    was_idle its its_under its_going sync = none_going clients actor before.client takes.was idle its its_under its_going
+  module _ (call : ScriptCall) (idle : before.client.under_way ≡ None) (leaves : LeavesPool old now)
+      (disk : after.state.disk ≡ before.state.disk) where
+    abbrev still : TurnGoesOn before.state after.state
+    still = turn_still before.state after.state leaves.uber leaves.out disk
 
-    same_calls : (contents : ℕ → List ℕ) → calls_under_way contents news ≡ calls_under_way contents clients
-    same_calls contents = calls_stay contents contents clients news actor before.client after.client takes.was
-        takes.changes (λ other apart. refl) (ap (held_under (contents actor)) idle)
-        (ap (held_under (contents actor)) still)
+    -- The client has no call under way still.
+    module _ (rests : after.client.under_way ≡ None) (are : AreCallsOf now (calls_under_way clients)) where
+      same_calls : calls_under_way news ≡ calls_under_way clients
+      same_calls = calls_stay takes.was takes.changes (ap held_under idle) (ap held_under rests)
 
-    still_going : AreGoing script after.state.core news
-    still_going = going_rests script before.state.core after.state.core clients news actor before.client after.client
-        takes.changes takes.was takes.schedule.going
-        (λ contents. subst (AreCallsOf after.state.core) (sym (same_calls contents)) (are contents)) leaves.committing
-        (leaves_commit before.state.core after.state.core leaves)
-        (leaves_many before.state.core after.state.core leaves) was_idle still
+      still_going : AreGoing script now news
+      still_going = going_goes takes.was takes.changes takes.schedule.going
+          (subst (AreCallsOf now) (sym same_calls) are) (leaves_commit leaves) (idle_no_sync idle)
+          (no_one (λ under. IsWorkOf script now actor after.client under.work) rests)
 
-  -- A call that waits.
-  pub comes_waiting : (call : ScriptCall) → before.client.under_way ≡ None → after.client ≡ before.client
-      → after.items ≡ before.items → LeavesPool before.state.core after.state.core
-      → after.state.disk ≡ before.state.disk
-      → ((contents : ℕ → List ℕ) → AreCallsOf after.state.core (calls_under_way contents clients))
-      → ((world : World) (past : Past) → (runs : Runs world script past before.state before.items clients)
-      → Stands world.setting runs.last runs.begun (map_of world.handed world.opening before.items)
-      (calls_under_way runs.contents clients) runs.commit after.state)
-      → Comes script actor before after clients news
-  comes_waiting call idle client_is items leaves disk are stands =
-      let still : after.client.under_way ≡ None = ap (λ (c : Client). c.under_way) client_is ∙ idle in
-      let few = takes.schedule.answered.few actor before.client takes.was in
-      let begun_is = ap (λ (c : Client). c.begun) client_is in
-      comes_on (turn_still before.state after.state leaves.uber leaves.out disk) items (ap answered client_is)
-      (omega (arith, begun_is, few)) (λ its_under is. absurd (none_some (sym still ∙ is)))
-      (still_going call idle still leaves disk are)
-      (λ world past handed within listed runs.
-      runs_waits world script past before.state after.state before.items clients news actor before.client after.client
-      takes.changes takes.was runs idle leaves.uber disk still
-      (subst (λ (calls : List HoldingCall). Stands world.setting runs.last runs.begun
-      (map_of world.handed world.opening before.items) calls runs.commit after.state)
-      (sym (same_calls call idle still leaves disk are runs.contents)) (stands world past runs)))
+    -- A call that waits.
+    pub comes_waiting : after.client ≡ before.client → after.items ≡ before.items → AreCallsOf now (calls_under_way clients)
+        → ((world : World) (past : Past) → (runs : Runs world script past before.state before.items clients)
+        → Stands world.setting runs.last runs.begun (map_of world.handed world.opening before.items) runs.contents
+        (calls_under_way clients) runs.commit after.state)
+        → ItComes
+    comes_waiting client_is items are stands =
+        let rests : after.client.under_way ≡ None = ap (λ (c : Client). c.under_way) client_is ∙ idle in
+        let few = takes.schedule.answered.few actor before.client takes.was in
+        let begun_is = ap (λ (c : Client). c.begun) client_is in
+        comes_on still items (ap answered client_is) (omega (arith, begun_is, few))
+        (no_one (λ under. 1 ≤ after.client.begun) rests) (still_going rests are)
+        (λ world past handed within listed runs.
+        runs_waits after.state takes.was takes.changes runs idle leaves.uber disk rests
+        (subst (λ (calls : List HoldingCall). Stands world.setting runs.last runs.begun
+        (map_of world.handed world.opening before.items) runs.contents calls runs.commit after.state)
+        (sym (same_calls rests are)) (stands world past runs)))
 
-  -- A call that is answered in its first turn.
-  module _ (call : ScriptCall) (given : Answer) (idle : before.client.under_way ≡ None)
-      (next : slice_get (calls_of script actor) before.client.begun ≡ Some call)
-      (leaves : LeavesPool before.state.core after.state.core) (disk : after.state.disk ≡ before.state.disk)
-      (left : LeavesBegun actor call before after (Done given)) (fit : Fits before.state.core call.kind given)
-      (full : given ≡ answer.Full → HasManyAt script was) where
-    ended : after.client.under_way ≡ None
-    ended = ap (λ (c : Client). c.under_way) left.1
-
-    pub comes_at_once : ((contents : ℕ → List ℕ) → AreCallsOf after.state.core (calls_under_way contents clients))
+    -- A call that is answered in its first turn.
+    pub comes_at_once : (given : Answer) → slice_get (calls_of script actor) before.client.begun ≡ Some call
+        → LeavesBegun actor call before after (Done given) → Fits old call.kind given
+        → (given ≡ answer.Full → HasManyAt script was) → AreCallsOf now (calls_under_way clients)
         → ((world : World) (past : Past) → (runs : Runs world script past before.state before.items clients)
         → IsRightNext world before.items (first_entry call actor before given)
         × Stands world.setting runs.last runs.begun
         (map_after_answer world.handed (map_of world.handed world.opening before.items)
-        (first_entry call actor before given) given) (calls_under_way runs.contents clients) runs.commit after.state)
-        → Comes script actor before after clients news
-    comes_at_once are stands = comes_answered call (before.client.begun + 1) (length before.items) given
+        (first_entry call actor before given) given) runs.contents (calls_under_way clients) runs.commit after.state)
+        → ItComes
+    comes_at_once given next listed fit full are stands =
+        let rests : after.client.under_way ≡ None = ap (λ (c : Client). c.under_way) listed.1 in
+        comes_answered call (before.client.begun + 1) (length before.items) given
         (ap (λ (n : ℕ). n + 1) (sym (answered_idle before.client idle)))
-        (ap (slice_get (calls_of script actor)) (answered_idle before.client idle) ∙ next)
-        (turn_still before.state after.state leaves.uber leaves.out disk) left.0 left.1 fit full
-        (still_going call idle ended leaves disk are)
-        (λ world past handed within listed runs.
+        (ap (slice_get (calls_of script actor)) (answered_idle before.client idle) ∙ next) still listed.0 listed.1 fit full
+        (still_going rests are)
+        (λ world past handed within with runs.
         let now = stands world past runs in
-        runs_answer world script past before.state after.state before.items clients news actor before.client
-        after.client takes.changes takes.was runs (first_entry call actor before given) refl ended leaves.uber disk
-        (groups_know world.setting runs.last runs.begun (calls_under_way runs.contents clients) runs.commit before.state
-        runs.stands.groups)
-        now.0 fit.of_kind listed (was_idle call idle ended leaves disk are)
+        runs_answer after.state takes.was takes.changes runs (first_entry call actor before given) refl rests leaves.uber
+        disk (stands_know runs.stands) now.0 fit.of_kind with (idle_no_sync idle)
         (subst (λ (calls : List HoldingCall). Stands world.setting runs.last runs.begun
         (map_after_answer world.handed (map_of world.handed world.opening before.items)
-        (first_entry call actor before given) given) calls runs.commit after.state)
-        (sym (same_calls call idle ended leaves disk are runs.contents)) now.1))
+        (first_entry call actor before given) given) runs.contents calls runs.commit after.state)
+        (sym (same_calls rests are)) now.1))
+
+    -- A call that holds sectors begins.
+    module _ (held : HoldingCall) (does : Work) (next : slice_get (calls_of script actor) before.client.begun ≡ Some call)
+        (begins : LeavesBegun actor call before after (More does)) (holds : held_by does ≡ held ∷ [])
+        (no_sync : IsSync does → ⊥) where
+      abbrev under : UnderWay
+      under = record { at = length before.items; work = does }
+
+      under_is : after.client.under_way ≡ Some under
+      under_is = ap (λ (c : Client). c.under_way) begins.1
+
+      begun_is : after.client.begun ≡ before.client.begun + 1
+      begun_is = ap (λ (c : Client). c.begun) begins.1
+
+      one_less : after.client.begun - 1 ≡ before.client.begun
+      one_less = omega (arith, begun_is)
+
+      -- It comes to the others' calls.
+      pub held_gains : Gains (calls_under_way clients) (calls_under_way news) held
+      held_gains = call_begins takes.was takes.changes (ap held_under idle) (ap held_under under_is ∙ holds)
+
+      pub comes_begun : IsHoldOf actor does → IsWorkFor call does → AreCallsOf now (calls_under_way news)
+          → ((world : World) (past : Past) → (runs : Runs world script past before.state before.items clients)
+          → (content : List ℕ) × HasContent world before.items call (length before.items) content does
+          × StandsNow world past runs (with_content runs.contents actor content)
+          (map_of world.handed world.opening before.items))
+          → ItComes
+      comes_begun its asked are stands = comes_on still begins.0
+          (answered_going after.client under_is ∙ one_less ∙ sym (answered_idle before.client idle))
+          (let low = slice_get_within (calls_of script actor) before.client.begun call next in omega (arith, low, begun_is))
+          (λ its_under is. omega (arith, begun_is))
+          (going_goes takes.was takes.changes takes.schedule.going are (leaves_commit leaves) (idle_no_sync idle)
+          (the_one (λ its_under. IsWorkOf script now actor after.client its_under.work) under_is (record {
+            hold = its;
+            call = call;
+            there = ap (slice_get (calls_of script actor)) one_less ∙ next;
+            asked = asked;
+            sync = λ run is. absurd (no_sync (is_sync does run is));
+          })))
+          (λ world past handed within listed runs.
+          let now = stands world past runs in
+          runs_begins after.state takes.was takes.changes runs now.0 does idle leaves.uber disk begins.1 no_sync
+          (λ other other_is. subst
+          (λ (c : ScriptCall). HasContent world before.items c (length before.items) now.0 does)
+          (some_is (sym next ∙ other_is)) now.1)
+          now.2)
+
+  -- ---- later turns
+
+  module _ (call : ScriptCall) (under : UnderWay) (does : Work) (does_is : under.work ≡ does)
+      (under_is : before.client.under_way ≡ Some under)
+      (is : slice_get (calls_of script actor) (before.client.begun - 1) ≡ Some call) where
+    pub its_going : IsGoing clients actor before.client under
+    its_going = record { there = takes.was; under_way = under_is }
+
+    -- The client's work is what the script asks for,
+    pub its_work : IsWorkOf script old actor before.client does
+    its_work = subst (IsWorkOf script old actor before.client) does_is
+        (takes.schedule.going.each actor before.client under its_going)
+
+    pub its_asked : IsWorkFor call does
+    its_asked = subst (λ (c : ScriptCall). IsWorkFor c does) (some_is (sym its_work.there ∙ is)) its_work.asked
+
+    -- with the bytes that are known,
+    pub its_content : {world : World} {past : Past} (runs : Runs world script past before.state before.items clients)
+        → HasContent world before.items call under.at (runs.contents actor) does
+    its_content {world = world} runs = subst (HasContent world before.items call under.at (runs.contents actor)) does_is
+        ((runs.each actor before.client under its_going).content call is)
+
+    -- and the call after those answered.
+    pub its_number : before.client.begun ≡ answered before.client + 1
+    its_number =
+        let some = takes.schedule.answered.some actor before.client under takes.was under_is in
+        let same = answered_going before.client under_is in
+        omega (arith, some, same)
+
+    pub its_place : slice_get (calls_of script actor) (answered before.client) ≡ Some call
+    its_place = ap (slice_get (calls_of script actor)) (answered_going before.client under_is) ∙ is
+
+    -- The turn lists nothing, and the call goes on.
+    pub comes_further : (next : Work) → TurnGoesOn before.state after.state → LeavesGoing actor call before after under (More next)
+        → AreGoing script now news → RunsOn script before after clients news before.items → ItComes
+    comes_further next goes further = comes_on goes further.0
+        (ap answered further.1 ∙ sym (answered_going before.client under_is))
+        (let few = takes.schedule.answered.few actor before.client takes.was in omega (arith, few, begun_is))
+        (λ its_under its_is. let some = takes.schedule.answered.some actor before.client under takes.was under_is in
+        omega (arith, some, begun_is))
+      where
+        begun_is : after.client.begun ≡ before.client.begun
+        begun_is = ap (λ (c : Client). c.begun) further.1
+
+    -- It holds sectors.
+    module _ (held : HoldingCall) (was_holds : held_by does ≡ held ∷ []) (was_no_sync : IsSync does → ⊥)
+        (goes : TurnGoesOn before.state after.state) where
+      was_held : call_of_client before.client ≡ held ∷ []
+      was_held = ap held_under under_is ∙ ap held_by does_is ∙ was_holds
+
+      no_sync : IsSync under.work → ⊥
+      no_sync sync = was_no_sync (subst IsSync does_is sync)
+
+      -- It goes on.
+      module _ (held_next : HoldingCall) (next : Work) (further : LeavesGoing actor call before after under (More next))
+          (holds : held_by next ≡ held_next ∷ []) (next_no_sync : IsSync next → ⊥) where
+        next_is : after.client.under_way ≡ Some (record { at = under.at; work = next })
+        next_is = ap (λ (c : Client). c.under_way) further.1
+
+        -- Another stands in its place.
+        pub held_moves : (rest : List HoldingCall) × Gains rest (calls_under_way clients) held
+            × Gains rest (calls_under_way news) held_next
+        held_moves = call_goes takes.was takes.changes was_held (ap held_under next_is ∙ holds)
+
+        pub comes_going : KeepsCommit old now → IsHoldOf actor next → IsWorkFor call next
+            → AreCallsOf now (calls_under_way news) → now.pool.uber ≡ old.pool.uber
+            → ((world : World) (past : Past) → (runs : Runs world script past before.state before.items clients)
+            → GoesOnSince world runs.last runs.begun before.state.disk after.state.disk
+            × (HasContent world before.items call under.at (runs.contents actor) does
+            → HasContent world before.items call under.at (runs.contents actor) next)
+            × StandsNow world past runs runs.contents (map_of world.handed world.opening before.items))
+            → ItComes
+        comes_going keeps its asked are uber stands = comes_further next goes further
+            (going_goes takes.was takes.changes takes.schedule.going are keeps (work_no_sync under_is no_sync)
+            (the_one (λ its_under. IsWorkOf script now actor after.client its_under.work) next_is (record {
+              hold = its;
+              call = call;
+              there = ap (λ (c : Client). slice_get (calls_of script actor) (c.begun - 1)) further.1 ∙ is;
+              asked = asked;
+              sync = λ run run_is. absurd (next_no_sync (is_sync next run run_is));
+            })))
+            (λ world past handed within listed runs.
+            let now = stands world past runs in
+            runs_goes_on after.state takes.was takes.changes runs under next uber goes.later now.0 under_is further.1
+            no_sync next_no_sync
+            (λ other other_is. subst
+            (λ (c : ScriptCall). HasContent world before.items c under.at (runs.contents actor) next)
+            (some_is (sym is ∙ other_is)) (now.1 (its_content runs)))
+            now.2)
+
+      -- It ends, and its entry alone is listed.
+      module _ (given : Answer) (ended : LeavesGoing actor call before after under (Done given)) where
+        abbrev entry : Entry
+        entry = entry_for call actor before.client.begun under.at given
+
+        idle_now : after.client.under_way ≡ None
+        idle_now = ap (λ (c : Client). c.under_way) ended.1
+
+        -- The others' calls are left.
+        pub held_gone : Gains (calls_under_way news) (calls_under_way clients) held
+        held_gone = call_ends takes.was takes.changes was_held (ap held_under idle_now)
+
+        pub comes_ended : after.items ≡ before.items ++ CallItem entry ∷ [] → LeavesPool old now
+            → after.state.disk ≡ before.state.disk → Fits old call.kind given → given ≢ answer.Full
+            → AreCallsOf now (calls_under_way news)
+            → ((world : World) (past : Past) → world.handed ≡ handed_by script
+            → (runs : Runs world script past before.state before.items clients)
+            → IsRightNext world before.items entry
+            × StandsNow world past runs runs.contents
+            (map_after_answer world.handed (map_of world.handed world.opening before.items) entry given))
+            → ItComes
+        comes_ended listed leaves disk fit other are stands = comes_answered call before.client.begun under.at given its_number
+            its_place goes listed ended.1 fit (λ full. absurd (other full))
+            (going_goes takes.was takes.changes takes.schedule.going are (leaves_commit leaves)
+            (work_no_sync under_is no_sync)
+            (no_one (λ its_under. IsWorkOf script now actor after.client its_under.work) idle_now))
+            (λ world past handed within with runs.
+            let now = stands world past handed runs in
+            runs_answer after.state takes.was takes.changes runs entry refl idle_now leaves.uber disk
+            (stands_know runs.stands) now.0 fit.of_kind with (work_no_sync under_is no_sync) now.1)

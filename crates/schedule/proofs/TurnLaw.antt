@@ -36,7 +36,7 @@ put_bytes id bytes may at = ⊎_elim (λ below. may.1.fit at 0 below)
     (λ above. let past : slice_index bytes at ≡ 0 = get_or_past bytes at 0 above in omega (arith, past))
     (cases_lt at (length bytes))
 
-module _ (script : Script) (actor : ℕ) (before after : Station) (clients news : List Client)
+module _ {script : Script} {actor : ℕ} {before after : Station} {clients news : List Client}
     (takes : TakesTurn script actor before after clients news) where
   abbrev ItComes : Type 0
   ItComes = Comes script actor before after clients news
@@ -60,18 +60,18 @@ module _ (script : Script) (actor : ℕ) (before after : Station) (clients news 
         → HasTableOf before.state.core (More does) → LeavesBegun actor call before after (More does)
         → ItComes
     begins_by kind.Put (Some id) (work.Put run) asked id_is did table leaves =
-        put_begins script actor before after clients news takes call id asked id_is idle next disk run
+        put_begins takes call id asked id_is idle next disk run
         (put_bytes call.id (fill_bytes call.fill)
         (subst (λ (k : Kind). MayHave k call.id (fill_bytes call.fill)) asked allowed))
         did leaves
     begins_by kind.Get (Some id) (work.Read run) asked id_is did table leaves =
-        read_begins script actor before after clients news takes call id run (is_read kind.Get asked tt) id_is idle next
-        (as_read kind.Get id (More run) asked did) disk leaves
+        read_begins takes call id (is_read kind.Get asked tt) id_is idle next disk run
+        (as_read kind.Get id (More run) asked did) leaves
     begins_by kind.Sum (Some id) (work.Read run) asked id_is did table leaves =
-        read_begins script actor before after clients news takes call id run (is_read kind.Sum asked tt) id_is idle next
-        (as_read kind.Sum id (More run) asked did) disk leaves
+        read_begins takes call id (is_read kind.Sum asked tt) id_is idle next disk run
+        (as_read kind.Sum id (More run) asked did) leaves
     begins_by kind.Sync None (work.Sync run) asked id_is did table leaves =
-        sync_begins script actor before after clients news call takes run table asked id_is idle next did disk leaves
+        sync_begins call takes asked id_is idle next disk run table did leaves
     begins_by asked id does asked_is id_is did table leaves = absurd did
 
     -- one that waits,
@@ -79,15 +79,15 @@ module _ (script : Script) (actor : ℕ) (before after : Station) (clients news 
         → Waits before.state.core after.state.core actor call asked id by → LeavesBegun actor call before after (Busy by)
         → ItComes
     waits_by kind.Put (Some id) by asked id_is did leaves =
-        put_waits script actor before after clients news takes call id asked id_is idle next disk by did leaves
+        put_waits takes call id asked id_is idle next disk by did leaves
     waits_by kind.Get (Some id) by asked id_is did leaves =
-        read_waits script actor before after clients news takes call id by (is_read kind.Get asked tt) id_is idle next
-        (as_read kind.Get id (Busy by) asked did) disk leaves
+        read_waits takes call id (is_read kind.Get asked tt) id_is idle next disk by
+        (as_read kind.Get id (Busy by) asked did) leaves
     waits_by kind.Sum (Some id) by asked id_is did leaves =
-        read_waits script actor before after clients news takes call id by (is_read kind.Sum asked tt) id_is idle next
-        (as_read kind.Sum id (Busy by) asked did) disk leaves
+        read_waits takes call id (is_read kind.Sum asked tt) id_is idle next disk by
+        (as_read kind.Sum id (Busy by) asked did) leaves
     waits_by kind.Sync None by asked id_is did leaves =
-        sync_waits script actor before after clients news call takes by asked id_is idle next did disk leaves
+        sync_waits call takes asked id_is idle next disk by did leaves
     waits_by asked id by asked_is id_is did leaves = absurd did
 
     -- and one that is answered at once.
@@ -96,17 +96,17 @@ module _ (script : Script) (actor : ℕ) (before after : Station) (clients news 
         → LeavesBegun actor call before after (Done given)
         → ItComes
     answers_by kind.Put (Some id) given asked id_is did leaves =
-        put_at_once script actor before after clients news takes call id asked id_is idle next disk given did leaves
+        put_at_once takes call id asked id_is idle next disk given did leaves
     answers_by kind.Get (Some id) given asked id_is did leaves =
-        read_at_once script actor before after clients news takes call id given (is_read kind.Get asked tt) id_is idle next
-        (as_read kind.Get id (Done given) asked did) disk leaves
+        read_at_once takes call id (is_read kind.Get asked tt) id_is idle next disk given
+        (as_read kind.Get id (Done given) asked did) leaves
     answers_by kind.Sum (Some id) given asked id_is did leaves =
-        read_at_once script actor before after clients news takes call id given (is_read kind.Sum asked tt) id_is idle next
-        (as_read kind.Sum id (Done given) asked did) disk leaves
+        read_at_once takes call id (is_read kind.Sum asked tt) id_is idle next disk given
+        (as_read kind.Sum id (Done given) asked did) leaves
     answers_by kind.Free (Some id) given asked id_is did leaves =
-        free_at_once script actor before after clients news takes call id given asked id_is idle next did disk leaves
+        free_at_once takes call id given asked id_is idle next did disk leaves
     answers_by kind.Sync None given asked id_is did leaves =
-        sync_at_once script actor before after clients news call takes given asked id_is idle next did disk leaves
+        sync_at_once call takes asked id_is idle next disk given did leaves
     answers_by asked id given asked_is id_is did leaves = absurd did
 
     began_by : (turn : Turn Work) → BeginsCall before.state.core after.state.core actor call turn
@@ -122,17 +122,17 @@ module _ (script : Script) (actor : ℕ) (before after : Station) (clients news 
     went_by : (does : Work) (turn : Turn Work) → under.work ≡ does → GoesOnBy before.state after.state call does turn
         → LeavesGoing actor call before after under turn → ItComes
     went_by (work.Put run) (More (work.Put next)) does_is did leaves =
-        put_goes_on script actor before after clients news takes call under run does_is going is goes next did leaves
+        put_goes_on takes call under run does_is going is goes next did leaves
     went_by (work.Put run) (Done given) does_is did leaves =
-        put_ends script actor before after clients news takes call under run does_is going is goes given did leaves
+        put_ends takes call under run does_is going is goes given did leaves
     went_by (work.Read run) (More (work.Read next)) does_is did leaves =
-        read_goes_on script actor before after clients news takes call under run next does_is going is did goes leaves
+        read_goes_on takes call under run does_is going is goes next did leaves
     went_by (work.Read run) (Done given) does_is did leaves =
-        read_ends script actor before after clients news takes call under run given does_is going is did goes leaves
+        read_ends takes call under run does_is going is goes given did leaves
     went_by (work.Sync run) (More (work.Sync next)) does_is did leaves =
-        sync_goes_on script actor before after clients news call takes under run next does_is going is did goes leaves
+        sync_goes_on call takes under run does_is going is goes next did leaves
     went_by (work.Sync run) (Done given) does_is did leaves =
-        sync_ends script actor before after clients news call takes under run given does_is going is did goes leaves
+        sync_ends call takes under run does_is going is goes given did leaves
     went_by does turn does_is did leaves = absurd did
 
   -- **A turn of a client comes to a state in which the next turn may be taken, and what stood between two turns
@@ -140,7 +140,7 @@ module _ (script : Script) (actor : ℕ) (before after : Station) (clients news 
   pub turned_comes : ((number : ℕ) (call : ScriptCall) → slice_get (calls_of script actor) number ≡ Some call → IsAllowed call)
       → Turned (calls_of script actor) actor before after
       → Comes script actor before after clients news
-  turned_comes allowed (Nothing nothing) = comes_nowhere script actor before after clients news takes nothing.same
+  turned_comes allowed (Nothing nothing) = comes_nowhere takes nothing.same
   turned_comes allowed (Began turn begins leaves) =
       began_by begins.call (allowed before.client.begun begins.call begins.next) begins.idle begins.next begins.disk turn
       begins.did begins.table leaves

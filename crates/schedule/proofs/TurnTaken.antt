@@ -20,7 +20,7 @@ use Rattle.schedule.specs.Coming.{IsSchedule}
 use Rattle.schedule.specs.Turns.{Turns, turns_of, taken_by}
 use Rattle.schedule.specs.Playing.{HasRoomForAnswers, IsReady}
 use Rattle.schedule.specs.Replaying.{AreIdle, HasTurn, OnlyShared, TakesOne}
-use Rattle.schedule.specs.Running.{AreGoing, IsGoing, IsWorkFor, calls_under_way, held_by}
+use Rattle.schedule.specs.Running.{AreGoing, IsGoing, IsWorkFor, IsWorkOf, calls_under_way, held_by}
 use Rattle.schedule.specs.Turned.{MayGoOn, Station, Turned}
 use Rattle.schedule.proofs.Coming.{came_nowhere}
 use Rattle.schedule.proofs.Left.{turned_fewer}
@@ -53,30 +53,26 @@ pub going_may : (script : Script) (core : Core) (clients : List Client) (index :
     (call : ScriptCall) → AreGoing script core clients → IsGoing clients index client under
     → slice_get (calls_of script index) (client.begun - 1) ≡ Some call → MayGoOn core call under.work
 going_may script core clients index client under call going is asked =
-    may under.work refl (subst (λ (c : ScriptCall). IsWorkFor c under.work) (some_is (sym found.1 ∙ asked)) found.2)
+    may under.work refl (subst (λ (c : ScriptCall). IsWorkFor c under.work) (some_is (sym mine.there ∙ asked)) mine.asked)
   where
-    found : (its : ScriptCall) × (slice_get (calls_of script index) (client.begun - 1) ≡ Some its)
-        × IsWorkFor its under.work
-    found = going.asked index client under is
+    mine : IsWorkOf script core index client under.work
+    mine = going.each index client under is
 
-    bytes : ℕ → List ℕ
-    bytes index = []
-
-    among : (does : Work) (its : HoldingCall) → under.work ≡ does → Contains (held_by [] does) its
-        → Contains (calls_under_way bytes clients) its
-    among does its same held = is_among bytes clients index client under its is
-        (subst (λ (w : Work). Contains (held_by [] w) its) (sym same) held)
+    among : (does : Work) (its : HoldingCall) → under.work ≡ does → Contains (held_by does) its
+        → Contains (calls_under_way clients) its
+    among does its same held = is_among clients index client under its is
+        (subst (λ (w : Work). Contains (held_by w) its) (sym same) held)
 
     may : (does : Work) → under.work ≡ does → IsWorkFor call does → MayGoOn core call does
     may (work.Put run) same for =
-        let listed = among (work.Put run) (Putting run []) same (first_listed (Putting run []) []) in (
-          (going.are bytes).each (Putting run []) listed,
-          (going.are bytes).under.each run.range (range_listed (calls_under_way bytes clients) run [] listed),
+        let listed = among (work.Put run) (Putting run) same (first_listed (Putting run) []) in (
+          going.are.each (Putting run) listed,
+          going.are.under.each run.range (range_listed (calls_under_way clients) run listed),
           for.2,
         )
-    may (work.Read run) same for = (going.are bytes).each (Reading run [])
-        (among (work.Read run) (Reading run []) same (first_listed (Reading run []) []))
-    may (work.Sync run) same for = (going.syncs index client under run is same).0
+    may (work.Read run) same for = going.are.each (Reading run)
+        (among (work.Read run) (Reading run) same (first_listed (Reading run) []))
+    may (work.Sync run) same for = (mine.sync run same).0
 
 -- ---- after a turn
 
@@ -151,7 +147,7 @@ module _ (script : Script) (actor : ℕ) (before after : Station) (clients news 
     (allowed : All (λ placed. IsAllowed placed.call) script.calls) (shared : OnlyShared before.state.core.holds)
     (turned : Turned (calls_of script actor) actor before after) where
   comes : Comes script actor before after clients news
-  comes = turned_comes script actor before after clients news takes (allowed_of script actor allowed) turned
+  comes = turned_comes takes (allowed_of script actor allowed) turned
 
   takes_one : TakesOne script actor (turns_of before.state before.items clients) news before.client after.client
   takes_one = record {

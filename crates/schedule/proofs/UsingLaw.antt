@@ -204,7 +204,7 @@ module _ (script : Script) (actor : ℕ) (before after : Station) (clients news 
   its_commit : (under : UnderWay) → before.client.under_way ≡ Some under → (run : CommitRun)
       → under.work ≡ work.Sync run → IsCommitOf old run
   its_commit under is_under run does =
-      (going.syncs actor before.client under run (record { there = was; under_way = is_under }) does).0
+      ((going.each actor before.client under (record { there = was; under_way = is_under })).sync run does).0
 
   -- **What stood between two turns of what was used stands after a turn of a client.**
   pub turn_uses : Turned (calls_of script actor) actor before after

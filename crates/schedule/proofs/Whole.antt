@@ -42,7 +42,7 @@ use Rattle.schedule.specs.InTurn.{Cursor, InOrder, HaveTaken, Replay, replay_at}
 use Rattle.schedule.specs.Moments.{Past}
 use Rattle.schedule.specs.Playing.{EndsAs}
 use Rattle.schedule.specs.Replaying.{blank_clients}
-use Rattle.schedule.specs.Running.{Runs, calls_under_way}
+use Rattle.schedule.specs.Running.{Runs}
 use Rattle.schedule.specs.WholeRun.{HasRun, HasRunInTurn, RunKeeps, first_turns}
 use Rattle.schedule.proofs.Banks.{are_listed, at_end as bank_at_end, at_start}
 use Rattle.schedule.proofs.Beginning.{no_call}
@@ -53,7 +53,7 @@ use Rattle.schedule.proofs.Opened.{resting, opened_world, runs_first}
 use Rattle.schedule.proofs.OpenedBirths.{opened_births}
 use Rattle.schedule.proofs.Recording.{recorded_throughout, recorded_keeps, recorded_no_older}
 use Rattle.schedule.proofs.UsingOpened.{uses_first}
-use Rattle.schedule.proofs.Syncs.{groups_know}
+use Rattle.schedule.proofs.Syncs.{stands_know}
 
 -- What failed earlier has failed later, and each device that is out then has its reason.
 out_later : (old mid new : Disk) (uber : Uber) (silent out onward : ℕ) → Later old mid → Later mid new
@@ -119,7 +119,8 @@ module _ (script : Script) (old mid : Disk) (pool : Pool) (silent : ℕ) (items 
     world = opened_world (handed_by script) may.may begins
 
     first_runs : Runs world script past (at_disk (resting pool) mid) (Group item ∷ []) (blank_clients script.clients)
-    first_runs = runs_first (handed_by script) may.may begins past refl (at_start first_state passed 1 (omega arith)) opened_later bank rest script script.clients
+    first_runs = runs_first (handed_by script) may.may begins past refl (at_start first_state passed 1 (omega arith)) opened_later bank
+        script script.clients
 
     runs : Runs world script past final items clients
     runs = come.runs world past refl first_runs borne_in (are_listed script first_state passed taken)
@@ -135,7 +136,7 @@ module _ (script : Script) (old mid : Disk) (pool : Pool) (silent : ℕ) (items 
     at_end : (kept : KeepsLast setting (handed_by script) begins.opened.chosen.map items final.disk)
         × ((group : Kept) → Contains (kept.last ∷ kept.begun) group → Contains run_groups group)
     at_end = recorded_keeps runs.recorded
-        (groups_know setting runs.last runs.begun (calls_under_way runs.contents clients) runs.commit final runs.stands.groups)
+        (stands_know runs.stands)
 
     -- The journal begins with the group that renews the chosen one.
     begins_after : BeginsAfter begins.opened.chosen items

@@ -1,5 +1,5 @@
 -- What stands between two turns of a script's clients.
-use Rattle.std.specs.Prelude.{◌≡◌, ◌⊎◌, ℕ, suc, ◌-◌, ◌<◌, ◌≤◌, List, ◌∷◌, [], ◌++◌, length, Option, Some, None, slice_get, ⊤}
+use Rattle.std.specs.Prelude.{◌≡◌, ◌⊎◌, ℕ, ◌-◌, ◌<◌, ◌≤◌, List, ◌∷◌, [], flat_map, length, Option, Some, None, slice_get, ⊤}
 use Rattle.core_state.specs.declared.answer.Kind.TheVariants as kind
 use Rattle.core_state.specs.declared.item.Entry.{Entry}
 use Rattle.core_state.specs.declared.item.Group.{Group as GroupItem}
@@ -30,21 +30,23 @@ pub record IsGoing (clients : List Client) (index : ℕ) (client : Client) (unde
   pub there : slice_get clients index ≡ Some client
   pub under_way : client.under_way ≡ Some under
 
--- the call of a work that holds sectors, if it is one, with these bytes of its block
-abbrev pub held_by : List ℕ → Work → List HoldingCall
-held_by content (work.Put run) = Putting run content ∷ []
-held_by content (work.Read run) = Reading run content ∷ []
-held_by content (work.Sync run) = []
+-- the call of a work that holds sectors, if it is one
+abbrev pub held_by : Work → List HoldingCall
+held_by (work.Put run) = Putting run ∷ []
+held_by (work.Read run) = Reading run ∷ []
+held_by (work.Sync run) = []
 
-abbrev pub held_under : List ℕ → Option UnderWay → List HoldingCall
-held_under content None = []
-held_under content (Some under) = held_by content under.work
+-- the one that a client has under way, if it has one
+abbrev pub held_under : Option UnderWay → List HoldingCall
+held_under None = []
+held_under (Some under) = held_by under.work
 
--- the calls under way that hold sectors, with the bytes of each client's
-abbrev pub calls_under_way : (ℕ → List ℕ) → List Client → List HoldingCall
-calls_under_way contents [] = []
-calls_under_way contents (client ∷ clients) =
-    held_under (contents 0) client.under_way ++ calls_under_way (λ index. contents (suc index)) clients
+abbrev pub call_of_client : Client → List HoldingCall
+call_of_client client = held_under client.under_way
+
+-- the calls under way that hold sectors
+abbrev pub calls_under_way : List Client → List HoldingCall
+calls_under_way clients = flat_map call_of_client clients
 
 -- The hold of a work is that of this client.
 abbrev pub IsHoldOf : ℕ → Work → Type 0
@@ -64,18 +66,21 @@ IsWorkFor call (work.Put run) = (call.kind ≡ kind.Put) × (call.id ≡ Some ru
 IsWorkFor call (work.Read run) = (call.kind ≡ run.kind) × (call.id ≡ Some run.entry.id)
 IsWorkFor call (work.Sync run) = (call.kind ≡ kind.Sync) × (call.id ≡ None)
 
--- The clients' calls under way are calls of this core, whatever their blocks' bytes, and are what the script asks
--- for. At most one is a sync, the core's commit.
+-- A client's call under way has the client's hold, if it has one, and is what the script asks for. A sync is the core's
+-- commit.
+pub record IsWorkOf (script : Script) (core : Core) (index : ℕ) (client : Client) (does : Work) : Type 0 where
+  pub hold : IsHoldOf index does
+  pub call : ScriptCall
+  pub there : slice_get (calls_of script index) (client.begun - 1) ≡ Some call
+  pub asked : IsWorkFor call does
+  pub sync : (run : CommitRun) → does ≡ work.Sync run → IsCommitOf core run × (core.committing ≡ Some index)
+
+-- The clients' calls under way are calls of this core, and their clients' works. A commit under way is a client's, or
+-- was cut short.
 pub record AreGoing (script : Script) (core : Core) (clients : List Client) : Type 0 where
-  pub are : (contents : ℕ → List ℕ) → AreCallsOf core (calls_under_way contents clients)
-  pub holds : (index : ℕ) (client : Client) (under : UnderWay) → IsGoing clients index client under
-      → IsHoldOf index under.work
-  pub asked : (index : ℕ) (client : Client) (under : UnderWay) → IsGoing clients index client under
-      → (call : ScriptCall) × (slice_get (calls_of script index) (client.begun - 1) ≡ Some call)
-      × IsWorkFor call under.work
-  pub syncs : (index : ℕ) (client : Client) (under : UnderWay) (run : CommitRun)
-      → IsGoing clients index client under → under.work ≡ work.Sync run
-      → IsCommitOf core run × (core.committing ≡ Some index)
+  pub are : AreCallsOf core (calls_under_way clients)
+  pub each : (index : ℕ) (client : Client) (under : UnderWay) → IsGoing clients index client under
+      → IsWorkOf script core index client under.work
   pub one : (actor : ℕ) → core.committing ≡ Some actor → HasTooManyOut core
       ⊎ ((client : Client) × (under : UnderWay) × (run : CommitRun) × IsGoing clients actor client under
       × (under.work ≡ work.Sync run))
@@ -123,8 +128,8 @@ pub record Runs (world : World) (script : Script) (past : Past) (state : CoreSta
   pub item : GroupItem
   pub latest : IsGroupBefore items (length items) item
   pub recorded : Recorded world past items last begun state.core.pool.uber state.disk
-  pub stands : Stands world.setting last begun (map_of world.handed world.opening items)
-      (calls_under_way contents clients) commit state
+  pub stands : Stands world.setting last begun (map_of world.handed world.opening items) contents
+      (calls_under_way clients) commit state
   pub sync : IsTheirs clients commit
   pub each : (index : ℕ) (client : Client) (under : UnderWay) → IsGoing clients index client under
       → IsClient world script items item begun (contents index) index client under
