@@ -4,7 +4,7 @@ use Rattle.std.specs.Prelude.{AllPairs, Contains, nat_lt}
 use Rattle.std.proofs.lemmas.Bool.{cases_lt}
 use Rattle.range_locks.specs.declared.hold.Hold.{Hold}
 use Rattle.space_alloc.specs.Space.{Run, HeldRun, Space, IsIn, IsFreeRun, Gains, IsTaking, IsDropping, IsHolding, after_group}
-use Rattle.space_alloc.proofs.Pairs.{all_pairs_filter}
+use Rattle.range_locks.proofs.Pairs.{all_pairs_filter}
 use Rattle.core_blocks.specs.Runs.{AreClear, AreSpread, IsInside, held_sectors}
 use Rattle.core_blocks.proofs.Lists.{gains_old, gains_cases, gains_item, filter_was, pairs_gain, pairs_lose, pairs_beside}
 

@@ -50,10 +50,6 @@ use Rattle.core_turns.proofs.GetTurns.{get_of_more, begins_holds, solved_of}
 abbrev OnlyHolds : Core → Core → Type 0
 OnlyHolds old new = new ≡ record old { holds = new.holds }
 
--- So it is where these are its holds now.
-begins_held : (old new : Core) (holds : List Hold) → new ≡ record old { holds = holds } → OnlyHolds old new
-begins_held old new holds core = core ∙ (λ i. record old { holds = sym (ap (λ (c : Core). c.holds) core) i })
-
 widths_held : (old new : Core) → OnlyHolds old new → KeepsWidths old new
 widths_held old new core = record {
   parity = ap (λ (c : Core). c.pool.uber.parity) core;
@@ -83,7 +79,7 @@ pub get_begins_calls : {old new : Core} {run : GetRun} {left calls : List Holdin
     → ((call : HoldingCall) → Contains left call → actor_of call ≢ actor) → Gains left calls (Reading run)
     → AreCallsOf old left → AreCallsOf new calls
 get_begins_calls {old} {new} {run} {left} {calls} actor id asked reads is begins apart gains are =
-    calls_gain old new left calls (Reading run) gains (widths_held old new (begins_held old new _ begins.6))
+    calls_gain old new left calls (Reading run) gains (widths_held old new begins.6)
     (λ hold listed. begins_holds old new actor id asked (More run) hold begins listed)
     ((under_read old new (ap (λ (c : Core). c.pool.blocks) begins.6) gains).0 are.under)
     (subst IsReadKind (sym begins.2) reads, begins.7)
@@ -279,7 +275,7 @@ module _ {setting : Setting} {last : Kept} {begun : List Kept} {map : Map} {cont
       let found = get_finds map old new disk actor id asked (More run) stands.holds begins in (
         found.0,
         found.1,
-        λ nows calls sets gains. stands_held old new disk (begins_held old new _ begins.6) (read_adds gains)
+        λ nows calls sets gains. stands_held old new disk begins.6 (read_adds gains)
             (λ call listed. ⊎_elim
             (λ (same : Reading run ≡ call). inl (subst (λ (c : HoldingCall). HoldsCall (at_disk new disk) (nows (actor_of c)) c) same
             (subst (λ (bytes : List ℕ). HoldsGet bytes (at_disk new disk) run)

@@ -1,18 +1,18 @@
 -- Gets and sums, turn by turn: what each turn comes to, and what it keeps.
-use Rattle.std.proofs.Common.{◌≡◌, ℕ, ◌+◌, List, ◌∷◌, [], ◌++◌, Some, refl, sym, ◌∙◌, ap, subst, Result, Ok, Err}
+use Rattle.std.proofs.Common.{◌≡◌, ℕ, ◌+◌, List, Some, refl, sym, ◌∙◌, ap, subst, Result, Ok, Err}
 use Rattle.std.specs.Prelude.{Contains, OnOk, OnErr}
-use Rattle.std.proofs.lemmas.List.Elements.{Contains-append_left, Contains-append_right}
 use Rattle.range_locks.specs.declared.hold.Hold.{Hold}
 use Rattle.range_locks.specs.declared.hold.HoldKind.TheVariants.{Shared}
 use Rattle.range_locks.specs.Holds.{IsClear}
 use Rattle.row_layout.specs.Layout.{Layout, allocated_of}
+use Rattle.space_alloc.specs.Space.{Gains}
 use Rattle.block_record.specs.declared.entry.IndexEntry.{IndexEntry}
 use Rattle.block_table.specs.Table.{entry_of}
 use Rattle.uberblock_ring.specs.Uberblock.{Uber}
 use Rattle.core_state.specs.Index.{layout_of}
 use Rattle.core_state.specs.declared.answer.Kind.{Kind}
-use Rattle.core_state.proofs.Listed.{contains_head}
 use Rattle.core_blocks.specs.Blocks.{AreInStep}
+use Rattle.core_blocks.proofs.Lists.{gains_item, gains_old}
 use Rattle.core_blocks.proofs.Listed.{found_listed}
 use Rattle.core_client.specs.Pool.{IsInPool}
 use Rattle.core_client.specs.BlockTurns.{BlockRead, IsReadBegun}
@@ -31,7 +31,7 @@ pub get_begins : (core : Core) (actor id : ℕ) (asked : Kind) (entry : IndexEnt
     → entry_of core.pool.blocks.table.entries id ≡ Some entry
     → layout ≡ layout_of core.pool.uber.parity core.pool.uber.births entry → size ≡ allocated_of layout
     → hold ≡ record { lo = entry.start; hi = entry.start + size; actor = actor; kind = Shared }
-    → IsReadBegun layout read → holds ≡ core.holds ++ hold ∷ []
+    → IsReadBegun layout read → Gains core.holds holds hold
     → IsClear core.holds entry.start (entry.start + size) Shared
     → BeginsGet core (record core { holds = holds }) actor asked id
     (More (record { kind = asked; hold = hold; entry = entry; read = read; solved = NotYet }))
@@ -42,17 +42,17 @@ get_begins core actor id asked entry layout size hold read holds is step few fou
   refl,
   its_hold,
   subst (λ (l : Layout). IsReadBegun l read) layout_is begun,
-  (λ i. record core { holds = held i }),
+  refl,
   record {
     layout_is = begun.layout_is ∙ layout_is;
     pool = subst (λ (l : Layout). IsInPool l core.pool.uber.reflow) (sym (begun.layout_is ∙ layout_is))
         (listed_in_pool (as_begun core) entry is.is step (found_listed core.pool.blocks.table.entries id entry found));
-    holds = subst (λ (l : List Hold). Contains l hold) (sym held)
-        (Contains-append_right core.holds (hold ∷ []) hold (contains_head hold []));
+    holds = gains_item core.holds holds hold held;
     actor = actor;
     hold_is = its_hold;
   },
   subst (λ (h : Hold). IsClear core.holds h.lo h.hi Shared) (sym hold_is) clear,
+  held,
 )
   where
     its_hold : hold ≡ hold_of core.pool.uber entry actor
@@ -102,7 +102,7 @@ begins_pool old new actor id asked (Done given) begins = ap (λ (core : Core). c
 pub begins_holds : (old new : Core) (actor id : ℕ) (asked : Kind) (result : Turn GetRun) (hold : Hold)
     → BeginsGet old new actor asked id result → Contains old.holds hold → Contains new.holds hold
 begins_holds old new actor id asked (More run) hold begins has =
-    subst (λ (core : Core). Contains core.holds hold) (sym begins.6) (Contains-append_left old.holds (run.hold ∷ []) hold has)
+    gains_old old.holds new.holds run.hold hold begins.9 has
 begins_holds old new actor id asked (Busy by) hold begins has = subst (λ (core : Core). Contains core.holds hold) (sym begins.1) has
 begins_holds old new actor id asked (Done given) hold begins has = subst (λ (core : Core). Contains core.holds hold) (sym begins.0) has
 

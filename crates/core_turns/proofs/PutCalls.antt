@@ -1,14 +1,13 @@
 -- Which calls are under way over each turn of a put.
 use Rattle.std.proofs.Common.{◌≡◌, ◌≢◌, ℕ, ◌+◌, List, [], ◌∷◌, ◌++◌, length, Option, Some, refl, sym, ◌∙◌, ap, subst, arith}
 use Rattle.std.specs.Prelude.{Contains}
-use Rattle.std.proofs.lemmas.List.Elements.{Contains-append_left}
 use Rattle.range_locks.specs.declared.hold.Hold.{Hold}
 use Rattle.range_locks.specs.declared.hold.HoldKind.TheVariants.{Shared}
 use Rattle.range_locks.specs.Holds.{Overlaps}
 use Rattle.space_alloc.specs.Space.{Gains, IsIn}
 use Rattle.row_layout.specs.Layout.{Layout, allocated_of}
 use Rattle.core_blocks.specs.Blocks.{AreUnderWay, put_run}
-use Rattle.core_blocks.proofs.Lists.{gains_item}
+use Rattle.core_blocks.proofs.Lists.{gains_item, gains_old}
 use Rattle.core_blocks.proofs.Runs.{free_of_taken}
 use Rattle.core_turns.specs.declared.putting.Filled.{Filled}
 use Rattle.core_turns.specs.declared.putting.PutRun.{PutRun}
@@ -39,19 +38,11 @@ rearranged_widths old new change = record {
 
 -- ---- a put begins
 
--- A put that begins adds its hold,
-begins_holds : (old new : Core) (actor id len : ℕ) (run : PutRun) → BeginsPutSo old new actor id len run
-    → new.holds ≡ old.holds ++ run.hold ∷ []
-begins_holds old new actor id len run begins = ap (λ (core : Core). core.holds) begins.rest
-
--- and calls no device.
+-- A put that begins calls no device.
 pub begins_rearranges : (old new : Core) (actor id len : ℕ) (run : PutRun) → BeginsPutSo old new actor id len run
     → Rearranges old new
 begins_rearranges old new actor id len run begins = record {
-  rest = begins.rest ∙ (λ i. record old {
-    pool = record old.pool { blocks = new.pool.blocks };
-    holds = sym (begins_holds old new actor id len run begins) i;
-  });
+  rest = begins.rest;
   parity = begins.begins.parity;
   births = begins.begins.births;
 }
@@ -83,9 +74,7 @@ pub put_begins_calls : {old new : Core} {actor id len : ℕ} {run : PutRun} {lef
 put_begins_calls {old} {new} {actor} {id} {len} {run} {left} {calls} begins differs gains are =
     calls_gain old new left calls (Putting run) gains
     (rearranged_widths old new (begins_rearranges old new actor id len run begins))
-    (λ hold listed. subst (λ (holds : List Hold). Contains holds hold)
-    (sym (begins_holds old new actor id len run begins))
-    (Contains-append_left old.holds (run.hold ∷ []) hold listed))
+    (λ hold listed. gains_old old.holds new.holds run.hold hold begins.holds listed)
     (under_moved new.pool.blocks (ranges_of left) (ranges_of left ++ run.range ∷ []) (ranges_of calls) run.range
     (at_end (ranges_of left) run.range) (ranges_gain gains) (begins.under (ranges_of left) are.under))
     begins.of

@@ -2,7 +2,6 @@
 use Rattle.std.proofs.Common.{◌≡◌, ◌≢◌, ⊎_elim, ℕ, ◌+◌, ◌<◌, ◌≤◌, ◌^◌, List, ◌∷◌, [], ◌++◌, length, true, Option, Some, None, Result, Ok, Err, append-nil, refl, sym, ◌∙◌, ap, subst, arith}
 use Rattle.std.specs.Prelude.{All, Contains, OnOk, OnErr, slice_get, slice_index_or}
 use Rattle.std.proofs.lemmas.Option.{slice_get-get_or, slice_get_within}
-use Rattle.std.proofs.lemmas.List.Elements.{Contains-append_right}
 use Rattle.bank_trait.specs.Disk.{Disk}
 use Rattle.bank_trait.specs.Regions.{TouchesOnly}
 use Rattle.bank_trait.proofs.Moments.{later_refl}
@@ -24,13 +23,13 @@ use Rattle.uberblock_ring.specs.Devices.{has_device, IsWithin}
 use Rattle.uberblock_ring.specs.Uberblock.{Uber}
 use Rattle.uberblock_ring.proofs.Digest.{sha256_is_digest}
 use Rattle.core_state.specs.Committing.{Point, point_of}
-use Rattle.core_state.proofs.Listed.{contains_head}
 use Rattle.core_blocks.specs.declared.range.PutRange.{PutRange}
 use Rattle.core_blocks.specs.declared.refused.PutRefused.{PutRefused}
 use Rattle.core_blocks.specs.declared.refused.PutRefused.TheVariants as refused
 use Rattle.core_blocks.specs.Blocks.{Blocks, AreInStep, AreUnderWay, IsUnderWay, put_run, range_of}
 use Rattle.core_blocks.specs.Kept.{NoneFree, SparesAll}
 use Rattle.core_blocks.specs.Puts.{BeginsPut, HoldsBack, IsAsBefore, IsPutCause, IsRangeFor, layout_at, sectors_taken}
+use Rattle.core_blocks.proofs.Lists.{gains_item}
 use Rattle.core_blocks.proofs.Listed.{put_cases}
 use Rattle.core_blocks.proofs.Usage.{adds_held_back, adds_none, adds_taken_back}
 use Rattle.core_client.specs.Outs.{OnlyFailedGoOut}
@@ -83,7 +82,7 @@ pub put_begins : (core : Core) (actor id len : ℕ) (begun : Blocks) (range : Pu
     → ((past : ℕ) (kept : List IndexEntry) → NoneFree core.pool.blocks past kept → NoneFree begun past kept)
     → ((past : ℕ) (kept : List IndexEntry) → NoneFree core.pool.blocks past kept
     → SparesAll core.pool.blocks.parity core.pool.blocks.births kept (put_run range))
-    → hold ≡ hold_on range actor → holds ≡ core.holds ++ hold ∷ [] → reflow ≡ core.pool.uber.reflow
+    → hold ≡ hold_on range actor → Gains core.holds holds hold → reflow ≡ core.pool.uber.reflow
     → BeginsPutTurn core (record core { pool = record core.pool { blocks = begun }; holds = holds }) actor id len
     (More (record { hold = hold; range = range; len = len; reflow = reflow; filled = None }))
 put_begins core actor id len begun range hold holds reflow is few some short of begins way under kept spares hold_is
@@ -95,7 +94,8 @@ put_begins core actor id len begun range hold holds reflow is few some short of 
       begins = begins;
       under_way = way;
       hold_is = hold_is;
-      rest = λ i. record core { pool = record core.pool { blocks = begun }; holds = held i };
+      rest = refl;
+      holds = held;
       of = record {
         pool = range_in_pool (as_begun core) begun range id len (core.begun + 1) core.holds is.is begins.parity
             begins.births of begins.first some short;
@@ -103,8 +103,7 @@ put_begins core actor id len begun range hold holds reflow is few some short of 
         range = layout_born begun range id len (core.begun + 1) of;
         born = (let birth = of.birth_is in omega (arith, birth), let birth = of.birth_is in omega (arith, birth));
         len = (some, short);
-        holds = subst (λ (l : List Hold). Contains l hold) (sym held)
-            (Contains-append_right core.holds (hold ∷ []) hold (contains_head hold []));
+        holds = gains_item core.holds holds hold held;
         hold_is = hold_is ∙ ap (hold_on range) (sym (ap (λ (h : Hold). h.actor) hold_is));
         filled = λ filled is_filled. absurd (clash is_filled);
       };

@@ -1,5 +1,5 @@
 -- Gets and sums, turn by turn.
-use Rattle.std.specs.Prelude.{◌≡◌, ℕ, ◌+◌, ◌^◌, ◌<◌, ◌≤◌, List, ◌∷◌, [], ◌++◌, length, Some, None, Contains, ⊤, Option}
+use Rattle.std.specs.Prelude.{◌≡◌, ℕ, ◌+◌, ◌^◌, ◌<◌, ◌≤◌, List, length, Some, None, Contains, ⊤, Option}
 use Rattle.sha2.specs.Sha256.{sha256}
 use Rattle.width_map.specs.Births.{width_of_birth}
 use Rattle.range_locks.specs.declared.hold.Hold.{Hold}
@@ -7,6 +7,7 @@ use Rattle.range_locks.specs.declared.hold.HoldKind.TheVariants.{Shared}
 use Rattle.range_locks.specs.Holds.{IsBusyBy, IsClear, EndsHold}
 use Rattle.row_layout.specs.Layout.{allocated_of}
 use Rattle.shadow_write.specs.Required.{front_after_stop}
+use Rattle.space_alloc.specs.Space.{Gains}
 use Rattle.block_record.specs.declared.entry.IndexEntry.{IndexEntry}
 use Rattle.block_record.specs.Page.{IsRightEntry}
 use Rattle.block_table.specs.Table.{entry_of}
@@ -82,8 +83,9 @@ BeginsGet old new actor asked id (More run) = (HasTooManyOut old → ⊥)
     × (run.solved ≡ NotYet)
     × (run.hold ≡ hold_of old.pool.uber run.entry actor)
     × IsReadBegun (layout_of old.pool.uber.parity old.pool.uber.births run.entry) run.read
-    × (new ≡ record old { holds = old.holds ++ run.hold ∷ [] }) × IsGetOf new run
+    × (new ≡ record old { holds = new.holds }) × IsGetOf new run
     × IsClear old.holds run.hold.lo run.hold.hi Shared
+    × Gains old.holds new.holds run.hold
 BeginsGet old new actor asked id (Busy by) = (HasTooManyOut old → ⊥) × (new ≡ old)
     × ((entry : IndexEntry) × (entry_of old.pool.blocks.table.entries id ≡ Some entry)
     × (let hold : Hold = hold_of old.pool.uber entry actor in IsBusyBy old.holds hold.lo hold.hi Shared by))

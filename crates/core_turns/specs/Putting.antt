@@ -43,7 +43,7 @@ hold_on range actor = record {
 
 -- A put holds its sectors from now on, or memory was wanting for that.
 abbrev pub HoldsRange : List Hold → List Hold → PutRange → ℕ → Option Hold → Type 0
-HoldsRange old new range actor (Some hold) = (hold ≡ hold_on range actor) × (new ≡ old ++ hold ∷ [])
+HoldsRange old new range actor (Some hold) = (hold ≡ hold_on range actor) × Gains old new hold
 HoldsRange old new range actor None = new ≡ old
 
 -- What was filled in is a block of these bytes, of which no more was written than there is.
@@ -96,8 +96,9 @@ pub record BeginsPutSo (old new : Core) (actor id len : ℕ) (run : PutRun) : Ty
   pub hold_is : run.hold ≡ hold_on run.range actor
   pub rest : new ≡ record old {
     pool = record old.pool { blocks = new.pool.blocks };
-    holds = old.holds ++ run.hold ∷ [];
+    holds = new.holds;
   }
+  pub holds : Gains old.holds new.holds run.hold
   pub of : IsPutOf new run
   pub under : (ranges : List PutRange) → AreUnderWay old.pool.blocks ranges
       → AreUnderWay new.pool.blocks (ranges ++ run.range ∷ [])

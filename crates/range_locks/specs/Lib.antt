@@ -1,2 +1,3 @@
+pub mod Gaining
 pub mod Holds
 pub mod Search

@@ -1,5 +1,6 @@
 // The holds of all actors.
-ghost use Rattle.std.specs.Prelude.{◌≡◌, ◌<◌, ◌++◌, ◌∷◌, [], ◌↔◌, Contains, IfOk, IfErr, OnErr, IsTrue, All};
+ghost use Rattle.std.specs.Prelude.{◌≡◌, ◌<◌, [], ◌↔◌, Contains, IfOk, IfErr, OnErr, IsTrue, All};
+ghost use Rattle.range_locks.specs.Gaining.{Gains};
 ghost use Rattle.range_locks.specs.Holds.{AreExclusive, HasSectors, IsClear, IsFirst, IsFirstSharedFrom, Straddles, EndsHold, IsLockCause};
 
 use crate::{Hold, HoldKind, LockRefused, find};
@@ -44,7 +45,7 @@ impl Locks {
     /// Holds a range beside other readers.
     pub fn try_shared(&mut self, lo: u64, hi: u64, actor: u8) -> Result<Hold, LockRefused>
         requires range { lo < hi }
-        ensures ok { IfOk result (λ hold. self.new ≡ self.old ++ hold ∷ []) }
+        ensures ok { IfOk result (Gains self.old self.new) }
         ensures hold { IfOk result (λ hold.
             hold ≡ record { lo = lo; hi = hi; actor = actor; kind = HoldKind.Shared }) }
 
@@ -64,7 +65,7 @@ impl Locks {
     /// Holds a range alone.
     pub fn try_exclusive(&mut self, lo: u64, hi: u64, actor: u8) -> Result<Hold, LockRefused>
         requires range { lo < hi }
-        ensures ok { IfOk result (λ hold. self.new ≡ self.old ++ hold ∷ []) }
+        ensures ok { IfOk result (Gains self.old self.new) }
         ensures hold { IfOk result (λ hold.
             hold ≡ record { lo = lo; hi = hi; actor = actor; kind = HoldKind.Exclusive }) }
 
@@ -83,7 +84,7 @@ impl Locks {
 
     fn try_hold(&mut self, hold: Hold) -> Result<Hold, LockRefused>
         requires range { hold.lo < hold.hi }
-        ensures ok { IfOk result (λ held. (held ≡ hold) × (self.new ≡ self.old ++ hold ∷ [])) }
+        ensures ok { IfOk result (λ held. (held ≡ hold) × Gains self.old self.new hold) }
         ensures clear { IfOk result (λ _. IsClear self.old hold.lo hold.hi hold.kind) }
         ensures cause { IfErr result (IsLockCause self.old hold.lo hold.hi hold.kind) }
         ensures err { OnErr result (self.new ≡ self.old) }

@@ -79,7 +79,7 @@ module _ {script : Script} {actor : ℕ} {before after : Station} {clients news 
         entry_id = found_id old.pool.blocks.table.entries id run.entry begins.1
 
         leaves : LeavesPool old now
-        leaves = leaves_pool old now old.pool.blocks (old.holds ++ run.hold ∷ []) begins.6
+        leaves = leaves_pool old now old.pool.blocks now.holds begins.6
 
         others : (other : HoldingCall) → Contains (calls_under_way clients) other → actor_of other ≢ actor
         others = calls_of_others takes.was idle takes.schedule.going

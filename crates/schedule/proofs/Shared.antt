@@ -1,8 +1,9 @@
 -- All holds stay shared, so that no call waits for one.
-use Rattle.std.proofs.Common.{◌≡◌, inl, inr, ⊎_elim, ℕ, ◌+◌, ◌<◌, ◌≤◌, List, [], ◌∷◌, ◌++◌, length, Option, Some, None, append-nil, sym, ◌∙◌, ap, subst, arith}
+use Rattle.std.proofs.Common.{◌≡◌, inl, inr, ⊎_elim, ℕ, ◌+◌, ◌<◌, ◌≤◌, List, length, Option, Some, None, sym, ◌∙◌, ap, subst, arith}
 use Rattle.range_locks.specs.declared.hold.Hold.{Hold}
 use Rattle.range_locks.specs.declared.hold.HoldKind.TheVariants.{Shared, Exclusive}
 use Rattle.range_locks.specs.Holds.{EndsHold, IsBusyBy}
+use Rattle.space_alloc.specs.Space.{Gains}
 use Rattle.core_blocks.proofs.Lists.{gains_old, gains_cases}
 use Rattle.core_state.specs.declared.answer.Answer.{Answer}
 use Rattle.core_state.specs.declared.answer.Answer.TheVariants as answer
@@ -30,13 +31,13 @@ use Rattle.schedule.specs.Turned.{AnswersAtOnce, BeginsWork, BeginsCall, EndsPut
 shared_same : (old new : Core) → new.holds ≡ old.holds → OnlyShared old.holds → OnlyShared new.holds
 shared_same old new same shared = subst OnlyShared (sym same) shared
 
-shared_more : (old new : List Hold) (hold : Hold) → new ≡ old ++ hold ∷ [] → hold.kind ≡ Shared → OnlyShared old
+shared_more : (old new : List Hold) (hold : Hold) → Gains old new hold → hold.kind ≡ Shared → OnlyShared old
     → OnlyShared new
-shared_more old new hold is kind_is shared = record {
+shared_more old new hold gains kind_is shared = record {
   each = λ other listed. ⊎_elim
       (λ same. ap (λ (h : Hold). h.kind) (sym same) ∙ kind_is)
       (λ had. shared.each other had)
-      (gains_cases old new hold other (record { before = old; after = []; was = sym (append-nil old); is = is }) listed);
+      (gains_cases old new hold other gains listed);
 }
 
 shared_less : (old new : List Hold) (hold : Hold) → EndsHold old new hold → OnlyShared old → OnlyShared new
@@ -62,15 +63,15 @@ module _ (old new : Core) (shared : OnlyShared old.holds) where
 
   begins_put : (actor id len : ℕ) (turn : Turn PutRun) → BeginsPutTurn old new actor id len turn
       → OnlyShared new.holds
-  begins_put actor id len (More run) begins = shared_more old.holds new.holds run.hold
-      (ap (λ (c : Core). c.holds) begins.rest) (ap (λ (h : Hold). h.kind) begins.hold_is) shared
+  begins_put actor id len (More run) begins = shared_more old.holds new.holds run.hold begins.holds
+      (ap (λ (h : Hold). h.kind) begins.hold_is) shared
   begins_put actor id len (Busy by) begins = left_blocks begins.1
   begins_put actor id len (Done given) begins = put_refused id len given begins
 
   begins_get : (actor id : ℕ) (asked : Kind) (turn : Turn GetRun) → BeginsGet old new actor asked id turn
       → OnlyShared new.holds
-  begins_get actor id asked (More run) begins = shared_more old.holds new.holds run.hold
-      (ap (λ (c : Core). c.holds) begins.6) (ap (λ (h : Hold). h.kind) begins.4) shared
+  begins_get actor id asked (More run) begins = shared_more old.holds new.holds run.hold begins.9
+      (ap (λ (h : Hold). h.kind) begins.4) shared
   begins_get actor id asked (Busy by) begins = same_core begins.1
   begins_get actor id asked (Done given) begins = same_core begins.0
 

@@ -1,5 +1,5 @@
 -- What the first turn of a call leaves of the runs of sectors that were taken.
-use Rattle.std.proofs.Common.{◌≡◌, ◌⊎◌, inl, inr, ⊎_elim, ℕ, ◌+◌, ◌≤◌, List, [], ◌∷◌, ◌++◌, length, Option, Some, None, append-nil, sym, ◌∙◌, ap, subst, arith}
+use Rattle.std.proofs.Common.{◌≡◌, ◌⊎◌, inl, inr, ⊎_elim, ℕ, ◌+◌, ◌≤◌, List, [], ◌∷◌, ◌++◌, length, Option, Some, None, sym, ◌∙◌, ap, subst, arith}
 use Rattle.std.specs.Prelude.{Contains, map, sum}
 use Rattle.width_map.specs.declared.birth.Birth.{Birth}
 use Rattle.range_locks.specs.declared.hold.Hold.{Hold}
@@ -60,12 +60,6 @@ held_further runs run hold is = record {
   begins = is.begins;
   ends = is.ends;
 }
-
--- One hold more.
-hold_cases : (old new : List Hold) (hold other : Hold) → new ≡ old ++ hold ∷ [] → Contains new other
-    → (hold ≡ other) ⊎ Contains old other
-hold_cases old new hold other is listed = gains_cases old new hold other
-    (record { before = old; after = []; was = sym (append-nil old); is = is }) listed
 
 module _ (old new : Core) where
   -- Turns that leave the space, or give some of it back,
@@ -187,7 +181,7 @@ module _ (old new : Core) (is : IsCore old) where
             ends = omega arith;
           }))
           (λ was. held_further runs (put_run run.range) hold (are.holds hold was))
-          (hold_cases old.holds new.holds run.hold hold (ap (λ (c : Core). c.holds) begins.rest) listed);
+          (gains_cases old.holds new.holds run.hold hold begins.holds listed);
     };
   }
 
@@ -230,7 +224,7 @@ module _ (old new : Core) (is : IsCore old) where
       holds = λ hold listed. ⊎_elim
           (λ same. subst (IsHeldIn runs) (sym begins.4 ∙ same) (its runs are))
           (λ was. are.holds hold was)
-          (hold_cases old.holds new.holds run.hold hold (ap (λ (c : Core). c.holds) begins.6) listed);
+          (gains_cases old.holds new.holds run.hold hold begins.9 listed);
     };
   }
     where

@@ -10,7 +10,7 @@ use Rattle.space_alloc.specs.declared.entry.Use.{Use}
 use Rattle.space_alloc.specs.declared.entry.Entry.{Entry}
 use Rattle.space_alloc.specs.Entries.{entry_end, IsEntry, IsBefore, AreEntries, IsPlaceBehind, IsInserted, IsRemoved, IsReplaced, is_left}
 use Rattle.space_alloc.specs.Fit.{Meets}
-use Rattle.space_alloc.proofs.Pairs.{all_pairs_insert, all_pairs_swap, all_pairs_leave, all_pairs_filter, all_swap, all_leave}
+use Rattle.range_locks.proofs.Pairs.{all_pairs_insert, all_pairs_swap, all_pairs_leave, all_pairs_filter, all_swap, all_leave}
 
 -- No run in use has a sector of this one.
 abbrev pub IsApart : List Entry → Entry → Type 0

@@ -1,4 +1,3 @@
-pub mod Pairs
 pub mod Lists
 pub mod Walk
 pub mod InUse

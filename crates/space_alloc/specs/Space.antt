@@ -1,8 +1,9 @@
 -- Runs of sectors that are taken or held back, and what is free.
-use Rattle.std.specs.Prelude.{◌≡◌, ℕ, ◌+◌, ◌<◌, ◌≤◌, List, ◌∷◌, ◌++◌, Contains, filter, nat_lt}
+use Rattle.std.specs.Prelude.{◌≡◌, ℕ, ◌+◌, ◌<◌, ◌≤◌, List, Contains, filter, nat_lt}
 use Rattle.range_locks.specs.declared.hold.Hold.{Hold}
 use Rattle.range_locks.specs.declared.hold.HoldKind.TheVariants.{Shared}
 use Rattle.range_locks.specs.Holds.{Overlaps, IsClear, IsBusyBy}
+pub use Rattle.range_locks.specs.Gaining.{Gains}
 use Rattle.space_alloc.specs.declared.refused.TakeRefused.{TakeRefused}
 use Rattle.space_alloc.specs.declared.refused.TakeRefused.TheVariants.{NoSpace, Busy, NoMemory}
 
@@ -70,13 +71,6 @@ pub record IsBusySpace (space : Space) (holds : List Hold) (len by : ℕ) : Type
 -- what an answered group gives back
 abbrev pub after_group : Space → ℕ → Space
 after_group space group = record space { held = filter (λ run. nat_lt group run.group) space.held }
-
--- One item is put into a list.
-pub record Gains {T : Type 0} (old new : List T) (item : T) : Type 0 where
-  pub before : List T
-  pub after : List T
-  pub was : old ≡ before ++ after
-  pub is : new ≡ before ++ item ∷ after
 
 -- a run that is taken from now on
 pub record IsTaking (old new : Space) (start len : ℕ) : Type 0 where
