@@ -11,7 +11,7 @@ use Rattle.core_state.specs.Choosing.{IsNotPool}
 use Rattle.core_state.specs.Create.{IsCreated, rows_for}
 use Rattle.core_open.specs.Causes.{IsShownChoice, AreTooMany}
 use Rattle.client_script.specs.Script.{IsOverLimit, IsFaultAt}
-pub use Rattle.schedule.specs.Playing.{most_turns}
+pub use Rattle.schedule.specs.Turns.{most_turns}
 use Rattle.raidzx_top.specs.declared.status.Status.{Status}
 use Rattle.raidzx_top.specs.declared.status.Status.TheVariants as status
 use Rattle.raidzx_top.specs.Words.{Command, Create, Load}

@@ -19,7 +19,7 @@ use Rattle.client_script.specs.Texts.{journal_text}
 use Rattle.client_script.specs.Written.{IsAdded, IsPartAdded}
 use Rattle.client_script.specs.declared.refused.ReadRefused.{ReadRefused}
 use Rattle.client_script.specs.declared.refused.ReadRefused.TheVariants as read
-use Rattle.schedule.specs.Playing.{most_turns}
+use Rattle.schedule.specs.Turns.{most_turns}
 use Rattle.schedule.specs.WholeRun.{HasRunInTurn}
 use Rattle.schedule.specs.declared.whole_run.Ended.TheVariants as ended
 use Rattle.schedule.specs.declared.whole_run.Ran.{Ran}

@@ -1,5 +1,5 @@
 -- Calls of a script, one after the other: the turns of one call, and of the rest.
-use Rattle.std.proofs.Common.{◌≡◌, ◌≢◌, ◌⊎◌, inl, inr, ⊎_elim, ℕ, ◌+◌, ◌-◌, ◌<◌, ◌≤◌, List, length, Option, Some, None, refl, sym, ◌∙◌, ap, subst, arith, cond, eq-eqb, ne_eqb, slice_index_or}
+use Rattle.std.proofs.Common.{◌≡◌, ◌≢◌, ◌⊎◌, inl, inr, ⊎_elim, ℕ, ◌+◌, ◌-◌, ◌<◌, ◌≤◌, List, length, Some, None, refl, sym, ◌∙◌, ap, subst, arith, cond, eq-eqb, ne_eqb, slice_index_or}
 use Rattle.std.specs.Prelude.{slice_get, true, false, ◌==◌}
 use Rattle.std.proofs.lemmas.Bool.{cases_eq}
 use Rattle.std.proofs.lemmas.List.Filters.{length-filter_more}
@@ -9,19 +9,19 @@ use Rattle.client_script.specs.InOrder.{InOrder, IsNextCall, given_of}
 use Rattle.client_script.specs.Script.{Placed, Script, calls_of}
 use Rattle.schedule.specs.declared.client.Client.{Client}
 use Rattle.schedule.specs.Turns.{Turns}
-use Rattle.schedule.specs.InTurn.{IsCallOfScript}
-use Rattle.schedule.specs.Replaying.{AreIdle, HasTurn, BeginsOne, HaveBegun, left_at, left_in}
+use Rattle.schedule.specs.InTurn.{IsCallOfScript, is_busy_at}
+use Rattle.schedule.specs.Replaying.{AreIdle, HasTurn, BeginsOne, HaveBegun}
 use Rattle.schedule.proofs.Theirs.{some_is}
 use Rattle.schedule.proofs.RoundTaken.{busy_under}
 
 -- ---- one call
 
 -- The next call of a client that has one left has had its first turn,
-pub begins_one : (script : Script) (actor : ℕ) (before after : Turns) → HasTurn script actor before after
+pub begins_one : {script : Script} {actor : ℕ} {before after : Turns} → HasTurn script actor before after
     → AreIdle before.clients
     → ((client : Client) → slice_get before.clients actor ≡ Some client → client.begun < length (calls_of script actor))
     → BeginsOne actor before.clients after.clients
-begins_one script actor before after turn idle left = record {
+begins_one turn idle left = record {
   others = turn.others;
   one = λ client is.
       let taken = turn.takes client is in
@@ -29,39 +29,22 @@ begins_one script actor before after turn idle left = record {
 }
 
 -- and a later one.
-pub begins_more : (script : Script) (actor : ℕ) (old : List Client) (before after : Turns)
-    → BeginsOne actor old before.clients → HasTurn script actor before after → 1 ≤ left_at before.clients actor
+pub begins_more : {script : Script} {actor : ℕ} {old : List Client} {before after : Turns}
+    → BeginsOne actor old before.clients → HasTurn script actor before after → is_busy_at before.clients actor ≡ true
     → BeginsOne actor old after.clients
-begins_more script actor old before after begins turn busy = record {
+begins_more {actor = actor} {before = before} begins turn busy = record {
   others = λ other apart. turn.others other apart ∙ begins.others other apart;
   one = λ client is.
       let one = begins.one client is in
       let taken = turn.takes one.0 one.1 in
-      let under = busy_under before.clients actor one.0 one.1 busy in
-      let same = (taken.1.fewer under.0 under.1).0 in
-      (taken.0, taken.1.there, same ∙ one.2);
+      let under = busy_under before.clients actor one.1 busy in
+      (taken.0, taken.1.there, taken.1.still under.0 under.1 ∙ one.2);
 }
 
--- A later turn leaves fewer.
-pub turn_fewer : (script : Script) (actor : ℕ) (before after : Turns) → HasTurn script actor before after
-    → 1 ≤ left_at before.clients actor → left_at after.clients actor < left_at before.clients actor
-turn_fewer script actor before after turn busy = by (slice_get before.clients actor) refl
-  where
-    by : (found : Option Client) → slice_get before.clients actor ≡ found
-        → left_at after.clients actor < left_at before.clients actor
-    by None is = absurd (let none = ap left_in is in omega (arith, busy, none))
-    by (Some was) is =
-        let taken = turn.takes was is in
-        let under = busy_under before.clients actor was is busy in
-        let less = (taken.1.fewer under.0 under.1).1 in
-        let now_is = ap left_in taken.1.there in
-        let was_is = ap left_in is in
-        omega (arith, less, now_is, was_is)
-
 -- Once it has ended, all are idle again.
-pub idle_again : (actor : ℕ) (old new : List Client) → BeginsOne actor old new → AreIdle old
+pub idle_again : {actor : ℕ} {old new : List Client} → BeginsOne actor old new → AreIdle old
     → ((client : Client) → slice_get new actor ≡ Some client → client.under_way ≡ None) → AreIdle new
-idle_again actor old new begins idle ended = record {
+idle_again {actor} {new = new} begins idle ended = record {
   each = λ index client there. ⊎_elim
       (λ (same : index ≡ actor). ended client (subst (λ (n : ℕ). slice_get new n ≡ Some client) same there))
       (λ (apart : index ≢ actor). idle.each index client (sym (begins.others index apart) ∙ there))
@@ -120,23 +103,23 @@ begun_more script given placed clients news there begun now others = record {
 }
 
 -- A call that is given next leaves fewer,
-pub next_smaller : (script : Script) (before after : InOrder) (actor number : ℕ) (call : ScriptCall)
+pub next_smaller : {script : Script} {before after : InOrder} {actor number : ℕ} {call : ScriptCall}
     → before.script ≡ script → IsNextCall before after actor number call
     → length script.calls - after.given < length script.calls - before.given
-next_smaller script before after actor number call is next =
+next_smaller {before = before} {actor = actor} {call = call} is next =
     let low = slice_get_within before.script.calls before.given (record { actor = actor; call = call }) next.there in
     let same = ap (λ (s : Script). length s.calls) is in
     let more = ap (λ (o : InOrder). o.given) next.one_more in
     omega (arith, low, same, more)
 
 -- and is begun then: before this,
-pub next_begun : (script : Script) (before after : InOrder) (actor number : ℕ) (call : ScriptCall)
-    (clients news : List Client) → before.script ≡ script → IsNextCall before after actor number call
+pub next_begun : {script : Script} {before after : InOrder} {actor number : ℕ} {call : ScriptCall}
+    {clients news : List Client} → before.script ≡ script → IsNextCall before after actor number call
     → HaveBegun script before.given clients
     → ((client : Client) → slice_get news actor ≡ Some client → number ≤ client.begun)
     → ((other : ℕ) → other ≢ actor → slice_get news other ≡ slice_get clients other)
     → HaveBegun script after.given news
-next_begun script before after actor number call clients news is next begun now others =
+next_begun {script} {before} {actor = actor} {call = call} {clients} {news} is next begun now others =
     subst (λ (n : ℕ). HaveBegun script n news) (sym (ap (λ (o : InOrder). o.given) next.one_more))
     (begun_more script before.given (record { actor = actor; call = call }) clients news
     (ap (λ (s : Script). slice_get s.calls before.given) (sym is) ∙ next.there) begun
@@ -145,12 +128,11 @@ next_begun script before after actor number call clients news is next begun now 
     others)
 
 -- or by this call.
-pub next_taken : (script : Script) (before after : InOrder) (actor number : ℕ) (call : ScriptCall)
-    (clients news : List Client) → before.script ≡ script → IsNextCall before after actor number call
+pub next_taken : {script : Script} {before after : InOrder} {actor number : ℕ} {call : ScriptCall}
+    {clients news : List Client} → before.script ≡ script → IsNextCall before after actor number call
     → HaveBegun script before.given clients → BeginsOne actor clients news → length news ≡ length clients
     → HaveBegun script after.given news
-next_taken script before after actor number call clients news is next begun begins same =
-    next_begun script before after actor number call clients news is next begun
+next_taken {before = before} {actor = actor} {clients = clients} {news} is next begun begins same = next_begun is next begun
     (λ client there.
     let low = slice_get_within news actor client there in
     let was = slice_get-get_or clients actor client (omega (arith, low, same)) in
@@ -165,10 +147,10 @@ next_taken script before after actor number call clients news is next begun begi
     begins.others
 
 -- It is a call of the script,
-pub next_is_call : (script : Script) (before after : InOrder) (actor number : ℕ) (call : ScriptCall)
+pub next_is_call : {script : Script} {before after : InOrder} {actor number : ℕ} {call : ScriptCall}
     → before.script ≡ script → IsNextCall before after actor number call
     → IsCallOfScript script before.given actor number
-next_is_call script before after actor number call is next = record {
+next_is_call {before = before} {actor = actor} {call = call} is next = record {
   placed = record { actor = actor; call = call };
   there = ap (λ (s : Script). slice_get s.calls before.given) (sym is) ∙ next.there;
   is = refl;
@@ -176,17 +158,17 @@ next_is_call script before after actor number call is next = record {
 }
 
 -- one of its client's,
-pub next_of_client : (script : Script) (before after : InOrder) (actor number : ℕ) (call : ScriptCall)
+pub next_of_client : {script : Script} {before after : InOrder} {actor number : ℕ} {call : ScriptCall}
     → before.script ≡ script → IsNextCall before after actor number call → number ≤ length (calls_of script actor)
-next_of_client script before after actor number call is next =
+next_of_client {before = before} {actor = actor} {number} {call} is next =
     let within = slice_get_within (calls_of before.script actor) (number - 1) call next.of_client in
     let same = ap (λ (s : Script). length (calls_of s actor)) is in
     omega (arith, within, same)
 
 -- and no more were given than there are.
-pub next_few : (script : Script) (before after : InOrder) (actor number : ℕ) (call : ScriptCall)
+pub next_few : {script : Script} {before after : InOrder} {actor number : ℕ} {call : ScriptCall}
     → before.script ≡ script → IsNextCall before after actor number call → after.given ≤ length script.calls
-next_few script before after actor number call is next =
+next_few {before = before} {actor = actor} {call = call} is next =
     let low = slice_get_within before.script.calls before.given (record { actor = actor; call = call }) next.there in
     let same = ap (λ (s : Script). length s.calls) is in
     let more = ap (λ (o : InOrder). o.given) next.one_more in

@@ -9,9 +9,7 @@ use Rattle.client_script.specs.Script.{Script}
 use Rattle.schedule.specs.declared.client.Client.{Client}
 use Rattle.schedule.specs.declared.client.UnderWay.{UnderWay}
 use Rattle.schedule.specs.InTurn.{Goes, HasGone, InRest, InRound, IsCallOfScript, Replay, ReplaySteps, after_round, cursor_after, has_left, has_left_at, is_any_busy, is_busy_at, is_under_way, turn_at, turn_in_rest, HaveTaken, IsTurnOf, IsStepOf}
-use Rattle.schedule.specs.Left.{left_under}
-use Rattle.schedule.specs.Replaying.{AreIdle, left_at, left_in}
-use Rattle.schedule.proofs.Left.{some_left}
+use Rattle.schedule.specs.Replaying.{AreIdle}
 use Rattle.schedule.specs.Turns.{TurnTaken, Turns, last_left, taken_by}
 
 -- ---- steps
@@ -97,25 +95,11 @@ gone_taken script start now passed gone = by gone.steps now passed gone.goes
 
 -- ---- clients
 
-some_left_in : (client : Client) (its : Option UnderWay) → client.under_way ≡ its → is_some its ≡ true
-    → 1 ≤ left_in (Some client)
-some_left_in client None idle busy = absurd (true≢false (sym busy))
-some_left_in client (Some under) going busy =
-    let some = some_left under.work in let same = ap left_under going in omega (arith, some, same)
-
-left_found : (found : Option Client) → is_under_way found ≡ true → 1 ≤ left_in found
-left_found None busy = absurd (true≢false (sym busy))
-left_found (Some client) busy = some_left_in client client.under_way refl busy
-
--- A client that has a call under way has turns left;
-pub busy_left : (clients : List Client) (actor : ℕ) → is_busy_at clients actor ≡ true → 1 ≤ left_at clients actor
-busy_left clients actor busy = left_found (slice_get clients actor) busy
-
 none_under_way : (its : Option UnderWay) → is_some its ≡ false → its ≡ None
 none_under_way None is = refl
 none_under_way (Some under) is = absurd (true≢false is)
 
--- one that has none is idle,
+-- A client that has no call under way is idle,
 pub not_busy_idle : (clients : List Client) (actor : ℕ) → is_busy_at clients actor ≡ false → (client : Client)
     → slice_get clients actor ≡ Some client → client.under_way ≡ None
 not_busy_idle clients actor free client there =

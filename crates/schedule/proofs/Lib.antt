@@ -39,7 +39,6 @@ pub mod Opened
 pub mod OpenedBirths
 pub mod UsingOpened
 pub mod Whole
-pub mod Left
 pub mod Shared
 pub mod TurnTaken
 pub mod RoundTaken

@@ -9,9 +9,9 @@ use Rattle.core_state.specs.JournalRoom.{Journal}
 use Rattle.core_turns.specs.Core.{Core, at_disk}
 use Rattle.schedule.specs.declared.client.Client.{Client}
 use Rattle.schedule.specs.declared.progress.Progress.{Progress}
-use Rattle.schedule.specs.Turns.{Turns, TurnTaken, turns_of, taken_by}
+use Rattle.schedule.specs.Turns.{most_turns, Turns, TurnTaken, turns_of, taken_by}
 use Rattle.schedule.specs.InTurn.{Cursor, InOrder, InRest, InRound, IsCallOfScript, IsStepOf, Replay, after_round, cursor_after, has_left_at, is_any_busy, is_busy_at, replay_at, replay_by, rest_after, turn_at, turns_by}
-use Rattle.schedule.specs.Playing.{HaveHadTurns, HasPlayed, HasRunOutOfTurns, IsReady, most_turns}
+use Rattle.schedule.specs.Playing.{HaveHadTurns, HasPlayed, HasRunOutOfTurns, IsReady}
 use Rattle.schedule.specs.Replaying.{AreIdle, HasTurn, HaveBegun}
 use Rattle.schedule.proofs.Coming.{came_nowhere, came_on}
 use Rattle.schedule.proofs.InTurn.{gone_taken, begun_none_left, busy_in_rest, gone_more, gone_none, gone_then, idle_not_busy, left_in_rest, none_in_rest, none_in_round, past_not_busy, round_ends, round_goes, round_next, turn_in_round}
@@ -23,15 +23,15 @@ at_err P (Ok value) holds = tt
 at_err P (Err error) holds = holds
 
 -- No turn was taken yet.
-pub played_none : (script : Script) (now : Replay) (room : ℕ) → IsReady script now.turns room
+pub played_none : {script : Script} {room : ℕ} (now : Replay) → IsReady script now.turns room
     → HasPlayed script now now room
-played_none script now room ready =
+played_none {script} now ready =
     record { passed = []; come = came_nowhere script now.turns [] refl; gone = gone_none script now; ready = ready }
 
 -- Turns go on after turns,
-pub played_then : (script : Script) (start middle now : Replay) (before after : ℕ)
+pub played_then : {script : Script} {start middle now : Replay} {before after : ℕ}
     → HasPlayed script start middle before → HasPlayed script middle now after → HasPlayed script start now after
-played_then script start middle now before after first second = record {
+played_then {script} {start} {middle} {now} first second = record {
   passed = first.passed ++ second.passed;
   come = came_on script start.turns middle.turns now.turns first.passed second.passed first.come second.come;
   gone = gone_then script start middle now first.passed second.passed first.gone second.gone;
@@ -39,14 +39,11 @@ played_then script start middle now before after first second = record {
 }
 
 -- or no more can be counted.
-pub stopped_then : (script : Script) (start middle : Replay) (turns : Turns) (taken before after : ℕ)
+pub stopped_then : {script : Script} {start middle : Replay} {turns : Turns} {taken before after : ℕ}
     → HasPlayed script start middle before → HasRunOutOfTurns script middle turns taken after
     → HasRunOutOfTurns script start turns taken after
-stopped_then script start middle turns taken before after first second = record {
-  most = second.most;
-  cursor = second.cursor;
-  played = played_then script start middle (replay_at turns taken second.cursor) before after first second.played;
-}
+stopped_then first second =
+    record { most = second.most; cursor = second.cursor; played = played_then first second.played }
 
 -- No more turns can be counted from the start on.
 pub stopped_same : (script : Script) (core : Core) (disk : Disk) (journal : Journal) (before after : Progress)
@@ -60,16 +57,16 @@ stopped_same script core disk journal before after cursor room clients turns mos
     (turns_of (at_disk core disk) journal.items its) before.turns room) (sym clients) (record {
       most = subst (λ (taken : ℕ). most_turns ≤ taken) turns most;
       cursor = cursor;
-      played = played_none script (replay_by core disk journal before cursor) room ready;
+      played = played_none (replay_by core disk journal before cursor) ready;
     }))
 
 -- The client whose turn it is had it,
-pub played_turn : (script : Script) (start : Replay) (before after : Turns) (taken counted room left actor : ℕ)
-    (from to : Cursor) → HasPlayed script start (replay_at before taken from) room
+pub played_turn : {script : Script} {start : Replay} {before after : Turns} {taken counted room left actor : ℕ}
+    {from : Cursor} (to : Cursor) → HasPlayed script start (replay_at before taken from) room
     → turn_at script before.clients from ≡ Some actor → cursor_after script before.clients from ≡ to
     → HasTurn script actor before after → counted ≡ taken + 1 → IsReady script after left
     → HasPlayed script start (replay_at after counted to) left
-played_turn script start before after taken counted room left actor from to played whose goes turn one ready = record {
+played_turn {script} {start} {before} {after} {taken} {counted} {actor = actor} {from = from} to played whose goes turn one ready = record {
   passed = played.passed ++ taken_by actor after ∷ [];
   come = came_on script start.turns before after played.passed (taken_by actor after ∷ []) played.come turn.come;
   gone = gone_more script start (replay_at before taken from) (replay_at after counted to) played.passed
@@ -83,11 +80,11 @@ played_turn script start before after taken counted room left actor from to play
 }
 
 -- or it is nobody's turn there.
-pub played_past : (script : Script) (start : Replay) (turns : Turns) (taken room : ℕ) (from to : Cursor)
+pub played_past : {script : Script} {start : Replay} {turns : Turns} {taken room : ℕ} {from : Cursor} (to : Cursor)
     → HasPlayed script start (replay_at turns taken from) room
     → turn_at script turns.clients from ≡ None → cursor_after script turns.clients from ≡ to
     → HasPlayed script start (replay_at turns taken to) room
-played_past script start turns taken room from to played whose goes = record {
+played_past {script} {start} {turns} {taken} {from = from} to played whose goes = record {
   passed = played.passed;
   come = played.come;
   gone = gone_more script start (replay_at turns taken from) (replay_at turns taken to) played.passed played.passed
@@ -100,21 +97,20 @@ played_past script start turns taken room from to played whose goes = record {
 }
 
 -- The same place said otherwise.
-pub played_at : (script : Script) (start : Replay) (turns : Turns) (taken room : ℕ) (from to : Cursor) → from ≡ to
+pub played_at : {script : Script} {start : Replay} {turns : Turns} {taken room : ℕ} {from to : Cursor} → from ≡ to
     → HasPlayed script start (replay_at turns taken from) room → HasPlayed script start (replay_at turns taken to) room
-played_at script start turns taken room from to same played =
+played_at {script} {start} {turns} {taken} {room} same played =
     subst (λ (c : Cursor). HasPlayed script start (replay_at turns taken c) room) same played
 
 -- The client of a letter of the order had its turn.
-pub played_letter : (script : Script) (start : Replay) (before after : Turns)
-    (letters : List ℕ) (taken counted room left actor index other : ℕ) → index < length letters
+pub played_letter : {script : Script} {start : Replay} {before after : Turns} {taken counted room left actor : ℕ}
+    (letters : List ℕ) (index other : ℕ) → index < length letters
     → actor ≡ get_or letters index other
     → HasPlayed script start (replay_at before taken (InOrder (drop index letters))) room
     → HasTurn script actor before after → counted ≡ taken + 1 → IsReady script after left
     → HasPlayed script start (replay_at after counted (InOrder (drop (index + 1) letters))) left
-played_letter script start before after letters taken counted room left actor index other low is played turn one ready =
-    played_turn script start before after taken counted room left actor (InOrder (drop index letters))
-    (InOrder (drop (index + 1) letters)) played
+played_letter {script} {before = before} {actor = actor} letters index other low is played turn one ready =
+    played_turn (InOrder (drop (index + 1) letters)) played
     (ap (λ (letters : List ℕ). turn_at script before.clients (InOrder letters)) next)
     (ap (λ (letters : List ℕ). cursor_after script before.clients (InOrder letters)) next) turn one ready
   where
@@ -127,20 +123,19 @@ pub record TakesListed (script : Script) (listed : List ℕ) (index : ℕ) (star
   pub played : HasPlayed script start now room
   pub actors : map (λ turn. turn.actor) played.passed ≡ take index listed
 
-pub listed_none : (script : Script) (listed : List ℕ) (now : Replay) (room : ℕ) → IsReady script now.turns room
+pub listed_none : {script : Script} {room : ℕ} (listed : List ℕ) (now : Replay) → IsReady script now.turns room
     → TakesListed script listed 0 now now room
 unfolding played_none
-listed_none script listed now room ready = record { played = played_none script now room ready; actors = refl }
+listed_none listed now ready = record { played = played_none now ready; actors = refl }
 
-pub listed_more : (script : Script) (listed : List ℕ) (index : ℕ) → index < length listed → (start : Replay)
-    (before after : Turns) (taken counted room left other : ℕ)
+pub listed_more : {script : Script} {listed : List ℕ} {index : ℕ} {start : Replay} {before after : Turns}
+    {taken counted room left : ℕ} (other : ℕ) → index < length listed
     → TakesListed script listed index start (replay_at before taken (InOrder (drop index listed))) room
     → HasTurn script (get_or listed index other) before after → counted ≡ taken + 1 → IsReady script after left
     → TakesListed script listed (index + 1) start (replay_at after counted (InOrder (drop (index + 1) listed))) left
 unfolding played_letter played_turn
-listed_more script listed index low start before after taken counted room left other so_far turn one ready = record {
-  played = played_letter script start before after listed taken counted room left (get_or listed index other) index
-      other low refl so_far.played turn one ready;
+listed_more {listed = listed} {index} {after = after} other low so_far turn one ready = record {
+  played = played_letter listed index other low refl so_far.played turn one ready;
   actors = map-append (λ (turn : TurnTaken). turn.actor) so_far.played.passed
       (taken_by (get_or listed index other) after ∷ [])
       ∙ ap (λ (l : List ℕ). l ++ get_or listed index other ∷ []) so_far.actors
@@ -159,80 +154,70 @@ have_had_turns script listed {start = start} {now = now} all takes = record {
 }
 
 -- A client had its turn in a round,
-pub played_in_round : (script : Script) (before after : Turns) (taken counted room left actor : ℕ)
+pub played_in_round : {script : Script} {before after : Turns} {room left actor counted : ℕ} (taken : ℕ)
     → IsReady script before room → actor < script.clients → is_busy_at before.clients actor ≡ true
     → HasTurn script actor before after → counted ≡ taken + 1 → IsReady script after left
     → HasPlayed script (replay_at before taken (InRound actor)) (replay_at after counted (InRound (actor + 1))) left
-played_in_round script before after taken counted room left actor was low busy turn one ready =
-    played_turn script (replay_at before taken (InRound actor)) before after taken counted room left actor
-    (InRound actor) (InRound (actor + 1)) (played_none script (replay_at before taken (InRound actor)) room was)
+played_in_round {script} {before} {actor = actor} taken was low busy turn one ready =
+    played_turn (InRound (actor + 1)) (played_none (replay_at before taken (InRound actor)) was)
     (turn_in_round script before.clients actor busy) (round_goes script before.clients actor low) turn one ready
 
 -- or had none.
-pub passed_in_round : (script : Script) (now : Turns) (taken room actor : ℕ) → IsReady script now room
+pub passed_in_round : {script : Script} {now : Turns} {room actor : ℕ} (taken : ℕ) → IsReady script now room
     → actor < script.clients → is_busy_at now.clients actor ≡ false
     → HasPlayed script (replay_at now taken (InRound actor)) (replay_at now taken (InRound (actor + 1))) room
-passed_in_round script now taken room actor ready low free =
-    played_past script (replay_at now taken (InRound actor)) now taken room (InRound actor) (InRound (actor + 1))
-    (played_none script (replay_at now taken (InRound actor)) room ready)
+passed_in_round {script} {now} {actor = actor} taken ready low free =
+    played_past (InRound (actor + 1)) (played_none (replay_at now taken (InRound actor)) ready)
     (none_in_round script now.clients actor free) (round_goes script now.clients actor low)
 
 -- The order is over.
-pub order_over : (script : Script) (now : Turns) (taken room : ℕ) → IsReady script now room
+pub order_over : {script : Script} {now : Turns} {room : ℕ} (taken : ℕ) → IsReady script now room
     → HasPlayed script (replay_at now taken (InOrder [])) (replay_at now taken (after_round now.clients)) room
-order_over script now taken room ready =
-    played_past script (replay_at now taken (InOrder [])) now taken room (InOrder []) (after_round now.clients)
-    (played_none script (replay_at now taken (InOrder [])) room ready) refl refl
+order_over {now = now} taken ready =
+    played_past (after_round now.clients) (played_none (replay_at now taken (InOrder [])) ready) refl refl
 
 -- After a round, where another one began, it is over too.
-pub round_over : (script : Script) (start : Replay) (middle now : Turns) (taken counted room left : ℕ)
+pub round_over : {script : Script} {start : Replay} {middle now : Turns} {taken counted room left : ℕ}
     → HasPlayed script start (replay_at middle taken (after_round middle.clients)) room
     → is_any_busy middle.clients ≡ true
     → HasPlayed script (replay_at middle taken (InRound 0)) (replay_at now counted (InRound script.clients)) left
     → HasPlayed script start (replay_at now counted (after_round now.clients)) left
-round_over script start middle now taken counted room left so_far busy round =
-    played_past script start now counted left (InRound script.clients) (after_round now.clients)
-    (played_then script start (replay_at middle taken (InRound 0)) (replay_at now counted (InRound script.clients))
-    room left
-    (played_at script start middle taken room (after_round middle.clients) (InRound 0) (round_next middle.clients busy)
-    so_far) round)
+round_over {script} {middle = middle} {now} so_far busy round =
+    played_past (after_round now.clients) (played_then (played_at (round_next middle.clients busy) so_far) round)
     (none_in_round script now.clients script.clients (past_not_busy now.clients script.clients
     (let same = round.ready.counted in omega (arith, same))))
     (round_ends script now.clients script.clients (omega arith))
 
 -- A call of the rest had a turn: the first,
-pub played_first : (script : Script) (before after : Turns) (taken counted room left given actor number : ℕ)
+pub played_first : {script : Script} {before after : Turns} {counted room left given actor number : ℕ} (taken : ℕ)
     → IsReady script before room → IsCallOfScript script given actor number → is_busy_at before.clients actor ≡ false
     → has_left_at before.clients actor number ≡ true
     → HasTurn script actor before after → counted ≡ taken + 1 → IsReady script after left
     → HasPlayed script (replay_at before taken (InRest given)) (replay_at after counted (InRest given)) left
-played_first script before after taken counted room left given actor number was is free more turn one ready =
+played_first {script} {before} {given = given} {actor} {number} taken was is free more turn one ready =
     let whose = left_in_rest script before.clients given actor number is free more in
-    played_turn script (replay_at before taken (InRest given)) before after taken counted room left actor
-    (InRest given) (InRest given) (played_none script (replay_at before taken (InRest given)) room was)
-    whose (ap (rest_after given) whose) turn one ready
+    played_turn (InRest given) (played_none (replay_at before taken (InRest given)) was) whose
+    (ap (rest_after given) whose) turn one ready
 
 -- or a later one.
-pub played_later : (script : Script) (start : Replay) (before after : Turns)
-    (taken counted room left given actor number : ℕ) → IsCallOfScript script given actor number
+pub played_later : {script : Script} {start : Replay} {before after : Turns}
+    {taken counted room left given actor number : ℕ} → IsCallOfScript script given actor number
     → HasPlayed script start (replay_at before taken (InRest given)) room → is_busy_at before.clients actor ≡ true
     → HasTurn script actor before after → counted ≡ taken + 1 → IsReady script after left
     → HasPlayed script start (replay_at after counted (InRest given)) left
-played_later script start before after taken counted room left given actor number is played busy turn one ready =
+played_later {script} {before = before} {given = given} {actor} {number} is played busy turn one ready =
     let whose = busy_in_rest script before.clients given actor number is busy in
-    played_turn script start before after taken counted room left actor (InRest given) (InRest given) played
-    whose (ap (rest_after given) whose) turn one ready
+    played_turn (InRest given) played whose (ap (rest_after given) whose) turn one ready
 
 -- A call of the rest has ended, and the next one is looked at.
-pub rest_goes : (script : Script) (start : Replay) (now : Turns) (taken room given next actor number : ℕ)
+pub rest_goes : {script : Script} {start : Replay} {now : Turns} {taken room given next actor number : ℕ}
     → next ≡ given + 1 → IsCallOfScript script given actor number → AreIdle now.clients → HaveBegun script next now.clients
     → HasPlayed script start (replay_at now taken (InRest given)) room
     → HasPlayed script start (replay_at now taken (InRest next)) room
-rest_goes script start now taken room given next actor number one is idle begun played =
+rest_goes {script} {now = now} {given = given} {next} {actor} {number} one is idle begun played =
     let none = none_in_rest script now.clients given actor number is (idle_not_busy now.clients actor idle)
     (begun_none_left now.clients actor number (λ client there. enough client there)) in
-    played_past script start now taken room (InRest given) (InRest next) played none
-    (ap (rest_after given) none ∙ ap InRest (sym one))
+    played_past (InRest next) played none (ap (rest_after given) none ∙ ap InRest (sym one))
   where
     enough : (client : Client) → slice_get now.clients actor ≡ Some client → number ≤ client.begun
     enough client there =

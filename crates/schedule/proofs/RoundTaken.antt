@@ -1,42 +1,35 @@
 -- Rounds of turns: each client with a call under way has a turn, until all are idle.
-use Rattle.std.proofs.Common.{◌≡◌, ◌≢◌, ⊎_elim, ℕ, ◌+◌, ◌-◌, ◌<◌, ◌≤◌, List, [], ◌∷◌, length, Option, Some, None, zero, suc, refl, sym, ◌∙◌, ap, subst, arith}
+use Rattle.std.proofs.Common.{◌≡◌, ⊎_elim, ℕ, ◌+◌, ◌<◌, ◌≤◌, List, [], ◌∷◌, length, Option, Some, None, zero, suc, refl, sym, ◌∙◌, ap, arith}
 use Rattle.std.specs.Prelude.{is_some, slice_get, true, false, ◌||◌}
 use Rattle.std.proofs.lemmas.Bool.{cases_eq, true≢false}
-use Rattle.std.proofs.lemmas.Option.{slice_get_within}
-use Rattle.client_script.specs.Script.{Script}
 use Rattle.schedule.specs.declared.client.Client.{Client}
 use Rattle.schedule.specs.declared.client.UnderWay.{UnderWay}
-use Rattle.schedule.specs.Turns.{Turns}
-use Rattle.schedule.specs.InTurn.{is_any_busy}
-use Rattle.schedule.specs.Left.{left_under, most_left, turns_left}
-use Rattle.schedule.specs.Replaying.{AreIdle, HasTurn, HaveFewer, left_at, left_in}
-use Rattle.schedule.proofs.Left.{at_most, most_at_most, some_left}
+use Rattle.schedule.specs.Turns.{most_turns}
+use Rattle.schedule.specs.InTurn.{is_any_busy, is_busy_at, is_under_way}
+use Rattle.schedule.specs.Replaying.{AreIdle, HasComeRound}
 use Rattle.schedule.proofs.Theirs.{none_some, some_is}
 
 any_first : (first : Client) (clients : List Client) → first.under_way ≡ None
-    → is_any_busy (first ∷ clients)
-    ≡ is_any_busy clients
+    → is_any_busy (first ∷ clients) ≡ is_any_busy clients
 any_first first clients idle = ap (λ (u : Option UnderWay). is_some u || is_any_busy clients) idle
 
--- Where any client has a call under way, some have turns left,
-pub any_left : (clients : List Client) → is_any_busy clients ≡ true
-    → 1 ≤ most_left clients
-any_left [] is = absurd (true≢false (sym is))
-any_left (first ∷ clients) is =
-    by first.under_way refl (λ idle. any_left clients (sym (any_first first clients idle) ∙ is))
+-- Where any client has a call under way, one of them has,
+pub any_busy : (clients : List Client) → is_any_busy clients ≡ true
+    → (index : ℕ) × (index < length clients) × (is_busy_at clients index ≡ true)
+any_busy [] is = absurd (true≢false (sym is))
+any_busy (first ∷ clients) is =
+    by first.under_way refl (λ idle. any_busy clients (sym (any_first first clients idle) ∙ is))
   where
-    by : (under : Option UnderWay) → first.under_way ≡ under → (first.under_way ≡ None → 1 ≤ most_left clients)
-        → 1 ≤ most_left (first ∷ clients)
-    by None idle later =
-        let some = later idle in omega (arith, some)
-    by (Some under) going later =
-        let some = some_left under.work in
-        let same = ap left_under going in
-        omega (arith, some, same)
+    Busy : List Client → Type 0
+    Busy list = (index : ℕ) × (index < length list) × (is_busy_at list index ≡ true)
+
+    by : (under : Option UnderWay) → first.under_way ≡ under → (first.under_way ≡ None → Busy clients)
+        → Busy (first ∷ clients)
+    by None idle later = let found = later idle in (suc found.0, (let low = found.1 in omega (arith, low)), found.2)
+    by (Some under) going later = (0, omega arith, ap (λ (u : Option UnderWay). is_some u) going)
 
 -- and where none has, all are idle.
-pub none_busy_idle : (clients : List Client) → is_any_busy clients ≡ false
-    → AreIdle clients
+pub none_busy_idle : (clients : List Client) → is_any_busy clients ≡ false → AreIdle clients
 none_busy_idle [] is = record { each = λ index client there. absurd (none_some there) }
 none_busy_idle (first ∷ clients) is =
     by first.under_way refl (λ idle. none_busy_idle clients (sym (any_first first clients idle) ∙ is))
@@ -52,81 +45,49 @@ none_busy_idle (first ∷ clients) is =
         each_idle later zero client there = ap (λ (c : Client). c.under_way) (sym (some_is there)) ∙ idle
         each_idle later (suc index) client there = later.each index client there
 
--- A client with turns left has a call under way.
-pub busy_under : (clients : List Client) (actor : ℕ) (client : Client) → slice_get clients actor ≡ Some client
-    → 1 ≤ left_at clients actor → (under : UnderWay) × (client.under_way ≡ Some under)
-busy_under clients actor client there busy = by client.under_way refl
+-- A busy client has a call under way.
+pub busy_under : (clients : List Client) (actor : ℕ) {client : Client} → slice_get clients actor ≡ Some client
+    → is_busy_at clients actor ≡ true → (under : UnderWay) × (client.under_way ≡ Some under)
+busy_under clients actor {client} there busy = by client.under_way refl
   where
     by : (its : Option UnderWay) → client.under_way ≡ its → (under : UnderWay) × (client.under_way ≡ Some under)
-    by None idle = absurd (let none = ap left_under idle in let at = ap left_in there in omega (arith, busy, none, at))
+    by None idle = absurd (true≢false
+        (sym busy ∙ ap is_under_way there ∙ ap (λ (u : Option UnderWay). is_some u) idle))
     by (Some under) going = (under, going)
 
 -- Before a round no client had its turn.
-pub fewer_none : (clients : List Client) → HaveFewer 0 clients clients
-fewer_none clients = record {
-  fewer = λ index now low there. absurd (omega (arith, low));
+pub round_none : (clients : List Client) (taken : ℕ) → HasComeRound 0 clients taken clients taken
+round_none clients taken = record {
+  counted = omega arith;
+  took = λ index low. absurd (omega (arith, low));
   same = λ index past. refl;
 }
 
 -- The next client has a turn of its call under way,
-pub fewer_turn : (script : Script) (actor : ℕ) (old : List Client) (before after : Turns)
-    → HaveFewer actor old before.clients → HasTurn script actor before after → 1 ≤ left_at before.clients actor
-    → HaveFewer (actor + 1) old after.clients
-fewer_turn script actor old before after fewer turn busy = record {
-  fewer = λ index now low there. ⊎_elim
-      (λ (same : index ≡ actor). here index now same there)
-      (λ (apart : index ≢ actor). fewer.fewer index now (omega (arith, low, apart))
-      (sym (turn.others index apart) ∙ there))
-      (cases_eq index actor);
-  same = λ index past. turn.others index (λ same. absurd (omega (arith, past, same)))
-      ∙ fewer.same index (omega (arith, past));
+pub round_turn : {actor : ℕ} {old now next : List Client} {before taken counted : ℕ}
+    → HasComeRound actor old before now taken → ((other : ℕ) → (other ≡ actor → ⊥) → slice_get next other ≡ slice_get now other)
+    → taken < most_turns → counted ≡ taken + 1 → HasComeRound (actor + 1) old before next counted
+round_turn round others below one = record {
+  counted = let low = round.counted in omega (arith, low, one);
+  took = λ index low busy. let least = round.counted in (omega (arith, least, one), omega (arith, below, one));
+  same = λ index past. others index (λ same. absurd (omega (arith, past, same))) ∙ round.same index (omega (arith, past));
 }
-  where
-    by : (found : Option Client) → slice_get before.clients actor ≡ found → (now : Client)
-        → slice_get after.clients actor ≡ Some now
-        → (was : Client) × (slice_get old actor ≡ Some was) × (turns_left now ≤ turns_left was - 1)
-    by None is now there = absurd (let none = ap left_in is in omega (arith, busy, none))
-    by (Some was) is now there =
-        let taken = turn.takes was is in
-        let same : taken.0 ≡ now = some_is (sym taken.1.there ∙ there) in
-        let under = busy_under before.clients actor was is busy in
-        let less = (taken.1.fewer under.0 under.1).1 in
-        let left_is = ap turns_left same in
-        (was, sym (fewer.same actor (omega arith)) ∙ is, omega (arith, less, left_is))
-
-    here : (index : ℕ) (now : Client) → index ≡ actor → slice_get after.clients index ≡ Some now
-        → (was : Client) × (slice_get old index ≡ Some was) × (turns_left now ≤ turns_left was - 1)
-    here index now same there =
-        subst (λ (n : ℕ). (was : Client) × (slice_get old n ≡ Some was) × (turns_left now ≤ turns_left was - 1))
-        (sym same)
-        (by (slice_get before.clients actor) refl now
-        (subst (λ (n : ℕ). slice_get after.clients n ≡ Some now) same there))
 
 -- or has none under way.
-pub fewer_idle : (actor : ℕ) (old clients : List Client) → HaveFewer actor old clients
-    → ((client : Client) → slice_get clients actor ≡ Some client → client.under_way ≡ None)
-    → HaveFewer (actor + 1) old clients
-fewer_idle actor old clients fewer idle = record {
-  fewer = λ index now low there. ⊎_elim
-      (λ (same : index ≡ actor). (
-        now,
-        sym (fewer.same index (omega (arith, same))) ∙ there,
-        (let none = ap left_under (idle now (subst (λ (n : ℕ). slice_get clients n ≡ Some now) same there)) in
-            omega (arith, none)),
-      ))
-      (λ (apart : index ≢ actor). fewer.fewer index now (omega (arith, low, apart)) there)
+pub round_idle : {actor : ℕ} {old now : List Client} {before taken : ℕ} → HasComeRound actor old before now taken
+    → is_busy_at now actor ≡ false → HasComeRound (actor + 1) old before now taken
+round_idle {actor} {old} {now} {before} {taken} round idle = record {
+  counted = round.counted;
+  took = λ index low busy. ⊎_elim
+      (λ (same : index ≡ actor). absurd (true≢false (sym busy ∙ ap (is_busy_at old) same
+      ∙ ap is_under_way (sym (round.same actor (omega arith))) ∙ idle)))
+      (λ apart. round.took index (omega (arith, low, apart)) busy)
       (cases_eq index actor);
-  same = λ index past. fewer.same index (omega (arith, past));
+  same = λ index past. round.same index (omega (arith, past));
 }
 
--- After a round the most turns that any client has left are fewer.
-pub round_fewer : (count : ℕ) (old new : List Client) → HaveFewer count old new → length new ≤ count
-    → 1 ≤ most_left old → most_left new < most_left old
-round_fewer count old new fewer all some =
-    let most = most_at_most new (most_left old - 1) (λ index client there.
-    let low = slice_get_within new index client there in
-    let found = fewer.fewer index client (omega (arith, low, all)) there in
-    let few = at_most old index found.0 found.1 in
-    let less = found.2 in
-    omega (arith, few, less)) in
-    omega (arith, most, some)
+-- After a round in which some were busy more turns were taken.
+pub round_further : {count : ℕ} {old new : List Client} {before taken : ℕ} → HasComeRound count old before new taken
+    → length old ≤ count → is_any_busy old ≡ true → (before < taken) × (taken ≤ most_turns)
+round_further {old = old} round all busy =
+    let found = any_busy old busy in let low = found.1 in round.took found.0 (omega (arith, low, all)) found.2

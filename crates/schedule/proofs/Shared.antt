@@ -21,6 +21,7 @@ use Rattle.core_turns.specs.Getting.{BeginsGet, HasTooManyOut}
 use Rattle.core_turns.specs.Putting.{BeginsPutTurn, IsPutRefused, IsStoppedPut, EndsPut, GivesUpTurn, LeavesBlocks, WritesTurn}
 use Rattle.core_turns.specs.Committing.{BeginsCommit, StepsCommit}
 use Rattle.schedule.specs.declared.client.Client.{Client}
+use Rattle.schedule.specs.declared.client.UnderWay.{UnderWay}
 use Rattle.schedule.specs.declared.client.Work.{Work}
 use Rattle.schedule.specs.declared.client.Work.TheVariants as work
 use Rattle.schedule.specs.Replaying.{OnlyShared}
@@ -227,7 +228,7 @@ turned_begins calls actor before after (Began (Done given) begins leaves) shared
 turned_begins calls actor before after (Went under turn goes leaves) shared none idle low =
     absurd (none_some (sym idle ∙ goes.going))
 
--- A turn takes back no call.
+-- A turn takes back no call,
 pub turned_further : (calls : List ScriptCall) (actor : ℕ) (before after : Station)
     → Turned calls actor before after → before.client.begun ≤ after.client.begun
 turned_further calls actor before after (Nothing left) =
@@ -243,3 +244,12 @@ turned_further calls actor before after (Went under (More does) goes leaves) =
 turned_further calls actor before after (Went under (Busy by) goes leaves) = absurd leaves
 turned_further calls actor before after (Went under (Done given) goes leaves) =
     omega (arith, ap (λ (c : Client). c.begun) leaves.1)
+
+-- and begins none while another is under way.
+pub turned_still : (calls : List ScriptCall) (actor : ℕ) (before after : Station) (under : UnderWay)
+    → Turned calls actor before after → before.client.under_way ≡ Some under → after.client.begun ≡ before.client.begun
+turned_still calls actor before after under (Nothing left) going = absurd (none_some (sym left.idle ∙ going))
+turned_still calls actor before after under (Began turn begins leaves) going = absurd (none_some (sym begins.idle ∙ going))
+turned_still calls actor before after under (Went its (More does) goes leaves) going = ap (λ (c : Client). c.begun) leaves.1
+turned_still calls actor before after under (Went its (Busy by) goes leaves) going = absurd leaves
+turned_still calls actor before after under (Went its (Done given) goes leaves) going = ap (λ (c : Client). c.begun) leaves.1

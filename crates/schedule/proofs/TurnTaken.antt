@@ -23,8 +23,7 @@ use Rattle.schedule.specs.Replaying.{AreIdle, HasTurn, OnlyShared, TakesOne}
 use Rattle.schedule.specs.Running.{AreGoing, IsGoing, IsWorkFor, IsWorkOf, calls_under_way, held_by}
 use Rattle.schedule.specs.Turned.{MayGoOn, Station, Turned}
 use Rattle.schedule.proofs.Coming.{came_nowhere}
-use Rattle.schedule.proofs.Left.{turned_fewer}
-use Rattle.schedule.proofs.Shared.{turned_begins, turned_further, turned_shared}
+use Rattle.schedule.proofs.Shared.{turned_begins, turned_further, turned_shared, turned_still}
 use Rattle.schedule.proofs.Theirs.{none_some, some_is, is_among}
 use Rattle.schedule.proofs.TurnLaw.{turned_comes}
 use Rattle.schedule.specs.Numbered.{IsNumbered}
@@ -153,7 +152,7 @@ module _ (script : Script) (actor : ℕ) (before after : Station) (clients news 
   takes_one = record {
     there = takes.changes.there;
     further = turned_further (calls_of script actor) actor before after turned;
-    fewer = λ under going. turned_fewer (calls_of script actor) actor before after under turned going;
+    still = λ under going. turned_still (calls_of script actor) actor before after under turned going;
     begins = λ idle low. turned_begins (calls_of script actor) actor before after turned shared
         (none_commits script before.state.core clients takes.schedule.going idle)
         (idle.each actor before.client takes.was) low;

@@ -12,7 +12,6 @@ pub mod Turned
 pub mod Comes
 pub mod InTurn
 pub mod OfLines
-pub mod Left
 pub mod Replaying
 pub mod Playing
 pub mod WholeRun

@@ -1,5 +1,5 @@
 -- What stands while a script is carried out, and how that ends.
-use Rattle.std.specs.Prelude.{◌≡◌, ℕ, suc, ◌+◌, ◌-◌, ◌*◌, ◌≤◌, ◌^◌, List, [], ◌∷◌, length, map}
+use Rattle.std.specs.Prelude.{◌≡◌, ℕ, suc, ◌+◌, ◌-◌, ◌*◌, ◌≤◌, List, [], ◌∷◌, length, map}
 use Rattle.core_state.specs.declared.item.Item.{Item}
 use Rattle.client_script.specs.Script.{Script, calls_of}
 use Rattle.core_turns.specs.Core.{CoreState}
@@ -9,7 +9,7 @@ use Rattle.schedule.specs.declared.whole_run.Ended.TheVariants.{Whole, NoMemory,
 use Rattle.schedule.specs.Clients.{answered_of}
 use Rattle.schedule.specs.Coming.{LeadTo, IsSchedule}
 use Rattle.schedule.specs.InTurn.{Cursor, InOrder, InRest, HasGone, HaveTaken, Replay, replay_at}
-use Rattle.schedule.specs.Turns.{Turns, TurnTaken, turns_of}
+use Rattle.schedule.specs.Turns.{Turns, TurnTaken, most_turns, turns_of}
 use Rattle.schedule.specs.Replaying.{AreIdle, OnlyShared}
 
 -- ---- room for answers
@@ -62,10 +62,6 @@ pub record HaveHadTurns (script : Script) (start : Turns) (actors : List ℕ) (n
   pub taken : HaveTaken script start passed
   pub come : LeadTo script start passed now
   pub ready : IsReady script now room
-
--- most turns of a replay
-abbrev pub most_turns : ℕ
-most_turns = 2 ^ 62
 
 -- Turns have come so far that no more can be counted.
 pub record HasRunOutOfTurns (script : Script) (start : Replay) (turns : Turns) (taken room : ℕ) : Type 0 where

@@ -1,5 +1,5 @@
 -- A script that is carried out turn by turn.
-use Rattle.std.specs.Prelude.{◌≡◌, ◌≢◌, ℕ, ◌+◌, ◌-◌, ◌<◌, ◌≤◌, List, [], ◌∷◌, length, replicate, Option, Some, None, Contains, slice_get}
+use Rattle.std.specs.Prelude.{◌≡◌, ◌≢◌, ℕ, ◌+◌, ◌<◌, ◌≤◌, List, [], ◌∷◌, length, replicate, Some, None, Contains, slice_get, true}
 use Rattle.range_locks.specs.declared.hold.Hold.{Hold}
 use Rattle.range_locks.specs.declared.hold.HoldKind.TheVariants.{Shared}
 use Rattle.core_blocks.specs.Blocks.{AreUnderWay}
@@ -9,9 +9,8 @@ use Rattle.core_turns.specs.Core.{Core}
 use Rattle.schedule.specs.declared.client.Client.{Client}
 use Rattle.schedule.specs.declared.client.UnderWay.{UnderWay}
 use Rattle.schedule.specs.Coming.{LeadTo}
-use Rattle.schedule.specs.InTurn.{IsTurnOf}
-use Rattle.schedule.specs.Turns.{Turns, taken_by}
-use Rattle.schedule.specs.Left.{turns_left}
+use Rattle.schedule.specs.InTurn.{IsTurnOf, is_busy_at}
+use Rattle.schedule.specs.Turns.{Turns, most_turns, taken_by}
 
 -- No call is under way.
 pub record IsAtRest (core : Core) : Type 0 where
@@ -35,14 +34,13 @@ pub record OnlyShared (holds : List Hold) : Type 0 where
 pub record AreIdle (clients : List Client) : Type 0 where
   pub each : (index : ℕ) (client : Client) → slice_get clients index ≡ Some client → client.under_way ≡ None
 
--- A client took a turn: it has fewer left of a call that it had under way. Where no call is under way, its next one
--- finds none in its way.
+-- A client took a turn: it begins no other call while it has one under way. Where no call is under way, its next one finds
+-- none in its way.
 pub record TakesOne (script : Script) (actor : ℕ) (before : Turns) (clients : List Client) (client now : Client)
     : Type 0 where
   pub there : slice_get clients actor ≡ Some now
   pub further : client.begun ≤ now.begun
-  pub fewer : (under : UnderWay) → client.under_way ≡ Some under
-      → (now.begun ≡ client.begun) × (turns_left now < turns_left client)
+  pub still : (under : UnderWay) → client.under_way ≡ Some under → now.begun ≡ client.begun
   pub begins : AreIdle before.clients → client.begun < length (calls_of script actor)
       → now.begun ≡ client.begun + 1
 
@@ -54,11 +52,11 @@ pub record HasTurn (script : Script) (actor : ℕ) (before after : Turns) : Type
   pub takes : (client : Client) → slice_get before.clients actor ≡ Some client
       → (now : Client) × TakesOne script actor before after.clients client now
 
--- Each of the first clients has fewer turns left of a call that it had under way, and none of another; the others
--- are as they were.
-pub record HaveFewer (count : ℕ) (old new : List Client) : Type 0 where
-  pub fewer : (index : ℕ) (now : Client) → index < count → slice_get new index ≡ Some now
-      → (was : Client) × (slice_get old index ≡ Some was) × (turns_left now ≤ turns_left was - 1)
+-- A round has come so far: where one of the first clients had a call under way, turns were taken since, and could be
+-- counted; the others are as they were.
+pub record HasComeRound (count : ℕ) (old : List Client) (before : ℕ) (new : List Client) (taken : ℕ) : Type 0 where
+  pub counted : before ≤ taken
+  pub took : (index : ℕ) → index < count → is_busy_at old index ≡ true → (before < taken) × (taken ≤ most_turns)
   pub same : (index : ℕ) → count ≤ index → slice_get new index ≡ slice_get old index
 
 -- A client has begun one call more, and the others are as they were.
@@ -71,11 +69,3 @@ pub record BeginsOne (actor : ℕ) (old new : List Client) : Type 0 where
 pub record HaveBegun (script : Script) (given : ℕ) (clients : List Client) : Type 0 where
   pub each : (actor : ℕ) (client : Client) → slice_get clients actor ≡ Some client
       → given_of script given actor ≤ client.begun
-
--- the turns that the client of a number has left, 0 where there is none
-abbrev pub left_in : Option Client → ℕ
-left_in None = 0
-left_in (Some client) = turns_left client
-
-abbrev pub left_at : List Client → ℕ → ℕ
-left_at clients actor = left_in (slice_get clients actor)

@@ -1,5 +1,5 @@
 -- What a script's clients have come to, turn by turn.
-use Rattle.std.specs.Prelude.{◌≡◌, ℕ, ◌<◌, ◌≤◌, List, [], ◌∷◌, length, if◌then◌else◌, nat_lt, ⊤}
+use Rattle.std.specs.Prelude.{◌≡◌, ℕ, ◌^◌, ◌<◌, ◌≤◌, List, [], ◌∷◌, length, if◌then◌else◌, nat_lt, ⊤}
 use Rattle.bank_trait.specs.Disk.{Disk}
 use Rattle.core_state.specs.declared.item.Item.{Item}
 use Rattle.core_turns.specs.Core.{CoreState}
@@ -44,3 +44,7 @@ abbrev pub AreListedWith : (ℕ → Disk) → Turns → List TurnTaken → Type 
 AreListedWith banks start [] = ⊤
 AreListedWith banks start (turn ∷ later) = IsListedWith banks start.items turn.left.items turn.left.state.disk
     × AreListedWith banks turn.left later
+
+-- most turns of a run
+abbrev pub most_turns : ℕ
+most_turns = 2 ^ 62

@@ -1,7 +1,7 @@
 // What a replay has come to.
-ghost use Rattle.std.specs.Prelude.{◌≡◌, ◌+◌, ◌≤◌, IfOk, OnOk, OnErr};
+ghost use Rattle.std.specs.Prelude.{◌≡◌, ◌+◌, ◌<◌, ◌≤◌, IfOk, OnOk, OnErr};
 ghost use Rattle.schedule.specs.InTurn.{has_left_at, is_any_busy, is_busy_at};
-ghost use Rattle.schedule.specs.Playing.{most_turns};
+ghost use Rattle.schedule.specs.Turns.{most_turns};
 ghost use Rattle.schedule.specs.Replaying.{blank_clients};
 
 use crate::client::Client;
@@ -65,6 +65,7 @@ impl Progress {
     pub fn count(&mut self) -> Result<(), UsedUp>
         ensures clients { self.new.clients.items ≡ self.old.clients.items }
         ensures turns { OnOk result (self.new.turns ≡ self.old.turns + 1) }
+        ensures below { OnOk result (self.old.turns < most_turns) }
         ensures most { OnErr result (most_turns ≤ self.new.turns) }
         ensures same { OnErr result (self.new.turns ≡ self.old.turns) }
     {

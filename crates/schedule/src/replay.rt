@@ -8,10 +8,10 @@ ghost use Rattle.open_pool.specs.Pool.{HasBank};
 ghost use Rattle.core_turns.specs.Core.{at_disk};
 ghost use Rattle.schedule.specs.declared.client.Client.{Client as ClientOf};
 ghost use Rattle.schedule.specs.declared.whole_run.Ended.TheVariants.{Whole};
-ghost use Rattle.schedule.specs.Turns.{turns_of};
+ghost use Rattle.schedule.specs.Turns.{most_turns, turns_of};
 ghost use Rattle.schedule.specs.InTurn.{Cursor, InOrder, InRest, InRound, IsCallOfScript, has_left_at, replay_by, turns_by};
 ghost use Rattle.schedule.specs.Playing.{CarriesOut, HasPlayed, HaveHadTurns, HasRunOutOfTurns, IsReady};
-ghost use Rattle.schedule.specs.Replaying.{AreIdle, BeginsOne, HasTurn, HaveBegun, HaveFewer, IsAtRest, blank_clients};
+ghost use Rattle.schedule.specs.Replaying.{AreIdle, BeginsOne, HasComeRound, HasTurn, HaveBegun, IsAtRest, blank_clients};
 
 use crate::progress::{Progress, UsedUp};
 use crate::station::take_turn;
@@ -83,6 +83,7 @@ fn count_turn_of<B: Bank>(
     ensures ready { OnOk result (IsReady script.now
         (turns_by core.new (B.disk bank.new) journal.new progress.new) journal.new.room) }
     ensures turns { OnOk result (progress.new.turns ≡ progress.old.turns + 1) }
+    ensures below { OnOk result (progress.old.turns < most_turns) }
     ensures stopped { OnErr result ((cursor : Cursor) → HasRunOutOfTurns script.now
         (replay_by core.old (B.disk bank.old) journal.old progress.old cursor)
         (turns_by core.new (B.disk bank.new) journal.new progress.new) progress.new.turns journal.new.room) }
@@ -141,8 +142,9 @@ fn take_if_busy<B: Bank>(
     ensures stopped { OnErr result (HasRunOutOfTurns script.now
         (replay_by core.old (B.disk bank.old) journal.old progress.old (InRound actor))
         (turns_by core.new (B.disk bank.new) journal.new progress.new) progress.new.turns journal.new.room) }
-    ensures fewer { OnOk result ((old : List ClientOf) → HaveFewer actor old progress.old.clients.items
-        → HaveFewer (actor + 1) old progress.new.clients.items) }
+    ensures round { OnOk result ((old : List ClientOf) (taken : ℕ)
+        → HasComeRound actor old taken progress.old.clients.items progress.old.turns
+        → HasComeRound (actor + 1) old taken progress.new.clients.items progress.new.turns) }
 {
     if !progress.is_busy(actor) {
         return Ok(());
@@ -169,8 +171,8 @@ fn take_round<B: Bank>(
     ensures stopped { OnErr result (HasRunOutOfTurns script.now
         (replay_by core.old (B.disk bank.old) journal.old progress.old (InRound 0))
         (turns_by core.new (B.disk bank.new) journal.new progress.new) progress.new.turns journal.new.room) }
-    ensures fewer { OnOk result (HaveFewer script.now.clients
-        progress.old.clients.items progress.new.clients.items) }
+    ensures round { OnOk result (HasComeRound script.now.clients progress.old.clients.items progress.old.turns
+        progress.new.clients.items progress.new.turns) }
 {
     for actor in 0..script.clients() {
         take_if_busy(alloc, bank, core, script, journal, progress, actor)?;

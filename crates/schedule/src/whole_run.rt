@@ -7,7 +7,7 @@ ghost use Rattle.core_open.specs.Opens.{IsForMemory, LeavesOthers};
 ghost use Rattle.client_script.specs.Script.{IsAllowed, asked_by};
 ghost use Rattle.open_pool.specs.Opening.{CutsOpening, LeavesUnopened};
 ghost use Rattle.schedule.specs.declared.whole_run.Ended.TheVariants.{Whole, Limit};
-ghost use Rattle.schedule.specs.Playing.{most_turns};
+ghost use Rattle.schedule.specs.Turns.{most_turns};
 ghost use Rattle.schedule.specs.WholeRun.{HasRunInTurn};
 
 use crate::replay::carry_out;

@@ -1,7 +1,8 @@
-use Rattle.std.proofs.Common.{ℕ}
+use Rattle.std.proofs.Common.{ℕ, ◌-◌}
 use Rattle.schedule.specs.InTurn.{InRest, IsCallOfScript, replay_by, turns_by}
 use Rattle.schedule.specs.Playing.{HasPlayed, IsReady}
-use Rattle.schedule.specs.Replaying.{BeginsOne, left_at}
+use Rattle.schedule.specs.Turns.{most_turns}
+use Rattle.schedule.specs.Replaying.{BeginsOne}
 use Rattle.schedule.proofs.replay.take_call.Given as goal
 
 abbrev pub invariant-turns : goal.invariant-turns
@@ -13,4 +14,4 @@ invariant-turns g l = record {
 }
 
 abbrev pub decreases-turns : goal.decreases-turns
-decreases-turns g l = left_at l.progress.clients.items l.actor
+decreases-turns g l = most_turns - l.progress.turns

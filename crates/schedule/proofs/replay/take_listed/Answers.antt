@@ -1,37 +1,24 @@
-use Rattle.std.proofs.Common.{◌<◌, [], drop, length, arith, ap}
+use Rattle.std.proofs.Common.{drop, ap, arith}
 use Rattle.std.proofs.lemmas.List.{drop_all, take_all}
-use Rattle.schedule.specs.InTurn.{InOrder, replay_by, turns_by}
+use Rattle.schedule.specs.InTurn.{InOrder, replay_by}
 use Rattle.schedule.proofs.Playing.{at_err, have_had_turns, listed_more, listed_none, played_at, stopped_then}
 use Rattle.schedule.proofs.replay.take_listed.Goals as goal
 
 pub loop-actor-init : goal.loop-actor-init
-loop-actor-init g c = listed_none c.args.script.now c.args.listed.now
-    (replay_by c.args.core.now (g.B.Bank.disk c.args.bank.now) c.args.journal.now c.args.progress.now (InOrder c.args.listed.now))
-    c.args.journal.now.room c.requires.ready
+loop-actor-init g c = listed_none c.args.listed.now (replay_by c.args.core.now (g.B.Bank.disk c.args.bank.now)
+    c.args.journal.now c.args.progress.now (InOrder c.args.listed.now)) c.requires.ready
 
 pub count_turn_of-requires-clause-ready : goal.count_turn_of-requires-clause-ready
 count_turn_of-requires-clause-ready g c = c.loop-actor.invariant.played.ready
 
 pub loop-actor-preserved : goal.loop-actor-preserved
-loop-actor-preserved g c =
-    let index = c.loop-actor.actor-index in
-    let low : index < length c.args.listed.now = omega (arith, c.loop-actor-test.true) in
-    listed_more c.args.script.now c.args.listed.now index low
-    (replay_by c.args.core.now (g.B.Bank.disk c.args.bank.now) c.args.journal.now c.args.progress.now (InOrder c.args.listed.now))
-    (turns_by c.loop-actor.core (g.B.Bank.disk c.loop-actor.bank) c.loop-actor.journal c.loop-actor.progress)
-    (turns_by c.count_turn_of.new.core (g.B.Bank.disk c.count_turn_of.new.bank) c.count_turn_of.new.journal c.count_turn_of.new.progress)
-    c.loop-actor.progress.turns c.count_turn_of.new.progress.turns c.loop-actor.journal.room
-    c.count_turn_of.new.journal.room 0 c.loop-actor.invariant c.in_ok-count_turn_of.ensures.turn
-    c.in_ok-count_turn_of.ensures.turns c.in_ok-count_turn_of.ensures.ready
+loop-actor-preserved g c = listed_more 0 (omega (arith, c.loop-actor-test.true)) c.loop-actor.invariant
+    c.in_ok-count_turn_of.ensures.turn c.in_ok-count_turn_of.ensures.turns c.in_ok-count_turn_of.ensures.ready
 
 pub returns-in_err-count_turn_of-clause-stopped : goal.returns-in_err-count_turn_of-clause-stopped
-returns-in_err-count_turn_of-clause-stopped g c = at_err _ c.from_residual.result (
-    let left = drop c.loop-actor.actor-index c.args.listed.now in
-    stopped_then c.args.script.now (replay_by c.args.core.now (g.B.Bank.disk c.args.bank.now) c.args.journal.now c.args.progress.now (InOrder c.args.listed.now))
-    (replay_by c.loop-actor.core (g.B.Bank.disk c.loop-actor.bank) c.loop-actor.journal c.loop-actor.progress (InOrder left)) (turns_by c.count_turn_of.new.core (g.B.Bank.disk c.count_turn_of.new.bank) c.count_turn_of.new.journal c.count_turn_of.new.progress)
-    c.count_turn_of.new.progress.turns c.loop-actor.journal.room c.count_turn_of.new.journal.room
-    c.loop-actor.invariant.played (c.in_err-count_turn_of.ensures.stopped (InOrder left))
-    )
+returns-in_err-count_turn_of-clause-stopped g c = at_err _ c.from_residual.result
+    (stopped_then c.loop-actor.invariant.played
+    (c.in_err-count_turn_of.ensures.stopped (InOrder (drop c.loop-actor.actor-index c.args.listed.now))))
 
 pub returns-clause-turns : goal.returns-clause-turns
 returns-clause-turns g c = have_had_turns c.args.script.now c.args.listed.now
@@ -39,9 +26,6 @@ returns-clause-turns g c = have_had_turns c.args.script.now c.args.listed.now
     c.loop-actor.invariant
 
 pub returns-clause-played : goal.returns-clause-played
-returns-clause-played g c =
-    let order = c.args.listed.now in
-    played_at c.args.script.now (replay_by c.args.core.now (g.B.Bank.disk c.args.bank.now) c.args.journal.now c.args.progress.now (InOrder order)) (turns_by c.loop-actor.core (g.B.Bank.disk c.loop-actor.bank) c.loop-actor.journal c.loop-actor.progress) c.loop-actor.progress.turns c.loop-actor.journal.room
-    (InOrder (drop c.loop-actor.actor-index order)) (InOrder [])
-    (ap InOrder (drop_all c.loop-actor.actor-index order
-    (omega (arith, c.loop-actor-test.false)))) c.loop-actor.invariant.played
+returns-clause-played g c = played_at
+    (ap InOrder (drop_all c.loop-actor.actor-index c.args.listed.now (omega (arith, c.loop-actor-test.false))))
+    c.loop-actor.invariant.played

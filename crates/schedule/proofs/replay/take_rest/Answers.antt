@@ -1,6 +1,6 @@
 use Rattle.std.proofs.Common.{ℕ, refl, sym, ◌∙◌, ap, subst, arith}
 use Rattle.client_script.specs.InOrder.{InOrder}
-use Rattle.schedule.specs.InTurn.{InRest, replay_by, turns_by}
+use Rattle.schedule.specs.InTurn.{InRest, replay_by}
 use Rattle.schedule.specs.Replaying.{HaveBegun}
 use Rattle.schedule.proofs.InTurn.{none_left_begun}
 use Rattle.schedule.proofs.Playing.{at_err, played_at, played_none, played_then, rest_goes, stopped_then}
@@ -12,9 +12,8 @@ loop-next-init g c =
     let none = ap (λ (calls : InOrder). calls.given) c.calls_in_order-calls.ensures in record {
       script = ap (λ (calls : InOrder). calls.script) c.calls_in_order-calls.ensures;
       few = omega (arith, none);
-      played = played_at c.args.script.now (replay_by c.args.core.now (g.B.Bank.disk c.args.bank.now) c.args.journal.now c.args.progress.now (InRest 0)) (turns_by c.args.core.now (g.B.Bank.disk c.args.bank.now) c.args.journal.now c.args.progress.now)
-          c.args.progress.now.turns c.args.journal.now.room (InRest 0) (InRest c.calls_in_order-calls.result.given) (ap InRest (sym none))
-          (played_none c.args.script.now (replay_by c.args.core.now (g.B.Bank.disk c.args.bank.now) c.args.journal.now c.args.progress.now (InRest 0)) c.args.journal.now.room c.requires.ready);
+      played = played_at (ap InRest (sym none)) (played_none (replay_by c.args.core.now (g.B.Bank.disk c.args.bank.now)
+          c.args.journal.now c.args.progress.now (InRest 0)) c.requires.ready);
       idle = c.requires.idle;
       begun = subst (λ (n : ℕ). HaveBegun c.args.script.now n c.args.progress.now.clients.items) (sym none)
           (begun_none c.args.script.now c.args.progress.now.clients.items);
@@ -27,66 +26,44 @@ pub take_call-requires-clause-left : goal.take_call-requires-clause-left
 take_call-requires-clause-left g c = sym c.has_left.ensures ∙ c.if-has_left.true
 
 pub take_call-requires-clause-of_client : goal.take_call-requires-clause-of_client
-take_call-requires-clause-of_client g c = next_of_client c.args.script.now c.loop-next.calls c.next_call.new.self c.in-Some.next.actor c.in-Some.next.number
-    c.in-Some.next.call.now c.loop-next.invariant.script c.in-Some.ensures.some
+take_call-requires-clause-of_client g c = next_of_client c.loop-next.invariant.script c.in-Some.ensures.some
 
 pub loop-next-smaller-in-Continue-1 : goal.loop-next-smaller-in-Continue-1
-loop-next-smaller-in-Continue-1 g c = next_smaller c.args.script.now c.loop-next.calls c.next_call.new.self c.in-Some.next.actor c.in-Some.next.number
-    c.in-Some.next.call.now c.loop-next.invariant.script c.in-Some.ensures.some
+loop-next-smaller-in-Continue-1 g c = next_smaller c.loop-next.invariant.script c.in-Some.ensures.some
 
 pub loop-next-preserved-in-Continue-1 : goal.loop-next-preserved-in-Continue-1
 loop-next-preserved-in-Continue-1 g c =
-    let is = next_is_call c.args.script.now c.loop-next.calls c.next_call.new.self c.in-Some.next.actor c.in-Some.next.number
-    c.in-Some.next.call.now c.loop-next.invariant.script c.in-Some.ensures.some in
-    let begun = next_taken c.args.script.now c.loop-next.calls c.next_call.new.self c.in-Some.next.actor c.in-Some.next.number
-    c.in-Some.next.call.now c.loop-next.progress.clients.items
-    c.take_call.new.progress.clients.items c.loop-next.invariant.script c.in-Some.ensures.some
-    c.loop-next.invariant.begun c.in_ok-take_call.ensures.begins
-    ((c.in_ok-take_call.ensures.played c.loop-next.calls.given is).ready.counted ∙ sym c.loop-next.invariant.played.ready.counted) in record {
+    let is = next_is_call c.loop-next.invariant.script c.in-Some.ensures.some in
+    let played = c.in_ok-take_call.ensures.played c.loop-next.calls.given is in
+    let begun = next_taken c.loop-next.invariant.script c.in-Some.ensures.some c.loop-next.invariant.begun
+    c.in_ok-take_call.ensures.begins (played.ready.counted ∙ sym c.loop-next.invariant.played.ready.counted) in record {
       script = ap (λ (calls : InOrder). calls.script) c.in-Some.ensures.some.one_more ∙ c.loop-next.invariant.script;
-      few = next_few c.args.script.now c.loop-next.calls c.next_call.new.self c.in-Some.next.actor c.in-Some.next.number
-          c.in-Some.next.call.now c.loop-next.invariant.script c.in-Some.ensures.some;
-      played = rest_goes c.args.script.now (replay_by c.args.core.now (g.B.Bank.disk c.args.bank.now) c.args.journal.now c.args.progress.now (InRest 0)) (turns_by c.take_call.new.core (g.B.Bank.disk c.take_call.new.bank) c.take_call.new.journal c.take_call.new.progress)
-          c.take_call.new.progress.turns c.take_call.new.journal.room c.loop-next.calls.given c.next_call.new.self.given
-          c.in-Some.next.actor c.in-Some.next.number (ap (λ (calls : InOrder). calls.given) c.in-Some.ensures.some.one_more)
-          is c.in_ok-take_call.ensures.idle begun
-          (played_then c.args.script.now (replay_by c.args.core.now (g.B.Bank.disk c.args.bank.now) c.args.journal.now c.args.progress.now (InRest 0)) (replay_by c.loop-next.core (g.B.Bank.disk c.loop-next.bank) c.loop-next.journal c.loop-next.progress (InRest c.loop-next.calls.given))
-          (replay_by c.take_call.new.core (g.B.Bank.disk c.take_call.new.bank) c.take_call.new.journal c.take_call.new.progress (InRest c.loop-next.calls.given)) c.loop-next.journal.room c.take_call.new.journal.room
-          c.loop-next.invariant.played (c.in_ok-take_call.ensures.played c.loop-next.calls.given is));
+      few = next_few c.loop-next.invariant.script c.in-Some.ensures.some;
+      played = rest_goes (ap (λ (calls : InOrder). calls.given) c.in-Some.ensures.some.one_more) is
+          c.in_ok-take_call.ensures.idle begun (played_then c.loop-next.invariant.played played);
       idle = c.in_ok-take_call.ensures.idle;
       begun = begun;
     }
 
 pub returns-in_err-take_call-clause-stopped : goal.returns-in_err-take_call-clause-stopped
-returns-in_err-take_call-clause-stopped g c = at_err _ c.from_residual.result (
-    let is = next_is_call c.args.script.now c.loop-next.calls c.next_call.new.self c.in-Some.next.actor c.in-Some.next.number
-    c.in-Some.next.call.now c.loop-next.invariant.script c.in-Some.ensures.some in
-    stopped_then c.args.script.now (replay_by c.args.core.now (g.B.Bank.disk c.args.bank.now) c.args.journal.now c.args.progress.now (InRest 0)) (replay_by c.loop-next.core (g.B.Bank.disk c.loop-next.bank) c.loop-next.journal c.loop-next.progress (InRest c.loop-next.calls.given)) (turns_by c.take_call.new.core (g.B.Bank.disk c.take_call.new.bank) c.take_call.new.journal c.take_call.new.progress)
-    c.take_call.new.progress.turns c.loop-next.journal.room c.take_call.new.journal.room c.loop-next.invariant.played
-    (c.in_err-take_call.ensures.stopped c.loop-next.calls.given is)
-    )
+returns-in_err-take_call-clause-stopped g c = at_err _ c.from_residual.result
+    (stopped_then c.loop-next.invariant.played (c.in_err-take_call.ensures.stopped c.loop-next.calls.given
+    (next_is_call c.loop-next.invariant.script c.in-Some.ensures.some)))
 
 pub loop-next-smaller : goal.loop-next-smaller
-loop-next-smaller g c = next_smaller c.args.script.now c.loop-next.calls c.next_call.new.self c.in-Some.next.actor c.in-Some.next.number
-    c.in-Some.next.call.now c.loop-next.invariant.script c.in-Some.ensures.some
+loop-next-smaller g c = next_smaller c.loop-next.invariant.script c.in-Some.ensures.some
 
 pub loop-next-preserved : goal.loop-next-preserved
 loop-next-preserved g c =
-    let is = next_is_call c.args.script.now c.loop-next.calls c.next_call.new.self c.in-Some.next.actor c.in-Some.next.number
-    c.in-Some.next.call.now c.loop-next.invariant.script c.in-Some.ensures.some in
-    let clients = c.loop-next.progress.clients.items in
-    let begun = next_begun c.args.script.now c.loop-next.calls c.next_call.new.self c.in-Some.next.actor c.in-Some.next.number
-    c.in-Some.next.call.now clients clients c.loop-next.invariant.script c.in-Some.ensures.some
-    c.loop-next.invariant.begun
-    (none_left_begun clients c.in-Some.next.actor c.in-Some.next.number (sym c.has_left.ensures ∙ c.if-has_left.false))
+    let is = next_is_call c.loop-next.invariant.script c.in-Some.ensures.some in
+    let begun = next_begun c.loop-next.invariant.script c.in-Some.ensures.some c.loop-next.invariant.begun
+    (none_left_begun c.loop-next.progress.clients.items c.in-Some.next.actor c.in-Some.next.number
+    (sym c.has_left.ensures ∙ c.if-has_left.false))
     (λ other apart. refl) in record {
       script = ap (λ (calls : InOrder). calls.script) c.in-Some.ensures.some.one_more ∙ c.loop-next.invariant.script;
-      few = next_few c.args.script.now c.loop-next.calls c.next_call.new.self c.in-Some.next.actor c.in-Some.next.number
-          c.in-Some.next.call.now c.loop-next.invariant.script c.in-Some.ensures.some;
-      played = rest_goes c.args.script.now (replay_by c.args.core.now (g.B.Bank.disk c.args.bank.now) c.args.journal.now c.args.progress.now (InRest 0)) (turns_by c.loop-next.core (g.B.Bank.disk c.loop-next.bank) c.loop-next.journal c.loop-next.progress)
-          c.loop-next.progress.turns c.loop-next.journal.room c.loop-next.calls.given c.next_call.new.self.given
-          c.in-Some.next.actor c.in-Some.next.number (ap (λ (calls : InOrder). calls.given) c.in-Some.ensures.some.one_more)
-          is c.loop-next.invariant.idle begun c.loop-next.invariant.played;
+      few = next_few c.loop-next.invariant.script c.in-Some.ensures.some;
+      played = rest_goes (ap (λ (calls : InOrder). calls.given) c.in-Some.ensures.some.one_more) is
+          c.loop-next.invariant.idle begun c.loop-next.invariant.played;
       idle = c.loop-next.invariant.idle;
       begun = begun;
     }
