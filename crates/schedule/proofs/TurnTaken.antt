@@ -190,7 +190,7 @@ module _ (script : Script) (actor : ℕ) (before after : Station) (clients news 
       → HasRoomForAnswers script news left → IsReady script (turns_of after.state after.items news) left
   turn_ready left counted same enough = record {
     schedule = comes.schedule;
-    shared = turned_shared (calls_of script actor) actor before after turned shared;
+    shared = turned_shared takes turned shared;
     counted = same ∙ counted;
     enough = enough;
   }

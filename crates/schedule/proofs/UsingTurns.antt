@@ -3,9 +3,10 @@ use Rattle.std.proofs.Common.{◌≡◌, ◌⊎◌, inl, inr, ⊎_elim, ℕ, ◌
 use Rattle.std.specs.Prelude.{Contains, map, sum}
 use Rattle.width_map.specs.declared.birth.Birth.{Birth}
 use Rattle.range_locks.specs.declared.hold.Hold.{Hold}
+use Rattle.range_locks.specs.declared.hold.HoldKind.TheVariants.{Shared}
 use Rattle.range_locks.specs.Holds.{EndsHold}
 use Rattle.row_layout.specs.Layout.{Layout, allocated_of}
-use Rattle.space_alloc.specs.Space.{Run, HeldRun, Space}
+use Rattle.space_alloc.specs.Space.{Gains, Run, HeldRun, Space}
 use Rattle.block_record.specs.declared.entry.IndexEntry.{IndexEntry}
 use Rattle.block_table.specs.Table.{entry_of}
 use Rattle.uberblock_ring.specs.Uberblock.{Uber}
@@ -32,6 +33,7 @@ use Rattle.journal_law.specs.NoSpace.{length_put, largest_size}
 use Rattle.journal_law.proofs.NoSpace.{largest}
 use Rattle.schedule.specs.declared.client.Work.{Work}
 use Rattle.schedule.specs.declared.client.Work.TheVariants as work
+use Rattle.schedule.specs.Replaying.{OnlyShared}
 use Rattle.schedule.specs.Turned.{AnswersAtOnce, BeginsWork, Waits}
 use Rattle.schedule.specs.Using.{AreRunsOf, IsHeldIn, IsOpenSince}
 
@@ -131,13 +133,27 @@ module _ (old new : Core) where
 
 -- ---- first turns
 
--- A turn begins a call, with these runs more.
+-- A turn begins a call, with these runs more. A hold that comes is shared.
 pub record BeginsWith (old new : Core) (more : List Run) : Type 0 where
   pub uber : new.pool.uber ≡ old.pool.uber
   pub runs : (runs : List Run) → AreRunsOf runs old → AreRunsOf (more ++ runs) new
+  pub shared : OnlyShared old.holds → OnlyShared new.holds
+
+pub shared_still : {old new : Core} → UsesNoMore old new → OnlyShared old.holds → OnlyShared new.holds
+shared_still uses shared = record { each = λ hold listed. shared.each hold (uses.holds hold listed) }
+
+shared_more : {old new : List Hold} {hold : Hold} → Gains old new hold → hold.kind ≡ Shared → OnlyShared old
+    → OnlyShared new
+shared_more {old} {new} {hold} gains kind_is shared = record {
+  each = λ other listed. ⊎_elim
+      (λ same. ap (λ (h : Hold). h.kind) (sym same) ∙ kind_is)
+      (λ had. shared.each other had)
+      (gains_cases old new hold other gains listed);
+}
 
 begins_still : (old new : Core) → new.pool.uber ≡ old.pool.uber → UsesNoMore old new → BeginsWith old new []
-begins_still old new uber uses = record { uber = uber; runs = runs_still old new uses }
+begins_still old new uber uses =
+    record { uber = uber; runs = runs_still old new uses; shared = shared_still uses }
 
 -- The runs are no more than what is put, at the pool's first width.
 pub record FitsPut (uber : Uber) (more : List Run) (lengths : List ℕ) : Type 0 where
@@ -183,6 +199,7 @@ module _ (old new : Core) (is : IsCore old) where
           (λ was. held_further runs (put_run run.range) hold (are.holds hold was))
           (gains_cases old.holds new.holds run.hold hold begins.holds listed);
     };
+    shared = shared_more begins.holds (ap (λ (h : Hold). h.kind) begins.hold_is);
   }
 
   -- That has no more sectors than at the pool's first width.
@@ -226,6 +243,7 @@ module _ (old new : Core) (is : IsCore old) where
           (λ was. are.holds hold was)
           (gains_cases old.holds new.holds run.hold hold begins.9 listed);
     };
+    shared = shared_more begins.9 (ap (λ (h : Hold). h.kind) begins.4);
   }
     where
       block : Run
