@@ -308,14 +308,20 @@ map_stays P map before after leaves table off holds = record {
 
 -- ---- the groups
 
--- A commit is one of the core still where only devices went out.
-pub commit_of_out : (core : Core) (out : ℕ) (run : CommitRun) → IsWithin core.pool.out out → IsCommitOf core run
-    → IsCommitOf (record core { pool = record core.pool { out = out } }) run
-commit_of_out core out run within of = record {
+-- The commit under way is one of the core still, as devices go out.
+pub commit_still : {run : CommitRun} (old new : Core) → new.pool.uber ≡ old.pool.uber → new.begun ≡ old.begun
+    → new.committing ≡ old.committing → IsWithin old.pool.out new.pool.out → IsCommitOf old run → IsCommitOf new run
+commit_still {run} old new uber begun committing within of = record {
   actor = of.actor;
-  under_way = of.under_way;
-  number = of.number;
-  uber_is = of.uber_is;
+  under_way = committing ∙ of.under_way;
+  number = of.number ∙ sym begun;
+  uber_is = subst (λ (u : Uber). run.uber ≡ record u {
+    group = run.uber.group;
+    area = run.uber.area;
+    count = run.uber.count;
+    digest = run.uber.digest;
+    out = run.uber.out;
+  }) (sym uber) of.uber_is;
   lists = λ device has. within device (of.lists device has);
 }
 
@@ -353,8 +359,8 @@ groups_read setting last begun calls None before after core same outs lawful gro
 groups_read setting last begun calls (Some run) before after core same outs lawful groups = record {
   next = groups.next;
   begun_is = groups.begun_is;
-  of = subst (λ (c : Core). IsCommitOf c run) (sym core)
-      (commit_of_out before.core after.core.pool.out run outs.still groups.of);
+  of = commit_still before.core after.core (ap (λ (c : Core). c.pool.uber) core) (ap (λ (c : Core). c.begun) core)
+      (ap (λ (c : Core). c.committing) core) outs.still groups.of;
   come = committing_unchanged setting last groups.next run (point_of before.core.pool.out before.disk)
       (point_of after.core.pool.out after.disk) same outs.still lawful groups.come;
   kept = subst (λ (c : Core). NoneFree c.pool.blocks c.begun groups.next.entries) (sym core) groups.kept;

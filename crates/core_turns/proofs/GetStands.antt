@@ -37,10 +37,9 @@ use Rattle.core_turns.specs.declared.turn.Turn.TheVariants.{More}
 use Rattle.core_turns.specs.Core.{Core, IsCore, CoreState, at_disk, pool_at}
 use Rattle.core_turns.specs.Freeing.{FreesBlock}
 use Rattle.core_turns.specs.Getting.{IsReadKind, IsGetOf, BeginsGet, HoldsGet, ReadsTurn, SolvesGet}
-use Rattle.core_turns.specs.Committing.{IsCommitOf}
 use Rattle.core_turns.specs.UnderWay.{HoldingCall, Putting, Reading, SetsContent, actor_of, layout_of_call, ranges_of, HoldsCall, HaveNoneInCommon, AreCallsOf, PutsSpare, CommitStands, NoCommitStands, GroupsStand, Stands}
 use Rattle.core_turns.proofs.Calls.{range_listed, ranges_read, calls_gain, calls_lose, calls_swap}
-use Rattle.core_turns.proofs.Frames.{Leaves, KeepsWidths, off_nowhere, leaves_read, call_stays, calls_keep, calls_stay, groups_read, stands_still, stands_anew}
+use Rattle.core_turns.proofs.Frames.{Leaves, commit_still, KeepsWidths, off_nowhere, leaves_read, call_stays, calls_keep, calls_stay, groups_read, stands_still, stands_anew}
 use Rattle.core_turns.proofs.GetLaws.{get_finds, get_reads, get_solves}
 use Rattle.core_turns.proofs.GetTurns.{get_of_more, begins_holds, solved_of}
 
@@ -222,13 +221,7 @@ groups_held setting last begun calls nexts (Some run) old new disk core adds gro
     subst (λ (c : Core). CommitStands setting last begun nexts run (at_disk c disk)) (sym core) (record {
       next = groups.next;
       begun_is = groups.begun_is;
-      of = record {
-        actor = groups.of.actor;
-        under_way = groups.of.under_way;
-        number = groups.of.number;
-        uber_is = groups.of.uber_is;
-        lists = groups.of.lists;
-      };
+      of = commit_still old (record old { holds = new.holds }) refl refl refl (λ device out. out) groups.of;
       come = groups.come;
       kept = groups.kept;
       spared = λ put listed. groups.spared put (adds put listed);
@@ -371,13 +364,9 @@ frees_groups setting last begun calls None old new disk id given left kept group
 frees_groups setting last begun calls (Some run) old new disk id given left kept groups = record {
   next = groups.next;
   begun_is = groups.begun_is;
-  of = subst (λ (c : Core). IsCommitOf c run) (sym left.rest) (record {
-    actor = groups.of.actor;
-    under_way = groups.of.under_way;
-    number = groups.of.number;
-    uber_is = groups.of.uber_is;
-    lists = groups.of.lists;
-  });
+  of = commit_still old new (ap (λ (c : Core). c.pool.uber) left.rest) (ap (λ (c : Core). c.begun) left.rest)
+      (ap (λ (c : Core). c.committing) left.rest)
+      (λ device out. subst (λ (c : Core). has_device c.pool.out device ≡ true) (sym left.rest) out) groups.of;
   come = subst (λ (c : Core). IsCommitting setting last groups.next run (point_of c.pool.out disk)) (sym left.rest)
       groups.come;
   kept = subst (λ (n : ℕ). NoneFree new.pool.blocks n groups.next.entries) (sym (ap (λ (c : Core). c.begun) left.rest))

@@ -35,6 +35,7 @@ use Rattle.core_turns.specs.Putting.{BeginsPutSo, FillsPut, GivesUp, HoldsPut, I
 use Rattle.core_turns.specs.UnderWay.{HoldingCall, Putting, Reading, AreCallsOf, GroupsStand, HoldsCall, PutsSpare, SetsContent, Stands, actor_of}
 use Rattle.core_turns.proofs.Beside.{IsWrittenTo}
 use Rattle.core_turns.proofs.Calls.{range_listed}
+use Rattle.core_turns.proofs.Frames.{commit_still}
 use Rattle.core_turns.proofs.PutRanges.{same_put}
 use Rattle.core_turns.proofs.PutCalls.{Rearranges, begins_rearranges, ends_rearranges, gives_up_rearranges, leaves_rearranges}
 
@@ -101,13 +102,7 @@ module _ (setting : Setting) (last : Kept) (begun : List Kept) (calls nexts : Li
   groups_on (Some run) groups = record {
     next = groups.next;
     begun_is = groups.begun_is;
-    of = record {
-      actor = groups.of.actor;
-      under_way = groups.of.under_way;
-      number = groups.of.number;
-      uber_is = groups.of.uber_is;
-      lists = groups.of.lists;
-    };
+    of = commit_still old on refl refl refl (λ device out. out) groups.of;
     come = groups.come;
     kept = kept old.begun groups.next (inr refl) groups.spared groups.kept;
     spared = spares_on old.begun groups.next groups.kept groups.spared;

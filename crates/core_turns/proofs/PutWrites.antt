@@ -56,7 +56,7 @@ use Rattle.core_turns.specs.Putting.{IsPutOf, HoldsPut, WritesOne}
 use Rattle.core_turns.specs.Committing.{IsCommitOf}
 use Rattle.core_turns.specs.UnderWay.{HoldingCall, Putting, Reading, AreBeside, AreCallsOf, CommitStands, GroupsStand, HoldsCall, IsCallOfCore, NoCommitStands, PutsSpare, Stands, actor_of, layout_of_call}
 use Rattle.core_turns.proofs.Beside.{IsWrittenTo, AreInPool, never_asked, put_beside_commit}
-use Rattle.core_turns.proofs.Frames.{AreOff, IsOff, Leaves, call_stays, leaves_touched, off_written, stands_anew}
+use Rattle.core_turns.proofs.Frames.{AreOff, commit_still, IsOff, Leaves, call_stays, leaves_touched, off_written, stands_anew}
 use Rattle.core_turns.proofs.Calls.{beside_turn, range_listed}
 use Rattle.core_turns.proofs.PutStands.{groups_with, listed_clear, next_spares}
 use Rattle.core_turns.proofs.PutTurns.{outs_by_write}
@@ -305,13 +305,7 @@ module _ {left calls : List HoldingCall} {before after : CoreState} {run next : 
             record {
               next = groups.next;
               begun_is = groups.begun_is;
-              of = record {
-                actor = groups.of.actor;
-                under_way = groups.of.under_way;
-                number = groups.of.number;
-                uber_is = groups.of.uber_is;
-                lists = λ device listed. outs.still device (groups.of.lists device listed);
-              };
+              of = commit_still before.core written.core refl refl refl outs.still groups.of;
               come = committing_touched setting last groups.next places commit here there
                   (put_beside_commit setting last groups.next reflow layout before.core.pool.out first.inside next.inside
                   of.pool first.spares next.spares)

@@ -23,11 +23,11 @@ use Rattle.core_turns.specs.Core.{Core, CoreState, at_disk}
 use Rattle.core_turns.specs.Getting.{IsReadKind, BeginsGet, ReadsTurn, SolvesGet, EndsGet}
 use Rattle.core_turns.specs.Putting.{IsPutOf, FillsPut, EndsPut, GivesUpTurn}
 use Rattle.core_turns.specs.UnderWay.{TurnGoesOn}
-use Rattle.core_turns.proofs.Commits.{turn_nowhere}
 use Rattle.core_turns.proofs.GetTurns.{reads_uber}
 use Rattle.core_turns.proofs.PutTurns.{fills_of}
 use Rattle.schedule.specs.declared.client.Work.{Work}
 use Rattle.schedule.specs.Turned.{AnswersAtOnce, Waits, BeginsWork, BeginsCall, IsFilledIn, PutGoesOn, ReadGoesOn, read_turn}
+use Rattle.schedule.proofs.LeavesPool.{LeavesPool, leaves_pool, pool_goes}
 
 -- ---- first turns
 
@@ -69,66 +69,38 @@ read_begins old new actor id call turn result is id_is same begins =
 
 -- ---- turns without a device call
 
--- The uberblock and the devices that are out stay as they are.
-record KeepsUber (old new : Core) : Type 0 where
-  uber : new.pool.uber ≡ old.pool.uber
-  out : new.pool.out ≡ old.pool.out
+ends_leaves : (old new : Core) (run : PutRun) (given : Answer) → EndsPut old run new (Done given) → LeavesPool old new
+ends_leaves old new run answer.Stored ends = leaves_pool old new new.pool.blocks new.holds ends.rest
+ends_leaves old new run (answer.TooManyFailed out) ends =
+    leaves_pool old new new.pool.blocks new.holds ends.gives_up.rest
+ends_leaves old new run other ends = absurd ends
 
--- A turn that leaves these goes on: the bank is as it was.
-goes_without : (old new : Core) (disk : Disk) → KeepsUber old new → TurnGoesOn (at_disk old disk) (at_disk new disk)
-goes_without old new disk keeps =
-    let here = turn_nowhere (at_disk old disk) in record {
-      parity = ap (λ (u : Uber). u.parity) keeps.uber;
-      widths = ap (λ (u : Uber). u.reflow) keeps.uber;
-      births = ap (λ (u : Uber). u.births) keeps.uber;
-      later = here.later;
-      out = subst (λ (out : ℕ). OnlyFailedGoOut (point_of old.pool.out disk) (point_of out disk)) (sym keeps.out) here.out;
-      only = here.only;
-    }
+gives_leaves : (old new : Core) (run : PutRun) (given : Answer) → GivesUpTurn old run new (Done given)
+    → LeavesPool old new
+gives_leaves old new run answer.NoMemory gives = leaves_pool old new new.pool.blocks new.holds gives.1.rest
+gives_leaves old new run (answer.TooManyFailed out) gives =
+    leaves_pool old new new.pool.blocks new.holds gives.gives_up.rest
+gives_leaves old new run other gives = absurd gives
 
-ends_keeps : (old new : Core) (run : PutRun) (given : Answer) → EndsPut old run new (Done given) → KeepsUber old new
-ends_keeps old new run answer.Stored ends = record {
-  uber = ap (λ (c : Core). c.pool.uber) ends.rest;
-  out = ap (λ (c : Core). c.pool.out) ends.rest;
-}
-ends_keeps old new run (answer.TooManyFailed out) ends = record {
-  uber = ap (λ (c : Core). c.pool.uber) ends.gives_up.rest;
-  out = ap (λ (c : Core). c.pool.out) ends.gives_up.rest;
-}
-ends_keeps old new run other ends = absurd ends
-
--- So does the last turn of a put,
+-- The last turn of a put goes on,
 pub put_end_goes : (old new : Core) (disk : Disk) (run : PutRun) (turn : Turn PutRun) → EndsPut old run new turn
     → TurnGoesOn (at_disk old disk) (at_disk new disk)
-put_end_goes old new disk run (Done given) ends = goes_without old new disk (ends_keeps old new run given ends)
+put_end_goes old new disk run (Done given) ends = pool_goes disk (ends_leaves old new run given ends)
 put_end_goes old new disk run (More next) ends = absurd ends
 put_end_goes old new disk run (Busy by) ends = absurd ends
 
-gives_keeps : (old new : Core) (run : PutRun) (given : Answer) → GivesUpTurn old run new (Done given) → KeepsUber old new
-gives_keeps old new run answer.NoMemory gives = record {
-  uber = ap (λ (c : Core). c.pool.uber) gives.1.rest;
-  out = ap (λ (c : Core). c.pool.out) gives.1.rest;
-}
-gives_keeps old new run (answer.TooManyFailed out) gives = record {
-  uber = ap (λ (c : Core). c.pool.uber) gives.gives_up.rest;
-  out = ap (λ (c : Core). c.pool.out) gives.gives_up.rest;
-}
-gives_keeps old new run other gives = absurd gives
-
--- one that gives up,
+-- and so does one that gives up,
 pub put_gives_goes : (old new : Core) (disk : Disk) (run : PutRun) (turn : Turn PutRun) → GivesUpTurn old run new turn
     → TurnGoesOn (at_disk old disk) (at_disk new disk)
-put_gives_goes old new disk run (Done given) gives = goes_without old new disk (gives_keeps old new run given gives)
+put_gives_goes old new disk run (Done given) gives = pool_goes disk (gives_leaves old new run given gives)
 put_gives_goes old new disk run (More next) gives = absurd gives
 put_gives_goes old new disk run (Busy by) gives = absurd gives
 
 -- and the last one of a read.
 pub read_end_goes : (old new : Core) (disk : Disk) (run : GetRun) (turn : Turn GetRun) → EndsGet old run new turn
     → TurnGoesOn (at_disk old disk) (at_disk new disk)
-read_end_goes old new disk run (Done given) ends = goes_without old new disk (record {
-  uber = ap (λ (c : Core). c.pool.uber) ends.rest;
-  out = ap (λ (c : Core). c.pool.out) ends.rest;
-})
+read_end_goes old new disk run (Done given) ends =
+    pool_goes disk (leaves_pool old new old.pool.blocks new.holds ends.rest)
 read_end_goes old new disk run (More next) ends = absurd ends
 read_end_goes old new disk run (Busy by) ends = absurd ends
 

@@ -1,6 +1,6 @@
 -- Turns that call no device, and leave all of the core but blocks and holds.
-use Rattle.std.proofs.Common.{◌≡◌, ℕ, ◌<◌, List, sym, ◌∙◌, ap, subst, arith}
-use Rattle.bank_trait.specs.Disk.{Later}
+use Rattle.std.proofs.Common.{◌≡◌, ℕ, ◌<◌, List, refl, sym, ap, subst, arith}
+use Rattle.bank_trait.specs.Disk.{Disk, Later}
 use Rattle.bank_trait.specs.Regions.{TouchesOnly}
 use Rattle.range_locks.specs.declared.hold.Hold.{Hold}
 use Rattle.uberblock_ring.specs.Devices.{count_of, IsWithin}
@@ -10,13 +10,13 @@ use Rattle.core_client.specs.Outs.{OnlyFailedGoOut}
 use Rattle.core_state.specs.Committing.{point_of}
 use Rattle.core_commit.specs.CommitTurns.{CommitRun}
 use Rattle.core_commit.specs.Spared.{IsOnInUse}
-use Rattle.core_turns.specs.Core.{Core, CoreState}
+use Rattle.core_turns.specs.Core.{Core, CoreState, at_disk}
 use Rattle.core_turns.specs.Getting.{HasTooManyOut}
 use Rattle.core_turns.specs.Committing.{IsCommitOf}
 use Rattle.core_turns.specs.UnderWay.{TurnGoesOn}
 use Rattle.open_pool.proofs.Banks.{count_grows}
 use Rattle.core_turns.proofs.Commits.{turn_nowhere}
-use Rattle.core_turns.proofs.Frames.{OnlyOut}
+use Rattle.core_turns.proofs.Frames.{OnlyOut, commit_still}
 
 -- A turn leaves the uberblock, the devices that are out, and the commit that is under way.
 pub record LeavesPool (old new : Core) : Type 0 where
@@ -35,24 +35,6 @@ leaves_pool old new blocks holds core = record {
   committing = ap (λ (c : Core). c.committing) core;
 }
 
--- The commit under way is one of the core still, as devices go out.
-commit_still : (old new : Core) (run : CommitRun) → new.pool.uber ≡ old.pool.uber → new.begun ≡ old.begun
-    → new.committing ≡ old.committing → IsWithin old.pool.out new.pool.out
-    → IsCommitOf old run → IsCommitOf new run
-commit_still old new run uber begun committing within of = record {
-  actor = of.actor;
-  under_way = committing ∙ of.under_way;
-  number = of.number ∙ sym begun;
-  uber_is = subst (λ (u : Uber). run.uber ≡ record u {
-    group = run.uber.group;
-    area = run.uber.area;
-    count = run.uber.count;
-    digest = run.uber.digest;
-    out = run.uber.out;
-  }) (sym uber) of.uber_is;
-  lists = λ device has. within device (of.lists device has);
-}
-
 -- What a turn leaves of the commit that is under way.
 pub record KeepsCommit (old new : Core) : Type 0 where
   pub committing : new.committing ≡ old.committing
@@ -63,7 +45,7 @@ pub record KeepsCommit (old new : Core) : Type 0 where
 pub leaves_commit : {old new : Core} → LeavesPool old new → KeepsCommit old new
 leaves_commit {old} {new} leaves = record {
   committing = leaves.committing;
-  commits = λ run. commit_still old new run leaves.uber leaves.begun leaves.committing
+  commits = λ run. commit_still old new leaves.uber leaves.begun leaves.committing
       (subst (IsWithin old.pool.out) (sym leaves.out) (λ device out. out));
   many = λ many. subst (λ (u : Uber). u.parity < count_of new.pool.out) (sym leaves.uber)
       (subst (λ (out : ℕ). old.pool.uber.parity < count_of out) (sym leaves.out) many);
@@ -73,7 +55,7 @@ leaves_commit {old} {new} leaves = record {
 pub out_keeps : {old new : Core} → OnlyOut old new → IsWithin old.pool.out new.pool.out → KeepsCommit old new
 out_keeps {old} {new} rest within = record {
   committing = ap (λ (c : Core). c.committing) rest;
-  commits = λ run. commit_still old new run (ap (λ (c : Core). c.pool.uber) rest) (ap (λ (c : Core). c.begun) rest)
+  commits = λ run. commit_still old new (ap (λ (c : Core). c.pool.uber) rest) (ap (λ (c : Core). c.begun) rest)
       (ap (λ (c : Core). c.committing) rest) within;
   many = λ many.
       let more = count_grows old.pool.out new.pool.out within in
@@ -94,3 +76,6 @@ turn_still before after uber outs disk = let none = turn_nowhere before in recor
   only = subst (TouchesOnly (IsOnInUse before.core.pool.uber.reflow.to before.core.pool.out) before.disk) (sym disk)
       none.only;
 }
+
+pub pool_goes : {old new : Core} (disk : Disk) → LeavesPool old new → TurnGoesOn (at_disk old disk) (at_disk new disk)
+pool_goes {old} {new} disk leaves = turn_still (at_disk old disk) (at_disk new disk) leaves.uber leaves.out refl
