@@ -1,5 +1,5 @@
 -- What is known of a commit between two of its steps, and that calls beside it keep that.
-use Rattle.std.proofs.Common.{◌≡◌, ◌≢◌, ◌⊎◌, inl, inr, ⊎_elim, ℕ, ◌+◌, ◌<◌, List, [], ◌∷◌, Bool, true, false, refl, sym, ◌∙◌, ap, subst, arith}
+use Rattle.std.proofs.Common.{◌≡◌, ◌≢◌, ◌⊎◌, inl, inr, ⊎_elim, ℕ, ◌+◌, ◌<◌, List, [], ◌∷◌, Bool, true, false, refl, sym, ◌∙◌, ap, subst, arith, ◌≤◌}
 use Rattle.std.specs.Prelude.{Contains}
 use Rattle.bank_trait.specs.Disk.{Lawful, Unchanged}
 use Rattle.bank_trait.specs.Regions.{TouchesOnly}
@@ -55,13 +55,13 @@ module _ (setting : Setting) (first next : Kept) where
 
   -- Its uberblock may be written, and doesn't go to the first group's slot.
   pub signer_of : (uber : Uber) → IsRightUber uber → AreAlike uber next.uber → IsSound setting next
-      → next.uber.reflow.to ≡ first.uber.reflow.to
+      → next.uber.reflow.to ≤ setting.reach
       → IsSigner setting first next uber
-  signer_of uber right alike sound to_is = record {
+  signer_of uber right alike sound reach = record {
     right = right;
     alike = alike;
     pool_is = ap (λ (u : Uber). u.pool) alike ∙ sound.pool_is;
-    same_to = to_is;
+    reach = reach;
   }
 
   pub slots_of : (next.uber.group ≡ first.uber.group + 1) ⊎ (next.uber.group ≡ first.uber.group + 2)
@@ -152,13 +152,12 @@ module _ (setting : Setting) (first next : Kept) where
     right = is.right;
     alike = is.alike;
     entries_are = is.entries_are;
-    to_is = is.to_is;
     parity_is = is.parity_is;
     area = is.area;
     near = is.near;
     ordered = is.ordered;
     so_far = come_frame here beside is.sound_first is.sound run.stage run.uber run.calls before after
-        (signer_of run.uber is.right is.alike is.sound is.to_is) moves is.so_far;
+        (signer_of run.uber is.right is.alike is.sound (is.row.widths 1 next (omega arith)).most) moves is.so_far;
   }
 
   nowhere_beside : IsBeside setting first next Nowhere

@@ -22,6 +22,7 @@ use Rattle.core_state.proofs.Calls.{true_false}
 use Rattle.core_state.proofs.Laying.{IsPaged}
 use Rattle.core_state.proofs.Moving.{MaySign, signs_begin, commit_ends}
 use Rattle.core_state.proofs.Since.{since_now, since_more}
+use Rattle.core_state.proofs.Widths.{only_width}
 use Rattle.core_commit.specs.declared.commit_run.Stage.{Stage}
 use Rattle.core_commit.specs.declared.commit_run.Stage.TheVariants.{Lays, Signs}
 use Rattle.core_commit.specs.declared.commit_run.CommitStep.{CommitStep}
@@ -105,7 +106,6 @@ module _ (setting : Setting) (first next : Kept) where
         right = right;
         alike = is.alike;
         entries_are = is.entries_are;
-        to_is = is.to_is;
         parity_is = is.parity_is;
         area = is.area;
         near = is.near;
@@ -156,7 +156,7 @@ module _ (setting : Setting) (first next : Kept) where
   module _ (uber : Uber) (entries : List IndexEntry) (calls : List CommitCall) (before after : Point)
       (call : CommitCall) (right : IsRightUber uber) (alike : AreAlike uber next.uber)
       (entries_are : entries ≡ next.entries) (sound_first : IsSound setting first) (sound : IsSound setting next)
-      (to_is : next.uber.reflow.to ≡ first.uber.reflow.to) (area : first.uber.area ≢ next.uber.area)
+      (reach : next.uber.reflow.to ≤ setting.reach) (area : first.uber.area ≢ next.uber.area)
       (near : (next.uber.group ≡ first.uber.group + 1) ⊎ (next.uber.group ≡ first.uber.group + 2))
       (ordered : Ordered next.uber.reflow.to (page_sectors next.uber.count) calls)
       (is_next : slice_get (calls_left before.out calls) 0 ≡ Some call)
@@ -183,11 +183,11 @@ module _ (setting : Setting) (first next : Kept) where
         (laid.ordered, record { unsigned = laid.unsigned; unsaid = laid.unsaid })
     come_on Signs laying come =
         let signed : HasSigned setting (first ∷ next ∷ []) before.disk.clock first (next ∷ []) next uber
-        (paged_of first sound_first) (paged_of next sound) (signer_of setting first next uber right alike sound to_is)
+        (paged_of first sound_first) (paged_of next sound) (signer_of setting first next uber right alike sound reach)
         (slots_of setting first next near) (ap (λ (u : Uber). u.group) alike) (alone (next ∷ []))
         (after_next before.out calls) after =
         signs_next setting (first ∷ next ∷ []) before.disk.clock first (next ∷ []) next uber
-        (paged_of first sound_first) (paged_of next sound) (signer_of setting first next uber right alike sound to_is)
+        (paged_of first sound_first) (paged_of next sound) (signer_of setting first next uber right alike sound reach)
         (slots_of setting first next near) (ap (λ (u : Uber). u.group) alike) (alone (next ∷ []))
         calls call before after is_next
         (subst (λ (es : List IndexEntry). MadeOne uber es call before after) entries_are made)
@@ -208,7 +208,7 @@ module _ (setting : Setting) (first next : Kept) where
       let is = ready_committing run ready before did.is_ready did.right within was in
       let same = ready_calls before.out run ready did.is_ready in
       let come = come_on ready.uber ready.entries ready.calls before after did.call is.right is.alike is.entries_are
-      is.sound_first is.sound is.to_is is.area is.near is.ordered
+      is.sound_first is.sound (is.row.widths 1 next (omega arith)).most is.area is.near is.ordered
       (ap (λ (calls : List CommitCall). slice_get (calls_left before.out calls) 0) same ∙ did.is_next) did.made
       ready.stage (λ lays. ready_lays before.out run ready did.call did.is_ready lays did.is_next) is.so_far in
       subst (λ (r : CommitRun). IsCommitting setting first next r after)
@@ -225,7 +225,6 @@ module _ (setting : Setting) (first next : Kept) where
         right = is.right;
         alike = is.alike;
         entries_are = is.entries_are;
-        to_is = is.to_is;
         parity_is = is.parity_is;
         area = is.area;
         near = is.near;
@@ -281,11 +280,11 @@ module _ (setting : Setting) (first next : Kept) where
       subst (λ (stage : Stage). CommitsSoFar setting first next stage stepped.uber stepped.calls before)
       (ended_signs before.out run stepped did.none did.is_ready) is.so_far in
       subst (λ (p : Point). Knows setting next [] p.disk) (sym did.same)
-      (commit_ends setting first (next ∷ []) next [] stepped.uber before (row_kept is.row is.to_is is.parity_is)
-      is.sound is.to_is (above is.near) (only_next is.near) within
+      (commit_ends setting first (next ∷ []) next [] stepped.uber before (row_kept is.row is.parity_is)
+      is.sound (above is.near) (only_next is.near) within
       (signs_end setting (first ∷ next ∷ []) before.disk.clock first (next ∷ []) next stepped.uber
       (paged_of first is.sound_first) (paged_of next is.sound)
-      (signer_of setting first next stepped.uber is.right is.alike is.sound is.to_is)
+      (signer_of setting first next stepped.uber is.right is.alike is.sound (is.row.widths 1 next (omega arith)).most)
       (slots_of setting first next is.near) (ap (λ (u : Uber). u.group) is.alike)
       (record { before = []; after = []; row = sym (append-nil (first ∷ next ∷ [])) })
       stepped.calls before
@@ -295,16 +294,17 @@ module _ (setting : Setting) (first next : Kept) where
           → first.uber.group ≤ next.uber.group
       above near = ⊎_elim (λ one. omega (arith, one)) (λ two. omega (arith, two)) near
 
-      row_kept : IsSuccession setting first (next ∷ []) → next.uber.reflow.to ≡ first.uber.reflow.to
-          → next.uber.parity ≡ first.uber.parity
+      row_kept : IsSuccession setting first (next ∷ []) → next.uber.parity ≡ first.uber.parity
           → IsSuccession setting next []
-      row_kept row to_is parity_is = record {
+      row_kept row parity_is = record {
         few = (let few = row.few in omega (arith, few, parity_is));
+        wide = (let wide = row.wide in omega (arith, wide, parity_is));
         ascending = λ one two default less low. absurd (omega (arith, less, low));
         further = λ k default low. absurd (omega (arith, low));
-        inside = λ device below works. row.inside device (omega (arith, below, to_is)) works;
+        widths = only_width setting next (row.widths 1 next (omega arith));
+        inside = row.inside;
         device = row.device;
-        below = (let below = row.below in omega (arith, below, to_is));
+        below = row.below;
         works = row.works;
       }
 
@@ -342,7 +342,6 @@ committing_begins setting earlier first next point right lawful may = record {
   right = right;
   alike = refl;
   entries_are = refl;
-  to_is = may.to_is;
   parity_is = may.parity_is;
   area = may.area;
   near = may.near;

@@ -1,5 +1,5 @@
 -- Copies as a whole: from what may be copied to what each device has for certain.
-use Rattle.std.proofs.Common.{◌≡◌, ◌⊎◌, inl, inr, ⊎_elim, ℕ, ◌+◌, ◌*◌, ◌<◌, List, [], ◌∷◌, length, Bool, true, false, Some, Ok, Err, refl, sym, ◌∙◌, ap, subst}
+use Rattle.std.proofs.Common.{◌≡◌, ◌⊎◌, inl, inr, ⊎_elim, ℕ, ◌+◌, ◌*◌, ◌<◌, List, [], ◌∷◌, length, Bool, true, false, Some, Ok, Err, refl, sym, ◌∙◌, ap, subst, ◌≤◌}
 use Rattle.std.specs.Prelude.{All, slice_get}
 use Rattle.std.proofs.lemmas.List.{append-nil}
 use Rattle.bank_trait.specs.Disk.{Lawful}
@@ -19,6 +19,7 @@ use Rattle.core_state.specs.Moment.{IsRowOf, KeepsSince}
 use Rattle.core_state.proofs.Laying.{IsPaged}
 use Rattle.core_state.proofs.Signing.{IsSigner, signed_passed, signed_laid, signed_signed, signed_sealed}
 use Rattle.core_state.proofs.Since.{since_more, since_now}
+use Rattle.core_state.proofs.Widths.{listed_width, width_like}
 use Rattle.core_commit.specs.declared.committing.TooManyOut.{TooManyOut}
 use Rattle.core_commit.specs.Ran.{MadeOne, Step, Ran, RanBy, IsCallInPool}
 use Rattle.core_commit.specs.Copies.{Copied, group_copied, IsInUse, HasCopy, StaysKnown, MayCopy, CopyKeeps}
@@ -117,8 +118,12 @@ module _ (uber : Uber) (entries : List IndexEntry) (lack_page lack_uber : ℕ) (
       wide = length-index_page entries index.each ∙ ap (λ (n : ℕ). 512 * page_sectors n) counted;
     }
 
+    made_reach : made.uber.reflow.to ≤ setting.reach
+    made_reach = (width_like setting copied.kept made (ap (λ (u : Uber). u.reflow.to) may.same.alike)
+        (listed_width setting (copied.first ∷ copied.later) copied.kept may.knows.row.widths may.listed)).most
+
     signer : IsSigner setting copied.first made uber
-    signer = record { right = right; alike = refl; pool_is = may.pool_is; same_to = may.to_is }
+    signer = record { right = right; alike = refl; pool_is = may.pool_is; reach = made_reach }
 
     -- The copies have come so far; devices in use were in use before.
     record HasCopied (left : List CommitCall) (point : Point) : Type 0 where

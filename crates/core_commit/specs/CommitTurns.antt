@@ -115,7 +115,6 @@ pub record IsCommitting (setting : Setting) (first next : Kept) (run : CommitRun
   pub right : IsRightUber run.uber
   pub alike : AreAlike run.uber next.uber
   pub entries_are : run.entries ≡ next.entries
-  pub to_is : next.uber.reflow.to ≡ first.uber.reflow.to
   pub parity_is : next.uber.parity ≡ first.uber.parity
   pub area : first.uber.area ≢ next.uber.area
   pub near : (next.uber.group ≡ first.uber.group + 1) ⊎ (next.uber.group ≡ first.uber.group + 2)

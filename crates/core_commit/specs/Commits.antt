@@ -28,8 +28,8 @@ row_of begun = begun.later ++ begun.joined
 abbrev pub group_made : Begun → Uber → List IndexEntry → Kept
 group_made begun uber entries = record { uber = uber; entries = entries; map = begun.map }
 
--- The group goes to the other index area and another slot than the first one's, is of its devices, and
--- its blocks are read as it asks for them on each device in use.
+-- The group goes to the other index area and another slot than the first one's, and its blocks are read as
+-- it asks for them on each device in use.
 pub record MayCommit (begun : Begun) (uber : Uber) (entries : List IndexEntry) (point : Point) : Type 0
   where
     pub knows : Knows begun.setting begun.first begun.later point.disk
@@ -38,7 +38,6 @@ pub record MayCommit (begun : Begun) (uber : Uber) (entries : List IndexEntry) (
     pub sound : IsSound begun.setting begun.kept
     pub front : List Kept
     pub last : begun.first ∷ row_of begun ≡ front ++ begun.kept ∷ []
-    pub to_is : uber.reflow.to ≡ begun.first.uber.reflow.to
     pub parity_is : uber.parity ≡ begun.first.uber.parity
     pub area : begun.first.uber.area ≢ uber.area
     pub near : (uber.group ≡ begun.first.uber.group + 1) ⊎ (uber.group ≡ begun.first.uber.group + 2)

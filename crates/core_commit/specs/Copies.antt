@@ -36,7 +36,6 @@ pub record MayCopy (copied : Copied) (uber : Uber) (entries : List IndexEntry) (
   pub listed : Contains (copied.first ∷ copied.later) copied.kept
   pub same : SameGroup copied.kept (group_copied copied uber entries)
   pub pool_is : uber.pool ≡ copied.setting.pool
-  pub to_is : uber.reflow.to ≡ copied.first.uber.reflow.to
   pub known : IsCertain copied.setting point.disk (copied.first ∷ copied.later) uber
   pub told : TellsHead (group_copied copied uber entries) point
   pub pages : (device part : ℕ) → IsInUse uber point device → has_device lack_page device ≡ false

@@ -1,6 +1,6 @@
 -- The chosen group may be copied to the devices that lack it.
 use Rattle.std.proofs.Common.{◌≡◌, ◌≢◌, ◌⊎◌, inl, inr, ⊎_elim, ℕ, ◌+◌, ◌*◌, ◌<◌, ◌≤◌, List, [], ◌∷◌, Bool, true, false, Option, Some, None, refl, sym, ◌∙◌, ap, subst, arith}
-use Rattle.std.specs.Prelude.{Contains, IsSome, take, drop, unwrap_or}
+use Rattle.std.specs.Prelude.{IsSome, take, drop, unwrap_or}
 use Rattle.std.proofs.lemmas.Bool.{cases_eq}
 use Rattle.bank_trait.specs.Disk.{Disk, Lawful, Unchanged}
 use Rattle.bank_trait.specs.Regions.{Tells}
@@ -11,7 +11,7 @@ use Rattle.uberblock_ring.specs.Uberblock.{Uber, slot_of, area_sector}
 use Rattle.uberblock_ring.specs.Valid.{AreAlike}
 use Rattle.core_state.specs.Shown.{Shape, Gives, IsCandidate}
 use Rattle.core_state.specs.Choosing.{IsChosen}
-use Rattle.core_state.specs.Keeps.{Kept, Setting}
+use Rattle.core_state.specs.Keeps.{Kept, Setting, Renews}
 use Rattle.core_state.specs.Collision.{HasNoOtherPage}
 use Rattle.core_state.specs.Certain.{SlotOn, Knows}
 use Rattle.core_state.specs.Committing.{Point}
@@ -56,8 +56,7 @@ module _ (setting : Setting) (first : Kept) (later : List Kept) (disk : Disk)
     (entries : List IndexEntry)
     (chosen : IsChosen setting.shape silent (present disk) device uber entries)
     (tells : Tells disk) (point : Point) (same : Unchanged disk point.disk)
-    (width : (kept : Kept) → Contains (first ∷ later) kept
-    → kept.uber.reflow.to ≡ first.uber.reflow.to) (lack_page lack_uber : ℕ)
+    (lack_page lack_uber : ℕ)
     (read : AreRead setting.shape silent disk uber entries lack_page lack_uber point) where
   abbrev kept : Kept
   kept = (chosen_held setting first later disk knows lawful silent within no_other device uber entries chosen).0.kept
@@ -68,12 +67,13 @@ module _ (setting : Setting) (first : Kept) (later : List Kept) (disk : Disk)
   abbrev pub copied : Copied
   copied = record { setting = setting; first = first; later = later; kept = kept; map = kept.map }
 
-  pub chosen_to : uber.reflow.to ≡ first.uber.reflow.to
-  chosen_to = ap (λ (u : Uber). u.reflow.to) alike ∙ width kept
-      (chosen_held setting first later disk knows lawful silent within no_other device uber entries chosen).0.listed
-
-  below_first : (on : ℕ) → IsInUse uber point on → on < first.uber.reflow.to
-  below_first on in_use = let below = in_use.0 in omega (arith, below, chosen_to)
+  -- Where the chosen group is the first, or renews it, its devices are the first one's.
+  below_first : (kept ≡ first) ⊎ Renews first kept → (on : ℕ) → IsInUse uber point on → on < first.uber.reflow.to
+  below_first near on in_use = let below = in_use.0 in
+      let to : uber.reflow.to ≡ kept.uber.reflow.to = ap (λ (u : Uber). u.reflow.to) alike in
+      let same_to : kept.uber.reflow.to ≡ first.uber.reflow.to =
+      ⊎_elim (λ is. ap (λ (k : Kept). k.uber.reflow.to) is) (λ renews. ap (λ (u : Uber). u.reflow.to) renews.alike) near in
+      omega (arith, below, to, same_to)
 
   told : (on device_sector : ℕ) → IsInUse uber point on → device_sector < 192
       → IsSome (disk.reads on device_sector)
@@ -100,14 +100,22 @@ module _ (setting : Setting) (first : Kept) (later : List Kept) (disk : Disk)
       → (first.uber.area ≢ uber.area) ⊎ (has_device setting.failed on ≡ true)
   spared_page on in_use lacks = by (has_device setting.failed on) refl
     where
+      near : (kept ≡ first) ⊎ Renews first kept → has_device setting.failed on ≡ false
+          → (first.uber.area ≢ uber.area) ⊎ (has_device setting.failed on ≡ true)
+      near is works = ⊎_elim
+          (λ same. absurd (read.lacks on in_use lacks
+          (chosen_page setting first later disk knows lawful silent within no_other device uber entries chosen on
+          (below_first is on in_use) works same)))
+          (λ apart. inl apart) (cases_eq first.uber.area uber.area)
+
       by : (b : Bool) → has_device setting.failed on ≡ b
           → (first.uber.area ≢ uber.area) ⊎ (has_device setting.failed on ≡ true)
       by true fails = inr fails
-      by false works = ⊎_elim
-          (λ same. absurd (read.lacks on in_use lacks
-          (chosen_page setting first later disk knows lawful silent within no_other device uber entries chosen on
-          (below_first on in_use) works same)))
-          (λ apart. inl apart) (cases_eq first.uber.area uber.area)
+      by false works = ⊎_elim (λ is. near (inl is) works)
+          (λ next. ⊎_elim
+          (λ one. inl (λ area. one.1 (sym (ap (λ (u : Uber). u.area) alike) ∙ sym area)))
+          (λ renews. near (inr renews) works) next)
+          (chosen_next setting first later disk knows lawful silent within no_other device uber entries chosen)
 
   spared_slot : (on : ℕ) → IsInUse uber point on → has_device lack_uber on ≡ true
       → (slot_of uber.group ≢ slot_of first.uber.group) ⊎ (has_device setting.failed on ≡ true)
@@ -122,7 +130,7 @@ module _ (setting : Setting) (first : Kept) (later : List Kept) (disk : Disk)
       by false works = ⊎_elim
           (λ same.
           let candidate = first_candidate setting first later disk knows lawful silent within no_other device uber
-          entries chosen on (below_first on in_use) works in
+          entries chosen on (below_first (inl same) on in_use) works in
           absurd (read.none on candidate.0 first.entries in_use lacks candidate.2
           (candidate.1 ∙ sym (ap (λ (k : Kept). k.uber.group) same) ∙ sym group)))
           (λ next. inl (λ slot. ⊎_elim
@@ -139,7 +147,6 @@ module _ (setting : Setting) (first : Kept) (later : List Kept) (disk : Disk)
     listed = (chosen_held setting first later disk knows lawful silent within no_other device uber entries chosen).0.listed;
     same = chosen_same setting first later disk knows lawful silent within no_other device uber entries chosen;
     pool_is = chosen_pool setting first later disk knows lawful silent within no_other device uber entries chosen;
-    to_is = chosen_to;
     known = certain_frame Nowhere none_lost setting disk point.disk (first ∷ later) uber (unchanged_frames same)
         (λ k d x bytes listed asks nowhere. absurd nowhere)
         (chosen_certain setting first later disk knows lawful silent within no_other device uber entries chosen);

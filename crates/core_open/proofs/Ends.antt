@@ -1,6 +1,6 @@
 -- What an opening keeps, from the calls that it made.
 use Rattle.std.proofs.Common.{◌≡◌, ⊎_elim, ℕ, zero, suc, ◌+◌, ◌^◌, ◌<◌, ◌≤◌, List, [], ◌∷◌, ◌++◌, Bool, true, false, Some, Result, Ok, refl, sym, ◌∙◌, ap, subst, arith, append_assoc}
-use Rattle.std.specs.Prelude.{Contains, ◌&&◌, unwrap_or}
+use Rattle.std.specs.Prelude.{◌&&◌, unwrap_or}
 use Rattle.std.proofs.lemmas.Bool.{cases_lt}
 use Rattle.bank_trait.specs.Disk.{Image, Disk, Lawful, Unchanged}
 use Rattle.bank_trait.specs.Regions.{Tells}
@@ -24,7 +24,7 @@ use Rattle.core_commit.specs.declared.committing.TooManyOut.{TooManyOut}
 use Rattle.core_commit.specs.Copies.{Copied, MayCopy}
 use Rattle.core_open.specs.Causes.{IsChoiceWithout}
 use Rattle.core_open.specs.Holds.{HoldsImage, shape_of}
-use Rattle.core_open.specs.Opens.{MayOpen, IsWithinBelow, AddsOne, HasOpened, HasSpread, renewed_by, every_device}
+use Rattle.core_open.specs.Opens.{IsSizedAsOne, MayOpen, IsWithinBelow, AddsOne, HasOpened, HasSpread, renewed_by, every_device}
 use Rattle.core_open.proofs.ChosenCopies.{AreRead, told_bytes, may_copy}
 use Rattle.core_open.proofs.Unchanged.{unchanged_keeps}
 use Rattle.core_open.proofs.Joining.{since_longer, certain_alone}
@@ -79,28 +79,27 @@ module _ (setting : Setting) (first : Kept) (later : List Kept) (old : Disk)
   read : AreRead setting.shape silent old uber entries lack_page lack_uber before
   read = subst (λ (s : Shape). AreRead s silent old uber entries lack_page lack_uber before) (sym may.shape) read_of
 
-  to_is : (kept : Kept) → Contains (first ∷ later) kept → kept.uber.reflow.to ≡ first.uber.reflow.to
-  to_is kept listed = (may.width kept listed).0
-
   abbrev held : (held : IsKept setting (present old) (first ∷ later) uber) × (entries ≡ held.kept.entries)
   held = chosen_held setting first later old knows lawful silent within no_other device uber entries chosen
 
   abbrev kept : Kept
   kept = held.0.kept
 
-  -- It is of one width with the first, and of one parity.
-  pub width_is : (uber.reflow.to ≡ first.uber.reflow.to) × (uber.parity ≡ first.uber.parity)
-  width_is = (
-    ap (λ (u : Uber). u.reflow.to) held.0.alike ∙ to_is kept held.0.listed,
-    ap (λ (u : Uber). u.parity) held.0.alike ∙ (may.width kept held.0.listed).1,
-  )
+  -- It has the size of the group that was chosen.
+  pub sized_as_chosen : IsSizedAsOne (first ∷ later) uber
+  sized_as_chosen = record {
+    kept = kept;
+    listed = held.0.listed;
+    width_is = ap (λ (u : Uber). u.reflow.to) held.0.alike;
+    parity_is = ap (λ (u : Uber). u.parity) held.0.alike;
+  }
 
   abbrev group_copied_first : Copied
   group_copied_first = record { setting = setting; first = first; later = later; kept = kept; map = kept.map }
 
   may_first : MayCopy group_copied_first uber entries lack_page lack_uber before
   may_first = may_copy setting first later old knows lawful silent within no_other device uber entries chosen
-      may.tells before same to_is lack_page lack_uber read
+      may.tells before same lack_page lack_uber read
 
   row_first : (joined : List Kept) → IsRowOf ((first ∷ later) ++ joined) first later
   row_first joined = record { before = []; after = joined; row = refl }
@@ -133,8 +132,7 @@ module _ (setting : Setting) (first : Kept) (later : List Kept) (old : Disk)
       same = chosen_same setting first later old knows lawful silent within no_other device uber entries chosen;
       sound = chosen_sound setting first later old knows lawful silent within no_other device uber entries chosen;
       right = right;
-      to_is = to_is;
-      parity_is = (may.width kept held.0.listed).1;
+      parity_is = may.parity kept held.0.listed;
       stays = spread.keeps.stays group_copied_first may_first;
       copies = λ on in_use. spread.keeps.done group_copied_first may_first on in_use;
       within = all_within;

@@ -63,7 +63,7 @@ pub record IsOpen (old new : Disk) (opened : Opened) : Type 0 where
       → RenewsChoice (shape_of old) opened.silent image opened.uber opened.entries.items
   pub spares : SparesData (point_of opened.out old) (point_of opened.out new)
   pub kept : IsOpenedWith opened.uber opened.entries.items opened.silent opened.out old new
-  pub since : OpeningKeeps opened.uber.reflow.to opened.uber.out old new
+  pub since : OpeningKeeps opened.silent opened.uber.out old new
   pub only : TouchesOnly (IsOnBelow opened.uber.reflow.to) old new
   pub others : LeavesOthers old new
   pub writes : WritesInOrder old new opened.silent opened.uber
@@ -174,8 +174,8 @@ module _ (found : Found) (old mid new : Disk) (lawful : Lawful old) (same_found 
         kept = subst (λ (n : ℕ). IsOpenedWith opened.uber opened.entries.items n opened.out old new) (sym silent_is)
             (subst (λ (es : List IndexEntry). IsOpenedWith opened.uber es found.silent opened.out old new)
             (sym items) kept);
-        since = subst (λ (n : ℕ). OpeningKeeps n opened.uber.out old new) (sym wide)
-            (subst (λ (n : ℕ). OpeningKeeps found.uber.reflow.to n old new) (sym out_is) keeps);
+        since = subst (λ (n : ℕ). OpeningKeeps n opened.uber.out old new) (sym silent_is)
+            (subst (λ (n : ℕ). OpeningKeeps found.silent n old new) (sym out_is) keeps);
         only = subst (λ (n : ℕ). TouchesOnly (IsOnBelow n) old new) (sym wide)
             (found_touches found opened.out (Ok opened.uber) same_found writes);
         others = inr (λ image holds. (

@@ -1,8 +1,9 @@
 -- The group that an opening writes: two more than the chosen one, with its index page.
 use Rattle.std.proofs.Common.{◌≡◌, ◌≢◌, ◌⊎◌, inl, inr, ⊎_elim, ℕ, zero, suc, ◌+◌, ◌^◌, ◌<◌, ◌≤◌, List, [], ◌∷◌, ◌++◌, length, Bool, true, false, refl, sym, ◌∙◌, ap, subst, arith, append_assoc}
-use Rattle.std.specs.Prelude.{Contains, AllPairs, slice_index_or}
+use Rattle.std.specs.Prelude.{Contains, AllPairs, slice_index_or, All}
 use Rattle.std.proofs.lemmas.Bool.{cases_eq}
 use Rattle.std.proofs.lemmas.List.{append-nil, get_or_default}
+use Rattle.std.proofs.lemmas.List.Elements.{All-append}
 use Rattle.sha2.specs.Sha256.{sha256}
 use Rattle.width_map.specs.declared.birth.Birth.{Birth}
 use Rattle.width_map.specs.Births.{NoneAbove}
@@ -12,7 +13,7 @@ use Rattle.uberblock_ring.specs.Devices.{has_device, count_below, IsWithin}
 use Rattle.uberblock_ring.specs.Uberblock.{Uber}
 use Rattle.uberblock_ring.specs.Valid.{IsRightUber}
 use Rattle.core_state.specs.Index.{IsFitting, IsIndexOf}
-use Rattle.core_state.specs.Keeps.{Kept, Setting, IsNextOf, Renews, SameGroup}
+use Rattle.core_state.specs.Keeps.{Kept, Setting, IsNextOf, Renews, SameGroup, HasWidthIn}
 use Rattle.core_state.specs.Certain.{Asks, IsSound, IsCertain, IsSuccession, Knows}
 use Rattle.core_state.specs.Committing.{Point}
 use Rattle.core_state.specs.Moment.{IsRowOf}
@@ -22,6 +23,7 @@ use Rattle.core_state.proofs.Keeping.{fitting_alike}
 use Rattle.core_state.proofs.Listed.{contains_head, contains_tail, contains_cases, contains_none}
 use Rattle.core_state.proofs.Moving.{asks_same, knows_move, knows_widen}
 use Rattle.core_state.proofs.Reader.{same_group}
+use Rattle.core_state.proofs.Widths.{listed_width, only_width, width_like, widths_behind}
 use Rattle.core_commit.specs.Copies.{IsInUse, HasCopy, StaysKnown, MayCopy}
 use Rattle.core_commit.proofs.Rows.{IsBefore, last_alone, contains_front, contains_back}
 
@@ -133,8 +135,6 @@ pub record IsCopied (setting : Setting) (first : Kept) (later : List Kept) (kept
   pub same : SameGroup kept (record { uber = uber; entries = entries; map = kept.map })
   pub sound : IsSound setting kept
   pub right : IsRightUber uber
-  pub to_is : (other : Kept) → Contains (first ∷ later) other
-      → other.uber.reflow.to ≡ first.uber.reflow.to
   pub parity_is : kept.uber.parity ≡ first.uber.parity
   pub stays : StaysKnown (record { setting = setting; first = first; later = later; kept = kept; map = kept.map })
       uber entries point
@@ -258,21 +258,30 @@ module _ (setting : Setting) (first : Kept) (later : List Kept) (kept : Kept) (u
           let other_number : other.uber.group ≡ first.uber.group + 2 = ap (λ (u : Uber). u.group) others.alike in
           absurd (omega (arith, number, other_number, above))
 
-  kept_to : kept.uber.reflow.to ≡ first.uber.reflow.to
-  kept_to = is.to_is kept is.listed
+  kept_width : HasWidthIn setting kept
+  kept_width = listed_width setting (first ∷ later) kept knows.row.widths is.listed
+
+  fresh_width : HasWidthIn setting fresh
+  fresh_width = width_like setting kept fresh (ap (λ (u : Uber). u.reflow.to) is.same.alike) kept_width
+
+  -- Those from the chosen group on have a width that the pool may have.
+  back_widths : All (HasWidthIn setting) (kept ∷ back)
+  back_widths = widths_behind setting parts.0 (kept ∷ back) (subst (All (HasWidthIn setting)) parts.2 knows.row.widths)
 
   -- Such a row begins with the chosen group.
-  row_from : (more : List Kept) → AllPairs IsBefore (kept ∷ more)
+  row_from : (more : List Kept) → AllPairs IsBefore (kept ∷ more) → All (HasWidthIn setting) (kept ∷ more)
       → ((other : Kept) → Contains more other → IsNextOf kept other)
       → IsSuccession setting kept more
-  row_from more pairs next = record {
+  row_from more pairs widths next = record {
     few = (let few = knows.row.few in let parity = is.parity_is in omega (arith, few, parity));
+    wide = (let wide = knows.row.wide in let parity = is.parity_is in omega (arith, wide, parity));
     ascending = pairs;
     further = λ k default low. next (slice_index_or more k default)
         (k, low, get_or_default more k (slice_index_or more k default) default low);
-    inside = λ device below works. knows.row.inside device (omega (arith, below, kept_to)) works;
+    widths = widths;
+    inside = knows.row.inside;
     device = knows.row.device;
-    below = (let below = knows.row.below in omega (arith, below, kept_to));
+    below = knows.row.below;
     works = knows.row.works;
   }
 
@@ -290,7 +299,7 @@ module _ (setting : Setting) (first : Kept) (later : List Kept) (kept : Kept) (u
 
   -- From now on the chosen group is the first that is certain.
   pub knows_kept : Knows setting kept back point.disk
-  knows_kept = knows_move setting first later kept back point.disk (row_from back from_kept next_of) is.sound kept_to
+  knows_kept = knows_move setting first later kept back point.disk (row_from back from_kept back_widths next_of) is.sound
       (lowest is.near)
       (λ device below works. (is.copies device (in_use_left device below works)).sealed)
       (λ other has high. behind_kept parts.0 kept back other ordered
@@ -316,7 +325,8 @@ module _ (setting : Setting) (first : Kept) (later : List Kept) (kept : Kept) (u
       → Joins fresh (fresh ∷ []) (kept ∷ back)
   joins_fresh none = record {
     renews = fresh_renews;
-    row = row_from (back ++ fresh ∷ []) (pairs_more (kept ∷ back) fresh from_kept above) next;
+    row = row_from (back ++ fresh ∷ []) (pairs_more (kept ∷ back) fresh from_kept above)
+        (All-append (HasWidthIn setting) (kept ∷ back) (fresh ∷ []) back_widths (only_width setting fresh fresh_width)) next;
     last = refl;
   }
     where
@@ -345,7 +355,7 @@ module _ (setting : Setting) (first : Kept) (later : List Kept) (kept : Kept) (u
     kept ∷ (split_at back next has).0,
     record {
       renews = renewing (next_of next has);
-      row = subst (λ (g : List Kept). IsSuccession setting kept g) (sym (append-nil back)) (row_from back from_kept next_of);
+      row = subst (λ (g : List Kept). IsSuccession setting kept g) (sym (append-nil back)) (row_from back from_kept back_widths next_of);
       last = ap (λ (g : List Kept). kept ∷ g) (append-nil back ∙ (split_at back next has).2
           ∙ ap (λ (g : List Kept). (split_at back next has).0 ++ next ∷ g) (none_behind (split_at back next has).1 refl));
     },
@@ -443,7 +453,6 @@ module _ (setting : Setting) (first : Kept) (later : List Kept) (kept : Kept) (u
       listed = next_listed;
       same = next_same;
       pool_is = sym (ap (λ (u : Uber). u.pool) is.same.alike) ∙ is.sound.pool_is;
-      to_is = sym (ap (λ (u : Uber). u.reflow.to) is.same.alike);
       known = next_certain;
       told = is.stays.told;
       pages = λ device part in_use has low. (is.copies device in_use).page part low;
@@ -493,14 +502,18 @@ module _ (setting : Setting) (first : Kept) (later : List Kept) (kept : Kept) (u
           few = (let few = joins.row.few in
               let parity : next.uber.parity ≡ kept.uber.parity = ap (λ (u : Uber). u.parity) joins.renews.alike in
               omega (arith, few, parity));
+          wide = (let wide = joins.row.wide in
+              let parity : next.uber.parity ≡ kept.uber.parity = ap (λ (u : Uber). u.parity) joins.renews.alike in
+              omega (arith, wide, parity));
           ascending = λ one two default less low. absurd (omega (arith, less, low));
           further = λ k default low. absurd (omega (arith, low));
-          inside = λ device below works. joins.row.inside device (omega (arith, below, next_to)) works;
+          widths = only_width setting next (width_like setting kept next (sym next_to) kept_width);
+          inside = joins.row.inside;
           device = joins.row.device;
-          below = (let below = joins.row.below in omega (arith, below, next_to));
+          below = joins.row.below;
           works = joins.row.works;
         })
-        next_sound next_to
+        next_sound
         (let number : next.uber.group ≡ kept.uber.group + 2 = ap (λ (u : Uber). u.group) joins.renews.alike in
         omega (arith, number))
         (λ device below works. (copies device (used device below works)).sealed)

@@ -1,5 +1,5 @@
 -- What the writes of an opening keep, and who is out after them.
-use Rattle.std.proofs.Common.{◌≡◌, ◌⊎◌, inl, inr, ⊎_elim, ℕ, ◌+◌, ◌^◌, ◌<◌, ◌≤◌, List, Bool, true, false, Result, Ok, refl, sym, ◌∙◌, ap, subst, arith}
+use Rattle.std.proofs.Common.{◌≡◌, ◌⊎◌, inl, inr, ⊎_elim, ℕ, ◌+◌, ◌^◌, ◌<◌, ◌≤◌, List, Bool, true, false, Result, Ok, refl, sym, ◌∙◌, ap, subst, arith, ◌∷◌}
 use Rattle.std.proofs.lemmas.Bool.{cases_lt}
 use Rattle.bank_trait.specs.Causes.{FaultCounted}
 use Rattle.bank_trait.specs.Disk.{Image, Disk, Lawful, Later, Unchanged}
@@ -24,14 +24,14 @@ use Rattle.core_open.specs.Causes.{IsChoiceWithout, IsShownChoice, AreTooMany}
 use Rattle.core_open.specs.Failing.{HaveFailed}
 use Rattle.core_open.specs.Finding.{IsFoundIn, FitsOpening}
 use Rattle.core_open.specs.Holds.{HoldsImage, shape_of}
-use Rattle.core_open.specs.Opens.{MayOpen, IsWithinBelow, HasOpened, OpeningKeeps, CutsOpening, IsOpenedWith, HasRenewed, HasSpread, every_device}
+use Rattle.core_open.specs.Opens.{IsSizedAsOne, MayOpen, IsWithinBelow, HasOpened, OpeningKeeps, CutsOpening, IsOpenedWith, HasRenewed, HasSpread, every_device}
 use Rattle.core_open.specs.OpensFound.{WritesFound}
 use Rattle.core_open.proofs.ChosenCopies.{AreRead}
 use Rattle.core_open.specs.Writes.{IsRenewal, renewed_by}
 use Rattle.core_commit.proofs.Writing.{writes_none}
 use Rattle.core_open.proofs.InOrder.{in_order, renewed_in_order}
 use Rattle.core_open.proofs.Others.{found_touches}
-use Rattle.core_open.proofs.Ends.{present_held, width_is, since_copied, since_renewed, opened_next}
+use Rattle.core_open.proofs.Ends.{present_held, sized_as_chosen, since_copied, since_renewed, opened_next}
 use Rattle.core_open.proofs.Renewal.{count_within}
 use Rattle.core_open.proofs.Unchanged.{unchanged_then, holds_then}
 
@@ -207,23 +207,15 @@ module _ (found : Found) (old mid new : Disk) (lawful : Lawful old) (same_found 
         → IsWithinBelow found.uber.reflow.to found.silent listed
     missed listed stay device below gone = gone_listed listed stay device (found_missed device below gone)
 
-    -- Where those that are listed may fail, they may.
-    may_fail : (width listed failed : ℕ) → width ≡ found.uber.reflow.to
-        → IsWithinBelow found.uber.reflow.to found.silent listed → IsWithin listed failed
-        → IsWithinBelow width found.silent failed
-    may_fail width listed failed wide among all device below gone =
-        all device (among device (omega (arith, below, wide)) gone)
-
     -- An opening that stopped among its copies,
     pub keeps_copied : (ended : Result (Unit {0}) TooManyOut)
         → HasSpread found.uber found.entries.items writes.lack_page found.lacks_uber before (point_of out new) ended
-        → OpeningKeeps found.uber.reflow.to found.out old new
+        → OpeningKeeps found.silent found.out old new
     keeps_copied ended spread = record {
-      since = λ setting first later may wide all. since_copied setting first later old may lawful before same_asked
+      since = λ setting first later may within all. since_copied setting first later old may lawful before same_asked
           found.silent found.device found.uber found.entries.items
           (found_in (present old) (present_held old may.tells)).chosen writes.lack_page found.lacks_uber
-          (are_read may.tells) right
-          (may_fail first.uber.reflow.to found.out setting.failed wide found_missed all)
+          (are_read may.tells) right within
           (point_of out new) ended spread;
     }
 
@@ -231,25 +223,23 @@ module _ (found : Found) (old mid new : Disk) (lawful : Lawful old) (same_found 
     pub keeps_renewed : (renewed : Uber) (ended : Result (Unit {0}) TooManyOut)
         → (ran : HasRenewed found.uber found.entries.items writes.lack_page found.lacks_uber before renewed
         (point_of out new) ended)
-        → OpeningKeeps found.uber.reflow.to ran.mid.out old new
+        → OpeningKeeps found.silent ran.mid.out old new
     keeps_renewed renewed ended ran = record {
-      since = λ setting first later may wide all. since_renewed setting first later old may lawful before same_asked
+      since = λ setting first later may within all. since_renewed setting first later old may lawful before same_asked
           found.silent found.device found.uber found.entries.items
           (found_in (present old) (present_held old may.tells)).chosen writes.lack_page found.lacks_uber
-          (are_read may.tells) right
-          (may_fail first.uber.reflow.to ran.mid.out setting.failed wide
-          (missed ran.mid.out ran.copied.gone.stay) all)
+          (are_read may.tells) right within
           ran.mid ran.value ran.copied all (lists may.tells) ran.few writes.limit
           (point_of out new) ended
           (subst (λ (u : Uber). HasSpread u found.entries.items 0 every_device ran.mid (point_of out new) ended)
           ran.renewed_is ran.spread);
     }
 
-    -- The chosen group has the width and the parity of the groups that were kept.
-    width_kept : (setting : Setting) (first : Kept) (later : List Kept) → MayOpen setting first later old
+    -- The chosen group has the size of one of the groups that were kept.
+    size_kept : (setting : Setting) (first : Kept) (later : List Kept) → MayOpen setting first later old
         → IsWithinBelow first.uber.reflow.to found.silent setting.failed
-        → (found.uber.reflow.to ≡ first.uber.reflow.to) × (found.uber.parity ≡ first.uber.parity)
-    width_kept setting first later may within = width_is setting first later old may lawful before same_asked
+        → IsSizedAsOne (first ∷ later) found.uber
+    size_kept setting first later may within = sized_as_chosen setting first later old may lawful before same_asked
         found.silent found.device found.uber found.entries.items
         (found_in (present old) (present_held old may.tells)).chosen writes.lack_page found.lacks_uber
         (are_read may.tells) right within
@@ -260,14 +250,16 @@ module _ (found : Found) (old mid new : Disk) (lawful : Lawful old) (same_found 
         (point_of out new) (Ok value)
         → IsOpenedWith renewed found.entries.items found.silent out old new
     kept_renewed renewed value ran =
-        let to : renewed.reflow.to ≡ found.uber.reflow.to = ap (λ (u : Uber). u.reflow.to) ran.renewed_is in
         record {
-          width = λ setting first later may within.
-              let same = width_kept setting first later may within in (
-                to ∙ same.0,
-                ap (λ (u : Uber). u.parity) ran.renewed_is ∙ same.1,
-              );
-          kept = λ setting first later may wide all.
+          sized = λ setting first later may within.
+              let one = size_kept setting first later may within in
+              record {
+                kept = one.kept;
+                listed = one.listed;
+                width_is = ap (λ (u : Uber). u.reflow.to) ran.renewed_is ∙ one.width_is;
+                parity_is = ap (λ (u : Uber). u.parity) ran.renewed_is ∙ one.parity_is;
+              };
+          kept = λ setting first later may within all.
               let listed : IsWithin ran.mid.out setting.failed =
               λ device has. all device (ran.spread.gone.stay device has) in
               subst (λ (u : Uber). HasOpened setting first later u found.entries.items found.silent old new)
@@ -275,9 +267,7 @@ module _ (found : Found) (old mid new : Disk) (lawful : Lawful old) (same_found 
               (opened_next setting first later old may lawful before same_asked
               found.silent found.device found.uber found.entries.items
               (found_in (present old) (present_held old may.tells)).chosen writes.lack_page found.lacks_uber
-              (are_read may.tells) right
-              (may_fail first.uber.reflow.to ran.mid.out setting.failed (wide ∙ to)
-              (missed ran.mid.out ran.copied.gone.stay) listed)
+              (are_read may.tells) right within
               ran.mid ran.value ran.copied listed (lists may.tells) ran.few writes.limit
               (point_of out new) value
               (subst (λ (u : Uber). HasSpread u found.entries.items 0 every_device ran.mid (point_of out new) (Ok value))

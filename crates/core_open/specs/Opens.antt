@@ -27,7 +27,7 @@ use Rattle.core_open.specs.Lacking.{HasAllBut}
 use Rattle.core_open.specs.Regions.{IsOnBelow}
 pub use Rattle.core_open.specs.Writes.{every_device, renewed_by, WritesInOrder}
 
--- Each image that a crash may leave keeps these groups, all of one width; the bank tells what it holds,
+-- Each image that a crash may leave keeps these groups, all of one parity; the bank tells what it holds,
 -- and no page in that is another's by chance.
 pub record MayOpen (setting : Setting) (first : Kept) (later : List Kept) (disk : Disk) : Type 0 where
   pub keeps : BankKeeps setting first later disk
@@ -35,8 +35,7 @@ pub record MayOpen (setting : Setting) (first : Kept) (later : List Kept) (disk 
   pub tells : Tells disk
   pub pages : (image : Image) → HoldsImage disk image
       → HasNoOtherPage setting (first ∷ later) image
-  pub width : (kept : Kept) → Contains (first ∷ later) kept
-      → (kept.uber.reflow.to ≡ first.uber.reflow.to) × (kept.uber.parity ≡ first.uber.parity)
+  pub parity : (kept : Kept) → Contains (first ∷ later) kept → kept.uber.parity ≡ first.uber.parity
 
 -- At most one group joins these, which renews one of them.
 pub record AddsOne (groups joined : List Kept) : Type 0 where
@@ -50,12 +49,12 @@ IsWithinBelow width devices others = (device : ℕ) → device < width
     → has_device devices device ≡ true
     → has_device others device ≡ true
 
--- Where these devices may fail, each image since the opening of a pool of this width began keeps some of the
--- groups that were kept then and the one that it adds.
-pub record OpeningKeeps (width borne : ℕ) (old new : Disk) : Type 0 where
+-- Where the silent devices of the pool and those to be borne may fail, each image since the opening began
+-- keeps some of the groups that were kept then and the one that it adds.
+pub record OpeningKeeps (silent borne : ℕ) (old new : Disk) : Type 0 where
   pub since : (setting : Setting) (first : Kept) (later : List Kept)
       → MayOpen setting first later old
-      → first.uber.reflow.to ≡ width → IsWithin borne setting.failed
+      → IsWithinBelow first.uber.reflow.to silent setting.failed → IsWithin borne setting.failed
       → (joined : List Kept) × AddsOne (first ∷ later) joined
       × KeepsSince setting ((first ∷ later) ++ joined) old.clock new
 
@@ -75,7 +74,7 @@ pub record CutsOpening (old new : Disk) : Type 0 where
   pub each : (image : Image) → HoldsImage old image
       → AreOutIn old new silent width parity borne image
   -- Where these may fail, what was kept is kept; and no device is touched but those of the pool.
-  pub keeps : OpeningKeeps width borne old new
+  pub keeps : OpeningKeeps silent borne old new
   pub only : TouchesOnly (IsOnBelow width) old new
   -- What it wrote, it wrote in this order.
   pub writes : (renewed : Uber) × WritesInOrder old new silent renewed
@@ -119,17 +118,24 @@ pub record HasOpened (setting : Setting) (first : Kept) (later : List Kept) (ube
       → (shown : IsChoiceWithout (shape_of old) silent image)
       × (shown.uber.group ≡ chosen.uber.group)
 
--- A pool is opened with this uberblock and index, wherever the groups that were kept have its width and all
--- devices that are out may fail. It has their width and parity where the silent ones may.
+-- The uberblock has as many devices and parities as one of these groups.
+pub record IsSizedAsOne (groups : List Kept) (uber : Uber) : Type 0 where
+  pub kept : Kept
+  pub listed : Contains groups kept
+  pub width_is : uber.reflow.to ≡ kept.uber.reflow.to
+  pub parity_is : uber.parity ≡ kept.uber.parity
+
+-- A pool is opened with this uberblock and index, wherever its silent devices and all those that are out may
+-- fail. It has the size of a group that was kept where the silent ones may.
 pub record IsOpenedWith (uber : Uber) (entries : List IndexEntry) (silent out : ℕ) (old new : Disk) : Type 0
   where
-    pub width : (setting : Setting) (first : Kept) (later : List Kept)
+    pub sized : (setting : Setting) (first : Kept) (later : List Kept)
         → MayOpen setting first later old
         → IsWithinBelow first.uber.reflow.to silent setting.failed
-        → (uber.reflow.to ≡ first.uber.reflow.to) × (uber.parity ≡ first.uber.parity)
+        → IsSizedAsOne (first ∷ later) uber
     pub kept : (setting : Setting) (first : Kept) (later : List Kept)
         → MayOpen setting first later old
-        → first.uber.reflow.to ≡ uber.reflow.to → IsWithin out setting.failed
+        → IsWithinBelow first.uber.reflow.to silent setting.failed → IsWithin out setting.failed
         → HasOpened setting first later uber entries silent old new
 
 -- The uberblock is the one that the devices choose but for the silent ones, with this index: only its number

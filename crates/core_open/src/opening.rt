@@ -135,7 +135,7 @@ pub fn open<B: Bank>(alloc: Global, bank: &mut B) -> Result<Opened, OpenWhy>
     ensures group { IfOk result (λ opened. 3 ≤ opened.uber.group) }
     ensures kept { IfOk result (λ opened. IsOpenedWith opened.uber opened.entries.items
         opened.silent opened.out (B.disk bank.old) (B.disk bank.new)) }
-    ensures since { IfOk result (λ opened. OpeningKeeps opened.uber.reflow.to
+    ensures since { IfOk result (λ opened. OpeningKeeps opened.silent
         opened.uber.out (B.disk bank.old) (B.disk bank.new)) }
     ensures cause { IfErr result (IsOpenCause (B.disk bank.old) (B.disk bank.new)) }
     ensures untouched { IfErr result (λ why.

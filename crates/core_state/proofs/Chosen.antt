@@ -21,6 +21,7 @@ use Rattle.core_state.proofs.Knowing.{present, present_might}
 use Rattle.core_state.proofs.Reader.{candidate_kept, same_group, shown_alike}
 use Rattle.core_state.proofs.Listed.{contains_head, contains_cases}
 use Rattle.core_state.proofs.PoolChosen.{pool_chosen, reads_left}
+use Rattle.core_state.proofs.Widths.{below_first}
 
 -- The page of one uberblock is that of another with the same area, count and digest.
 pub gives_same : (shape : Shape) (image : Image) (one other : Uber) (entries : List IndexEntry) (device : ℕ)
@@ -95,13 +96,16 @@ module _ (setting : Setting) (first : Kept) (later : List Kept) (disk : Disk)
         },
       )
 
+  works_below : knows.row.device < first.uber.reflow.to
+  works_below = below_first setting first later knows.row.device knows.row.widths knows.row.below
+
   pub chosen_above : first.uber.group ≤ uber.group
   chosen_above =
-      let candidate = first_candidate knows.row.device knows.row.below knows.row.works in
+      let candidate = first_candidate knows.row.device works_below knows.row.works in
       let group = candidate.1 in
       ⊎_elim (λ less. omega (arith, less, group)) (λ same. let number = same.0 in omega (arith, number, group))
       (chosen.first knows.row.device candidate.0 first.entries
-      (reads_left setting first later image keeps silent within knows.row.device knows.row.below knows.row.works) candidate.2)
+      (reads_left setting first later image keeps silent within knows.row.device works_below knows.row.works) candidate.2)
 
   -- A candidate from the first group on is of one of the groups, with its index.
   pub candidate_is : (on : ℕ) (shown : Uber) (listed : List IndexEntry) → first.uber.group ≤ shown.group

@@ -24,6 +24,7 @@ use Rattle.core_state.proofs.Listed.{contains_head}
 use Rattle.core_state.proofs.Places.{asks_sector, right_widths, IsDataSector}
 use Rattle.core_state.proofs.Keeping.{fitting_alike}
 use Rattle.core_state.proofs.Knowing.{present, present_might, shows_same, encoded_some}
+use Rattle.core_state.proofs.Widths.{first_width}
 
 no_both : (o : Option (List ℕ)) (b : List ℕ) → o ≡ None → o ≡ Some b → ⊥
 no_both o b none some = cc
@@ -379,13 +380,13 @@ module _ (setting : Setting) (first : Kept) (later : List Kept) (disk : Disk)
           absurd (omega (arith, long))
 
   own_from : (d : ℕ) (uber : Uber) → IsAble setting.shape disk d uber
-      → d < first.uber.reflow.to
+      → d < setting.reach
       → uber.pool ≡ setting.pool
   own_from d uber is below =
       (keeps (showing d uber) (showing_might d uber is)).own d uber below (showing_shows d uber is)
 
   -- Some device of the pool has not failed.
-  some_works : (device : ℕ) × (device < first.uber.reflow.to) × (has_device setting.failed device ≡ false)
+  some_works : (device : ℕ) × (device < setting.base) × (has_device setting.failed device ≡ false)
   some_works =
       let shown = kept_here.there.shown in
       let right = shown.2.shows.valid.right in
@@ -394,8 +395,9 @@ module _ (setting : Setting) (first : Kept) (later : List Kept) (disk : Disk)
       let parity : shown.0.parity ≡ first.uber.parity = ap (λ (u : Uber). u.parity) alike in
       let to : shown.0.reflow.to ≡ first.uber.reflow.to = ap (λ (u : Uber). u.reflow.to) alike in
       let widths = right_widths shown.0 right in
-      let n = first.uber.reflow.to in
-      let rest : n + (16 - n) ≡ 16 = omega (arith, right.widths, to) in
+      let low = (first_width setting first later kept_here.widths).least in
+      let n = setting.base in
+      let rest : n + (16 - n) ≡ 16 = omega (arith, right.widths, to, low) in
       let all : count_below setting.failed (n + (16 - n)) ≡ count_below setting.failed 16 =
       ap (count_below setting.failed) rest in
       lacks_one setting.failed n
@@ -403,6 +405,7 @@ module _ (setting : Setting) (first : Kept) (later : List Kept) (disk : Disk)
         arith,
         all,
         kept_here.few,
+        kept_here.wide,
         right.widths,
         widths,
         parity,
@@ -440,9 +443,11 @@ module _ (setting : Setting) (first : Kept) (later : List Kept) (disk : Disk)
   keeps_know = record {
     row = record {
       few = kept_here.few;
+      wide = kept_here.wide;
       ascending = kept_here.ascending;
       further = kept_here.further;
-      inside = λ d below works. (kept_here.there.each d below works).2.shows.device_in;
+      widths = kept_here.widths;
+      inside = kept_here.inside;
       device = some_works.0;
       below = some_works.1;
       works = some_works.2;

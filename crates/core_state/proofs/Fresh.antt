@@ -16,9 +16,10 @@ use Rattle.core_state.specs.Map.{no_blocks}
 use Rattle.core_state.specs.Index.{IsFitting}
 use Rattle.core_state.specs.Shown.{Shape, Shows, Gives, page_on}
 use Rattle.core_state.specs.Choosing.{Names}
-use Rattle.core_state.specs.Whole.{Excepted, IsWhole}
-use Rattle.core_state.specs.Keeps.{Setting, Keeps, IsKept, ShowsOnly, StandsThere, ShowsCandidate, IsNotOutvoted}
+use Rattle.core_state.specs.Whole.{IsWhole}
+use Rattle.core_state.specs.Keeps.{Setting, Keeps, IsKept, ShowsOnly, StandsThere, ShowsCandidate, IsNotOutvoted, HasDevices, Kept}
 use Rattle.core_state.specs.Create.{IsNew, new_ring, rows_for, first_kept}
+use Rattle.core_state.proofs.Widths.{only_width}
 
 -- The empty set has no device.
 pub none_in : (device : ℕ) → has_device 0 device ≡ false
@@ -89,13 +90,15 @@ pub record IsSized (shape : Shape) (pool parity width : ℕ) : Type 0 where
   pub devices : width ≤ shape.devices
   pub sectors : 256 ≤ shape.sectors
 
-module _ (shape : Shape) (pool parity width failed : ℕ) (excepted : Excepted) (image : Image) (sized : IsSized shape pool parity width)
-    (few : count_below failed 16 ≤ parity) (new : IsNew shape (first_uber pool parity width (rows_for shape.sectors)) image) where
+module _ (setting : Setting) (parity width : ℕ) (image : Image) (sized : IsSized setting.shape setting.pool parity width)
+    (wide : parity < setting.base) (least : setting.base ≤ width) (most : width ≤ setting.reach) (inside : HasDevices setting)
+    (few : count_below setting.failed 16 ≤ parity)
+    (new : IsNew setting.shape (first_uber setting.pool parity width (rows_for setting.shape.sectors)) image) where
   abbrev uber_0 : Uber
-  uber_0 = first_uber pool parity width (rows_for shape.sectors)
+  uber_0 = first_uber setting.pool parity width (rows_for setting.shape.sectors)
 
-  abbrev setting_0 : Setting
-  setting_0 = record { shape = shape; pool = pool; failed = failed; excepted = excepted }
+  abbrev group_0 : Kept
+  group_0 = first_kept setting.pool parity width setting.shape.sectors
 
   right_0 : IsRightUber uber_0
   right_0 = record {
@@ -112,7 +115,7 @@ module _ (shape : Shape) (pool parity width failed : ℕ) (excepted : Excepted) 
     births = record { growing = (refl, tt); few = omega arith; wide = omega (arith, sized.width_in); last = refl; begun = (omega arith, tt) };
   }
 
-  shows_0 : (device : ℕ) → device < width → Shows shape image device uber_0
+  shows_0 : (device : ℕ) → device < width → Shows setting.shape image device uber_0
   shows_0 device below = record {
     device_in = omega (arith, below, sized.devices, sized.width_in);
     slot_in = omega (arith, sized.sectors);
@@ -120,7 +123,7 @@ module _ (shape : Shape) (pool parity width failed : ℕ) (excepted : Excepted) 
   }
 
   -- Nothing else is shown.
-  is_0 : (device : ℕ) (uber : Uber) → Shows shape image device uber → uber ≡ uber_0
+  is_0 : (device : ℕ) (uber : Uber) → Shows setting.shape image device uber → uber ≡ uber_0
   is_0 device uber shows = ⊎_elim (λ below. here below) (λ above. absurd (new.others device uber above shows)) (cases_lt device width)
     where
       elsewhere : (n : ℕ) → n ≢ 1 → new_ring uber_0 device n ≡ zero_sector
@@ -141,7 +144,7 @@ module _ (shape : Shape) (pool parity width failed : ℕ) (excepted : Excepted) 
           (cases_eq (slot_of uber.group) 1)
 
   -- The empty index is all that an image gives.
-  gives_0 : (device : ℕ) → device < min shape.devices 16 → Gives shape image uber_0 [] device
+  gives_0 : (device : ℕ) → device < min setting.shape.devices 16 → Gives setting.shape image uber_0 [] device
   unfolding page_on index_page
   gives_0 device below = record {
     device_in = below;
@@ -160,7 +163,7 @@ module _ (shape : Shape) (pool parity width failed : ℕ) (excepted : Excepted) 
     apart = λ i j d low high. absurd (omega (arith, high));
   }
 
-  candidate_0 : (device : ℕ) → device < width → ShowsCandidate setting_0 image device uber_0 []
+  candidate_0 : (device : ℕ) → device < width → ShowsCandidate setting image device uber_0 []
   candidate_0 device below = record {
     shows = shows_0 device below;
     pool_is = refl;
@@ -171,7 +174,7 @@ module _ (shape : Shape) (pool parity width failed : ℕ) (excepted : Excepted) 
     fitting = fits_0;
   }
 
-  whole_0 : IsWhole shape.devices excepted image uber_0 [] no_blocks
+  whole_0 : IsWhole setting.shape.devices setting.excepted image uber_0 [] no_blocks
   whole_0 = record {
     index = record { listed = λ entry listed. absurd (omega (arith, listed.1)); every = λ id bytes held. absurd (none_some bytes held) };
     right = λ cell device of. absurd (omega (arith, of.listed.1));
@@ -180,9 +183,9 @@ module _ (shape : Shape) (pool parity width failed : ℕ) (excepted : Excepted) 
       none_some : (bytes : List ℕ) → None ≡ Some bytes → ⊥
       none_some bytes same = cc
 
-  kept_0 : IsKept setting_0 image (first_kept pool parity width shape.sectors ∷ []) uber_0
+  kept_0 : IsKept setting image (group_0 ∷ []) uber_0
   kept_0 = record {
-    kept = first_kept pool parity width shape.sectors;
+    kept = group_0;
     listed = (0, omega arith, refl);
     alike = refl;
     listing = record {
@@ -196,18 +199,18 @@ module _ (shape : Shape) (pool parity width failed : ℕ) (excepted : Excepted) 
     out = λ device is. absurd (none_is_in device is);
   }
 
-  shown_only : ShowsOnly setting_0 (first_kept pool parity width shape.sectors) [] image
+  shown_only : ShowsOnly setting group_0 [] image
   shown_only device uber above shows pool_is =
-      subst (λ (u : Uber). IsKept setting_0 image (first_kept pool parity width shape.sectors ∷ []) u) (sym (is_0 device uber shows)) kept_0
+      subst (λ (u : Uber). IsKept setting image (group_0 ∷ []) u) (sym (is_0 device uber shows)) kept_0
 
   -- Some device of the pool works.
-  works : (device : ℕ) × (device < width) × (has_device failed device ≡ false)
+  works : (device : ℕ) × (device < width) × (has_device setting.failed device ≡ false)
   works =
       let rest : width + (16 - width) ≡ 16 = omega (arith, sized.width_in) in
-      let all : count_below failed (width + (16 - width)) ≡ count_below failed 16 = ap (count_below failed) rest in
-      lacks_one failed width (omega (arith, all, few, sized.width_in, count_grows failed width (16 - width)))
+      let all : count_below setting.failed (width + (16 - width)) ≡ count_below setting.failed 16 = ap (count_below setting.failed) rest in
+      lacks_one setting.failed width (omega (arith, all, few, sized.width_in, count_grows setting.failed width (16 - width)))
 
-  there_0 : StandsThere setting_0 (first_kept pool parity width shape.sectors) image
+  there_0 : StandsThere setting group_0 image
   there_0 = record {
     device = works.0;
     works = works.2;
@@ -217,21 +220,24 @@ module _ (shape : Shape) (pool parity width failed : ℕ) (excepted : Excepted) 
   }
 
   -- No device names another pool.
-  votes_0 : IsNotOutvoted setting_0 (first_kept pool parity width shape.sectors) image
+  votes_0 : IsNotOutvoted setting image
   votes_0 other [] differs distinct each = omega arith
   votes_0 other (device ∷ others) differs distinct each =
-      let names : Names shape 0 image other device = (each 0 device (omega arith)).names in
-      let same : names.uber.pool ≡ pool = ap (λ (u : Uber). u.pool) (is_0 device names.uber names.shows) in
+      let names : Names setting.shape 0 image other device = (each 0 device (omega arith)).names in
+      let same : names.uber.pool ≡ setting.pool = ap (λ (u : Uber). u.pool) (is_0 device names.uber names.shows) in
       absurd (differs (sym names.pool_is ∙ same))
 
   -- Each image of a new pool keeps its first group, whichever devices fail, at most as many as there is parity.
-  pub fresh_keeps : Keeps setting_0 (first_kept pool parity width shape.sectors) [] image
+  pub fresh_keeps : Keeps setting group_0 [] image
   fresh_keeps = record {
     few = few;
+    wide = wide;
     only = shown_only;
     there = there_0;
     ascending = λ i j d low high. absurd (omega (arith, low, high));
     further = λ k d low. absurd (omega (arith, low));
+    widths = only_width setting group_0 (record { least = least; most = most });
+    inside = inside;
     own = λ device uber below shows. ap (λ (u : Uber). u.pool) (is_0 device uber shows);
     votes = votes_0;
   }

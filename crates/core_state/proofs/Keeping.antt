@@ -18,6 +18,7 @@ use Rattle.core_state.specs.Keeps.{Kept, Setting, Keeps, IsKept, ShowsGroup}
 use Rattle.core_state.specs.Collision.{MightStand, BankKeeps}
 use Rattle.core_state.specs.Certain.{Asks, joined, PageOn, IsSound, IsCertain, Knows, certain}
 use Rattle.core_state.proofs.Fresh.{none_in}
+use Rattle.core_state.proofs.Widths.{below_first, first_within}
 
 -- The sectors of a page, end to end.
 sectors_are : (image : Image) (device first : ℕ) (parts : List (List ℕ))
@@ -118,6 +119,9 @@ module _ (setting : Setting) (first : Kept) (later : List Kept) (disk : Disk)
         out = is.out;
       }
 
+  first_in : (device : ℕ) → device < first.uber.reflow.to → device < setting.reach
+  first_in device below = first_within setting first later device knows.row.widths below
+
   -- Each device of the first group that hasn't failed shows a candidate of it.
   shows_first : (device : ℕ) → device < first.uber.reflow.to
       → has_device setting.failed device ≡ false
@@ -125,7 +129,7 @@ module _ (setting : Setting) (first : Kept) (later : List Kept) (disk : Disk)
   shows_first device below works =
       let slot = knows.slots device below works in
       let sound = knows.sound in
-      let inside = knows.row.inside device below works in
+      let inside = knows.row.inside device (first_in device below) works in
       let group : slot.uber.group ≡ first.uber.group = ap (λ (u : Uber). u.group) slot.alike in
       let rows : slot.uber.reflow.rows ≡ first.uber.reflow.rows =
       ap (λ (u : Uber). u.reflow.rows) slot.alike in
@@ -158,18 +162,22 @@ module _ (setting : Setting) (first : Kept) (later : List Kept) (disk : Disk)
   knows_keeps : Keeps setting first later image
   knows_keeps = record {
     few = knows.row.few;
+    wide = knows.row.wide;
     only = kept_from;
     there = record {
       device = knows.row.device;
       works = knows.row.works;
-      shown = shows_first knows.row.device knows.row.below knows.row.works;
+      shown = shows_first knows.row.device
+          (below_first setting first later knows.row.device knows.row.widths knows.row.below) knows.row.works;
       each = shows_first;
       pages = λ device below works.
           page_given setting disk image first first.uber device might.fits knows.sound refl
-          (knows.row.inside device below works) (knows.pages device below works);
+          (knows.row.inside device (first_in device below) works) (knows.pages device below works);
     };
     ascending = knows.row.ascending;
     further = knows.row.further;
+    widths = knows.row.widths;
+    inside = knows.row.inside;
     own = λ device uber below shows. knows.own device uber
         (record {
           device_in = shows.device_in;

@@ -79,26 +79,26 @@ names_same shape silent image other pool device same names = record {
   pool_is = names.pool_is;
 }
 
-module _ (setting : Setting) (first : Kept) (here : ℕ → ℕ → Type 0) (lost : ℕ → Bool)
+module _ (setting : Setting) (here : ℕ → ℕ → Type 0) (lost : ℕ → Bool)
     (old new : Disk) (lawful : Lawful old) (frames : Frames here lost old new)
-    (inside : (d x : ℕ) → here d x → x < 32 → d < first.uber.reflow.to) where
+    (inside : (d x : ℕ) → here d x → x < 32 → d < setting.reach) where
   -- An image from before a call that has the rings outside the pool as a given one from after it.
   earlier : Image → Image
-  earlier image d x = if nat_lt d first.uber.reflow.to then present old d x
+  earlier image d x = if nat_lt d setting.reach then present old d x
       else unwrap_or (certain old d x) (image d x)
 
-  earlier_inside : (image : Image) (d x : ℕ) → d < first.uber.reflow.to
+  earlier_inside : (image : Image) (d x : ℕ) → d < setting.reach
       → earlier image d x ≡ present old d x
   unfolding earlier
   earlier_inside image d x below = grind (arith, nat_tests, below)
 
-  earlier_outside : (image : Image) (d x : ℕ) → first.uber.reflow.to ≤ d
+  earlier_outside : (image : Image) (d x : ℕ) → setting.reach ≤ d
       → earlier image d x ≡ unwrap_or (certain old d x) (image d x)
   unfolding earlier
   earlier_outside image d x above = grind (arith, nat_tests, above)
 
   same_ring : (image : Image) → Fits (certain new) image → (d x : ℕ)
-      → first.uber.reflow.to ≤ d → x < 32
+      → setting.reach ≤ d → x < 32
       → image d x ≡ earlier image d x
   same_ring image fits d x above low =
       by (certain old d x) refl ∙ sym (earlier_outside image d x above)
@@ -122,7 +122,7 @@ module _ (setting : Setting) (first : Kept) (here : ℕ → ℕ → Type 0) (los
           (λ below. earlier_inside image d x below
           ∙ ap (λ o. unwrap_or o []) (lawful.stays_read d x b known))
           (λ above. earlier_outside image d x above ∙ ap (λ o. unwrap_or o (image d x)) known)
-          (cases_lt d first.uber.reflow.to)
+          (cases_lt d setting.reach)
 
       ring : (d : ℕ) (uber : Uber) → Shows setting.shape (earlier image) d uber
           → Contains (able old d (slot_of uber.group)) (encoded uber d)
@@ -134,13 +134,13 @@ module _ (setting : Setting) (first : Kept) (here : ℕ → ℕ → Type 0) (los
           (λ h. omega (arith, inside d (slot_of uber.group) h (slot_low uber.group), above))
           (might.written.ring d uber (shows_same setting.shape (earlier image) image d uber
           (λ slot low. sym (same_ring image might.fits d slot above low)) shows)))
-          (cases_lt d first.uber.reflow.to)
+          (cases_lt d setting.reach)
 
   -- A call that writes rings of the pool's own devices alone changes no vote for another pool.
   pub votes_frame : ((image : Image) → MightStand setting.shape old old.clock image
-      → IsNotOutvoted setting first image)
+      → IsNotOutvoted setting image)
       → (image : Image) → MightStand setting.shape new new.clock image
-      → IsNotOutvoted setting first image
+      → IsNotOutvoted setting image
   votes_frame votes image might other others differs distinct each =
       votes (earlier image) (earlier_might image might) other others differs distinct
       (λ k d low. let names = each k d low in record {
@@ -241,7 +241,7 @@ knows_frame here lost setting first later old new lawful frames spare knows = re
       (λ kept d x bytes listed asks h. (spare d x h).cells kept bytes listed asks)
       (knows.only device uber (back device uber able_new) pool_is above);
   own = λ device uber able_new below. knows.own device uber (back device uber able_new) below;
-  votes = votes_frame setting first here lost old new lawful frames
+  votes = votes_frame setting here lost old new lawful frames
       (λ d x h low. absurd (let ring = (spare d x h).ring in omega (arith, ring, low))) knows.votes;
 }
   where
@@ -261,7 +261,7 @@ knows_frame here lost setting first later old new lawful frames spare knows = re
 pub knows_copy : (setting : Setting) (first : Kept) (later : List Kept) (old new : Disk)
     (device : ℕ) (uber : Uber) (result : Result (Unit {0}) Failed) → Lawful old
     → Wrote old new device (slot_of uber.group) (encoded uber device) result
-    → device < first.uber.reflow.to → first.uber.reflow.to ≤ 16 → IsRightUber uber
+    → device < setting.reach → device < 16 → IsRightUber uber
     → uber.pool ≡ setting.pool
     → IsCertain setting old (first ∷ later) uber
     → (slot_of uber.group ≢ slot_of first.uber.group) ⊎ (has_device setting.failed device ≡ true)
@@ -287,8 +287,8 @@ knows_copy setting first later old new device uber result lawful wrote below few
       own = λ e other is below_e. ⊎_elim
           (λ same. ap (λ (u : Uber). u.pool) same ∙ pool_is)
           (λ was. knows.own e other was below_e) (was_or e other is);
-      votes = votes_frame setting first (IsPlace device slot) none_lost old new lawful frames
-          (λ d x h low. subst (λ k. k < first.uber.reflow.to) (sym h.0) below) knows.votes;
+      votes = votes_frame setting (IsPlace device slot) none_lost old new lawful frames
+          (λ d x h low. subst (λ k. k < setting.reach) (sym h.0) below) knows.votes;
     }
   where
     slot : ℕ
@@ -313,7 +313,7 @@ knows_copy setting first later old new device uber result lawful wrote below few
         (λ same_d. ⊎_elim
         (λ same_x. ⊎_elim
         (λ bytes. inl (encoded_tells other uber device device is.right right
-        (omega (arith, below, few)) (omega (arith, below, few))
+        (omega (arith, few)) (omega (arith, few))
         (subst (λ k. encoded other k ≡ encoded uber device) same_d bytes)).0)
         (λ was. inr (able_old e other is
         (subst (λ y. Contains (able old e y) (encoded other e)) (sym same_x)

@@ -2,6 +2,7 @@ pub mod Items
 pub mod Rows
 pub mod Fresh
 pub mod CommitRows
+pub mod Widths
 pub mod Reader
 pub mod OpeningRows
 pub mod Listed

@@ -13,7 +13,7 @@ use Rattle.commit_job.specs.declared.call.CommitCall.{CommitCall}
 use Rattle.commit_job.specs.declared.call.CommitCall.TheVariants.{IndexWrite, BaseSync, UberWrite, UberSync}
 use Rattle.core_state.specs.Index.{IsIndexOf, IsListing}
 use Rattle.core_state.specs.Whole.{Cell, IsCellOf}
-use Rattle.core_state.specs.Keeps.{Kept, Setting, SameGroup, count_left}
+use Rattle.core_state.specs.Keeps.{Kept, Setting, SameGroup}
 use Rattle.core_state.specs.Certain.{Asks, IsSound, IsCertain, IsSuccession, Knows, certain}
 use Rattle.core_state.specs.Committing.{Among, Point, HasBase, IsSealed, Unsigned, Signed}
 use Rattle.core_state.proofs.Places.{asks_device}
@@ -54,14 +54,14 @@ knows_widen setting first later more disk row wider knows = record {
 -- The row begins at a later group, whose slots and pages are certain.
 pub knows_move : (setting : Setting) (first : Kept) (later : List Kept) (next : Kept)
     (more : List Kept) (disk : Disk) → IsSuccession setting next more → IsSound setting next
-    → next.uber.reflow.to ≡ first.uber.reflow.to → first.uber.group ≤ next.uber.group
+    → first.uber.group ≤ next.uber.group
     → ((device : ℕ) → device < next.uber.reflow.to → has_device setting.failed device ≡ false
     → IsSealed (certain disk) next device)
     → ((kept : Kept) → Contains (first ∷ later) kept → next.uber.group ≤ kept.uber.group
     → Contains (next ∷ more) kept)
     → Knows setting first later disk
     → Knows setting next more disk
-knows_move setting first later next more disk row sound same_to above sealed from_later knows =
+knows_move setting first later next more disk row sound above sealed from_later knows =
     record {
       row = row;
       sound = sound;
@@ -79,15 +79,8 @@ knows_move setting first later next more disk row sound same_to above sealed fro
             cells = is.cells;
             out = is.out;
           };
-      own = λ device uber able below. knows.own device uber able (omega (arith, below, same_to));
-      votes = λ image might other others differs distinct each.
-          let few = knows.votes image might other others differs distinct (λ k d low.
-          let names = each k d low in
-          record { outside = (let out = names.outside in omega (arith, out, same_to)); names = names.names }) in
-          let left : count_left setting.failed next.uber.reflow.to
-          ≡ count_left setting.failed first.uber.reflow.to =
-          ap (count_left setting.failed) same_to in
-          omega (arith, few, left);
+      own = knows.own;
+      votes = knows.votes;
     }
 
 cell_same : (parity : ℕ) (births : List Birth) (one other : Kept) (cell : Cell)
@@ -195,14 +188,14 @@ signs_begin setting first later more next uber plan late point may wider no_lay 
 -- begins with its group.
 pub commit_ends : (setting : Setting) (first : Kept) (later : List Kept) (next : Kept)
     (more : List Kept) (uber : Uber) (point : Point) → IsSuccession setting next more
-    → IsSound setting next → next.uber.reflow.to ≡ first.uber.reflow.to
+    → IsSound setting next
     → first.uber.group ≤ next.uber.group
     → ((kept : Kept) → Contains (first ∷ later) kept → next.uber.group ≤ kept.uber.group
     → Contains (next ∷ more) kept)
     → IsWithin point.out setting.failed → Signed setting first later next uber [] point
     → Knows setting next more point.disk
-commit_ends setting first later next more uber point row sound same_to above from_later within s =
-    knows_move setting first later next more point.disk row sound same_to above
+commit_ends setting first later next more uber point row sound above from_later within s =
+    knows_move setting first later next more point.disk row sound above
     (λ device below works. ⊎_elim (λ none. absurd none) (λ known. known)
     (s.sealed device below (in_use device works (has_device point.out device) refl)))
     from_later s.knows

@@ -9,10 +9,11 @@ use Rattle.uberblock_ring.specs.Devices.{has_device}
 use Rattle.uberblock_ring.specs.Uberblock.{Uber}
 use Rattle.core_state.specs.Shown.{Shape, Shows}
 use Rattle.core_state.specs.Choosing.{Names, Outvotes, IsChosenPool}
-use Rattle.core_state.specs.Keeps.{Kept, Setting, Keeps, NamesOther, count_left}
+use Rattle.core_state.specs.Keeps.{Kept, Setting, Keeps, NamesOther, count_left, HasWidthIn}
 use Rattle.core_state.proofs.Calls.{true_false}
 use Rattle.core_state.proofs.Fresh.{none_in}
 use Rattle.core_state.proofs.Listed.{contains_head, contains_tail}
+use Rattle.core_state.proofs.Widths.{first_width}
 
 -- A device that shows an uberblock names the pool of one of them: its greatest can't be missing.
 greatest_there : (shape : Shape) (image : Image) (device fuel : ℕ) (uber : Uber)
@@ -33,6 +34,14 @@ abbrev left_below : ℕ → ℕ → List ℕ
 left_below failed zero = []
 left_below failed (suc device) =
     if has_device failed device then left_below failed device else device ∷ left_below failed device
+
+-- Of more devices no fewer are left.
+pub left_more : (failed low high : ℕ) → low ≤ high → count_left failed low ≤ count_left failed high
+left_more failed low zero within = let same : low ≡ 0 = omega (arith, within) in omega (arith, ap (count_left failed) same)
+left_more failed low (suc high) within = ⊎_elim
+    (λ (less : low < suc high). let rest = left_more failed low high (omega (arith, less)) in omega (arith, rest))
+    (λ (same : suc high ≤ low). let is : low ≡ suc high = omega (arith, same, within) in omega (arith, ap (count_left failed) is))
+    (cases_lt low (suc high))
 
 -- Each of a list has this.
 abbrev Each : (ℕ → Type 0) → List ℕ → Type 0
@@ -122,6 +131,15 @@ module _ (setting : Setting) (first : Kept) (later : List Kept) (image : Image)
     (keeps : Keeps setting first later image) (silent : ℕ)
     (within : (device : ℕ) → device < first.uber.reflow.to → has_device silent device ≡ true
     → has_device setting.failed device ≡ true) where
+  width : HasWidthIn setting first
+  width = first_width setting first later keeps.widths
+
+  first_reach : first.uber.reflow.to ≤ setting.reach
+  first_reach = width.most
+
+  more_left : count_left setting.failed setting.base ≤ count_left setting.failed first.uber.reflow.to
+  more_left = left_more setting.failed setting.base first.uber.reflow.to width.least
+
   -- A device that may not fail is read.
   pub reads_left : (device : ℕ) → device < first.uber.reflow.to → has_device setting.failed device ≡ false
       → has_device silent device ≡ false
@@ -144,17 +162,17 @@ module _ (setting : Setting) (first : Kept) (later : List Kept) (image : Image)
         uber = uber;
         shows = shows;
         greatest = greatest;
-        pool_is = keeps.own device uber below shows;
+        pool_is = keeps.own device uber (omega (arith, below, first_reach)) shows;
       }))
       shown.2.shows (let group = right.group in omega (arith, group))
 
   -- Whoever names another pool is outside.
   other_outside : (pool : ℕ) → pool ≢ setting.pool → (device : ℕ) → Names setting.shape silent image pool device
-      → NamesOther setting first image pool device
+      → NamesOther setting image pool device
   other_outside pool other device names = record {
     outside = ⊎_elim
         (λ below. absurd (other (sym names.pool_is ∙ keeps.own device names.uber below names.shows)))
-        (λ above. above) (cases_lt device first.uber.reflow.to);
+        (λ above. above) (cases_lt device setting.reach);
     names = record {
       reads = none_in device;
       uber = names.uber;
@@ -185,14 +203,14 @@ module _ (setting : Setting) (first : Kept) (later : List Kept) (image : Image)
           let some : 0 < length own_voters = omega (arith, same, low) in
           let own = each_all (λ device. (device < first.uber.reflow.to) × (has_device setting.failed device ≡ false))
           own_voters (left_are setting.failed first.uber.reflow.to) 0 device some in
-          omega (arith, below 0 device some, own.0, outside, is)
+          omega (arith, below 0 device some, own.0, outside, is, first_reach)
 
       outvoted : pool ≢ setting.pool → Each (Names setting.shape silent image setting.pool) own_voters → ⊥
       outvoted other own =
           let few = keeps.votes pool chosen.voters other chosen.distinct
           (λ k default low. other_outside pool other _ (chosen.each k default low)) in
           let many = left_counted setting.failed first.uber.reflow.to in
-          ⊎_elim (λ more. omega (arith, more, few, many))
+          ⊎_elim (λ more. omega (arith, more, few, many, more_left))
           (λ tie. lowest other tie.0 tie.1.0 tie.1.1 tie.1.2)
           (chosen.wins setting.pool own_voters (λ same. other (sym same))
           (left_distinct setting.failed first.uber.reflow.to)
@@ -222,13 +240,13 @@ module _ (setting : Setting) (first : Kept) (later : List Kept) (image : Image)
           let many = left_counted setting.failed first.uber.reflow.to in
           ⊎_elim (λ less. inl less)
           (λ above. inr (
-            omega (arith, above, few, many),
+            omega (arith, above, few, many, more_left),
             (
               device,
               left_has setting.failed first.uber.reflow.to device below works,
               λ k default low.
                   let outside = (other_outside other apart _ (each k default low)).outside in
-                  omega (arith, below, outside),
+                  omega (arith, below, outside, first_reach),
             ),
           ))
           (cases_lt (length others) (length own_voters))

@@ -1,6 +1,6 @@
 -- The second half of a commit, and the copies of an opening: an uberblock that images may show is
 -- written, and each device synced.
-use Rattle.std.proofs.Common.{◌≡◌, ◌≢◌, ◌⊎◌, inl, inr, ⊎_elim, ℕ, ◌+◌, ◌<◌, List, ◌∷◌, true, false, Some, Result, sym, ◌∙◌, ap, subst, arith}
+use Rattle.std.proofs.Common.{◌≡◌, ◌≢◌, ◌⊎◌, inl, inr, ⊎_elim, ℕ, ◌+◌, ◌<◌, List, ◌∷◌, true, false, Some, Result, sym, ◌∙◌, ap, subst, arith, ◌≤◌}
 use Rattle.std.proofs.lemmas.Bool.{cases_eq}
 use Rattle.bank_trait.specs.declared.Failed.{Failed}
 use Rattle.bank_trait.specs.Disk.{Wrote, Synced}
@@ -26,7 +26,7 @@ pub record IsSigner (setting : Setting) (first next : Kept) (uber : Uber) : Type
   pub right : IsRightUber uber
   pub alike : AreAlike uber next.uber
   pub pool_is : uber.pool ≡ setting.pool
-  pub same_to : next.uber.reflow.to ≡ first.uber.reflow.to
+  pub reach : next.uber.reflow.to ≤ setting.reach
 
 abbrev pub IsSlotSpared : Setting → Kept → Kept → ℕ → Type 0
 IsSlotSpared setting first next device =
@@ -204,7 +204,7 @@ module _ (setting : Setting) (first : Kept) (later : List Kept) (next : Kept) (u
         moves
         (knows_copy setting first later before.disk after.disk device uber result s.lawful
         (subst (λ k. Wrote before.disk after.disk device k (encoded uber device) result) (sym slot) wrote)
-        (omega (arith, below, signer.same_to)) (omega (arith, widths, to, signer.same_to))
+        (let reach = signer.reach in omega (arith, below, reach)) (omega (arith, widths, to, below))
         signer.right signer.pool_is s.known
         (⊎_elim (λ ne. inl (λ same. ne (sym slot ∙ same))) (λ failed. inr failed) spared) s.knows)
         (certain_frame (IsPlace device (slot_of next.uber.group)) moves.lost setting before.disk

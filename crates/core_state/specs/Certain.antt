@@ -10,7 +10,7 @@ use Rattle.uberblock_ring.specs.Valid.{IsRightUber, AreAlike}
 use Rattle.core_state.specs.Index.{IsFitting, IsIndexOf, IsListing}
 use Rattle.core_state.specs.Shown.{Shape, read_devices}
 use Rattle.core_state.specs.Whole.{Excepted, Cell, IsCellOf}
-use Rattle.core_state.specs.Keeps.{Kept, Setting, IsNextOf, IsNotOutvoted}
+use Rattle.core_state.specs.Keeps.{Kept, Setting, IsNextOf, IsNotOutvoted, HasWidthIn, HasDevices}
 use Rattle.core_state.specs.Collision.{MightStand}
 
 -- what a crash now leaves for certain, and what each sector could hold after one
@@ -90,13 +90,13 @@ pub record IsCertain (setting : Setting) (disk : Disk) (groups : List Kept) (ube
 -- The groups are a row that an image may keep, and a device of the first has not failed.
 pub record IsSuccession (setting : Setting) (first : Kept) (later : List Kept) : Type 0 where
   pub few : count_below setting.failed 16 ≤ first.uber.parity
+  pub wide : first.uber.parity < setting.base
   pub ascending : AllPairs (λ one other. one.uber.group < other.uber.group) (first ∷ later)
   pub further : All (IsNextOf first) later
-  pub inside : (device : ℕ) → device < first.uber.reflow.to
-      → has_device setting.failed device ≡ false
-      → device < read_devices setting.shape
+  pub widths : All (HasWidthIn setting) (first ∷ later)
+  pub inside : HasDevices setting
   pub device : ℕ
-  pub below : device < first.uber.reflow.to
+  pub below : device < setting.base
   pub works : has_device setting.failed device ≡ false
 
 -- All that is certain between two turns: slots and index page of the first group on each of its
@@ -114,7 +114,7 @@ pub record Knows (setting : Setting) (first : Kept) (later : List Kept) (disk : 
       → uber.pool ≡ setting.pool → first.uber.group ≤ uber.group
       → IsCertain setting disk (first ∷ later) uber
   pub own : (device : ℕ) (uber : Uber) → IsAble setting.shape disk device uber
-      → device < first.uber.reflow.to
+      → device < setting.reach
       → uber.pool ≡ setting.pool
   pub votes : (image : Image) → MightStand setting.shape disk disk.clock image
-      → IsNotOutvoted setting first image
+      → IsNotOutvoted setting image

@@ -8,7 +8,7 @@ use Rattle.uberblock_ring.specs.Uberblock.{Uber}
 use Rattle.uberblock_ring.specs.Valid.{AreAlike}
 use Rattle.core_state.specs.Index.{IsListing}
 use Rattle.core_state.specs.Map.{Map, SameMap}
-use Rattle.core_state.specs.Shown.{Shape, Shows, Gives, IsCandidate}
+use Rattle.core_state.specs.Shown.{Shape, read_devices, Shows, Gives, IsCandidate}
 use Rattle.core_state.specs.Choosing.{Names}
 use Rattle.core_state.specs.Whole.{Excepted, IsWhole}
 
@@ -18,10 +18,13 @@ pub record Kept : Type 0 where
   pub entries : List IndexEntry
   pub map : Map
 
--- the bank, the pool, the devices that have failed, and places that may be wrong
+-- the bank, the pool, how many devices it has at least and at most, the devices that have failed, and
+-- places that may be wrong
 pub record Setting : Type 0 where
   pub shape : Shape
   pub pool : ℕ
+  pub base : ℕ
+  pub reach : ℕ
   pub failed : ℕ
   pub excepted : Excepted
 
@@ -91,10 +94,10 @@ IsNextOf first next =
     ((next.uber.group ≡ first.uber.group + 1) × (next.uber.area ≢ first.uber.area))
     ⊎ Renews first next
 
--- No device of the pool shows an uberblock of another pool: creating cleared its ring, and an attach
--- refuses a device that shows one.
-abbrev pub ShowsNoOther : Setting → Kept → Image → Type 0
-ShowsNoOther setting first image = (device : ℕ) (uber : Uber) → device < first.uber.reflow.to
+-- No device that is the pool's or may join it shows an uberblock of another pool: creating cleared its
+-- ring, and an attach refuses a device that shows one.
+abbrev pub ShowsNoOther : Setting → Image → Type 0
+ShowsNoOther setting image = (device : ℕ) (uber : Uber) → device < setting.reach
     → Shows setting.shape image device uber
     → uber.pool ≡ setting.pool
 
@@ -105,26 +108,42 @@ count_left failed (suc device) =
     count_left failed device + (if has_device failed device then 0 else 1)
 
 -- A device outside the pool names another pool.
-pub record NamesOther (setting : Setting) (first : Kept) (image : Image) (other device : ℕ) : Type 0
+pub record NamesOther (setting : Setting) (image : Image) (other device : ℕ) : Type 0
   where
-    pub outside : first.uber.reflow.to ≤ device
+    pub outside : setting.reach ≤ device
     pub names : Names setting.shape 0 image other device
 
 -- No other pool is named by more devices than devices of this pool are left. So this pool is chosen,
 -- whichever of the devices that have failed, or are outside the pool, are silent.
-abbrev pub IsNotOutvoted : Setting → Kept → Image → Type 0
-IsNotOutvoted setting first image = (other : ℕ) (others : List ℕ) → other ≢ setting.pool
-    → IsDistinct nat_eq others → All (NamesOther setting first image other) others
-    → length others ≤ count_left setting.failed first.uber.reflow.to
+abbrev pub IsNotOutvoted : Setting → Image → Type 0
+IsNotOutvoted setting image = (other : ℕ) (others : List ℕ) → other ≢ setting.pool
+    → IsDistinct nat_eq others → All (NamesOther setting image other) others
+    → length others ≤ count_left setting.failed setting.base
+
+-- So many devices are no fewer than the pool has at least, and no more than it has at most.
+pub record IsWidthIn (setting : Setting) (width : ℕ) : Type 0 where
+  pub least : setting.base ≤ width
+  pub most : width ≤ setting.reach
+
+abbrev pub HasWidthIn : Setting → Kept → Type 0
+HasWidthIn setting kept = IsWidthIn setting kept.uber.reflow.to
+
+-- Each device that is the pool's or may join it, and hasn't failed, is read.
+abbrev pub HasDevices : Setting → Type 0
+HasDevices setting = (device : ℕ) → device < setting.reach → has_device setting.failed device ≡ false
+    → device < read_devices setting.shape
 
 -- The image shows the first group and maybe later ones of the list, each whole, and nothing else
 -- from there on.
 pub record Keeps (setting : Setting) (first : Kept) (later : List Kept) (image : Image) : Type 0
   where
     pub few : count_below setting.failed 16 ≤ first.uber.parity
+    pub wide : first.uber.parity < setting.base
     pub only : ShowsOnly setting first later image
     pub there : StandsThere setting first image
     pub ascending : AllPairs (λ one other. one.uber.group < other.uber.group) (first ∷ later)
     pub further : All (IsNextOf first) later
-    pub own : ShowsNoOther setting first image
-    pub votes : IsNotOutvoted setting first image
+    pub widths : All (HasWidthIn setting) (first ∷ later)
+    pub inside : HasDevices setting
+    pub own : ShowsNoOther setting image
+    pub votes : IsNotOutvoted setting image

@@ -6,7 +6,7 @@ use Rattle.bank_trait.specs.Disk.{Disk}
 use Rattle.block_record.specs.declared.entry.IndexEntry.{IndexEntry}
 use Rattle.uberblock_ring.specs.Uberblock.{Uber}
 use Rattle.core_state.specs.Keeps.{Kept, Setting}
-use Rattle.core_open.specs.Opens.{MayOpen, HasOpened}
+use Rattle.core_open.specs.Opens.{HasOpened}
 use Rattle.journal_law.specs.Widths.{HaveWidthOf}
 use Rattle.journal_law.proofs.Moments.{contains_one}
 
@@ -29,11 +29,11 @@ widths_joined one uber groups joined to_is parity_is wide more = record {
 }
 
 module _ {setting : Setting} {first : Kept} {later : List Kept} {uber : Uber} {entries : List IndexEntry}
-    {silent : ℕ} {old new : Disk} (may : MayOpen setting first later old)
+    {silent : ℕ} {old new : Disk} (wide : HaveWidthOf first.uber (first ∷ later))
     (opened : HasOpened setting first later uber entries silent old new) where
   -- An opening's uberblock has the width and the parity of the groups kept before,
   pub opened_width : (uber.reflow.to ≡ first.uber.reflow.to) × (uber.parity ≡ first.uber.parity)
-  opened_width = let was = may.width opened.chosen opened.listed in (
+  opened_width = let was = wide.each opened.chosen opened.listed in (
     ap (λ (u : Uber). u.reflow.to) opened.alike ∙ ap (λ (u : Uber). u.reflow.to) opened.renews.alike ∙ was.0,
     ap (λ (u : Uber). u.parity) opened.alike ∙ ap (λ (u : Uber). u.parity) opened.renews.alike ∙ was.1,
   )
@@ -41,7 +41,7 @@ module _ {setting : Setting} {first : Kept} {later : List Kept} {uber : Uber} {e
   -- and so has its group.
   pub widths_opened : HaveWidthOf uber ((first ∷ later) ++ opened.next ∷ [])
   widths_opened = widths_joined first.uber uber (first ∷ later) (opened.next ∷ []) opened_width.0 opened_width.1
-      (record { each = may.width })
+      wide
       (record { each = λ kept has. next_width kept (contains_one opened.next kept has) })
     where
       next_width : (kept : Kept) → kept ≡ opened.next

@@ -218,7 +218,7 @@ refused_cuts (Err why) old new leaves = refusal_cuts why old new leaves
 -- Where memory was wanting for the index alone, all is kept as the opening left it.
 pub memory_cuts : (result : Result OpenedPool OpenWhy) (uber : Uber) (silent out : ℕ)
     (old new : Disk) → HaveFailed old new silent → AreOutOf old new silent uber out → count_of out ≤ uber.parity
-    → IsWithinBelow uber.reflow.to silent uber.out → OpeningKeeps uber.reflow.to uber.out old new
+    → IsWithinBelow uber.reflow.to silent uber.out → OpeningKeeps silent uber.out old new
     → TouchesOnly (IsOnBelow uber.reflow.to) old new → WritesInOrder old new silent uber
     → IfErr result (λ why. Unchanged old new ⊎ CutsOpening old new)
 memory_cuts (Ok opened) uber silent out old new failed outs few missed keeps only writes = tt

@@ -13,12 +13,13 @@ use Rattle.uberblock_ring.specs.Uberblock.{Uber}
 use Rattle.uberblock_ring.specs.Valid.{IsRightUber}
 use Rattle.core_state.specs.Map.{Map}
 use Rattle.core_state.specs.Index.{IsFitting, IsIndexOf}
-use Rattle.core_state.specs.Keeps.{Kept, Setting, IsNextOf}
+use Rattle.core_state.specs.Keeps.{HasWidthIn, Kept, Setting, IsNextOf}
 use Rattle.core_state.specs.Certain.{CellsOn, IsSound, IsSuccession}
 use Rattle.core_state.specs.Moment.{KeepsSince}
 use Rattle.core_blocks.proofs.Listed.{among_listed, found_among, found_id}
 use Rattle.core_commit.specs.Commits.{Begun, MayCommit}
 use Rattle.core_state.specs.Committing.{point_of}
+use Rattle.core_state.proofs.Widths.{first_width, only_width, width_like}
 use Rattle.core_open.proofs.Renewing.{none_above_more}
 use Rattle.open_pool.specs.Pool.{IsPool, State, HasBank, IsTableOf, HoldsMap}
 use Rattle.open_pool.specs.HoldsGroup.{HoldsGroup}
@@ -121,15 +122,21 @@ module _ (setting : Setting) (last : Kept) (map : Map) (before : State) (is : Is
   table = table_indexes entries map index
       (subst (λ (l : List IndexEntry). IsTableOf l map) (sym entries_are) holds.table)
 
+  last_width : HasWidthIn setting last
+  last_width = first_width setting last [] group.knows.row.widths
+
   row : IsSuccession setting last (next ∷ [])
   row = record {
     few = group.knows.row.few;
+    wide = group.knows.row.wide;
     ascending = AllPairs-cons (λ (one other : Kept). one.uber.group < other.uber.group) last (next ∷ [])
         (All-cons (λ (other : Kept). last.uber.group < other.uber.group) next [] (omega (arith, group_is))
         (λ k d within. absurd (omega (arith, within))))
         (λ i j d less within. absurd (omega (arith, less, within)));
     further = All-cons (IsNextOf last) next [] (inl (omega (arith, group_is), λ same. apart (sym same)))
         (λ k d within. absurd (omega (arith, within)));
+    widths = All-cons (HasWidthIn setting) last (next ∷ []) last_width
+        (only_width setting next (width_like setting last next (sym to_is) last_width));
     inside = group.knows.row.inside;
     device = group.knows.row.device;
     below = group.knows.row.below;
@@ -172,7 +179,6 @@ module _ (setting : Setting) (last : Kept) (map : Map) (before : State) (is : Is
     sound = sound;
     front = last ∷ [];
     last = refl;
-    to_is = to_is;
     parity_is = ap (λ (u : Uber). u.parity) group.alike;
     area = apart;
     near = inl (omega (arith, group_is));

@@ -189,8 +189,8 @@ module _ (setting : Setting) (first : Kept) (later : List Kept) (one other : Ima
         (shows_on setting.shape other one shower uber (same_back same) shows) inside pool_is group (ap sha256 page ∙ digest);
   }
 
-  names_other : (pool device : ℕ) → NamesOther setting first other pool device
-      → NamesOther setting first one pool device
+  names_other : (pool device : ℕ) → NamesOther setting other pool device
+      → NamesOther setting one pool device
   names_other pool device names = record {
     outside = names.outside;
     names = names_on setting.shape 0 other one pool device (same_back same) names.names;
@@ -199,6 +199,7 @@ module _ (setting : Setting) (first : Kept) (later : List Kept) (one other : Ima
   pub keeps_same : Keeps setting first later other
   keeps_same = record {
     few = keeps.few;
+    wide = keeps.wide;
     only = λ device uber above shows pool_is. kept_on uber
         (keeps.only device uber above (shows_on setting.shape other one device uber (same_back same) shows) pool_is);
     there = record {
@@ -210,6 +211,8 @@ module _ (setting : Setting) (first : Kept) (later : List Kept) (one other : Ima
     };
     ascending = keeps.ascending;
     further = keeps.further;
+    widths = keeps.widths;
+    inside = keeps.inside;
     own = λ device uber below shows. keeps.own device uber below
         (shows_on setting.shape other one device uber (same_back same) shows);
     votes = λ pool devices differs distinct each. keeps.votes pool devices differs distinct

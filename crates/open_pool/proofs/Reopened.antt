@@ -55,8 +55,9 @@ stopped_begins setting first later disk image shape excepted alone only keeps pa
     pages = λ held holds. pages_same setting first later image held
         (subst (λ (s : Shape). SameOn s image held) (sym shape) (held_same disk image held alone.holds holds))
         only keeps (first ∷ later) pages;
-    width = width;
+    parity = λ kept listed. (width kept listed).1;
   };
+  one_width = λ kept listed. (width kept listed).0;
   excepted = excepted;
   bytes = bytes;
 }

@@ -12,7 +12,7 @@ use Rattle.core_blocks.specs.Loading.{IsTakenBy}
 use Rattle.core_open.specs.declared.why.OpenWhy.{OpenWhy}
 use Rattle.core_open.specs.declared.why.OpenWhy.TheVariants as reason
 pub use Rattle.core_open.specs.Opens.{CutsOpening}
-use Rattle.core_open.specs.Opens.{MayOpen, HasOpened}
+use Rattle.core_open.specs.Opens.{IsWithinBelow, MayOpen, HasOpened}
 use Rattle.open_pool.specs.Pool.{Pool, HoldsMap, state_of}
 use Rattle.open_pool.specs.HoldsGroup.{HoldsGroup}
 
@@ -23,10 +23,12 @@ pub record AreLoaded (uber : Uber) (entries : List IndexEntry) (blocks : Blocks)
   pub entries_are : blocks.table.entries ≡ entries
   pub space : IsTakenBy uber.parity uber.births (sectors_of uber.reflow) entries blocks.space
 
--- A pool may be opened where images keep these groups, whose maps hold bytes, with no place that may be
--- wrong.
+-- A pool may be opened where images keep these groups, all of one width, whose maps hold bytes, with no place
+-- that may be wrong.
 pub record MayBegin (setting : Setting) (first : Kept) (later : List Kept) (disk : Disk) : Type 0 where
   pub may : MayOpen setting first later disk
+  pub one_width : (kept : Kept) → Contains (first ∷ later) kept
+      → kept.uber.reflow.to ≡ first.uber.reflow.to
   pub excepted : setting.excepted ≡ []
   pub bytes : (kept : Kept) (id : ℕ) (content : List ℕ) → Contains (first ∷ later) kept
       → kept.map id ≡ Some content → AreBytes content
@@ -38,11 +40,11 @@ pub record OpensPool (setting : Setting) (first : Kept) (later : List Kept) (poo
   pub group : HoldsGroup setting opened.next (state_of pool new)
   pub holds : HoldsMap opened.next.map (state_of pool new)
 
--- So it is where these have the width of the pool, and all devices that are out may fail.
+-- So it is where the devices that were silent, and all that are out, may fail.
 pub record IsBegunWith (pool : Pool) (silent : ℕ) (old new : Disk) : Type 0 where
   pub each : (setting : Setting) (first : Kept) (later : List Kept)
       → MayBegin setting first later old
-      → first.uber.reflow.to ≡ pool.uber.reflow.to
+      → IsWithinBelow first.uber.reflow.to silent setting.failed
       → IsWithin pool.out setting.failed → OpensPool setting first later pool silent old new
 
 -- What is no pool, or has no more groups, is left as it was but for counts of faults.

@@ -22,10 +22,11 @@ still_works fewer more device within works = by (has_device fewer device) refl
 
 keeps_with : (setting : Setting) (first : Kept) (later : List Kept) (failed : ℕ) (image : Image)
     → IsWithin setting.failed failed → count_below failed 16 ≤ first.uber.parity
-    → IsNotOutvoted (setting_with setting failed) first image
+    → IsNotOutvoted (setting_with setting failed) image
     → Keeps setting first later image → Keeps (setting_with setting failed) first later image
 keeps_with setting first later failed image more few votes keeps = record {
   few = few;
+  wide = keeps.wide;
   only = λ device uber above shows pool. let kept = keeps.only device uber above shows pool in record {
     kept = kept.kept;
     listed = kept.listed;
@@ -43,6 +44,9 @@ keeps_with setting first later failed image more few votes keeps = record {
   };
   ascending = keeps.ascending;
   further = keeps.further;
+  widths = λ place kept low. let width = keeps.widths place kept low in
+      record { least = width.least; most = width.most };
+  inside = λ device below left. keeps.inside device below (works device left);
   own = keeps.own;
   votes = votes;
 }
@@ -84,8 +88,9 @@ may_bear setting first later disk borne failed may bears = record {
       page = λ kept shower giver uber listed shows inside pool_is group digest.
           (may.may.pages image holds).page kept shower giver uber listed shows inside pool_is group digest;
     };
-    width = may.may.width;
+    parity = may.may.parity;
   };
+  one_width = may.one_width;
   excepted = may.excepted;
   bytes = may.bytes;
 }

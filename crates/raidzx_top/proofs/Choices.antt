@@ -10,16 +10,17 @@ use Rattle.core_state.proofs.Finding.{keeps_know}
 use Rattle.core_state.proofs.Knowing.{present}
 use Rattle.core_open.specs.Causes.{IsChoiceWithout}
 use Rattle.core_open.specs.Holds.{shape_of}
-use Rattle.core_open.specs.Opens.{MayOpen, IsWithinBelow}
+use Rattle.core_open.specs.Opens.{IsWithinBelow}
 use Rattle.core_open.proofs.Ends.{present_held}
+use Rattle.open_pool.specs.Opening.{MayBegin}
 
 pub choice_width : (setting : Setting) (first : Kept) (later : List Kept) (old : Disk) (silent : ℕ)
-    → MayOpen setting first later old → Lawful old → IsWithinBelow first.uber.reflow.to silent setting.failed
+    → MayBegin setting first later old → Lawful old → IsWithinBelow first.uber.reflow.to silent setting.failed
     → (choice : IsChoiceWithout (shape_of old) silent (present old))
     → choice.uber.reflow.to ≡ first.uber.reflow.to
 choice_width setting first later old silent may lawful within choice =
-    let held = chosen_held setting first later old (keeps_know setting first later old lawful may.keeps) lawful silent
-    within (may.pages (present old) (present_held old may.tells)) choice.device choice.uber choice.entries
-    (subst (λ (s : Shape). IsChosen s silent (present old) choice.device choice.uber choice.entries) (sym may.shape)
+    let held = chosen_held setting first later old (keeps_know setting first later old lawful may.may.keeps) lawful silent
+    within (may.may.pages (present old) (present_held old may.may.tells)) choice.device choice.uber choice.entries
+    (subst (λ (s : Shape). IsChosen s silent (present old) choice.device choice.uber choice.entries) (sym may.may.shape)
     choice.chosen) in
-    ap (λ (u : Uber). u.reflow.to) held.0.alike ∙ (may.width held.0.kept held.0.listed).0
+    ap (λ (u : Uber). u.reflow.to) held.0.alike ∙ may.one_width held.0.kept held.0.listed

@@ -1,5 +1,5 @@
 -- What a call of `create` promises follows from how it ends.
-use Rattle.std.proofs.Common.{◌^◌, ◌≡◌, ◌≢◌, ◌⊎◌, inl, inr, ⊎_elim, ℕ, ◌<◌, ◌≤◌, List, [], ◌++◌, Some, refl, sym, ◌∙◌, ap, subst}
+use Rattle.std.proofs.Common.{◌^◌, ◌≡◌, ◌≢◌, ◌⊎◌, inl, inr, ⊎_elim, ℕ, ◌<◌, ◌≤◌, List, [], ◌++◌, Some, refl, sym, ◌∙◌, ap, subst, arith}
 use Rattle.std.specs.Prelude.{take, true, false}
 use Rattle.std.proofs.lemmas.Bool.{cases_lt, cases_eq}
 use Rattle.std.proofs.lemmas.List.{append-nil}
@@ -14,7 +14,7 @@ use Rattle.core_state.proofs.Fresh.{IsSized, none_in}
 use Rattle.core_state.proofs.Created.{created_keeps}
 use Rattle.core_state.specs.Create.{IsCreated, first_kept, rows_for}
 use Rattle.core_state.specs.Collision.{BankKeeps, MightStand}
-use Rattle.core_state.specs.Keeps.{Setting}
+use Rattle.core_state.specs.Keeps.{Setting, HasDevices}
 use Rattle.core_state.specs.Shown.{Shape, Shows}
 use Rattle.uberblock_ring.specs.Uberblock.{first_uber}
 use Rattle.client_script.specs.Written.{IsAdded, IsPartAdded}
@@ -191,14 +191,16 @@ module _ (call : TopCall) (made : NewPool) (served_as : IsServedAs call.words (s
   -- A pool that fits and was made is kept,
   bank_keeps : (IsSmallFor made call.old → ⊥)
       → IsCreated (first_uber made.id made.parity made.width (rows_for call.old.sectors)) call.new
-      → (setting : Setting) → IsNewSetting call made.parity made.id setting → NoneShowsFrom call made.width
+      → (setting : Setting) → IsNewSetting call made.parity made.width made.id setting → NoneShowsFrom call made.width
       → BankKeeps setting (first_kept made.id made.parity made.width call.old.sectors) [] call.new
   bank_keeps fits created setting new others =
       subst (λ (n : ℕ). BankKeeps setting (first_kept n made.parity made.width call.old.sectors) [] call.new)
       new.pool
       (subst (λ (s : Shape). BankKeeps setting (first_kept setting.pool made.parity made.width s.sectors) [] call.new)
       new.shape
-      (created_keeps setting made.parity made.width call.new (sized setting new) new.few
+      (created_keeps setting made.parity made.width call.new (sized setting new)
+      (let base = new.base in omega (arith, base, spelled.size.2)) (let base = new.base in omega (arith, base))
+      (let reach = new.reach in omega (arith, reach)) (inside setting new) new.few
       (subst (λ (s : Shape). IsCreated (first_uber setting.pool made.parity made.width (rows_for s.sectors)) call.new) (sym new.shape)
       (subst (λ (n : ℕ). IsCreated (first_uber n made.parity made.width (rows_for call.old.sectors)) call.new) (sym new.pool)
       created))
@@ -217,7 +219,13 @@ module _ (call : TopCall) (made : NewPool) (served_as : IsServedAs call.words (s
       sectors = ⊎_elim (λ less. absurd (fits (inr less))) (λ enough. enough)
           (cases_lt call.old.sectors 256)
 
-      sized : (setting : Setting) → IsNewSetting call made.parity made.id setting
+      inside : (setting : Setting) → IsNewSetting call made.parity made.width made.id setting → HasDevices setting
+      inside setting new device below works =
+          let reach = new.reach in
+          let most : setting.shape.devices ≡ call.old.devices = ap (λ (s : Shape). s.devices) new.shape in
+          omega (arith, below, reach, most, devices, spelled.size.3)
+
+      sized : (setting : Setting) → IsNewSetting call made.parity made.width made.id setting
           → IsSized setting.shape setting.pool made.parity made.width
       sized setting new = record {
         pool_fits = subst (λ (n : ℕ). n < 2 ^ 64) (sym new.pool) spelled.id;

@@ -1,5 +1,5 @@
 -- A pool that was just made may be opened.
-use Rattle.std.proofs.Common.{◌≡◌, List, [], ◌∷◌, ℕ, Some, refl, sym, ◌∙◌, ap, subst}
+use Rattle.std.proofs.Common.{◌≡◌, List, [], ◌∷◌, ℕ, Some, sym, ◌∙◌, ap, subst}
 use Rattle.bank_trait.specs.Disk.{Image, Later}
 use Rattle.bank_trait.specs.Regions.{Tells}
 use Rattle.bank_trait.proofs.Touches.{tells_later}
@@ -14,7 +14,7 @@ use Rattle.raidzx_top.specs.Promises.{IsNewSetting}
 -- The bank meets what a run asks for: it keeps the pool's first group, of one width, without blocks. As for each
 -- opening, no page on the bank may be another's by chance.
 module _ (call : TopCall) (parity width id : ℕ) (later : Later call.old call.new) (tells : Tells call.old)
-    (setting : Setting) (new : IsNewSetting call parity id setting) (excepted : setting.excepted ≡ []) where
+    (setting : Setting) (new : IsNewSetting call parity width id setting) (excepted : setting.excepted ≡ []) where
   abbrev first : Kept
   first = first_kept id parity width call.old.sectors
 
@@ -31,9 +31,9 @@ module _ (call : TopCall) (parity width id : ℕ) (later : Later call.old call.n
       shape = shape;
       tells = tells_later later tells;
       pages = pages;
-      width = λ kept listed. subst (λ (k : Kept). (k.uber.reflow.to ≡ first.uber.reflow.to) × (k.uber.parity ≡ first.uber.parity))
-          (sym (contains_one first kept listed)) (refl, refl);
+      parity = λ kept listed. ap (λ (k : Kept). k.uber.parity) (contains_one first kept listed);
     };
+    one_width = λ kept listed. ap (λ (k : Kept). k.uber.reflow.to) (contains_one first kept listed);
     excepted = excepted;
     bytes = λ kept id content listed has. absurd (no_block id content
         (subst (λ (k : Kept). k.map id ≡ Some content) (contains_one first kept listed) has));

@@ -197,11 +197,12 @@ module _ (setting : Setting) (first : Kept) (later : List Kept) (old : Disk) (ma
     module _ (joined : List Kept) (adds : AddsOne (first ∷ later) joined) where
       joined_widths : HaveWidthOf first.uber ((first ∷ later) ++ joined)
       joined_widths = record {
-        each = λ kept listed. ⊎_elim (may.may.width kept)
+        each = λ kept listed. ⊎_elim (λ known. (may.one_width kept known, may.may.parity kept known))
             (λ here.
-            let from = adds.renews kept here in
-            let its = may.may.width from.0 from.1 in
-            (ap (λ (u : Uber). u.reflow.to) from.2.alike ∙ its.0, ap (λ (u : Uber). u.parity) from.2.alike ∙ its.1))
+            let from = adds.renews kept here in (
+              ap (λ (u : Uber). u.reflow.to) from.2.alike ∙ may.one_width from.0 from.1,
+              ap (λ (u : Uber). u.parity) from.2.alike ∙ may.may.parity from.0 from.1,
+            ))
             (Contains-append_cases (first ∷ later) joined kept listed);
       }
 
@@ -234,5 +235,6 @@ module _ (setting : Setting) (first : Kept) (later : List Kept) (old : Disk) (ma
     survives_opening new (inl same) bears =
         some_back [] none_joins (unchanged_keeps setting first later [] same may.may.keeps)
     survives_opening new (inr cuts) bears =
-        let keeps = cuts.keeps.since setting first later may.may bears.0 bears.1 in
+        let keeps = cuts.keeps.since setting first later may.may
+        (λ device below gone. bears.1 device (cuts.missed device (omega (arith, below, bears.0)) gone)) bears.1 in
         some_back keeps.0 keeps.1 keeps.2

@@ -264,7 +264,7 @@ module _ (order : Order) (call : TopCall) (lawful : Lawful call.old)
 
     keeps : RunKeeps was.script smooth.setting smooth.first smooth.later call.old call.new call.journal run.parity run.silent (banks_of run)
     keeps = run.keeps smooth.setting smooth.first smooth.later smooth.may
-        (sym (choice_width smooth.setting smooth.first smooth.later call.old run.silent smooth.may.may lawful
+        (sym (choice_width smooth.setting smooth.first smooth.later call.old run.silent smooth.may lawful
         (λ device below has. absurd (none_rose device (failed device has).1)) opened.choice) ∙ opened.width_is)
         (λ device has. absurd (none_out device (run.within device has)))
 

@@ -16,4 +16,4 @@ pub record CanBear (setting : Setting) (first : Kept) (disk : Disk) (borne faile
   pub now : IsWithin borne failed
   pub few : count_below failed 16 ≤ first.uber.parity
   pub votes : (image : Image) → MightStand setting.shape disk disk.clock image
-      → IsNotOutvoted (setting_with setting failed) first image
+      → IsNotOutvoted (setting_with setting failed) image

@@ -43,9 +43,11 @@ use Rattle.raidzx_top.specs.RunText.{IsWritten, TextIsRight, create_text, status
 use Rattle.raidzx_top.specs.Running.{IsStatusOf, StoppedFor, after_fault}
 
 -- a setting in which a new pool stands: its devices, and failures of no more of them than its parity
-pub record IsNewSetting (call : TopCall) (parity id : ℕ) (setting : Setting) : Type 0 where
+pub record IsNewSetting (call : TopCall) (parity width id : ℕ) (setting : Setting) : Type 0 where
   pub shape : setting.shape ≡ shape_of call.old
   pub pool : setting.pool ≡ id
+  pub base : setting.base ≡ width
+  pub reach : setting.reach ≡ width
   pub few : count_below setting.failed 16 ≤ parity
 
 -- Whatever a crash leaves, no device from a number on shows an uberblock.
@@ -60,9 +62,9 @@ NoneShowsFrom call width = (image : Image) (device : ℕ) (uber : Uber) → widt
 -- group's
 pub record CreatePromises (call : TopCall) (parity width id : ℕ) : Type 0 where
   pub made : IsCreated (first_uber id parity width (rows_for call.old.sectors)) call.new
-  pub keeps : (setting : Setting) → IsNewSetting call parity id setting → NoneShowsFrom call width
+  pub keeps : (setting : Setting) → IsNewSetting call parity width id setting → NoneShowsFrom call width
       → BankKeeps setting (first_kept id parity width call.old.sectors) [] call.new
-  pub begins : (setting : Setting) → IsNewSetting call parity id setting → setting.excepted ≡ [] → NoneShowsFrom call width
+  pub begins : (setting : Setting) → IsNewSetting call parity width id setting → setting.excepted ≡ [] → NoneShowsFrom call width
       → ((image : Image) → HoldsImage call.new image
       → HasNoOtherPage setting (first_kept id parity width call.old.sectors ∷ []) image)
       → MayBegin setting (first_kept id parity width call.old.sectors) [] call.new

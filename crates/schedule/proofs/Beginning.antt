@@ -11,7 +11,6 @@ use Rattle.core_state.specs.Legal.{CallAt}
 use Rattle.core_state.specs.Keeps.{Kept, Setting}
 use Rattle.core_state.specs.Moment.{IsGroupOf, KeepsSince}
 use Rattle.core_state.proofs.Listed.{contains_none}
-use Rattle.core_open.specs.Opens.{MayOpen}
 use Rattle.open_pool.specs.Opening.{OpensPool}
 use Rattle.open_pool.specs.Pool.{Pool}
 use Rattle.journal_law.specs.Widths.{HaveWidthOf}
@@ -37,7 +36,7 @@ no_call group index entry there = elim (new_or_before [] (Group group) index (Ca
     apart is = cc
 
 module _ {setting : Setting} {first : Kept} {later : List Kept} {pool : Pool} {silent : ℕ} {old mid : Disk} (handed : PutBytes)
-    (may : MayOpen setting first later old) (begins : OpensPool setting first later pool silent old mid) where
+    (wide : HaveWidthOf first.uber (first ∷ later)) (begins : OpensPool setting first later pool silent old mid) where
   abbrev item : GroupItem
   item = first_item pool
 
@@ -67,7 +66,7 @@ module _ {setting : Setting} {first : Kept} {later : List Kept} {pool : Pool} {s
     begun_is = λ kept has. absurd (contains_none kept has);
     alike = last_alike pool.uber (first ∷ later) [] (next ∷ []) [] [] next refl refl
         (subst (λ (l : List Kept). HaveWidthOf pool.uber l) (row (first ∷ later) (next ∷ []) [] refl refl)
-        (widths_opened may begins.opened));
+        (widths_opened wide begins.opened));
   }
 
   -- The groups known before, and that of the opening, which holds the map of the group that it renews.
@@ -94,7 +93,7 @@ module _ {setting : Setting} {first : Kept} {later : List Kept} {pool : Pool} {s
         sound = λ index entry there. absurd (no_call item index entry there);
         counted = record { each = λ index reached entry there limit. absurd (no_call item index entry there) };
         since = since;
-        widths = subst (λ (l : List Kept). HaveWidthOf pool.uber l) groups_are (widths_opened may begins.opened);
+        widths = subst (λ (l : List Kept). HaveWidthOf pool.uber l) groups_are (widths_opened wide begins.opened);
         no_older = kept_first here (subst (λ (d : Disk). Later d mid) (sym origin) opened_later)
             (record { groups = one.0; since = since });
         kept_on = subst (λ (d : Disk). KeepsOn setting handed begins.opened.chosen.map (Group item ∷ []) item next [] d mid)

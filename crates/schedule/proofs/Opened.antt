@@ -8,12 +8,12 @@ use Rattle.core_state.specs.Keeps.{Kept, Setting}
 use Rattle.core_state.specs.World.{World}
 use Rattle.core_state.proofs.Listed.{contains_none}
 use Rattle.core_blocks.specs.Blocks.{AreUnderWay}
-use Rattle.core_open.specs.Opens.{MayOpen}
 use Rattle.open_pool.specs.Opening.{OpensPool}
 use Rattle.open_pool.specs.Pool.{Pool, HasBank, HoldsMap, state_of}
 use Rattle.client_script.specs.Script.{Script}
 use Rattle.open_pool.specs.Pool.{first_item}
 use Rattle.journal_law.proofs.GrownGroups.{latest_alone}
+use Rattle.journal_law.specs.Widths.{HaveWidthOf}
 use Rattle.core_turns.specs.Core.{Core, at_disk}
 use Rattle.core_turns.specs.UnderWay.{Putting, AreCallsOf, Stands, HoldingCall}
 use Rattle.schedule.specs.declared.client.Client.{Client}
@@ -60,7 +60,7 @@ calls_none core rest = record {
 }
 
 module _ {setting : Setting} {first : Kept} {later : List Kept} {pool : Pool} {silent : ℕ} {old mid : Disk} (handed : PutBytes)
-    (may : MayOpen setting first later old) (begins : OpensPool setting first later pool silent old mid) where
+    (wide : HaveWidthOf first.uber (first ∷ later)) (begins : OpensPool setting first later pool silent old mid) where
   abbrev chosen_map : Map
   chosen_map = begins.opened.chosen.map
 
@@ -96,7 +96,7 @@ module _ {setting : Setting} {first : Kept} {later : List Kept} {pool : Pool} {s
     commit = None;
     item = first_item pool;
     latest = latest_alone (first_item pool);
-    recorded = recorded_first handed may begins past origin here opened_later;
+    recorded = recorded_first handed wide begins past origin here opened_later;
     stands = subst (λ (calls : List HoldingCall). Stands setting begins.opened.next [] chosen_map (λ actor. []) calls None
         (at_disk (resting pool) mid)) (sym (none_held count)) (stands_first bank);
     sync = λ index client under going. absurd (none_of_blank count index client under going);

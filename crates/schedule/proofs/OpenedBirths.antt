@@ -2,20 +2,21 @@
 use Rattle.std.proofs.Common.{◌≡◌, ◌⊎◌, inl, inr, ⊎_elim, ℕ, suc, ◌+◌, ◌<◌, List, [], ◌∷◌, Bool, true, false, refl, sym, ◌∙◌, ap, subst, arith}
 use Rattle.std.specs.Prelude.{Contains, filter}
 use Rattle.std.proofs.lemmas.Bool.{cases_lt, true≢false}
-use Rattle.std.proofs.lemmas.List.Elements.{All-contains, All-filter, filter_passes}
+use Rattle.std.proofs.lemmas.List.Elements.{All-contains, All-filter, filter_passes, All-cons}
 use Rattle.std.proofs.lemmas.List.Kept.{AllPairs-cons, AllPairs-filter}
 use Rattle.bank_trait.specs.Disk.{Image, Disk, Lawful}
 use Rattle.width_map.specs.declared.birth.Birth.{Birth}
 use Rattle.width_map.specs.Births.{NoneAbove}
 use Rattle.uberblock_ring.specs.Devices.{IsWithin}
 use Rattle.uberblock_ring.specs.Uberblock.{Uber}
-use Rattle.core_state.specs.Keeps.{Kept, Setting, Keeps, IsKept, IsNextOf}
+use Rattle.core_state.specs.Keeps.{Kept, Setting, Keeps, IsKept, IsNextOf, HasWidthIn}
 use Rattle.core_state.proofs.Knowing.{present, present_might}
 use Rattle.core_state.proofs.Listed.{contains_head}
 use Rattle.core_state.proofs.Reader.{shown_alike}
 use Rattle.core_blocks.proofs.Lists.{first_listed, rest_listed, listed_cases, filter_listed, filter_was}
 use Rattle.open_pool.specs.Opening.{MayBegin, OpensPool, IsBegunWith}
 use Rattle.open_pool.specs.Pool.{Pool}
+use Rattle.core_open.specs.Opens.{IsWithinBelow}
 
 -- No birth of the group is later than the second one after it.
 abbrev IsBornBy : Kept → Type 0
@@ -85,6 +86,7 @@ module _ (setting : Setting) (first : Kept) (later : List Kept) (disk : Disk)
   keeps_fewer : (image : Image) → Keeps setting first later image → Keeps setting first fewer image
   keeps_fewer image keeps = record {
     few = keeps.few;
+    wide = keeps.wide;
     only = λ device uber above shows pool_is.
         let held = keeps.only device uber above shows pool_is in record {
           kept = held.kept;
@@ -103,6 +105,10 @@ module _ (setting : Setting) (first : Kept) (later : List Kept) (disk : Disk)
         (λ place further other less low. keeps.ascending (suc place) (suc further) other (omega (arith, less))
         (omega (arith, low))));
     further = All-filter is_born (IsNextOf first) later keeps.further;
+    widths = All-cons (HasWidthIn setting) first fewer (keeps.widths 0 first (omega arith))
+        (All-filter is_born (HasWidthIn setting) later
+        (λ place other low. keeps.widths (suc place) other (omega (arith, low))));
+    inside = keeps.inside;
     own = keeps.own;
     votes = keeps.votes;
   }
@@ -117,8 +123,9 @@ module _ (setting : Setting) (first : Kept) (later : List Kept) (disk : Disk)
         page = λ kept shower giver uber listed. (may.may.pages image holds).page kept shower giver uber
             (fewer_listed kept listed);
       };
-      width = λ kept listed. may.may.width kept (fewer_listed kept listed);
+      parity = λ kept listed. may.may.parity kept (fewer_listed kept listed);
     };
+    one_width = λ kept listed. may.one_width kept (fewer_listed kept listed);
     excepted = may.excepted;
     bytes = λ kept id content listed. may.bytes kept id content (fewer_listed kept listed);
   }
@@ -137,14 +144,14 @@ module _ (setting : Setting) (first : Kept) (later : List Kept) (disk : Disk)
 
   -- So the opening, which renews one of these, has none later than its own group.
   pub opened_births : (pool : Pool) (silent : ℕ) (mid : Disk) → Lawful disk → IsBegunWith pool silent disk mid
-      → first.uber.reflow.to ≡ pool.uber.reflow.to → IsWithin pool.out setting.failed
+      → IsWithinBelow first.uber.reflow.to silent setting.failed → IsWithin pool.out setting.failed
       → NoneAbove pool.uber.group pool.uber.births
-  opened_births pool silent mid lawful begun width out_in =
+  opened_births pool silent mid lawful begun missed out_in =
       subst (λ (group : ℕ). NoneAbove group pool.uber.births) (sym number)
       (subst (λ (births : List Birth). NoneAbove (chosen.uber.group + 2) births) (sym births) born)
     where
       begins : OpensPool setting first fewer pool silent disk mid
-      begins = begun.each setting first fewer may_fewer width out_in
+      begins = begun.each setting first fewer may_fewer missed out_in
 
       chosen : Kept
       chosen = begins.opened.chosen

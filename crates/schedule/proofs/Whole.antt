@@ -31,6 +31,7 @@ use Rattle.journal_law.specs.FirstGroup.{BeginsAfter}
 use Rattle.open_pool.specs.Pool.{first_item}
 use Rattle.journal_law.proofs.NoSpace.{no_space_alike}
 use Rattle.journal_law.proofs.Widths.{opened_width, widths_of_one}
+use Rattle.journal_law.specs.Widths.{HaveWidthOf}
 use Rattle.core_turns.specs.Core.{CoreState, at_disk}
 use Rattle.schedule.specs.declared.client.Client.{Client}
 use Rattle.schedule.specs.declared.whole_run.Ended.{Ended}
@@ -111,15 +112,22 @@ module _ (script : Script) (old mid : Disk) (pool : Pool) (silent : ℕ) (items 
   module _ (setting : Setting) (first : Kept) (later : List Kept) (may : MayBegin setting first later old)
       (width : first.uber.reflow.to ≡ pool.uber.reflow.to)
       (borne_in : IsWithin come.borne setting.failed) where
+    missed_in : IsWithinBelow first.uber.reflow.to silent setting.failed
+    missed_in device below gone = borne_in device (come.from_start few device
+        (outs.lists device (missed device (omega (arith, below, width)) gone)))
+
     begins : OpensPool setting first later pool silent old mid
-    begins = begun.each setting first later may width
+    begins = begun.each setting first later may missed_in
         (λ device out. borne_in device (come.from_start few device out))
 
+    wide : HaveWidthOf first.uber (first ∷ later)
+    wide = record { each = λ kept listed. (may.one_width kept listed, may.may.parity kept listed) }
+
     abbrev world : World
-    world = opened_world (handed_by script) may.may begins
+    world = opened_world (handed_by script) wide begins
 
     first_runs : Runs world script past (at_disk (resting pool) mid) (Group item ∷ []) (blank_clients script.clients)
-    first_runs = runs_first (handed_by script) may.may begins past refl (at_start first_state passed 1 (omega arith)) opened_later bank
+    first_runs = runs_first (handed_by script) wide begins past refl (at_start first_state passed 1 (omega arith)) opened_later bank
         script script.clients
 
     runs : Runs world script past final items clients
@@ -165,7 +173,7 @@ module _ (script : Script) (old mid : Disk) (pool : Pool) (silent : ℕ) (items 
         (ap (λ (u : Uber). u.reflow) alike ∙ ap (λ (u : Uber). u.reflow) renews)
         (begins.opened.entries_are ∙ begins.opened.renews.entries)
         (come.space pool.uber pool.blocks.table.entries (uses_first script pool mid right
-        (opened_births setting first later old may pool silent mid lawful begun width out_in) loaded)).caused
+        (opened_births setting first later old may pool silent mid lawful begun missed_in out_in) loaded)).caused
 
     -- What the run keeps, where these devices may fail.
     pub run_keeps : RunKeeps script setting first later old final.disk items pool.uber.parity silent
@@ -186,7 +194,7 @@ module _ (script : Script) (old mid : Disk) (pool : Pool) (silent : ℕ) (items 
       kept = at_end.0;
       kept_among = at_end.1;
       widths = widths_of_one run_groups first (0, omega arith, refl) runs.recorded.widths;
-      parity_is = sym (opened_width may.may begins.opened).1;
+      parity_is = sym (opened_width wide begins.opened).1;
     }
 
   -- The calls of the script were carried out on the pool that the devices showed,

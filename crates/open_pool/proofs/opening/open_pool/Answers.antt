@@ -25,11 +25,11 @@ invariant_of-result g c = begun_is_pool c.in_ok-opened.opened.uber c.in_ok-opene
 
 pub returns-clause-begins : goal.returns-clause-begins
 returns-clause-begins g c = record {
-  each = λ setting first later may wide within. begins setting first later c.in_ok-opened.opened.uber
+  each = λ setting first later may missed within. begins setting first later c.in_ok-opened.opened.uber
       c.in_ok-opened.opened.entries.items _ c.in_ok-opened.opened.out
       (g.B.Bank.disk c.args.bank.now) (g.B.Bank.disk c.open.new.bank) may c.in_ok-opened.ensures.right
       c.in_ok-opened.ensures.index (loaded_of c.deref.ensures.value c.in_ok-blocks.ensures.loaded)
-      c.in_ok-opened.opened.silent (c.in_ok-opened.ensures.kept.kept setting first later may.may wide within)
+      c.in_ok-opened.opened.silent (c.in_ok-opened.ensures.kept.kept setting first later may.may missed within)
       (g.met.B.Bank.lawful c.open.new.bank) c.in_ok-opened.ensures.spares.later c.in_ok-opened.ensures.bank
       c.in_ok-opened.ensures.out.lists;
 }
