@@ -1,7 +1,6 @@
 pub mod Items
 pub mod Rows
 pub mod Fresh
-pub mod CommitRows
 pub mod Widths
 pub mod Reader
 pub mod OpeningRows
@@ -20,3 +19,4 @@ pub mod PoolChosen
 pub mod Chosen
 pub mod Finding
 pub mod Created
+pub mod Joining

@@ -13,7 +13,6 @@ pub mod Free
 pub mod Committing
 pub mod Moment
 pub mod World
-pub mod CommitChoice
 pub mod JobTurns
 pub mod Create
 pub mod Opening

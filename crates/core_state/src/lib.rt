@@ -4,9 +4,9 @@
 //! `specs/Map.antt` and `specs/Legal.antt` for what callers see; `specs/Shown.antt`,
 //! `specs/Whole.antt` and `specs/Keeps.antt` for what a stop leaves, `specs/Collision.antt` for the
 //! premise that no digest matches by chance; `specs/Certain.antt` and `specs/Committing.antt` for
-//! what is certain; `specs/Choosing.antt` and `specs/Opening.antt` for an opening;
-//! `specs/CommitChoice.antt` and `specs/JobTurns.antt` for what a reflow may do next. What stands
-//! between two turns of an open pool is told by `core_turns` and `schedule`.
+//! what is certain; `specs/Choosing.antt` and `specs/Opening.antt` for an opening; `specs/JobTurns.antt`
+//! for when a job of a reflow may begin. What stands between two turns of an open pool is told by
+//! `core_turns` and `schedule`.
 #![tactic(auto)]
 
 mod answer;

@@ -22,7 +22,7 @@ use Rattle.core_state.specs.Map.{Map}
 use Rattle.core_state.specs.Whole.{Excepted, Cell, IsCellOf, IsCell, RightAt, IsWhole}
 use Rattle.core_state.specs.Keeps.{Kept}
 use Rattle.core_state.specs.Certain.{CellsOn}
-use Rattle.core_state.specs.CommitChoice.{IsChoiceIn, IsCommitChoice, births_of_commit}
+use Rattle.mark_choice.specs.CommitChoice.{IsChoiceIn, IsCommitChoice, births_of_commit}
 use Rattle.core_state.proofs.Listed.{contains_cases}
 use Rattle.reflow_band.specs.Band.{IsWidening, StaysIn, IsFrontOf, copied_of, copied_in}
 use Rattle.mark_advance.specs.Behind.{GoesOnOrEnds, GoesOn, HasEnded, AsksNoMoreAt, front_behind}

@@ -12,7 +12,7 @@ ghost use Rattle.core_state.specs.Index.{IsIndexOf};
 ghost use Rattle.core_state.specs.Whole.{Cell, Excepted, IsCellOf, IsWhole, RightAt};
 ghost use Rattle.core_state.specs.Keeps.{Kept};
 ghost use Rattle.core_state.specs.Certain.{CellsOn};
-ghost use Rattle.core_state.specs.CommitChoice.{IsCommitChoice, births_of_commit};
+ghost use Rattle.mark_choice.specs.CommitChoice.{IsCommitChoice, births_of_commit};
 ghost use Rattle.reflow_band.specs.Band.{IsFrontOf, IsWidening, copied_of};
 ghost use Rattle.spare_write.specs.Around.{IsCellIn, IsClose, StandAround};
 ghost use Rattle.mark_advance.specs.Behind.{GoesOnOrEnds, begun, front_behind};

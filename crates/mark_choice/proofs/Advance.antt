@@ -8,7 +8,7 @@ use Rattle.reflow_mark.specs.declared.reflow.Reflow.{Reflow}
 use Rattle.reflow_mark.specs.Reflow.{IsMark}
 use Rattle.range_locks.specs.declared.hold.Hold.{Hold}
 use Rattle.shadow_write.specs.Required.{IsFrontIn, front_after_stop}
-use Rattle.core_state.specs.CommitChoice.{IsChoiceIn, IsCommitChoice}
+use Rattle.mark_choice.specs.CommitChoice.{IsChoiceIn, IsCommitChoice}
 use Rattle.reflow_band.specs.Band.{IsWidening, StaysIn, IsFrontOf, copied_of}
 use Rattle.reflow_band.proofs.Within.{front_stays}
 use Rattle.mark_choice.specs.Advance.{AsksNoMore}

@@ -10,7 +10,7 @@ use Rattle.reflow_mark.specs.declared.reflow.Reflow.{Reflow}
 use Rattle.range_locks.specs.declared.hold.Hold.{Hold}
 use Rattle.range_locks.specs.declared.hold.HoldKind.TheVariants.{Shared, Exclusive}
 use Rattle.range_locks.specs.Holds.{IsClear, IsFirstSharedFrom}
-use Rattle.core_state.specs.CommitChoice.{IsNextMark, IsChoiceIn, IsCommitChoice, lesser, range_of_commit}
+use Rattle.mark_choice.specs.CommitChoice.{IsNextMark, IsChoiceIn, IsCommitChoice, lesser, range_of_commit}
 use Rattle.mark_choice.specs.Clear.{HasNoShared}
 
 -- An empty range has no sector.

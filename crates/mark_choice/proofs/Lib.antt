@@ -1,2 +1,3 @@
+pub mod CommitRows
 pub mod Advance
 pub mod Clear

@@ -1,2 +1,3 @@
+pub mod CommitChoice
 pub mod Advance
 pub mod Clear

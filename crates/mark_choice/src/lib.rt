@@ -2,8 +2,8 @@
 //!
 //! A commit moves the mark towards the front up to which sectors were copied, but never past a sector that
 //! somebody reads or writes, and all that its group asks for after a stop is right already. Read
-//! `specs/CommitChoice.antt` of `core_state`, then `specs/Clear.antt` and `specs/Advance.antt`. Stands on `reflow_band`
-//! and `range_locks`.
+//! `specs/CommitChoice.antt`, then `specs/Clear.antt` and `specs/Advance.antt`; worked rows are in
+//! `proofs/CommitRows.antt`. Stands on `reflow_band` and `range_locks`.
 #![tactic(auto)]
 
 mod choosing;

@@ -22,6 +22,8 @@ mod gf_solve_tests;
 #[cfg(test)]
 mod mark_choice_tests;
 #[cfg(test)]
+mod plain_places;
+#[cfg(test)]
 mod plain_solving;
 #[cfg(test)]
 mod pool_status_tests;

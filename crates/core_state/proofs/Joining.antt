@@ -1,0 +1,117 @@
+-- A device joins the pool: first the pool may reach to it, and once each group of the row has it the pool
+-- has it at least.
+use Rattle.std.proofs.Common.{◌≡◌, ⊎_elim, ℕ, ◌+◌, ◌<◌, ◌≤◌, List, ◌∷◌, Some, subst, arith, All}
+use Rattle.std.specs.Prelude.{Contains}
+use Rattle.std.proofs.lemmas.Bool.{cases_lt}
+use Rattle.bank_trait.specs.Disk.{Image, Disk}
+use Rattle.uberblock_ring.specs.Uberblock.{Uber, encoded, slot_of}
+use Rattle.core_state.specs.Shown.{read_devices}
+use Rattle.core_state.specs.Keeps.{Kept, Setting, IsNotOutvoted, count_left}
+use Rattle.core_state.specs.Collision.{MightStand}
+use Rattle.core_state.specs.Certain.{Knows, IsAble, IsSuccession, able}
+use Rattle.core_state.proofs.PoolChosen.{left_more}
+
+-- A ring can hold nothing but what is read of it: no write to it is still to be synced.
+pub record IsRingSettled (disk : Disk) (device : ℕ) : Type 0 where
+  pub only : (slot : ℕ) (bytes : List ℕ) → slot < 32 → Contains (able disk device slot) bytes
+      → disk.reads device slot ≡ Some bytes
+
+-- No slot of the device reads as a valid uberblock.
+pub record ReadsNoUber (disk : Disk) (device : ℕ) : Type 0 where
+  pub none : (uber : Uber) → disk.reads device (slot_of uber.group) ≡ Some (encoded uber device) → ⊥
+
+-- What is certain does not depend on how many devices the pool has at least and at most, but for the row, the
+-- devices' own pool and the votes.
+module _ (setting : Setting) (base reach : ℕ) (first : Kept) (later : List Kept) (disk : Disk) where
+  abbrev other : Setting
+  other = record setting { base = base; reach = reach }
+
+  knows_in : IsSuccession other first later
+      → ((device : ℕ) (uber : Uber) → IsAble setting.shape disk device uber → device < reach → uber.pool ≡ setting.pool)
+      → ((image : Image) → MightStand setting.shape disk disk.clock image → IsNotOutvoted other image)
+      → Knows setting first later disk
+      → Knows other first later disk
+  knows_in row own votes knows = record {
+    row = row;
+    sound = record {
+      uber = knows.sound.uber;
+      alike = knows.sound.alike;
+      right = knows.sound.right;
+      pool_is = knows.sound.pool_is;
+      room = knows.sound.room;
+      index = knows.sound.index;
+      counted = knows.sound.counted;
+      digest = knows.sound.digest;
+      fitting = knows.sound.fitting;
+      indexes = knows.sound.indexes;
+    };
+    slots = knows.slots;
+    pages = knows.pages;
+    only = λ device uber is pool_is above. let was = knows.only device uber is pool_is above in record {
+      kept = was.kept;
+      listed = was.listed;
+      alike = was.alike;
+      listing = was.listing;
+      indexes = was.indexes;
+      cells = was.cells;
+      out = was.out;
+    };
+    own = own;
+    votes = votes;
+  }
+
+-- The pool may reach to one more device, whose ring is settled and shows no uberblock.
+pub reach_more : (setting : Setting) (first : Kept) (later : List Kept) (disk : Disk)
+    → IsRingSettled disk setting.reach → ReadsNoUber disk setting.reach → setting.reach < read_devices setting.shape
+    → Knows setting first later disk
+    → Knows (record setting { reach = setting.reach + 1 }) first later disk
+reach_more setting first later disk settled blank there knows =
+    knows_in setting setting.base (setting.reach + 1) first later disk
+    (record {
+      few = knows.row.few;
+      wide = knows.row.wide;
+      ascending = knows.row.ascending;
+      further = knows.row.further;
+      widths = λ place kept low. let width = knows.row.widths place kept low in
+          record { least = width.least; most = (let most = width.most in omega (arith, most)) };
+      inside = λ device below works. ⊎_elim (λ (old : device < setting.reach). knows.row.inside device old works)
+          (λ (new : setting.reach ≤ device). omega (arith, below, new, there)) (cases_lt device setting.reach);
+      device = knows.row.device;
+      below = knows.row.below;
+      works = knows.row.works;
+    })
+    (λ device uber is below. ⊎_elim (λ (old : device < setting.reach). knows.own device uber is old)
+    (λ (new : setting.reach ≤ device). let same : device ≡ setting.reach = omega (arith, below, new) in
+    absurd (blank.none uber (settled.only (slot_of uber.group) (encoded uber setting.reach) (omega arith)
+    (subst (λ d. Contains (able disk d (slot_of uber.group)) (encoded uber d)) same is.could))))
+    (cases_lt device setting.reach))
+    (λ image might pool devices differs distinct each. knows.votes image might pool devices differs distinct
+    (λ place default low. let names = each place default low in
+    record { outside = (let out = names.outside in omega (arith, out)); names = names.names }))
+    knows
+
+-- The pool has as many devices at least as each group of the row.
+pub base_more : (setting : Setting) (first : Kept) (later : List Kept) (disk : Disk) (base : ℕ)
+    → setting.base ≤ base → All (λ (kept : Kept). base ≤ kept.uber.reflow.to) (first ∷ later)
+    → Knows setting first later disk
+    → Knows (record setting { base = base }) first later disk
+base_more setting first later disk base more widths knows =
+    knows_in setting base setting.reach first later disk
+    (record {
+      few = knows.row.few;
+      wide = (let wide = knows.row.wide in omega (arith, wide, more));
+      ascending = knows.row.ascending;
+      further = knows.row.further;
+      widths = λ place kept low. record { least = widths place kept low; most = (knows.row.widths place kept low).most };
+      inside = knows.row.inside;
+      device = knows.row.device;
+      below = (let below = knows.row.below in omega (arith, below, more));
+      works = knows.row.works;
+    })
+    knows.own
+    (λ image might pool devices differs distinct each.
+    let few = knows.votes image might pool devices differs distinct
+    (λ place default low. let names = each place default low in record { outside = names.outside; names = names.names }) in
+    let left = left_more setting.failed setting.base base more in
+    omega (arith, few, left))
+    knows
