@@ -1,3 +1,4 @@
+pub mod Causes
 pub mod Joined
 pub mod Longest
 pub mod Pieces

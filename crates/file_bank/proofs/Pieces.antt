@@ -1,5 +1,5 @@
 -- A sector that is put together from pieces.
-use Rattle.std.proofs.Common.{◌≡◌, ℕ, ◌+◌, ◌*◌, ◌/◌, ◌%◌, ◌<◌, ◌≤◌, List, Some, ◌++◌, length, take, drop, sym, ◌∙◌, ap, arith}
+use Rattle.std.proofs.Common.{◌≡◌, ℕ, ◌+◌, ◌-◌, ◌*◌, ◌/◌, ◌%◌, ◌<◌, ◌≤◌, List, Some, ◌++◌, length, take, drop, sym, ◌∙◌, ap, arith}
 use Rattle.std.proofs.Math.Seq.{drop-append_seam}
 use Rattle.std.proofs.lemmas.List.{take-append-drop, take-take, drop-take, take-append-le, take_all, take_at, length-take-le}
 use Rattle.file_bank.specs.BlockFile.{Contents, GivesBytes}
@@ -48,3 +48,13 @@ pub by_number : (now was : Contents) (sector start : ℕ) (bytes : List ℕ) →
 by_number now was sector start bytes same begins is =
     let number : start / 512 ≡ sector = omega arith in
     ap (λ (file : Contents). file.reads (start / 512)) same ∙ ap was.reads number ∙ is
+
+-- What a file in memory gives is the front of what stands there.
+pub given : (count start : ℕ) (into front rest sector bytes : List ℕ) → count ≤ length into
+    → length front ≡ length (take count into) → front ≡ take (start + count - start) (drop start sector)
+    → sector ≡ bytes → take count (front ++ rest) ≡ take count (drop start bytes)
+given count start into front rest sector bytes fits long is same =
+    let as_many : start + count - start ≡ count = omega arith in
+    take_at front rest count (long ∙ length-take-le count into fits) ∙ is
+    ∙ ap (λ (n : ℕ). take n (drop start sector)) as_many
+    ∙ ap (λ (l : List ℕ). take count (drop start l)) same

@@ -1,5 +1,6 @@
 -- What a file of sectors holds, what a crash may leave of it, and what each call does to that.
 use Rattle.std.specs.Prelude.{◌≡◌, ◌≢◌, ◌⊎◌, ℕ, ◌/◌, ◌%◌, ◌<◌, ◌≤◌, List, [], Option, Some, None, Result, OnOk, OnErr, IsSome, Contains, length, take, drop}
+use Rattle.bank_trait.specs.Causes.{counted}
 use Rattle.bank_trait.specs.declared.Failed.{Failed}
 
 -- A file at one moment. Sector x is the 512 bytes from byte 512 * x on. Moments are numbers that whoever
@@ -25,6 +26,12 @@ untold bytes = record {
   leaves = λ moment sector. None;
   could = λ moment sector. [];
 }
+
+-- A call that failed is counted once, and one that went well is not. The count never falls.
+pub record CountsFault {T E : Type 0} (before now : ℕ) (result : Result T E) : Type 0 where
+  pub later : before ≤ now
+  pub failed : OnErr result (now ≡ counted before)
+  pub well : OnOk result (now ≡ before)
 
 -- So many bytes at the front of the piece are those from this offset on, where its sector is told.
 abbrev pub GivesBytes : Contents → ℕ → ℕ → List ℕ → Type 0

@@ -74,8 +74,8 @@ fn latest_of<F: BlockFile>(files: &[Option<F>]) -> u64
 }
 
 impl<F: BlockFile> FileBank<F> {
-    ghost use Rattle.file_bank.specs.FileBank.{disk_of};
-    ghost use Rattle.file_bank.specs.Files.{HasLongestSectors, as_bank};
+    ghost use Rattle.file_bank.specs.FileBank.{disk_of, file_faults};
+    ghost use Rattle.file_bank.specs.Files.{HasLongestSectors, all_faults, as_bank};
 
     /// The bank has as many sectors as the longest file has whole ones, at most `most`; where none could
     /// be opened `most`, so that calls are made, and fail. Its clock goes on from the files' last moment.
@@ -86,6 +86,7 @@ impl<F: BlockFile> FileBank<F> {
         ensures disk { disk_of F.contents result ≡ as_bank (length files.items)
             (disk_of F.contents result).sectors (all_shown F.contents files.items)
             (slice_index faults.items) (disk_of F.contents result).clock }
+        ensures file_faults { file_faults F.faults result ≡ all_faults F.faults files.items }
     {
         let sectors = longest_of(&files).unwrap_or(most).min(most);
         let clock = latest_of(&files);
@@ -107,7 +108,11 @@ impl<F: BlockFile> FileBank<F> {
 }
 
 impl<F: BlockFile> Bank for FileBank<F> {
-    ghost use Rattle.file_bank.specs.FileBank.{disk_of};
+    ghost use Rattle.std.specs.Prelude.{◌≢◌, ◌⊎◌, List, Some, OnOk, OnErr};
+    ghost use Rattle.bank_trait.specs.Causes.{FaultCounted, FailedOnce};
+    ghost use Rattle.bank_trait.specs.Disk.{Unchanged, Wrote, Synced};
+    ghost use Rattle.file_bank.specs.FileBank.{LacksFile, LacksMoment, LacksSector, disk_of, file_faults};
+    ghost use Rattle.file_bank.specs.Files.{HasFileCause, OtherCountsStay};
     ghost use Rattle.file_bank.specs.Lawful.{all_lawful, joined_lawful};
 
     ghost disk = { disk_of F.contents };
@@ -124,14 +129,41 @@ impl<F: BlockFile> Bank for FileBank<F> {
         self.sectors
     }
 
-    fn read(&mut self, device: u32, sector: u64, into: &mut [u8; 512]) -> Result<(), Failed> {
+    /// A read fails where the file lacks the sector, and else only where the file's count of faults rose.
+    fn read(&mut self, device: u32, sector: u64, into: &mut [u8; 512]) -> Result<(), Failed>
+        requires device { device < (disk_of F.contents self.old).devices }
+        requires sector { sector < (disk_of F.contents self.old).sectors }
+        ensures bytes { OnOk result ((bytes : List ℕ)
+            → (disk_of F.contents self.old).reads device sector ≡ Some bytes → into.new ≡ bytes) }
+        ensures failed { OnErr result (FaultCounted ((disk_of F.contents self.old).faults device)
+            ((disk_of F.contents self.new).faults device)) }
+        ensures unchanged { Unchanged (disk_of F.contents self.old) (disk_of F.contents self.new) }
+        ensures once { OnErr result (FailedOnce (disk_of F.contents self.old).faults
+            (disk_of F.contents self.new).faults device) }
+        ensures well { OnOk result (disk_of F.contents self.new ≡ disk_of F.contents self.old) }
+        ensures cause { HasFileCause (LacksSector F.contents self.old device sector)
+            (file_faults F.faults self.old device) (file_faults F.faults self.new device) result }
+        ensures others { OtherCountsStay (file_faults F.faults self.old)
+            (file_faults F.faults self.new) device }
+    {
         let number = device as usize;
         let outcome = read_sector(&mut self.files[number], sector, into);
         note(&mut self.faults, number, outcome);
         outcome
     }
 
-    fn write(&mut self, device: u32, sector: u64, from: &[u8; 512]) -> Result<(), Failed> {
+    /// A write fails where the file lacks the sector or no moment is left, and else only where the file's
+    /// count of faults rose.
+    fn write(&mut self, device: u32, sector: u64, from: &[u8; 512]) -> Result<(), Failed>
+        requires device { device < (disk_of F.contents self.old).devices }
+        requires sector { sector < (disk_of F.contents self.old).sectors }
+        ensures wrote { Wrote (disk_of F.contents self.old) (disk_of F.contents self.new) device sector
+            from.now result }
+        ensures cause { HasFileCause (LacksMoment self.old ⊎ LacksSector F.contents self.old device sector)
+            (file_faults F.faults self.old device) (file_faults F.faults self.new device) result }
+        ensures others { OtherCountsStay (file_faults F.faults self.old)
+            (file_faults F.faults self.new) device }
+    {
         let number = device as usize;
         let Some(moment) = self.clock.checked_add(1) else {
             note(&mut self.faults, number, Err(Failed));
@@ -143,7 +175,16 @@ impl<F: BlockFile> Bank for FileBank<F> {
         outcome
     }
 
-    fn sync(&mut self, device: u32) -> Result<(), Failed> {
+    /// A sync fails where the file could not be opened or no moment is left, and else only where the file's
+    /// count of faults rose.
+    fn sync(&mut self, device: u32) -> Result<(), Failed>
+        requires { device < (disk_of F.contents self.old).devices }
+        ensures synced { Synced (disk_of F.contents self.old) (disk_of F.contents self.new) device result }
+        ensures cause { HasFileCause (LacksMoment self.old ⊎ LacksFile self.old device)
+            (file_faults F.faults self.old device) (file_faults F.faults self.new device) result }
+        ensures others { OtherCountsStay (file_faults F.faults self.old)
+            (file_faults F.faults self.new) device }
+    {
         let number = device as usize;
         let Some(moment) = self.clock.checked_add(1) else {
             note(&mut self.faults, number, Err(Failed));

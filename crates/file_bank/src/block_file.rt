@@ -1,6 +1,6 @@
 // A file of sectors of 512 bytes.
-ghost use Rattle.std.specs.Prelude.{◌≡◌, ◌+◌, ◌/◌, ◌%◌, ◌<◌, ◌≤◌, length, IfOk};
-ghost use Rattle.file_bank.specs.BlockFile.{Contents, GivesBytes, Written, Settled, LawfulFile};
+ghost use Rattle.std.specs.Prelude.{◌≡◌, ◌+◌, ◌/◌, ◌%◌, ◌<◌, ◌≤◌, ℕ, length, IfOk};
+ghost use Rattle.file_bank.specs.BlockFile.{Contents, CountsFault, GivesBytes, Written, Settled, LawfulFile};
 
 use bank_trait::Failed;
 
@@ -18,6 +18,9 @@ pub trait BlockFile {
     /// What the file holds and what a crash may leave of it.
     ghost contents: { Self → Contents };
 
+    /// How often a call has failed or was interrupted.
+    ghost faults: { Self → ℕ };
+
     /// In bytes. No call changes it.
     fn length(&self) -> u64
         ensures { result ≡ (contents self.now).length };
@@ -26,26 +29,40 @@ pub trait BlockFile {
     fn last_moment(&self) -> u64
         ensures { result ≡ (contents self.now).last };
 
-    /// Gives the first bytes that are asked for, as many as came at once: none only at the file's end.
+    /// Gives the first bytes that are asked for, as many as came at once, and one at least.
     fn read_at(&mut self, offset: u64, into: &mut [u8]) -> Result<usize, ReadFault>
         requires some { 0 < length into.old }
         requires one { offset % 512 + length into.old ≤ 512 }
         requires inside { offset + length into.old ≤ (contents self.old).length }
-        ensures bound { IfOk result (λ count. count ≤ length into.new) }
+        ensures bound { IfOk result (λ count. (1 ≤ count) × (count ≤ length into.new)) }
         ensures bytes { IfOk result (λ count. GivesBytes (contents self.old) offset count into.new) }
-        ensures same { contents self.new ≡ contents self.old };
+        ensures same { contents self.new ≡ contents self.old }
+        ensures counts { CountsFault (faults self.old) (faults self.new) result };
 
     /// Writes a whole sector, or fails.
     fn write_at(&mut self, moment: u64, offset: u64, from: &[u8; 512]) -> Result<(), Failed>
         requires whole { offset % 512 ≡ 0 }
         requires inside { offset + 512 ≤ (contents self.old).length }
         requires later { (contents self.old).last < moment }
-        ensures { Written (contents self.old) (contents self.new) moment (offset / 512) from.now result };
+        ensures written { Written (contents self.old) (contents self.new) moment (offset / 512) from.now result }
+        ensures counts { CountsFault (faults self.old) (faults self.new) result };
 
     /// Makes all that is read durable, or fails.
     fn sync(&mut self, moment: u64) -> Result<(), Failed>
         requires { (contents self.old).last < moment }
-        ensures { Settled (contents self.old) (contents self.new) moment result };
+        ensures settled { Settled (contents self.old) (contents self.new) moment result }
+        ensures counts { CountsFault (faults self.old) (faults self.new) result };
 
     ghost lawful: { (file : Self) → LawfulFile (contents file) };
+}
+
+/// Counts a call by its outcome, as each call of a `BlockFile` is counted.
+pub fn count_call<T, E>(faults: &mut u64, outcome: Result<T, E>) -> Result<T, E>
+    ensures counts { CountsFault faults.old faults.new result }
+    ensures same { result ≡ outcome }
+{
+    if outcome.is_err() {
+        *faults = faults.saturating_add(1);
+    }
+    outcome
 }

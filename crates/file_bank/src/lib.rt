@@ -13,6 +13,6 @@ mod record;
 mod slot;
 
 pub use bank::FileBank;
-pub use block_file::{BlockFile, ReadFault};
+pub use block_file::{BlockFile, ReadFault, count_call};
 pub use mem_file::MemFile;
 pub use slot::SECTOR_BYTES;

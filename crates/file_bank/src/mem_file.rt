@@ -1,5 +1,5 @@
 // A file in memory.
-ghost use Rattle.std.specs.Prelude.{◌≡◌, ◌*◌, ◌<◌, ◌^◌, ℕ, List, Some, IfOk, length, slice_get, replicate};
+ghost use Rattle.std.specs.Prelude.{◌≡◌, ◌*◌, ◌<◌, ◌≤◌, ◌^◌, ℕ, List, Some, IfOk, length, max, slice_get, replicate};
 ghost use Rattle.bank_trait.specs.Regions.{zero_sector};
 ghost use Rattle.file_bank.specs.Record.{AllBy, LeadsToSectors};
 
@@ -16,12 +16,13 @@ pub struct MemFile {
     calls: Vec<Call>,
     /// The moment of the last call on record.
     last: u64,
-    /// The most bytes that a read gives.
+    /// The most bytes that a read gives, one at least.
     piece: usize,
     plan: Plan,
     ghost few: { length present.items < 2 ^ 32 },
     ghost by: { AllBy last calls.items },
     ghost same: { LeadsToSectors first.items last calls.items present.items },
+    ghost some: { 1 ≤ piece },
     ghost whole: { (x : ℕ) (bytes : List ℕ) → slice_get present.items x ≡ Some bytes
         → length bytes ≡ 512 },
 }
@@ -39,10 +40,10 @@ fn blank(alloc: Global, sectors: u32) -> Result<Vec<[u8; 512]>, AllocError>
 }
 
 impl MemFile {
-    ghost use Rattle.file_bank.specs.MemFile.{file_of};
+    ghost use Rattle.file_bank.specs.MemFile.{file_of, listed_calls_of, calls_made, faults_of, piece_of};
 
     /// A file of zeros, all of it on the disk. The calls of these numbers, from 0, fail, and a read gives
-    /// at most `piece` bytes.
+    /// at most `piece` bytes, and one at least.
     pub fn new(
         alloc: Global,
         sectors: u32,
@@ -55,15 +56,20 @@ impl MemFile {
             → (file_of file).leaves 0 x ≡ slice_get (replicate sectors zero_sector) x) }
         ensures length { IfOk result (λ file. (file_of file).length ≡ 512 * sectors) }
         ensures fresh { IfOk result (λ file. (file_of file).last ≡ 0) }
+        ensures faults { IfOk result (λ file. faults_of file ≡ 0) }
+        ensures made { IfOk result (λ file. calls_made file ≡ 0) }
+        ensures listed { IfOk result (λ file. listed_calls_of file ≡ fails.now) }
+        ensures piece { IfOk result (λ file. piece_of file ≡ max piece 1) }
     {
         Ok(MemFile {
             first: blank(alloc, sectors)?,
             present: blank(alloc, sectors)?,
             calls: Vec::new(alloc),
             last: 0,
-            piece,
+            piece: piece.max(1),
             plan: Plan {
                 made: 0,
+                faults: 0,
                 fails: Vec::from_slice(alloc, fails)?,
             },
         })
@@ -71,10 +77,15 @@ impl MemFile {
 }
 
 impl BlockFile for MemFile {
-    ghost use Rattle.file_bank.specs.MemFile.{file_of};
+    ghost use Rattle.std.specs.Prelude.{◌+◌, ◌/◌, ◌%◌, ◌≤◌, OnOk, OnErr, min};
+    ghost use Rattle.bank_trait.specs.Causes.{counted};
+    ghost use Rattle.file_bank.specs.BlockFile.{CountsFault, GivesBytes, Written, Settled};
+    ghost use Rattle.file_bank.specs.MemFile.{file_of, faults_of, piece_of, calls_made, OneCallMade, FailsNextOn};
     ghost use Rattle.file_bank.specs.MemLaws.{lawful};
 
     ghost contents = { file_of };
+
+    ghost faults = { faults_of };
 
     ghost lawful = { λ file. lawful file.first.items file.present.items file.calls.items
         file.last file.by file.same file.whole };
@@ -87,7 +98,20 @@ impl BlockFile for MemFile {
         self.last
     }
 
-    fn read_at(&mut self, offset: u64, into: &mut [u8]) -> Result<usize, ReadFault> {
+    /// A read fails where it is listed, and nowhere else.
+    fn read_at(&mut self, offset: u64, into: &mut [u8]) -> Result<usize, ReadFault>
+        requires some { 0 < length into.old }
+        requires one { offset % 512 + length into.old ≤ 512 }
+        requires inside { offset + length into.old ≤ (file_of self.old).length }
+        ensures bound { IfOk result (λ count. (1 ≤ count) × (count ≤ length into.new)) }
+        ensures bytes { IfOk result (λ count. GivesBytes (file_of self.old) offset count into.new) }
+        ensures same { file_of self.new ≡ file_of self.old }
+        ensures counts { CountsFault (faults_of self.old) (faults_of self.new) result }
+        ensures count { IfOk result (λ count. count ≡ min (length into.old) (piece_of self.old)) }
+        ensures listed { OnOk result (FailsNextOn self.old → ⊥) }
+        ensures only_listed { OnErr result (FailsNextOn self.old) }
+        ensures made { OneCallMade self.old self.new }
+    {
         if self.plan.fails_now() {
             return Err(ReadFault::Failed);
         }
@@ -98,7 +122,16 @@ impl BlockFile for MemFile {
         Ok(count)
     }
 
-    fn write_at(&mut self, moment: u64, offset: u64, from: &[u8; 512]) -> Result<(), Failed> {
+    /// A write fails where it is listed, and else only where its record finds no memory.
+    fn write_at(&mut self, moment: u64, offset: u64, from: &[u8; 512]) -> Result<(), Failed>
+        requires whole { offset % 512 ≡ 0 }
+        requires inside { offset + 512 ≤ (file_of self.old).length }
+        requires later { (file_of self.old).last < moment }
+        ensures written { Written (file_of self.old) (file_of self.new) moment (offset / 512) from.now result }
+        ensures counts { CountsFault (faults_of self.old) (faults_of self.new) result }
+        ensures listed { OnOk result (FailsNextOn self.old → ⊥) }
+        ensures made { OneCallMade self.old self.new }
+    {
         if self.plan.fails_now() {
             return Err(Failed);
         }
@@ -113,6 +146,7 @@ impl BlockFile for MemFile {
             })
             .is_err()
         {
+            self.plan.count_fault();
             return Err(Failed);
         }
         self.last = moment;
@@ -120,11 +154,19 @@ impl BlockFile for MemFile {
         Ok(())
     }
 
-    fn sync(&mut self, moment: u64) -> Result<(), Failed> {
+    /// A sync fails where it is listed, and else only where its record finds no memory.
+    fn sync(&mut self, moment: u64) -> Result<(), Failed>
+        requires { (file_of self.old).last < moment }
+        ensures settled { Settled (file_of self.old) (file_of self.new) moment result }
+        ensures counts { CountsFault (faults_of self.old) (faults_of self.new) result }
+        ensures listed { OnOk result (FailsNextOn self.old → ⊥) }
+        ensures made { OneCallMade self.old self.new }
+    {
         if self.plan.fails_now() {
             return Err(Failed);
         }
         if self.calls.push(Call::Sync { moment }).is_err() {
+            self.plan.count_fault();
             return Err(Failed);
         }
         self.last = moment;

@@ -1,5 +1,5 @@
 // The calls that a file in memory records, and those that fail.
-ghost use Rattle.std.specs.Prelude.{◌≡◌, ◌↔◌, IsTrue, Contains};
+ghost use Rattle.std.specs.Prelude.{◌≡◌, ◌↔◌, ◌≤◌, false, IsTrue, Contains};
 ghost use Rattle.bank_trait.specs.Causes.{counted};
 
 /// A write or sync that was carried out, with its moment.
@@ -15,10 +15,11 @@ pub enum Call {
     },
 }
 
-/// Which calls fail, by number from 0, and how many were made.
+/// Which calls fail, by number from 0, how many were made, and how many have failed.
 #[derive(Drop)]
 pub struct Plan {
     pub made: u64,
+    pub faults: u64,
     pub fails: Vec<u64>,
 }
 
@@ -27,10 +28,27 @@ impl Plan {
     pub fn fails_now(&mut self) -> bool
         ensures fails { IsTrue result ↔ Contains self.old.fails.items self.old.made }
         ensures made { self.new.made ≡ counted self.old.made }
+        ensures later { self.old.faults ≤ self.new.faults }
+        ensures counts { IsTrue result → self.new.faults ≡ counted self.old.faults }
+        ensures well { result ≡ false → self.new.faults ≡ self.old.faults }
         ensures listed { self.new.fails.items ≡ self.old.fails.items }
     {
         let number = self.made;
         self.made = number.saturating_add(1);
-        self.fails.contains(&number)
+        let listed = self.fails.contains(&number);
+        if listed {
+            self.count_fault();
+        }
+        listed
+    }
+
+    /// Counts a call that failed.
+    pub fn count_fault(&mut self)
+        ensures later { self.old.faults ≤ self.new.faults }
+        ensures faults { self.new.faults ≡ counted self.old.faults }
+        ensures made { self.new.made ≡ self.old.made }
+        ensures listed { self.new.fails.items ≡ self.old.fails.items }
+    {
+        self.faults = self.faults.saturating_add(1);
     }
 }

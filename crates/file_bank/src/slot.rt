@@ -1,7 +1,8 @@
 // One sector of one file, which may not have been opened.
-ghost use Rattle.std.specs.Prelude.{◌≡◌, ◌<◌, ◌≤◌, ◌+◌, ◌*◌, ◌/◌, ◌%◌, List, ℕ, Some, IfOk, OnOk, take};
+ghost use Rattle.std.specs.Prelude.{◌≡◌, ◌⊎◌, ◌<◌, ◌≤◌, ◌+◌, ◌*◌, ◌/◌, ◌%◌, List, ℕ, Some, None, IfOk, IfErr, OnOk, OnErr, take};
+ghost use Rattle.bank_trait.specs.Causes.{FaultCounted, HasCause};
 ghost use Rattle.file_bank.specs.BlockFile.{Written, Settled};
-ghost use Rattle.file_bank.specs.Files.{shown};
+ghost use Rattle.file_bank.specs.Files.{EndsBefore, HasFileCause, faults_shown, shown};
 
 use crate::block_file::{BlockFile, ReadFault};
 use bank_trait::Failed;
@@ -13,6 +14,7 @@ pub const SECTOR_BYTES: u64 = 512;
 fn offset_of(length: u64, sector: u64) -> Result<u64, Failed>
     ensures begins { IfOk result (λ offset. offset ≡ 512 * sector) }
     ensures inside { IfOk result (λ offset. offset + 512 ≤ length) }
+    ensures outside { OnErr result (length < 512 * sector + 512) }
 {
     if sector < length / SECTOR_BYTES {
         Ok(sector * SECTOR_BYTES)
@@ -37,9 +39,11 @@ fn read_more<F: BlockFile>(
         → (F.contents file.old).reads (start / 512) ≡ Some bytes
         → take filled into.old ≡ take filled bytes → take now into.new ≡ take now bytes) }
     ensures same { F.contents file.new ≡ F.contents file.old }
+    ensures cause { HasCause (F.faults file.old) (F.faults file.new) result }
+    ensures goes_on { IfOk result (λ now. (filled < now)
+        ⊎ FaultCounted (F.faults file.old) (F.faults file.new)) }
 {
     match file.read_at(start + filled as u64, &mut into[filled..]) {
-        Ok(0) => Err(Failed),
         Ok(count) => Ok(filled + count),
         Err(ReadFault::Interrupted) => Ok(filled),
         Err(ReadFault::Failed) => Err(Failed),
@@ -51,6 +55,8 @@ fn read_whole<F: BlockFile>(file: &mut F, sector: u64, into: &mut [u8; 512]) -> 
     ensures bytes { OnOk result ((bytes : List ℕ)
         → (F.contents file.old).reads sector ≡ Some bytes → into.new ≡ bytes) }
     ensures same { F.contents file.new ≡ F.contents file.old }
+    ensures cause { HasFileCause (EndsBefore (F.contents file.old) sector)
+        (F.faults file.old) (F.faults file.new) result }
 {
     let start = offset_of(file.length(), sector)?;
     let mut filled = 0;
@@ -72,6 +78,8 @@ pub fn read_sector<F: BlockFile>(
     ensures bytes { OnOk result ((bytes : List ℕ)
         → (shown F.contents file.old).reads sector ≡ Some bytes → into.new ≡ bytes) }
     ensures same { shown F.contents file.new ≡ shown F.contents file.old }
+    ensures cause { HasFileCause (EndsBefore (shown F.contents file.old) sector)
+        (faults_shown F.faults file.old) (faults_shown F.faults file.new) result }
 {
     match file {
         Some(file) => read_whole(file, sector, into),
@@ -87,8 +95,10 @@ pub fn write_sector<F: BlockFile>(
     from: &[u8; 512],
 ) -> Result<(), Failed>
     requires { (shown F.contents file.old).last < moment }
-    ensures { Written (shown F.contents file.old) (shown F.contents file.new) moment sector from.now
-        result }
+    ensures written { Written (shown F.contents file.old) (shown F.contents file.new) moment sector
+        from.now result }
+    ensures cause { HasFileCause (EndsBefore (shown F.contents file.old) sector)
+        (faults_shown F.faults file.old) (faults_shown F.faults file.new) result }
 {
     match file {
         Some(file) => write_whole(file, moment, sector, from),
@@ -103,7 +113,9 @@ fn write_whole<F: BlockFile>(
     from: &[u8; 512],
 ) -> Result<(), Failed>
     requires { (F.contents file.old).last < moment }
-    ensures { Written (F.contents file.old) (F.contents file.new) moment sector from.now result }
+    ensures written { Written (F.contents file.old) (F.contents file.new) moment sector from.now result }
+    ensures cause { HasFileCause (EndsBefore (F.contents file.old) sector)
+        (F.faults file.old) (F.faults file.new) result }
 {
     let offset = offset_of(file.length(), sector)?;
     file.write_at(moment, offset, from)
@@ -112,7 +124,9 @@ fn write_whole<F: BlockFile>(
 /// Syncs a file, where it is there.
 pub fn sync_file<F: BlockFile>(file: &mut Option<F>, moment: u64) -> Result<(), Failed>
     requires { (shown F.contents file.old).last < moment }
-    ensures { Settled (shown F.contents file.old) (shown F.contents file.new) moment result }
+    ensures settled { Settled (shown F.contents file.old) (shown F.contents file.new) moment result }
+    ensures cause { HasFileCause (file.old ≡ None)
+        (faults_shown F.faults file.old) (faults_shown F.faults file.new) result }
 {
     match file {
         Some(file) => file.sync(moment),

@@ -2,17 +2,18 @@
 ghost use Rattle.std.specs.Prelude.{◌≡◌, ◌*◌, ◌<◌, ◌≤◌, ◌^◌, length};
 
 use bank_trait::Failed;
-use file_bank::{BlockFile, ReadFault, SECTOR_BYTES};
+use file_bank::{BlockFile, ReadFault, SECTOR_BYTES, count_call};
 use raidzx_top::MOST_SECTORS;
 use std::fs::File;
 use std::io::{self, ErrorKind};
 use std::os::unix::fs::FileExt;
 
-/// An open file, and how many whole sectors of it may be used.
+/// An open file, how many whole sectors of it may be used, and how many calls on it have failed.
 #[derive(Drop)]
 pub struct Image {
     file: File,
     sectors: u64,
+    faults: u64,
     ghost few: { sectors ≤ 65_728 },
 }
 
@@ -22,6 +23,7 @@ impl Image {
         Image {
             file,
             sectors: (bytes / SECTOR_BYTES).min(MOST_SECTORS),
+            faults: 0,
         }
     }
 
@@ -38,6 +40,8 @@ impl BlockFile for Image {
 
     ghost contents = { λ image. untold (512 * image.sectors) };
 
+    ghost faults = { λ image. image.faults };
+
     ghost lawful = { λ image. untold_lawful (512 * image.sectors) };
 
     fn length(&self) -> u64 {
@@ -49,15 +53,22 @@ impl BlockFile for Image {
     }
 
     fn read_at(&mut self, offset: u64, into: &mut [u8]) -> Result<usize, ReadFault> {
-        self.file.read_at(into, offset).map_err(fault_of)
+        let outcome = match self.file.read_at(into, offset) {
+            Ok(0) => Err(ReadFault::Failed),
+            Ok(count) => Ok(count),
+            Err(error) => Err(fault_of(error)),
+        };
+        count_call(&mut self.faults, outcome)
     }
 
     fn write_at(&mut self, _moment: u64, offset: u64, from: &[u8; 512]) -> Result<(), Failed> {
-        self.file.write_all_at(from, offset).map_err(|_| Failed)
+        let outcome = self.file.write_all_at(from, offset);
+        count_call(&mut self.faults, outcome.map_err(|_| Failed))
     }
 
     fn sync(&mut self, _moment: u64) -> Result<(), Failed> {
-        self.file.sync_data().map_err(|_| Failed)
+        let outcome = self.file.sync_data();
+        count_call(&mut self.faults, outcome.map_err(|_| Failed))
     }
 }
 

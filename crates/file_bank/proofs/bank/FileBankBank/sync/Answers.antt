@@ -1,10 +1,22 @@
-use Rattle.std.proofs.Common.{◌≡◌, ◌+◌, rules}
+use Rattle.std.proofs.Common.{◌≡◌, ◌+◌, ◌-◌, ◌^◌, ◌≤◌, None, inl, arith, rules}
+use Rattle.file_bank.proofs.Causes.{in_bank, not_asked, or_lacks}
 use Rattle.file_bank.proofs.Joined.{synced_one}
 use Rattle.file_bank.proofs.bank.FileBankBank.sync.Goals as goal
 
-pub returns : goal.returns
-returns g c =
+pub returns-clause-synced : goal.returns-clause-synced
+returns-clause-synced g c =
     let next : c.in-Some.moment ≡ c.args.self.now.clock + 1 = search rules in
     synced_one g.F.BlockFile.contents g.met.F.BlockFile.lawful c.args.self.now.files.items _ _ _ _ _ _ _
     _ c.requires c.index_mut.ensures.value next c.args.self.now.paced _
-    c.sync_file-outcome.ensures c.note-2.ensures.counts
+    c.sync_file-outcome.ensures.settled c.note-2.ensures.counts
+
+pub returns-clause-cause : goal.returns-clause-cause
+returns-clause-cause g c =
+    or_lacks _ _ _ _ _ (λ full. omega (arith, full, c.in-Some.ensures.0))
+    (in_bank g.F.BlockFile.faults c.args.self.now.files.items _ _ _ c.requires c.index_mut.ensures.value
+    (λ file. file ≡ None) _ c.sync_file-outcome.ensures.cause)
+
+pub returns-in_default-clause-cause : goal.returns-in_default-clause-cause
+returns-in_default-clause-cause g c =
+    let full : 2 ^ 64 - 1 ≤ c.args.self.now.clock = omega (arith, c.in_default.ensures) in
+    not_asked _ _ _ (inl full)
