@@ -1,7 +1,7 @@
 // What a user is told once a command over files has ended.
 ghost use Rattle.bank_trait.specs.Disk.{Unchanged};
 
-use crate::files::FileBank;
+use crate::bank::FileBank;
 use crate::notes::{note_failed_calls, note_further, note_out, note_seen};
 use crate::seen::{out_for_good, seen_anywhere, seen_in_place};
 use bank_trait::Bank;

@@ -1,5 +1,8 @@
-// Images as files, and the bank that they are.
-ghost use Rattle.std.specs.Prelude.{◌≡◌, ◌*◌, ◌<◌, ◌≤◌, ◌^◌, length};
+// Images as files.
+ghost use Rattle.std.specs.Prelude.{◌≡◌, ◌↔◌, ◌*◌, ◌/◌, ◌≤◌, min};
+ghost use Rattle.std.specs.IoError.{error_kind};
+ghost use Rattle.std.specs.declared.io.ErrorKind.TheVariants as kind;
+ghost use Rattle.file_bank.specs.declared.block_file.ReadFault.TheVariants.{Interrupted};
 
 use bank_trait::Failed;
 use file_bank::{BlockFile, ReadFault, SECTOR_BYTES, count_call};
@@ -18,8 +21,13 @@ pub struct Image {
 }
 
 impl Image {
+    ghost use Rattle.raidzx.specs.Images.{image_faults, image_sectors};
+
     /// A file of so many bytes: its whole sectors are used, as far as a device may have them.
-    pub fn new(file: File, bytes: u64) -> Image {
+    pub fn new(file: File, bytes: u64) -> Image
+        ensures sectors { image_sectors result ≡ min (bytes / 512) 65_728 }
+        ensures faults { image_faults result ≡ 0 }
+    {
         Image {
             file,
             sectors: (bytes / SECTOR_BYTES).min(MOST_SECTORS),
@@ -27,7 +35,9 @@ impl Image {
         }
     }
 
-    pub fn sectors(&self) -> u64 {
+    pub fn sectors(&self) -> u64
+        ensures { result ≡ image_sectors self.now }
+    {
         self.sectors
     }
 }
@@ -35,14 +45,14 @@ impl Image {
 /// A file that is there gives no clause of what it holds, so nothing is told of it: what these calls do is
 /// trusted, and all that is made of them is proved in `file_bank`.
 impl BlockFile for Image {
-    ghost use Rattle.file_bank.specs.BlockFile.{untold};
     ghost use Rattle.file_bank.specs.Lawful.{untold_lawful};
+    ghost use Rattle.raidzx.specs.Images.{image_contents, image_faults, image_sectors};
 
-    ghost contents = { λ image. untold (512 * image.sectors) };
+    ghost contents = { image_contents };
 
-    ghost faults = { λ image. image.faults };
+    ghost faults = { image_faults };
 
-    ghost lawful = { λ image. untold_lawful (512 * image.sectors) };
+    ghost lawful = { λ image. untold_lawful (512 * image_sectors image) };
 
     fn length(&self) -> u64 {
         self.sectors * SECTOR_BYTES
@@ -72,19 +82,11 @@ impl BlockFile for Image {
     }
 }
 
-fn fault_of(error: io::Error) -> ReadFault {
+fn fault_of(error: io::Error) -> ReadFault
+    ensures { result ≡ Interrupted ↔ error_kind error ≡ kind.Interrupted }
+{
     match error.kind() {
         ErrorKind::Interrupted => ReadFault::Interrupted,
         _ => ReadFault::Failed,
     }
-}
-
-pub type FileBank = file_bank::FileBank<Image>;
-
-/// The bank whose devices are these images, each opened once.
-pub fn bank_over(images: Vec<Option<Image>>, faults: Vec<u64>) -> FileBank
-    requires counted { length faults.items ≡ length images.items }
-    requires few { length images.items < 2 ^ 32 }
-{
-    FileBank::new(images, faults, MOST_SECTORS)
 }

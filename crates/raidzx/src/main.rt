@@ -1,9 +1,12 @@
 //! The program: `raidzx IMAGE.. -- COMMAND ..`.
 #![tactic(auto)]
 
-ghost use Rattle.std.specs.Prelude.{◌≡◌, ◌+◌, ◌<◌, ◌≤◌, ◌^◌, length};
+ghost use Rattle.std.specs.Prelude.{◌≡◌, ◌+◌, ◌<◌, ◌≤◌, ◌^◌, length, IfOk};
+ghost use Rattle.file_bank.specs.FileBank.{disk_of};
+ghost use Rattle.raidzx.specs.Images.{image_contents};
 
 mod after;
+mod bank;
 mod files;
 mod hints;
 mod notes;
@@ -13,9 +16,9 @@ mod streams;
 mod usage;
 
 use after::tell_files;
+use bank::{FileBank, bank_over};
 use bank_mem::MemBank;
 use bank_trait::Bank;
-use files::{FileBank, bank_over};
 use hints::hint_line;
 use notes::{note_lengths, note_unopened};
 use opening::{Unopened, open_image};
@@ -51,6 +54,7 @@ impl<T: Drop> From<AllocFailed<T>> for NoBank {
 /// want the same images one gets them all.
 fn open_files(rt: &HostRuntime, words: &[String], count: u32) -> Result<FileBank, NoBank>
     requires { count + 1 < length words.now }
+    ensures devices { IfOk result (λ bank. (disk_of image_contents bank).devices ≡ count) }
 {
     let alloc = rt.alloc();
     let mut images = Vec::new(alloc);

@@ -1,6 +1,7 @@
 // What a user is told of each image, on standard error: one line each. A line that can't be written changes nothing.
 
-use crate::files::{FileBank, Image};
+use crate::bank::FileBank;
+use crate::files::Image;
 use crate::opening::Unopened;
 use crate::seen::Seen;
 use bank_trait::Bank;

@@ -1,6 +1,8 @@
 // What images show once a command has ended. These are reads alone.
-ghost use Rattle.std.specs.Prelude.{◌<◌};
+ghost use Rattle.std.specs.Prelude.{◌≡◌, ◌<◌, ◌≤◌, ℕ, List, Some, IfSome, IfNone};
 ghost use Rattle.bank_trait.specs.Disk.{Unchanged};
+ghost use Rattle.uberblock_ring.specs.Uberblock.{Uber as UberOf};
+ghost use Rattle.uberblock_ring.specs.Valid.{IsValidIn};
 
 use bank_trait::Bank;
 use core_open::find;
@@ -33,6 +35,8 @@ fn last_group(journal: &Journal) -> Option<u64> {
 fn read_slot<B: Bank>(bank: &mut B, device: u32, slot: u32) -> Option<[u8; 512]>
     requires { device < (B.disk bank.old).devices }
     ensures unchanged { Unchanged (B.disk bank.old) (B.disk bank.new) }
+    ensures bytes { IfSome result (λ read. (bytes : List ℕ)
+        → (B.disk bank.old).reads device slot ≡ Some bytes → read ≡ bytes) }
 {
     let sector = u64::from(slot);
     if sector >= bank.sectors() {
@@ -90,8 +94,14 @@ pub fn out_for_good<B: Bank>(alloc: Global, bank: &mut B, journal: &Journal) -> 
     }
 }
 
+ghost use Rattle.raidzx.specs.Images.{ShowsPlace};
+
 /// The first place from `first` to before `end` whose uberblock these bytes are.
-fn seen_in(bytes: &[u8; 512], slot: u32, first: u32, end: u32) -> Option<Seen> {
+fn seen_in(bytes: &[u8; 512], slot: u32, first: u32, end: u32) -> Option<Seen>
+    ensures some { IfSome result (ShowsPlace bytes.now slot first end) }
+    ensures none { IfNone result ((place : ℕ) (uber : UberOf) → first ≤ place → place < end
+        → IsValidIn uber place slot bytes.now → ⊥) }
+{
     for place in first..end {
         if let Some(uber) = Uber::decode(bytes, place, slot) {
             return Some(Seen {

@@ -1,4 +1,6 @@
 // The form of a command, where the words are none.
+ghost use Rattle.std.specs.Prelude.{◌≡◌, ◌↔◌, codes};
+ghost use Rattle.raidzx.specs.declared.usage.Meant.TheVariants.{Create, Run, Replay};
 
 /// Which command was meant, by the first word behind the dashes.
 #[derive(Clone, Copy, Debug, PartialEq, Eq)]
@@ -21,7 +23,11 @@ fn meant_by(words: &[String]) -> Meant {
     Meant::Unknown
 }
 
-fn named(word: &str) -> Meant {
+fn named(word: &str) -> Meant
+    ensures create { result ≡ Create ↔ word.now ≡ codes "create" }
+    ensures run { result ≡ Run ↔ word.now ≡ codes "run" }
+    ensures replay { result ≡ Replay ↔ word.now ≡ codes "replay" }
+{
     match word {
         "create" => Meant::Create,
         "run" => Meant::Run,
