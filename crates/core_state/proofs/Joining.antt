@@ -6,7 +6,7 @@ use Rattle.std.proofs.lemmas.Bool.{cases_lt}
 use Rattle.bank_trait.specs.Disk.{Image, Disk}
 use Rattle.uberblock_ring.specs.Uberblock.{Uber, encoded, slot_of}
 use Rattle.core_state.specs.Shown.{read_devices}
-use Rattle.core_state.specs.Keeps.{Kept, Setting, IsNotOutvoted, count_left}
+use Rattle.core_state.specs.Keeps.{Kept, Setting, IsNotOutvoted}
 use Rattle.core_state.specs.Collision.{MightStand}
 use Rattle.core_state.specs.Certain.{Knows, IsAble, IsSuccession, able}
 use Rattle.core_state.proofs.PoolChosen.{left_more}
