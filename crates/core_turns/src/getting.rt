@@ -167,7 +167,7 @@ impl Core {
             return Turn::Done(Answer::NoMemory);
         };
         let end = entry.start + layout.alloc_size();
-        let hold = match self.locks.try_shared(entry.start, end, actor) {
+        let hold = match self.locks.hold_shared(entry.start, end, actor) {
             Ok(hold) => hold,
             Err(LockRefused::Busy { by }) => return Turn::Busy { by },
             Err(LockRefused::NoMemory) => return Turn::Done(Answer::NoMemory),

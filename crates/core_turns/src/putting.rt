@@ -68,7 +68,7 @@ fn hold_range(locks: &mut Locks, range: &PutRange, actor: u8) -> Option<Hold>
 {
     let start = range.layout.start();
     let end = start + range.layout.alloc_size();
-    match locks.try_shared(start, end, actor) {
+    match locks.hold_shared(start, end, actor) {
         Ok(hold) => Some(hold),
         Err(LockRefused::Busy { by: _ }) => unreachable!(),
         Err(LockRefused::NoMemory) => None,

@@ -19,7 +19,7 @@ fn the_mark_goes_to_the_front_but_never_past_a_shared_hold(rt: HostRuntime) {
         (126, 128, 167),
     ] {
         let mut locks = Locks::new(rt.alloc());
-        assert!(rt; lo < hi && locks.try_shared(lo, hi, CLIENT).is_ok());
+        assert!(rt; lo < hi && locks.hold_shared(lo, hi, CLIENT).is_ok());
         let chosen = choose(&before, 167, &locks);
         assert_eq!(rt; chosen, at_mark(mark, State::Moved), "beside {lo} to {hi}");
         assert_eq!(rt;
@@ -48,7 +48,7 @@ fn at_the_end_the_pool_has_the_new_width(rt: HostRuntime) {
     let chosen = choose(&before, 192, &locks);
     assert_eq!(rt; chosen, Reflow::at_rest(4, 64));
     assert_eq!(rt; held_range(&before, &chosen), (167, 192));
-    assert!(rt; locks.try_shared(191, 192, CLIENT).is_ok());
+    assert!(rt; locks.hold_shared(191, 192, CLIENT).is_ok());
     let chosen = choose(&before, 192, &locks);
     assert_eq!(rt; chosen, at_mark(191, State::Moved));
 }
@@ -65,9 +65,9 @@ fn the_scratch_area_is_passed_once_it_is_whole_and_nobody_holds_its_sectors(rt: 
         assert_eq!(rt; choose(&before, 128, &locks), after);
         assert_eq!(rt; held_range(&before, &after), (0, 128));
         assert_eq!(rt; held_range(&before, &before), (0, 0));
-        assert!(rt; locks.try_exclusive(128, 192, JOB).is_ok());
+        assert!(rt; locks.hold_exclusive(128, 192, JOB).is_ok());
         assert_eq!(rt; choose(&before, 128, &locks), after);
-        assert!(rt; locks.try_shared(127, 128, CLIENT).is_ok());
+        assert!(rt; locks.hold_shared(127, 128, CLIENT).is_ok());
         assert_eq!(rt; choose(&before, 128, &locks), before);
     }
 }

@@ -27,7 +27,7 @@ fn what_a_reader_holds_is_not_reused(rt: HostRuntime) -> Result<(), Fail> {
     let mut space = Space::new(rt.alloc(), 192);
     let freed = space.take(2, &locks)?;
     space.drop_run(freed, 2);
-    assert!(rt; freed == 0 && locks.try_shared(0, 2, 0).is_ok());
+    assert!(rt; freed == 0 && locks.hold_shared(0, 2, 0).is_ok());
     assert_eq!(rt; space.take(2, &locks), Ok(2));
     Ok(())
 }
@@ -36,7 +36,7 @@ fn what_a_reader_holds_is_not_reused(rt: HostRuntime) -> Result<(), Fail> {
 fn a_run_below_an_exclusive_hold_is_passed_by(rt: HostRuntime) -> Result<(), Fail> {
     let mut locks = Locks::new(rt.alloc());
     let mut space = Space::new(rt.alloc(), 140);
-    assert!(rt; locks.try_exclusive(0, 128, X).is_ok());
+    assert!(rt; locks.hold_exclusive(0, 128, X).is_ok());
     assert_eq!(rt; space.take(12, &locks), Ok(128));
     assert_eq!(rt; space.take(3, &locks), Err(TakeRefused::Busy { by: X }));
     assert_eq!(rt;

@@ -109,7 +109,7 @@ fn a_refusal_names_its_cause(rt: HostRuntime) -> Result<(), Fail> {
         assert_eq!(rt; put(&mut blocks, block, 2, &locks), Ok(2 * block));
     }
     assert_eq!(rt; put(&mut blocks, 512, 2, &locks), Err(PutRefused::Full));
-    assert!(rt; locks.try_exclusive(1024, 2048, X).is_ok());
+    assert!(rt; locks.hold_exclusive(1024, 2048, X).is_ok());
     assert_eq!(rt;
         put(&mut blocks, 511, 2, &locks),
         Err(PutRefused::Busy { by: X })

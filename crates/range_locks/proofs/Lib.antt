@@ -1,5 +1,11 @@
 pub mod Rows
 pub mod Pairs
 pub mod Lists
+pub mod Halving
+pub mod Ordered
+pub mod Kept
+pub mod InOrder
+pub mod Digits
+pub mod Granting
 pub mod Exclusive
 pub mod Searching

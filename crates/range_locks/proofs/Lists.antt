@@ -8,7 +8,7 @@ use Rattle.range_locks.proofs.Pairs.{all_pairs_leave}
 
 module _ {T : Type 0} where
   -- What holds of each item that a list contains holds of all its places.
-  all_listed : (P : T → Type 0) (xs : List T) → ((x : T) → Contains xs x → P x) → All P xs
+  pub all_listed : (P : T → Type 0) (xs : List T) → ((x : T) → Contains xs x → P x) → All P xs
   all_listed P xs each k d within = each (get_or xs k d) (Contains-get_or xs k d within)
 
   pub first_listed : (x : T) (xs : List T) → Contains (x ∷ xs) x

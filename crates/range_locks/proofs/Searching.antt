@@ -1,21 +1,20 @@
 -- What a search has found, one hold further.
-use Rattle.std.proofs.Common.{◌≡◌, ◌⊎◌, ℕ, ◌<◌, ◌+◌, List, [], ◌∷◌, ◌++◌, length, take, drop, suc, get_or, refl, sym, ap, ◌∙◌, subst, arith, inl, inr, ⊎_elim, add-one}
-use Rattle.std.specs.Prelude.{true, false, Option, Some, None, Contains, min, remove}
+use Rattle.std.proofs.Common.{◌≡◌, ◌⊎◌, ℕ, ◌<◌, ◌+◌, List, [], ◌∷◌, ◌++◌, length, take, get_or, refl, sym, subst, arith, inl, inr, ⊎_elim}
+use Rattle.std.specs.Prelude.{true, false, Option, Some, None, min}
 use Rattle.std.proofs.lemmas.Bool.{cases_lt}
-use Rattle.std.proofs.lemmas.List.{take_more, take_all, drop_more, take-append-drop}
-use Rattle.std.proofs.lemmas.Option.{slice_get_within, slice_get-get_or, get_or_from_slice_get}
-use Rattle.std.proofs.lemmas.List.Elements.{Contains-append_left, Contains-push, Contains-push_cases}
+use Rattle.std.proofs.lemmas.List.{take_more}
+use Rattle.std.proofs.lemmas.List.Elements.{Contains-append_cases, Contains-append_left, Contains-append_right, Contains-push, Contains-push_cases}
 use Rattle.range_locks.specs.declared.hold.Hold.{Hold}
 use Rattle.range_locks.specs.declared.hold.HoldKind.{HoldKind}
 use Rattle.range_locks.specs.declared.hold.HoldKind.TheVariants.{Shared}
-use Rattle.range_locks.specs.Holds.{ConflictsWith, Precedes, IsBusyBy, IsFirstIn, IsFirst, IsSharedFrom, BeginsShared, IsFirstSharedFrom, EndsHold}
-use Rattle.range_locks.specs.Search.{IsFirstPosition, IsEarlier, lesser_of}
+use Rattle.range_locks.specs.Holds.{ConflictsWith, IsClear, Precedes, IsBusyBy, IsFirstIn, IsFirst, IsSharedFrom, BeginsShared, IsFirstSharedFrom}
+use Rattle.range_locks.specs.Search.{IsEarlier, lesser_of}
 
 -- No test is both.
 pub not_false : false ≡ true → ⊥
 not_false same = cc
 
-precedes_itself : (hold : Hold) → Precedes hold hold
+pub precedes_itself : (hold : Hold) → Precedes hold hold
 precedes_itself hold = inr (refl, omega arith)
 
 precedes_then : (one two three : Hold) → Precedes one two → Precedes two three → Precedes one three
@@ -59,6 +58,42 @@ first_takes seen lo hi kind (Some first) hold earlier found blocks is =
           (λ same. subst (λ (h : Hold). Precedes hold h) same (precedes_itself hold)) (Contains-push_cases seen hold other listed);
     }))
     is
+
+-- Of the first holds in the way in two lists the earlier is the first of both.
+pub first_of_one : (holds others : List Hold) (lo hi : ℕ) (kind : HoldKind) (first : Option Hold) → IsFirst holds lo hi kind first
+    → IsClear others lo hi kind → IsFirst (holds ++ others) lo hi kind first
+first_of_one holds others lo hi kind None clear rest = λ other listed blocks.
+    ⊎_elim (λ left. clear other left blocks) (λ right. rest other right blocks) (Contains-append_cases holds others other listed)
+first_of_one holds others lo hi kind (Some first) is rest = record {
+  listed = Contains-append_left holds others first is.listed;
+  blocks = is.blocks;
+  lowest = λ other listed blocks. ⊎_elim (λ left. is.lowest other left blocks) (λ right. absurd (rest other right blocks))
+      (Contains-append_cases holds others other listed);
+}
+
+pub first_of_both : (holds others : List Hold) (lo hi : ℕ) (kind : HoldKind) (one : Option Hold) (other earlier : Hold)
+    → IsFirst holds lo hi kind one → IsFirstIn others lo hi kind other → IsEarlier one other earlier
+    → IsFirstIn (holds ++ others) lo hi kind earlier
+first_of_both holds others lo hi kind None other earlier clear is same = subst (IsFirstIn (holds ++ others) lo hi kind) (sym same) (record {
+  listed = Contains-append_right holds others other is.listed;
+  blocks = is.blocks;
+  lowest = λ hold listed blocks. ⊎_elim (λ left. absurd (clear hold left blocks)) (λ right. is.lowest hold right blocks)
+      (Contains-append_cases holds others hold listed);
+})
+first_of_both holds others lo hi kind (Some one) other earlier first is which = ⊎_elim
+    (λ old. subst (IsFirstIn (holds ++ others) lo hi kind) (sym old.0) (record {
+      listed = Contains-append_left holds others one first.listed;
+      blocks = first.blocks;
+      lowest = λ hold listed blocks. ⊎_elim (λ left. first.lowest hold left blocks)
+          (λ right. precedes_then one other hold old.1 (is.lowest hold right blocks)) (Contains-append_cases holds others hold listed);
+    }))
+    (λ new. subst (IsFirstIn (holds ++ others) lo hi kind) (sym new.0) (record {
+      listed = Contains-append_right holds others other is.listed;
+      blocks = is.blocks;
+      lowest = λ hold listed blocks. ⊎_elim (λ left. precedes_then other one hold new.1 (first.lowest hold left blocks))
+          (λ right. is.lowest hold right blocks) (Contains-append_cases holds others hold listed);
+    }))
+    which
 
 -- The first hold in the way tells who is.
 pub busy_by_first : (holds : List Hold) (lo hi : ℕ) (kind : HoldKind) (hold : Hold) → IsFirstIn holds lo hi kind hold
@@ -140,39 +175,3 @@ shared_takes_at holds from first at default lesser within is shared least =
     subst (λ (seen : List Hold). IsFirstSharedFrom seen from (Some lesser)) (sym (take_more holds at default within))
     (subst (λ (least : ℕ). IsFirstSharedFrom (take at holds ++ get_or holds at default ∷ []) from (Some least)) (sym least)
     (shared_takes (take at holds) from first (get_or holds at default) is shared))
-
--- A hold that is listed stands below the end.
-pub position_within : (holds : List Hold) (hold : Hold) (at : ℕ) → Contains holds hold → (Contains (take at holds) hold → ⊥) → at < length holds
-position_within holds hold at listed none =
-    ⊎_elim (λ less. less) (λ past. absurd (none (subst (λ (seen : List Hold). Contains seen hold) (sym (take_all at holds past)) listed))) (cases_lt at (length holds))
-
--- It isn't among those passed, one further.
-pub position_more : (holds : List Hold) (hold : Hold) (at : ℕ) (default : Hold) → at < length holds → (Contains (take at holds) hold → ⊥)
-    → (get_or holds at default ≡ hold → ⊥) → Contains (take (at + 1) holds) hold → ⊥
-position_more holds hold at default within none other listed =
-    ⊎_elim none other (Contains-push_cases (take at holds) (get_or holds at default) hold
-    (subst (λ (seen : List Hold). Contains seen hold) (take_more holds at default within) listed))
-
--- A hold that stands here ends: those before and after it stay.
-pub ends_at : (holds new : List Hold) (hold : Hold) (at : ℕ) → IsFirstPosition holds hold at → new ≡ remove holds at → EndsHold holds new hold
-ends_at holds new hold at is removed =
-    let within : at < length holds = slice_get_within holds at hold is.here in
-    let read : get_or holds at hold ≡ hold = get_or_from_slice_get holds at hold hold is.here in
-    let rest : drop at holds ≡ hold ∷ drop (suc at) holds =
-    subst (λ (n : ℕ). drop at holds ≡ hold ∷ drop n holds) (add-one at)
-    (drop_more holds at hold within ∙ ap (λ (h : Hold). h ∷ drop (at + 1) holds) read) in
-    record {
-      before = take at holds;
-      after = drop (suc at) holds;
-      was = sym (take-append-drop at holds) ∙ ap (λ (l : List Hold). take at holds ++ l) rest;
-      first = is.first;
-      is = removed;
-    }
-
--- It is the one at the index, and not among those passed.
-pub position_is : (holds : List Hold) (hold : Hold) (at : ℕ) (default : Hold) → at < length holds → (Contains (take at holds) hold → ⊥)
-    → get_or holds at default ≡ hold → IsFirstPosition holds hold at
-position_is holds hold at default within none same = record {
-  here = slice_get-get_or holds at default within ∙ ap (λ (h : Hold). Some h) same;
-  first = none;
-}

@@ -1,3 +1,4 @@
 pub mod Gaining
 pub mod Holds
+pub mod Order
 pub mod Search

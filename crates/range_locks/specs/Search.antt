@@ -1,12 +1,7 @@
 -- What a search in a list of holds has found so far.
-use Rattle.std.specs.Prelude.{◌≡◌, ◌⊎◌, ℕ, List, Option, Some, None, Contains, slice_get, take, min}
+use Rattle.std.specs.Prelude.{◌≡◌, ◌⊎◌, ℕ, Option, Some, None, min}
 use Rattle.range_locks.specs.declared.hold.Hold.{Hold}
 use Rattle.range_locks.specs.Holds.{Precedes}
-
--- The hold stands here, and nowhere before.
-pub record IsFirstPosition (holds : List Hold) (hold : Hold) (at : ℕ) : Type 0 where
-  pub here : slice_get holds at ≡ Some hold
-  pub first : Contains (take at holds) hold → ⊥
 
 -- the one of two holds that precedes the other, or the only one
 abbrev pub IsEarlier : Option Hold → Hold → Hold → Type 0

@@ -1,7 +1,9 @@
 // Searches in a list of holds.
-ghost use Rattle.std.specs.Prelude.{◌≡◌, ◌↔◌, Contains, IsTrue};
+ghost use Rattle.std.specs.Prelude.{◌≡◌, ◌↔◌, ◌++◌, ℕ, List, IsTrue};
+ghost use Rattle.range_locks.specs.declared.hold.Hold.{Hold as HoldOf};
+ghost use Rattle.range_locks.specs.declared.hold.HoldKind.{HoldKind as HoldKindOf};
 ghost use Rattle.range_locks.specs.Holds.{IsFirst, IsFirstSharedFrom, Straddles};
-ghost use Rattle.range_locks.specs.Search.{IsFirstPosition, IsEarlier, lesser_of};
+ghost use Rattle.range_locks.specs.Search.{IsEarlier, lesser_of};
 
 use crate::{Hold, HoldKind};
 
@@ -27,22 +29,15 @@ fn earlier(first: Option<Hold>, hold: Hold) -> Hold
     }
 }
 
-/// The place of a hold that is in the list, the first.
-pub fn position(holds: &[Hold], hold: &Hold) -> usize
-    requires listed { Contains holds.now hold.now }
-    ensures { IsFirstPosition holds.now hold.now result }
+/// Of the first holds in the way in two lists, that of both.
+pub fn first_of(one: Option<Hold>, other: Option<Hold>) -> Option<Hold>
+    ensures { (holds others : List HoldOf) (lo hi : ℕ) (kind : HoldKindOf) → IsFirst holds lo hi kind one
+        → IsFirst others lo hi kind other → IsFirst (holds ++ others) lo hi kind result }
 {
-    let mut at = 0;
-    while !is_same(&holds[at], hold) {
-        at += 1;
+    match other {
+        Some(hold) => Some(earlier(one, hold)),
+        None => one,
     }
-    at
-}
-
-fn is_same(one: &Hold, other: &Hold) -> bool
-    ensures { IsTrue result ↔ (one.now ≡ other.now) }
-{
-    one == other
 }
 
 /// The lowest start of a shared hold at or above a sector.

@@ -1,6 +1,7 @@
 // A range that is held.
 ghost use Rattle.std.specs.Prelude.{◌↔◌, IsTrue};
 ghost use Rattle.range_locks.specs.Holds.{ConflictsWith, Precedes, IsSharedFrom};
+ghost use Rattle.range_locks.specs.Order.{ComesBefore};
 
 #[derive(Clone, Copy, Debug, PartialEq, Eq)]
 pub enum HoldKind {
@@ -31,6 +32,13 @@ impl Hold {
         ensures value { IsTrue result ↔ Precedes self.now other.now }
     {
         self.lo < other.lo || (self.lo == other.lo && self.actor <= other.actor)
+    }
+
+    /// Whether the hold stands before another among shared holds: by start, then by actor, then by end.
+    pub fn comes_before(&self, other: &Hold) -> bool
+        ensures value { IsTrue result ↔ ComesBefore self.now other.now }
+    {
+        (self.lo, self.actor, self.hi) < (other.lo, other.actor, other.hi)
     }
 
     /// Whether the hold is shared and begins at or above this sector.

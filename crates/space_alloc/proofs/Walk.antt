@@ -1,15 +1,15 @@
 -- A walk over the runs in use finds the first that fits.
-use Rattle.std.proofs.Common.{◌≡◌, ◌⊎◌, ℕ, ◌<◌, ◌≤◌, ◌+◌, List, length, take, get_or, true, false, refl, sym, ◌∙◌, ap, subst, arith, inl, inr, ⊎_elim, length-take}
-use Rattle.std.specs.Prelude.{Some, None, All, Contains}
+use Rattle.std.proofs.Common.{◌≡◌, ◌⊎◌, ℕ, ◌<◌, ◌≤◌, ◌+◌, List, ◌++◌, length, take, get_or, true, false, refl, sym, ◌∙◌, ap, subst, arith, inl, inr, ⊎_elim, length-take}
+use Rattle.std.specs.Prelude.{Option, Some, None, All, Contains}
 use Rattle.std.proofs.lemmas.Bool.{cases_lt}
 use Rattle.std.proofs.lemmas.List.{take_more, take_all, get_or_default, get_or-take}
-use Rattle.std.proofs.lemmas.List.Elements.{All-nil, All-more, Contains-get_or, Contains-push_cases}
+use Rattle.std.proofs.lemmas.List.Elements.{All-nil, All-more, Contains-append_cases, Contains-append_right, Contains-get_or, Contains-push_cases}
 use Rattle.range_locks.specs.declared.hold.Hold.{Hold}
 use Rattle.range_locks.specs.Holds.{Overlaps}
 use Rattle.space_alloc.specs.declared.entry.Entry.{Entry}
 use Rattle.space_alloc.specs.declared.fit.Spared.{Spared}
 use Rattle.space_alloc.specs.Entries.{entry_end, IsEntry, IsBefore, AreEntries}
-use Rattle.space_alloc.specs.Fit.{Counts, Spares, IsHitBy, IsFirstClear, IsClearFrom, Meets, FitsAt, IsFit, HasWalked}
+use Rattle.space_alloc.specs.Fit.{Counts, Spares, IsHitBy, IsObstacle, IsFirstClear, IsClearFrom, Meets, FitsAt, IsFit, HasWalked}
 
 -- No test is both.
 pub not_false : false ≡ true → ⊥
@@ -29,6 +29,23 @@ pub hit_at : (holds : List Hold) (spared : Spared) (start end at : ℕ) (default
     → IsHitBy holds spared start end (get_or holds at default).hi
 hit_at holds spared start end at default within hit =
     record { hold = get_or holds at default; listed = Contains-get_or holds at default within; counts = hit.0; overlaps = hit.1; ends = refl }
+
+-- Two lists are spared where each is.
+pub spares_both : (shared exclusive : List Hold) (spared : Spared) (start end : ℕ) → Spares shared spared start end
+    → Spares exclusive spared start end → Spares (shared ++ exclusive) spared start end
+spares_both shared exclusive spared start end one other hold listed =
+    ⊎_elim (λ left. one hold left) (λ right. other hold right) (Contains-append_cases shared exclusive hold listed)
+
+pub hit_either : (shared exclusive : List Hold) (spared : Spared) (start end : ℕ) (hi : Option ℕ) → Spares shared spared start end
+    → IsObstacle exclusive spared start end hi → IsObstacle (shared ++ exclusive) spared start end hi
+hit_either shared exclusive spared start end None one other = spares_both shared exclusive spared start end one other
+hit_either shared exclusive spared start end (Some hi) one hit = record {
+  hold = hit.hold;
+  listed = Contains-append_right shared exclusive hit.hold hit.listed;
+  counts = hit.counts;
+  overlaps = hit.overlaps;
+  ends = hit.ends;
+}
 
 -- Each start up to the end of a hold that is hit hits it too.
 pub hits_before : (holds : List Hold) (spared : Spared) (len start hi other : ℕ) → IsHitBy holds spared start (start + len) hi → start ≤ other → other < hi

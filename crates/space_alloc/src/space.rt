@@ -111,14 +111,22 @@ fn choose(entries: &[Entry], capacity: u64, len: u64, locks: &Locks) -> Result<u
     ensures ok { IfOk result (IsFirstFit (space_of capacity entries.now) locks.now len) }
     ensures cause { IfErr result (IsTakeCause (space_of capacity entries.now) locks.now len) }
 {
-    let holds = locks.as_slice();
-    let Some(free) = first_fit(entries, capacity, len, holds, Spared::SharedHolds) else {
+    let (shared, exclusive) = locks.as_slices();
+    let free = first_fit(
+        entries,
+        capacity,
+        len,
+        shared,
+        exclusive,
+        Spared::SharedHolds,
+    );
+    let Some(free) = free else {
         return Err(TakeRefused::NoSpace { sectors: len });
     };
     let Some(hold) = locks.blocker(free, free + len, HoldKind::Shared) else {
         return Ok(free);
     };
-    match first_fit(entries, capacity, len, holds, Spared::AllHolds) {
+    match first_fit(entries, capacity, len, shared, exclusive, Spared::AllHolds) {
         Some(start) => Ok(start),
         None => Err(TakeRefused::Busy { by: hold.actor }),
     }

@@ -20,16 +20,16 @@ returns c =
     let entry = c.in-Some.entry.now in
     let run : GetRun = record {
       kind = c.args.kind;
-      hold = c.in-Ok-try_shared.hold;
+      hold = c.in-Ok-hold_shared.hold;
       entry = entry;
       read = c.in-Ok.read;
       solved = NotYet;
     } in
     let few : HasTooManyOut core → ⊥ = subst (λ (core : Core). HasTooManyOut core → ⊥) (sym c.self.view_is)
     (λ many. true≢false (sym (c.has_too_many_out.ensures.1 many) ∙ c.if-has_too_many_out.false)) in
-    subst (λ (old : Core). BeginsGet old (record core { holds = c.try_shared.new.self }) c.args.actor c.args.kind c.args.id (More run))
+    subst (λ (old : Core). BeginsGet old (record core { holds = c.hold_shared.new.self }) c.args.actor c.args.kind c.args.id (More run))
     c.self.view_is
     (get_begins core c.args.actor c.args.id c.args.kind entry c.layout_of-layout.result c.alloc_size.result
-    c.in-Ok-try_shared.hold c.in-Ok.read c.try_shared.new.self c.self.invariant c.get.ensures.step few
+    c.in-Ok-hold_shared.hold c.in-Ok.read c.hold_shared.new.self c.self.invariant c.get.ensures.step few
     (sym c.in-Some.ensures.value) c.layout_of-layout.ensures c.alloc_size.ensures.value
-    c.in-Ok-try_shared.ensures.hold c.in-Ok.ensures c.in-Ok-try_shared.ensures.ok c.in-Ok-try_shared.ensures.clear)
+    c.in-Ok-hold_shared.ensures.hold c.in-Ok.ensures c.in-Ok-hold_shared.ensures.ok c.in-Ok-hold_shared.ensures.clear)

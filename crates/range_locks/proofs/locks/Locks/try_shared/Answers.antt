@@ -1,0 +1,45 @@
+use Rattle.std.proofs.Common.{refl}
+use Rattle.range_locks.specs.declared.hold.HoldKind.TheVariants.{Shared}
+use Rattle.range_locks.specs.Holds.{IsClear}
+use Rattle.range_locks.proofs.Digits.{steps_of_both, steps_of_one}
+use Rattle.range_locks.proofs.Granting.{clear_of_none, exclusive_nonempty, first_for_shared, granted_clear, refused_by, refused_clear, shared_gains, shared_granted}
+use Rattle.range_locks.proofs.locks.Locks.try_shared.Goals as goal
+
+pub place_apart-first-requires-clause-nonempty : goal.place_apart-first-requires-clause-nonempty
+place_apart-first-requires-clause-nonempty g c = exclusive_nonempty _ _ _ c.self.invariant c.deref.ensures.value
+
+pub returns-in-Some-clause-cause : goal.returns-in-Some-clause-cause
+returns-in-Some-clause-cause g c =
+    refused_by _ _ _ _ _ _
+    (first_for_shared _ _ _ c.self.view_is c.self.invariant _ _ _ _ c.deref.ensures.value c.place_apart-first.ensures.first) c.in-Some.is
+
+pub returns-in-Some-clause-steps : goal.returns-in-Some-clause-steps
+returns-in-Some-clause-steps g c =
+    steps_of_one _ _ _ c.self.view_is c.self.invariant _ _ _ c.deref.ensures.value c.place_apart-first.ensures.steps
+
+pub invariant_of-self : goal.invariant_of-self
+invariant_of-self g c =
+    let clear : IsClear c.args.self.now c.args.lo c.args.hi Shared =
+    clear_of_none _ _ _ _ _ (first_for_shared _ _ _ c.self.view_is c.self.invariant _ _ _ _ c.deref.ensures.value c.place_apart-first.ensures.first) c.in_default.is in
+    shared_granted _ _ _ c.self.view_is c.self.invariant _ _ _ _ c.put_in.result refl c.requires.range clear c.deref-2.ensures.value
+    c.place-at.ensures.place c.put_in.ensures.items c.put_in.ensures.err
+
+pub returns-clause-ok : goal.returns-clause-ok
+returns-clause-ok g c =
+    shared_gains _ _ _ c.self.view_is c.self.invariant _ _ _ c.put_in.result c.put_in.ensures.ok c.put_in.ensures.items
+
+pub returns-clause-clear : goal.returns-clause-clear
+returns-clause-clear g c =
+    granted_clear _ _ _ _ c.put_in.result
+    (clear_of_none _ _ _ _ _ (first_for_shared _ _ _ c.self.view_is c.self.invariant _ _ _ _ c.deref.ensures.value c.place_apart-first.ensures.first) c.in_default.is)
+
+pub returns-clause-cause : goal.returns-clause-cause
+returns-clause-cause g c =
+    refused_clear _ _ _ _ c.put_in.result
+    (clear_of_none _ _ _ _ _ (first_for_shared _ _ _ c.self.view_is c.self.invariant _ _ _ _ c.deref.ensures.value c.place_apart-first.ensures.first) c.in_default.is)
+    c.put_in.ensures.cause
+
+pub returns-clause-steps : goal.returns-clause-steps
+returns-clause-steps g c =
+    steps_of_both _ _ _ c.self.view_is c.self.invariant _ _ _ _ _ c.deref.ensures.value c.deref-2.ensures.value c.place_apart-first.ensures.steps
+    c.place-at.ensures.steps
