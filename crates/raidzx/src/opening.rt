@@ -1,5 +1,6 @@
 // How images are opened, and why one can't be used.
 ghost use Rattle.std.specs.Prelude.{◌≡◌, ◌↔◌, IfErr, IsTrue};
+ghost use Rattle.raidzx.specs.declared.opening.Unopened.TheVariants as unopened;
 ghost use Rattle.raidzx.specs.Opening.{IsJust, IsOfProgram};
 
 use crate::files::Image;
@@ -36,7 +37,9 @@ fn is_of_program(error: &Error) -> bool
 }
 
 fn why(error: Error) -> Unopened
-    ensures { IsJust result }
+    ensures of_program { IsOfProgram error → result ≡ unopened.Refused error }
+    ensures of_disk { (IsOfProgram error → ⊥) → result ≡ unopened.Failed error }
+    ensures just { IsJust result }
 {
     if is_of_program(&error) {
         Unopened::Refused(error)
