@@ -72,50 +72,50 @@ new_expands state reflow done sector right is needs = ⊎_elim
     (expands.0, subst (λ (s : State). IsMark s reflow) is expands.1))
     right
 
--- Two sectors of which one place is required are one.
-pub one_sector : (reflow : Reflow) (done sector other row_end other_end device device_sector : ℕ)
+-- Two sectors of which one place is required are one, whatever front each is asked for at.
+pub one_sector : (reflow : Reflow) (done front sector other row_end other_end device device_sector : ℕ)
     → 0 < reflow.from → 0 < reflow.to → reflow.from ≤ 16 → IsRightReflow reflow → IsFrontOf reflow done
-    → row_end ≤ sector + reflow.from → other_end ≤ other + reflow.from
+    → IsFrontOf reflow front → row_end ≤ sector + reflow.from → other_end ≤ other + reflow.from
     → IsRequiredPlace reflow done row_end sector device device_sector
-    → IsRequiredPlace reflow done other_end other device device_sector → sector ≡ other
-one_sector reflow done sector other row_end other_end device device_sector from_some to_some few right front close other_close one also =
+    → IsRequiredPlace reflow front other_end other device device_sector → sector ≡ other
+one_sector reflow done front sector other row_end other_end device device_sector from_some to_some few right its_front other_front close other_close one also =
     ⊎_elim
     (λ (old : NeedsOld reflow.state reflow.mark row_end × IsAt (old_place reflow sector) first_data_sector device device_sector). ⊎_elim
     (λ (old' : NeedsOld reflow.state reflow.mark other_end × IsAt (old_place reflow other) first_data_sector device device_sector).
     same_at reflow.from sector other (same_place _ _ first_data_sector device device_sector old.1 old'.1))
     (λ rest. ⊎_elim
-    (λ (scratch : NeedsScratch reflow.state reflow done other × IsAt (scratch_place reflow.to other) first_scratch_sector device device_sector).
-    absurd (scratch_apart reflow.to other _ device device_sector to_some (scratch_within reflow.state reflow done other front.front scratch.0) scratch.1 old.1))
-    (λ (new : NeedsNew reflow.state done other × IsAt (new_place reflow other) first_data_sector device device_sector).
-    absurd (apart other sector row_end close new.0 old.0 (same_place _ _ first_data_sector device device_sector new.1 old.1)))
+    (λ (scratch : NeedsScratch reflow.state reflow front other × IsAt (scratch_place reflow.to other) first_scratch_sector device device_sector).
+    absurd (scratch_apart reflow.to other _ device device_sector to_some (scratch_within reflow.state reflow front other other_front.front scratch.0) scratch.1 old.1))
+    (λ (new : NeedsNew reflow.state front other × IsAt (new_place reflow other) first_data_sector device device_sector).
+    absurd (apart front other sector row_end other_front close new.0 old.0 (same_place _ _ first_data_sector device device_sector new.1 old.1)))
     rest) also)
     (λ rest. ⊎_elim
     (λ (scratch : NeedsScratch reflow.state reflow done sector × IsAt (scratch_place reflow.to sector) first_scratch_sector device device_sector).
-    let below : sector < 32 * reflow.to = scratch_within reflow.state reflow done sector front.front scratch.0 in ⊎_elim
+    let below : sector < 32 * reflow.to = scratch_within reflow.state reflow done sector its_front.front scratch.0 in ⊎_elim
     (λ (old : NeedsOld reflow.state reflow.mark other_end × IsAt (old_place reflow other) first_data_sector device device_sector).
     absurd (scratch_apart reflow.to sector _ device device_sector to_some below scratch.1 old.1))
     (λ rest'. ⊎_elim
-    (λ (scratch' : NeedsScratch reflow.state reflow done other × IsAt (scratch_place reflow.to other) first_scratch_sector device device_sector).
+    (λ (scratch' : NeedsScratch reflow.state reflow front other × IsAt (scratch_place reflow.to other) first_scratch_sector device device_sector).
     same_at reflow.to sector other (same_place _ _ first_scratch_sector device device_sector scratch.1 scratch'.1))
-    (λ (new : NeedsNew reflow.state done other × IsAt (new_place reflow other) first_data_sector device device_sector).
+    (λ (new : NeedsNew reflow.state front other × IsAt (new_place reflow other) first_data_sector device device_sector).
     absurd (scratch_apart reflow.to sector _ device device_sector to_some below scratch.1 new.1))
     rest') also)
     (λ (new : NeedsNew reflow.state done sector × IsAt (new_place reflow sector) first_data_sector device device_sector). ⊎_elim
     (λ (old : NeedsOld reflow.state reflow.mark other_end × IsAt (old_place reflow other) first_data_sector device device_sector).
-    absurd (apart sector other other_end other_close new.0 old.0 (same_place _ _ first_data_sector device device_sector new.1 old.1)))
+    absurd (apart done sector other other_end its_front other_close new.0 old.0 (same_place _ _ first_data_sector device device_sector new.1 old.1)))
     (λ rest'. ⊎_elim
-    (λ (scratch : NeedsScratch reflow.state reflow done other × IsAt (scratch_place reflow.to other) first_scratch_sector device device_sector).
-    absurd (scratch_apart reflow.to other _ device device_sector to_some (scratch_within reflow.state reflow done other front.front scratch.0) scratch.1 new.1))
-    (λ (new' : NeedsNew reflow.state done other × IsAt (new_place reflow other) first_data_sector device device_sector).
+    (λ (scratch : NeedsScratch reflow.state reflow front other × IsAt (scratch_place reflow.to other) first_scratch_sector device device_sector).
+    absurd (scratch_apart reflow.to other _ device device_sector to_some (scratch_within reflow.state reflow front other other_front.front scratch.0) scratch.1 new.1))
+    (λ (new' : NeedsNew reflow.state front other × IsAt (new_place reflow other) first_data_sector device device_sector).
     same_at reflow.to sector other (same_place _ _ first_data_sector device device_sector new.1 new'.1))
     rest') also)
     rest) one
   where
-    apart : (moved kept end : ℕ) → end ≤ kept + reflow.from → NeedsNew reflow.state done moved
+    apart : (at moved kept end : ℕ) → IsFrontOf reflow at → end ≤ kept + reflow.from → NeedsNew reflow.state at moved
         → NeedsOld reflow.state reflow.mark end → new_place reflow moved ≢ old_place reflow kept
-    apart moved kept end near new old =
-        let grows = new_expands reflow.state reflow done moved right refl new in
-        new_apart reflow.state reflow done moved kept end from_some few grows.1 grows.0 front.front front.limit near new old
+    apart at moved kept end here near new old =
+        let grows = new_expands reflow.state reflow at moved right refl new in
+        new_apart reflow.state reflow at moved kept end from_some few grows.1 grows.0 here.front here.limit near new old
 
 -- What a block in its pool knows of its widths.
 pub record HasWidths (layout : Layout) (reflow : Reflow) : Type 0 where
@@ -159,8 +159,8 @@ pub one_column : (layout : Layout) (reflow : Reflow) (done row column other_row 
 one_column layout reflow done row column other_row other device device_sector pool front there also_there required also =
     let widths = widths_of layout reflow pool in
     let same : sector_of layout row column ≡ sector_of layout other_row other =
-    one_sector reflow done (sector_of layout row column) (sector_of layout other_row other) (end_of layout row) (end_of layout other_row)
-    device device_sector widths.from_some widths.to_some widths.from_few pool.right front
+    one_sector reflow done done (sector_of layout row column) (sector_of layout other_row other) (end_of layout row)
+    (end_of layout other_row) device device_sector widths.from_some widths.to_some widths.from_few pool.right front front
     (close_to_end layout reflow row column pool there) (close_to_end layout reflow other_row other pool also_there) required also in
     let narrow : (r : ℕ) → columns_in layout r ≤ layout.width = λ r. omega (arith, row_few layout r pool.within.is, columns_few layout pool.within.is) in
     same_from_place row column other_row other layout.width (omega (arith, there.column_in, narrow row)) (omega (arith, also_there.column_in, narrow other_row))

@@ -62,6 +62,7 @@ commit_begins_calls old new calls actor run begins are = subst (λ (core : Core)
       parity = refl;
       births = refl;
       reflow = refl;
+      done = refl;
       block_parity = refl;
       block_births = refl;
       begun = omega arith;
@@ -122,9 +123,11 @@ module _ (setting : Setting) (last : Kept) (map : Map) (contents : ℕ → List 
       parity = refl;
       births = refl;
       reflow = refl;
+      done = refl;
+      front = is.is.front;
       within = λ device has. has;
       reads = λ device device_sector used in_data away. refl;
-    }) (off_nowhere old.pool.uber.reflow (layout_of_call call)) (stands.each call listed);
+    }) (off_nowhere old.pool.uber.reflow old.pool.done (layout_of_call call)) (stands.each call listed);
   }
 
 -- A commit begins: it makes the group of the map as it is.
@@ -170,7 +173,7 @@ pub commit_steps_calls : (before after : CoreState) (calls : List HoldingCall) (
 commit_steps_calls before after calls run next steps are = calls_stay before.core after.core calls steps.2 are
 
 module _ {setting : Setting} {last : Kept} {begun : List Kept} {map : Map} {contents : ℕ → List ℕ}
-    {calls : List HoldingCall} {before after : CoreState} {run next : CommitRun}
+    {calls : List HoldingCall} {before after : CoreState} {run next : CommitRun} (is : IsCore before.core)
     (steps : StepsCommit before run after (More next)) (within : IsWithin before.core.pool.out setting.failed)
     (stands : Stands setting last begun map contents calls (Some run) before) where
   -- A step of a commit leaves the rest as it stands.
@@ -180,9 +183,9 @@ module _ {setting : Setting} {last : Kept} {begun : List Kept} {map : Map} {cont
       let old = point_of before.core.pool.out before.disk in
       let new = point_of after.core.pool.out after.disk in
       let went = steps_went Called run next old new steps.1 in
-      stands_frame Nowhere before after (leaves_spared before after steps.2 went.stay went.spares)
-      (λ call listed. off_nowhere before.core.pool.uber.reflow (layout_of_call call))
-      (λ entry listed. off_nowhere before.core.pool.uber.reflow
+      stands_frame Nowhere before after (leaves_spared before after is.is.front steps.2 went.stay went.spares)
+      (λ call listed. off_nowhere before.core.pool.uber.reflow before.core.pool.done (layout_of_call call))
+      (λ entry listed. off_nowhere before.core.pool.uber.reflow before.core.pool.done
       (layout_of before.core.pool.uber.parity before.core.pool.uber.births entry))
       steps.2 went.spares.later
       (record {
@@ -234,16 +237,19 @@ module _ (core : Core) (run ended : CommitRun) (out : ℕ) (old new : Disk) (of 
     parity = ap (λ (u : Uber). u.parity) ended_uber;
     births = ap (λ (u : Uber). u.births) ended_uber;
     reflow = ap (λ (u : Uber). u.reflow) ended_uber;
+    done = refl;
     block_parity = refl;
     block_births = refl;
     begun = omega arith;
   }
 
-  answered_leaves : (disk : Disk) → Leaves Nowhere (at_disk core disk) (at_disk answered disk)
-  answered_leaves disk = record {
+  answered_leaves : (disk : Disk) → IsCore core → Leaves Nowhere (at_disk core disk) (at_disk answered disk)
+  answered_leaves disk is = record {
     parity = ap (λ (u : Uber). u.parity) ended_uber;
     births = ap (λ (u : Uber). u.births) ended_uber;
     reflow = ap (λ (u : Uber). u.reflow) ended_uber;
+    done = refl;
+    front = is.is.front;
     within = λ device has. has;
     reads = λ device device_sector used in_data away. refl;
   }
@@ -259,11 +265,11 @@ module _ (core : Core) (run ended : CommitRun) (out : ℕ) (old new : Disk) (of 
 
   -- The group is the last one, and no commit is under way.
   ended_stands : (setting : Setting) (last next : Kept) (map : Map) (contents : ℕ → List ℕ) (calls : List HoldingCall)
-      → IsWithin core.pool.out setting.failed → IsCommitting setting last next run (point_of core.pool.out old)
-      → NoneFree core.pool.blocks core.begun next.entries → PutsSpare (at_disk core old) calls next
+      → IsCore core → IsWithin core.pool.out setting.failed
+      → IsCommitting setting last next run (point_of core.pool.out old) → NoneFree core.pool.blocks core.begun next.entries → PutsSpare (at_disk core old) calls next
       → Stands setting last (next ∷ []) map contents calls (Some run) (at_disk core old)
       → Stands setting next [] map contents calls None (at_disk answered old)
-  ended_stands setting last next map contents calls within come kept spared stands = record {
+  ended_stands setting last next map contents calls is within come kept spared stands = record {
     groups = record {
       knows = subst (λ (p : Point). Knows setting next [] p.disk) did.same
           (committing_done setting last next run ended (point_of core.pool.out old) (point_of out new) within did come);
@@ -282,12 +288,12 @@ module _ (core : Core) (run ended : CommitRun) (out : ℕ) (old new : Disk) (of 
       devices = λ device inside used. stands.bank.devices device
           (subst (λ (r : Reflow). device < r.to) answered_widths.reflow inside) used;
     };
-    holds = map_stays Nowhere map (at_disk core old) (at_disk answered old) (answered_leaves old) refl
-        (λ entry listed. off_nowhere core.pool.uber.reflow
+    holds = map_stays Nowhere map (at_disk core old) (at_disk answered old) (answered_leaves old is) refl
+        (λ entry listed. off_nowhere core.pool.uber.reflow core.pool.done
         (layout_of core.pool.uber.parity core.pool.uber.births entry))
         stands.holds;
-    each = λ call listed. call_stays Nowhere (contents (actor_of call)) (at_disk core old) (at_disk answered old) call (answered_leaves old)
-        (off_nowhere core.pool.uber.reflow (layout_of_call call)) (stands.each call listed);
+    each = λ call listed. call_stays Nowhere (contents (actor_of call)) (at_disk core old) (at_disk answered old) call (answered_leaves old is)
+        (off_nowhere core.pool.uber.reflow core.pool.done (layout_of_call call)) (stands.each call listed);
   }
 
 pub commit_ends_calls : (before after : CoreState) (calls : List HoldingCall) (run : CommitRun) (group : ℕ)
@@ -299,11 +305,11 @@ commit_ends_calls before after calls run group of answers are = subst (λ (core 
 
 -- A commit ends: its group is the last one.
 pub commit_ends_stands : {setting : Setting} {last next : Kept} {map : Map} {contents : ℕ → List ℕ}
-    {calls : List HoldingCall} {before after : CoreState} {run : CommitRun} {group : ℕ}
+    {calls : List HoldingCall} {before after : CoreState} {run : CommitRun} {group : ℕ} → IsCore before.core
     → AnswersGroup before run after group → IsWithin before.core.pool.out setting.failed
     → Stands setting last (next ∷ []) map contents calls (Some run) before
     → Stands setting next [] map contents calls None after
-commit_ends_stands {setting} {last} {next} {map} {contents} {calls} {before} {after} {run} answers within stands =
+commit_ends_stands {setting} {last} {next} {map} {contents} {calls} {before} {after} {run} is answers within stands =
     let was = stands.groups in
     let same : next ≡ was.next = cc in
     subst (λ (core : Core). Stands setting next [] map contents calls None (at_disk core after.disk)) (sym answers.rest)
@@ -312,7 +318,7 @@ commit_ends_stands {setting} {last} {next} {map} {contents} {calls} {before} {af
     p.disk))
     (sym answers.ends.same)
     (ended_stands before.core run answers.ended after.core.pool.out before.disk after.disk was.of answers.ends
-    setting last next map contents calls within
+    setting last next map contents calls is within
     (subst (λ (k : Kept). IsCommitting setting last k run (point_of before.core.pool.out before.disk)) (sym same)
     was.come)
     (subst (λ (k : Kept). NoneFree before.core.pool.blocks before.core.begun k.entries) (sym same) was.kept)

@@ -15,6 +15,7 @@ use Rattle.uberblock_ring.specs.Devices.{count_of, IsWithin}
 use Rattle.uberblock_ring.specs.Uberblock.{Uber}
 use Rattle.uberblock_ring.specs.Valid.{IsRightUber}
 use Rattle.uberblock_ring.proofs.Digest.{sha256_is_digest}
+use Rattle.reflow_band.specs.Band.{IsFrontOf}
 use Rattle.core_state.specs.declared.answer.Answer.{Answer}
 use Rattle.core_state.specs.declared.answer.Answer.TheVariants as answer
 use Rattle.core_state.specs.Committing.{Point, point_of}
@@ -97,6 +98,7 @@ begun_core core actor is none limit =
         births = is.is.births;
         capacity = is.is.capacity;
         born = λ entry listed. omega (arith, is.is.born entry listed);
+        front = is.is.front;
         below = is.is.below;
         lists = is.is.lists;
       };
@@ -199,6 +201,7 @@ answered_core core run ended old new out is of did step = record {
     capacity = subst (λ (r : Reflow). core.pool.blocks.space.capacity ≡ sectors_of r)
         (sym (ap (λ (u : Uber). u.reflow) uber_is)) is.is.capacity;
     born = is.is.born;
+    front = subst (λ (r : Reflow). IsFrontOf r core.pool.done) (sym (ap (λ (u : Uber). u.reflow) uber_is)) is.is.front;
     below = subst (λ (r : Reflow). core.pool.out < 2 ^ r.to) (sym (ap (λ (u : Uber). u.reflow) uber_is)) is.is.below;
     lists = listed_still core run ended of.lists did.is_ready;
   };
@@ -226,7 +229,7 @@ answered_core core run ended old new out is of did step = record {
 pub answered_is : (core : Core) (ended uber : Uber) (blocks : Blocks) (out group : ℕ) → uber ≡ ended
     → group ≡ ended.group
     → blocks ≡ record core.pool.blocks { space = after_group core.pool.blocks.space group } → out ≡ core.pool.out
-    → record core { pool = record { uber = uber; blocks = blocks; out = out }; committing = None }
+    → record core { pool = record { uber = uber; blocks = blocks; out = out; done = core.pool.done }; committing = None }
     ≡ record core { pool = answered_by ended core.pool; committing = None }
 answered_is core ended uber blocks out group uber_is group_is blocks_are out_is = λ i. record core {
   pool = record {
@@ -235,6 +238,7 @@ answered_is core ended uber blocks out group uber_is group_is blocks_are out_is 
         ∙ ap (λ (number : ℕ). record core.pool.blocks { space = after_group core.pool.blocks.space number })
         group_is) i;
     out = out_is i;
+    done = core.pool.done;
   };
   committing = None;
 }

@@ -12,9 +12,9 @@ use Rattle.open_pool.specs.Pool.{Pool, IsPool, HasBank}
 use Rattle.core_turns.specs.Core.{Core, IsCore, as_begun}
 
 -- a core of these parts
-abbrev pub core_with : Uber → Blocks → ℕ → List Hold → ℕ → Option ℕ → Core
-core_with uber blocks out holds begun committing = record {
-  pool = record { uber = uber; blocks = blocks; out = out };
+abbrev pub core_with : Uber → Blocks → ℕ → ℕ → List Hold → ℕ → Option ℕ → Core
+core_with uber blocks out done holds begun committing = record {
+  pool = record { uber = uber; blocks = blocks; out = out; done = done };
   holds = holds;
   begun = begun;
   committing = committing;
@@ -29,6 +29,7 @@ pool_out pool out is below within = record {
   births = is.births;
   capacity = is.capacity;
   born = is.born;
+  front = is.front;
   below = below;
   lists = λ device has. within device (is.lists device has);
 }
@@ -68,6 +69,7 @@ core_blocks core blocks holds is parity births capacity born step = record {
     births = births ∙ is.is.births;
     capacity = capacity ∙ is.is.capacity;
     born = born;
+    front = is.is.front;
     below = is.is.below;
     lists = is.is.lists;
   };

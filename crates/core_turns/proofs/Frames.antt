@@ -9,7 +9,8 @@ use Rattle.range_locks.specs.declared.hold.HoldKind.TheVariants.{Shared}
 use Rattle.range_locks.specs.Holds.{EndsHold}
 use Rattle.reflow_mark.specs.declared.reflow.Reflow.{Reflow}
 use Rattle.row_layout.specs.Layout.{Layout, allocated_of}
-use Rattle.shadow_write.specs.Required.{IsRequiredPlace, front_after_stop}
+use Rattle.shadow_write.specs.Required.{IsRequiredPlace}
+use Rattle.reflow_band.specs.Band.{IsFrontOf}
 use Rattle.shadow_write.specs.Writes.{writes_of}
 use Rattle.block_record.specs.declared.entry.IndexEntry.{IndexEntry}
 use Rattle.uberblock_ring.specs.Devices.{has_device, IsWithin}
@@ -22,7 +23,7 @@ use Rattle.core_state.specs.Moment.{KeepsSince}
 use Rattle.core_state.proofs.Frames.{Nowhere, none_lost, unchanged_frames}
 use Rattle.core_state.proofs.Knowing.{knows_frame}
 use Rattle.core_state.proofs.Since.{might_at}
-use Rattle.core_state.proofs.Places.{IsDataSector, required_sector}
+use Rattle.core_state.proofs.Places.{IsDataSector}
 use Rattle.core_blocks.specs.Blocks.{Blocks, AreUnderWay, IsListed, layout_run, put_run}
 use Rattle.core_blocks.specs.Kept.{NoneFree, SparesAll}
 use Rattle.core_blocks.specs.Puts.{layout_at}
@@ -47,39 +48,43 @@ use Rattle.core_turns.specs.Getting.{IsGetOf, HoldsGet}
 use Rattle.core_turns.specs.Putting.{IsPutOf, HoldsPut}
 use Rattle.core_turns.specs.Committing.{IsCommitOf}
 use Rattle.core_turns.specs.UnderWay.{HoldingCall, Putting, Reading, actor_of, hold_of_call, layout_of_call, ranges_of, IsCallOfCore, HoldsCall, AreCallsOf, PutsSpare, GroupsStand, Stands}
-use Rattle.core_turns.proofs.Beside.{IsWrittenTo, never_both, written_cell}
+use Rattle.core_turns.proofs.Beside.{IsWrittenTo, never_both, required_data, written_cell}
 use Rattle.core_turns.proofs.GetLaws.{get_stays}
 
--- What a turn leaves: the pool's widths stay, no device comes back, and on those in use each data sector that is
+-- What a turn leaves: the pool's widths and its front stay, no device comes back, and on those in use each data sector that is
 -- none of these reads what it read.
 pub record Leaves (P : ℕ → ℕ → Type 0) (before after : CoreState) : Type 0 where
   pub parity : after.core.pool.uber.parity ≡ before.core.pool.uber.parity
   pub births : after.core.pool.uber.births ≡ before.core.pool.uber.births
   pub reflow : after.core.pool.uber.reflow ≡ before.core.pool.uber.reflow
+  pub done : after.core.pool.done ≡ before.core.pool.done
+  pub front : IsFrontOf before.core.pool.uber.reflow before.core.pool.done
   pub within : IsWithin before.core.pool.out after.core.pool.out
   pub reads : (device device_sector : ℕ) → has_device after.core.pool.out device ≡ false → IsDataSector device_sector
       → (P device device_sector → ⊥) → after.disk.reads device device_sector ≡ before.disk.reads device device_sector
 
 -- No place that a block requires is one of these.
-abbrev pub IsOff : (ℕ → ℕ → Type 0) → Reflow → Layout → Type 0
-IsOff P reflow layout = (content : List ℕ) (cell : Cell) (device device_sector : ℕ) → IsCell layout content cell
-    → IsRequiredPlace reflow (front_after_stop reflow) cell.row_end cell.sector device device_sector
+abbrev pub IsOff : (ℕ → ℕ → Type 0) → Reflow → ℕ → Layout → Type 0
+IsOff P reflow done layout = (content : List ℕ) (cell : Cell) (device device_sector : ℕ) → IsCell layout content cell
+    → IsRequiredPlace reflow done cell.row_end cell.sector device device_sector
     → P device device_sector → ⊥
 
 -- No place of a block that stands in the table is one of these.
 abbrev pub AreOff : (ℕ → ℕ → Type 0) → Core → Type 0
 AreOff P core = (entry : IndexEntry) → IsListed core.pool.blocks.table.entries entry
-    → IsOff P core.pool.uber.reflow (layout_of core.pool.uber.parity core.pool.uber.births entry)
+    → IsOff P core.pool.uber.reflow core.pool.done (layout_of core.pool.uber.parity core.pool.uber.births entry)
 
 -- Where nothing is written, each block is off that;
-pub off_nowhere : (reflow : Reflow) (layout : Layout) → IsOff Nowhere reflow layout
-off_nowhere reflow layout = λ content cell device device_sector is place nowhere. nowhere
+pub off_nowhere : (reflow : Reflow) (done : ℕ) (layout : Layout) → IsOff Nowhere reflow done layout
+off_nowhere reflow done layout = λ content cell device device_sector is place nowhere. nowhere
 
 -- and off another's writes is each that has no sector in common with it.
-pub off_written : (reflow : Reflow) (layout other : Layout) (out : ℕ) → IsInPool layout reflow → IsInPool other reflow
-    → AreClear (layout_run layout) (layout_run other) → IsOff (IsWrittenTo layout reflow out) reflow other
-off_written reflow layout other out pool other_pool clear = λ content cell device device_sector is place written.
-    never_both reflow layout other out device device_sector cell content pool other_pool clear is place written
+pub off_written : (reflow : Reflow) (done : ℕ) (layout other : Layout) (out : ℕ) → IsFrontOf reflow done
+    → IsInPool layout reflow → IsInPool other reflow → AreClear (layout_run layout) (layout_run other)
+    → IsOff (IsWrittenTo layout reflow done out) reflow done other
+off_written reflow done layout other out front pool other_pool clear = λ content cell device device_sector is place written.
+    never_both reflow done done layout other out device device_sector cell content front front pool other_pool clear is
+    place written
 
 -- ---- what turns leave
 
@@ -88,36 +93,45 @@ abbrev pub OnlyOut : Core → Core → Type 0
 OnlyOut old new = new ≡ record old { pool = record old.pool { out = new.pool.out } }
 
 -- A turn that reads leaves all,
-pub leaves_read : (before after : CoreState) → OnlyOut before.core after.core
+pub leaves_read : (before after : CoreState) → IsFrontOf before.core.pool.uber.reflow before.core.pool.done
+    → OnlyOut before.core after.core
     → IsWithin before.core.pool.out after.core.pool.out → Unchanged before.disk after.disk → Leaves Nowhere before after
-leaves_read before after core within same = record {
+leaves_read before after front core within same = record {
   parity = ap (λ (c : Core). c.pool.uber.parity) core;
   births = ap (λ (c : Core). c.pool.uber.births) core;
   reflow = ap (λ (c : Core). c.pool.uber.reflow) core;
+  done = ap (λ (c : Core). c.pool.done) core;
+  front = front;
   within = within;
   reads = λ device device_sector used in_data away. same.reads device device_sector;
 }
 
 -- one that writes leaves what it does not touch,
-pub leaves_touched : (P : ℕ → ℕ → Type 0) (before after : CoreState) → OnlyOut before.core after.core
+pub leaves_touched : (P : ℕ → ℕ → Type 0) (before after : CoreState)
+    → IsFrontOf before.core.pool.uber.reflow before.core.pool.done → OnlyOut before.core after.core
     → IsWithin before.core.pool.out after.core.pool.out → TouchesOnly P before.disk after.disk → Leaves P before after
-leaves_touched P before after core within touched = record {
+leaves_touched P before after front core within touched = record {
   parity = ap (λ (c : Core). c.pool.uber.parity) core;
   births = ap (λ (c : Core). c.pool.uber.births) core;
   reflow = ap (λ (c : Core). c.pool.uber.reflow) core;
+  done = ap (λ (c : Core). c.pool.done) core;
+  front = front;
   within = within;
   reads = λ device device_sector used in_data away. touched.reads device device_sector away;
 }
 
 -- and a step of a commit leaves all data sectors.
-pub leaves_spared : (before after : CoreState) → OnlyOut before.core after.core
+pub leaves_spared : (before after : CoreState) → IsFrontOf before.core.pool.uber.reflow before.core.pool.done
+    → OnlyOut before.core after.core
     → IsWithin before.core.pool.out after.core.pool.out
     → SparesData (point_of before.core.pool.out before.disk) (point_of after.core.pool.out after.disk)
     → Leaves Nowhere before after
-leaves_spared before after core within spares = record {
+leaves_spared before after front core within spares = record {
   parity = ap (λ (c : Core). c.pool.uber.parity) core;
   births = ap (λ (c : Core). c.pool.uber.births) core;
   reflow = ap (λ (c : Core). c.pool.uber.reflow) core;
+  done = ap (λ (c : Core). c.pool.done) core;
+  front = front;
   within = within;
   reads = λ device device_sector used in_data away. spares.reads device device_sector used in_data;
 }
@@ -126,24 +140,25 @@ leaves_spared before after core within spares = record {
 
 -- What has been written of a put stays.
 pub put_stays : (P : ℕ → ℕ → Type 0) (content : List ℕ) (before after : CoreState) (run : PutRun)
-    → Leaves P before after → IsOff P before.core.pool.uber.reflow run.range.layout
+    → Leaves P before after → IsOff P before.core.pool.uber.reflow before.core.pool.done run.range.layout
     → HoldsPut content before run → HoldsPut content after run
 put_stays P content before after run leaves off holds =
     let layout = run.range.layout in
     let reflow = before.core.pool.uber.reflow in
+    let done = before.core.pool.done in
     record {
       len_is = holds.len_is;
       are_bytes = holds.are_bytes;
       so_far = λ filled is. let was = holds.so_far filled is in (
         was.0,
-        subst (λ (r : Reflow). IsWrittenSoFar layout content r (front_after_stop r) after.disk.reads
-            after.core.pool.out filled.write) (sym leaves.reflow)
-            (written_stays layout content reflow (front_after_stop reflow) before.disk.reads after.disk.reads
+        subst (λ (at : Reflow × ℕ). IsWrittenSoFar layout content at.0 at.1 after.disk.reads after.core.pool.out
+            filled.write) (λ i. (sym leaves.reflow i, sym leaves.done i))
+            (written_stays layout content reflow done before.disk.reads after.disk.reads
             before.core.pool.out after.core.pool.out filled.write leaves.within
             (λ write has used.
-            let cell = written_cell layout content reflow (front_after_stop reflow) filled.write write was.1.plan has in
+            let cell = written_cell layout content reflow done filled.write write was.1.plan has in
             leaves.reads write.device write.device_sector used
-            (required_sector reflow cell.0.row_end cell.0.sector write.device write.device_sector cell.2)
+            (required_data reflow done cell.0.row_end cell.0.sector write.device write.device_sector leaves.front cell.2)
             (off content cell.0 write.device write.device_sector cell.1 cell.2))
             was.1),
       );
@@ -151,21 +166,22 @@ put_stays P content before after run leaves off holds =
 
 -- A read stays with its block.
 pub get_block_stays : (P : ℕ → ℕ → Type 0) (content : List ℕ) (before after : CoreState) (run : GetRun)
-    → Leaves P before after → IsOff P before.core.pool.uber.reflow run.read.layout
+    → Leaves P before after → IsOff P before.core.pool.uber.reflow before.core.pool.done run.read.layout
     → HoldsGet content before run → HoldsGet content after run
 get_block_stays P content before after run leaves off holds = get_stays content before after run leaves.reflow
-    leaves.within
+    leaves.done leaves.within
     (λ few many. few (
     let more = count_grows before.core.pool.out after.core.pool.out leaves.within in
     let parity = leaves.parity in
     omega (arith, many, more, parity)))
     (λ cell device device_sector is place used read. leaves.reads device device_sector used
-    (required_sector before.core.pool.uber.reflow cell.row_end cell.sector device device_sector place)
+    (required_data before.core.pool.uber.reflow before.core.pool.done cell.row_end cell.sector device device_sector
+    leaves.front place)
     (off content cell device device_sector is place) ∙ read)
     holds
 
 pub call_stays : (P : ℕ → ℕ → Type 0) (content : List ℕ) (before after : CoreState) (call : HoldingCall)
-    → Leaves P before after → IsOff P before.core.pool.uber.reflow (layout_of_call call)
+    → Leaves P before after → IsOff P before.core.pool.uber.reflow before.core.pool.done (layout_of_call call)
     → HoldsCall before content call → HoldsCall after content call
 call_stays P content before after (Putting run) = put_stays P content before after run
 call_stays P content before after (Reading run) = get_block_stays P content before after run
@@ -175,6 +191,7 @@ pub record KeepsWidths (old new : Core) : Type 0 where
   pub parity : new.pool.uber.parity ≡ old.pool.uber.parity
   pub births : new.pool.uber.births ≡ old.pool.uber.births
   pub reflow : new.pool.uber.reflow ≡ old.pool.uber.reflow
+  pub done : new.pool.done ≡ old.pool.done
   pub block_parity : new.pool.blocks.parity ≡ old.pool.blocks.parity
   pub block_births : new.pool.blocks.births ≡ old.pool.blocks.births
   pub begun : old.begun ≤ new.begun
@@ -185,6 +202,7 @@ widths_out old new core = record {
   parity = ap (λ (c : Core). c.pool.uber.parity) core;
   births = ap (λ (c : Core). c.pool.uber.births) core;
   reflow = ap (λ (c : Core). c.pool.uber.reflow) core;
+  done = ap (λ (c : Core). c.pool.done) core;
   block_parity = ap (λ (c : Core). c.pool.blocks.parity) core;
   block_births = ap (λ (c : Core). c.pool.blocks.births) core;
   begun = (let begun : new.begun ≡ old.begun = ap (λ (c : Core). c.begun) core in omega (arith, begun));
@@ -196,6 +214,8 @@ pub put_of_stays : (old new : Core) (run : PutRun) → KeepsWidths old new → C
 put_of_stays old new run widths listed of = record {
   pool = subst (λ (r : Reflow). IsInPool run.range.layout r) (sym widths.reflow) of.pool;
   reflow_is = of.reflow_is ∙ sym widths.reflow;
+  done_is = of.done_is ∙ sym widths.done;
+  front = of.front;
   range = record {
     id_is = of.range.id_is;
     birth_is = of.range.birth_is;
@@ -210,11 +230,10 @@ put_of_stays old new run widths listed of = record {
   filled = λ filled is. let was = of.filled filled is in (
     was.0,
     record {
-      plan = subst (λ (r : Reflow). IsPlanOf run.range.layout r (front_after_stop r) was.0 filled.write.rows
+      plan = subst (λ (at : Reflow × ℕ). IsPlanOf run.range.layout at.0 at.1 was.0 filled.write.rows
           filled.write.writes)
-          (sym widths.reflow) was.1.plan;
-      writes = was.1.writes ∙ ap (λ (r : Reflow). writes_of run.range.layout r (front_after_stop r))
-          (sym widths.reflow);
+          (λ i. (sym widths.reflow i, sym widths.done i)) was.1.plan;
+      writes = was.1.writes ∙ (λ i. writes_of run.range.layout (sym widths.reflow i) (sym widths.done i));
       so_far = was.1.so_far;
       len_is = was.1.len_is;
       digest_is = was.1.digest_is;
@@ -290,19 +309,19 @@ map_stays P map before after leaves table off holds = record {
     right : (entry : IndexEntry) (content : List ℕ) → IsListed before.core.pool.blocks.table.entries entry
         → map entry.id ≡ Some content
         → IsRightBlock (layout_of after.core.pool.uber.parity after.core.pool.uber.births entry) content
-        after.core.pool.uber.reflow (front_after_stop after.core.pool.uber.reflow) after.disk.reads after.core.pool.out
+        after.core.pool.uber.reflow after.core.pool.done after.disk.reads after.core.pool.out
     right entry content listed has =
         let reflow = before.core.pool.uber.reflow in
+        let done = before.core.pool.done in
         let layout = layout_of before.core.pool.uber.parity before.core.pool.uber.births entry in
-        subst (λ (r : Reflow). IsRightBlock (layout_of after.core.pool.uber.parity after.core.pool.uber.births entry)
-        content r (front_after_stop r) after.disk.reads after.core.pool.out) (sym leaves.reflow)
-        (subst (λ (l : Layout). IsRightBlock l content reflow (front_after_stop reflow) after.disk.reads
-        after.core.pool.out)
+        subst (λ (at : Reflow × ℕ). IsRightBlock (layout_of after.core.pool.uber.parity after.core.pool.uber.births entry)
+        content at.0 at.1 after.disk.reads after.core.pool.out) (λ i. (sym leaves.reflow i, sym leaves.done i))
+        (subst (λ (l : Layout). IsRightBlock l content reflow done after.disk.reads after.core.pool.out)
         (λ i. layout_of (sym leaves.parity i) (sym leaves.births i) entry)
-        (block_stays layout content reflow (front_after_stop reflow) before.disk.reads after.disk.reads
+        (block_stays layout content reflow done before.disk.reads after.disk.reads
         before.core.pool.out after.core.pool.out leaves.within
         (λ cell device device_sector is place used read. leaves.reads device device_sector used
-        (required_sector reflow cell.row_end cell.sector device device_sector place)
+        (required_data reflow done cell.row_end cell.sector device device_sector leaves.front place)
         (off entry listed content cell device device_sector is place) ∙ read)
         (holds.right entry content listed has)))
 
@@ -419,8 +438,8 @@ stands_anew P before after leaves off core = stands_still P before after leaves 
 pub stands_frame : {setting : Setting} {last : Kept} {begun : List Kept} {map : Map} {contents : ℕ → List ℕ}
     {calls : List HoldingCall} {commit next : Option CommitRun} (P : ℕ → ℕ → Type 0) (before after : CoreState)
     → Leaves P before after
-    → ((call : HoldingCall) → Contains calls call → IsOff P before.core.pool.uber.reflow (layout_of_call call))
-    → AreOff P before.core → OnlyOut before.core after.core → Later before.disk after.disk
+    → ((call : HoldingCall) → Contains calls call → IsOff P before.core.pool.uber.reflow before.core.pool.done
+    (layout_of_call call)) → AreOff P before.core → OnlyOut before.core after.core → Later before.disk after.disk
     → GroupsStand setting last begun calls next after
     → Stands setting last begun map contents calls commit before → Stands setting last begun map contents calls next after
 stands_frame {last = last} {contents = contents} P before after leaves calls_off off core later groups stands =

@@ -5,7 +5,8 @@ use Rattle.std.proofs.lemmas.Bool.{cases_lt}
 use Rattle.bank_trait.specs.Disk.{Disk, Unchanged}
 use Rattle.reflow_mark.specs.declared.reflow.Reflow.{Reflow}
 use Rattle.row_layout.specs.Layout.{Layout, rows_of}
-use Rattle.shadow_write.specs.Required.{front_after_stop, IsRequiredPlace}
+use Rattle.shadow_write.specs.Required.{IsRequiredPlace}
+use Rattle.reflow_band.specs.Band.{IsFrontOf}
 use Rattle.block_record.specs.declared.entry.IndexEntry.{IndexEntry}
 use Rattle.block_table.specs.Table.{entry_of}
 use Rattle.reconstruct.specs.Lost.{IsLeftOver}
@@ -24,7 +25,6 @@ use Rattle.core_client.specs.BlockTurns.{IsAtColumn, IsReadSoFar}
 use Rattle.core_client.proofs.BlockTurns.{read_begun, read_stays, read_more, read_left_over, read_lost_few}
 use Rattle.core_turns.specs.Getting.{IsReadRight}
 use Rattle.open_pool.specs.Pool.{HoldsMap}
-use Rattle.open_pool.proofs.Layouts.{front_is_right}
 use Rattle.open_pool.proofs.Holding.{block_stays}
 use Rattle.core_turns.specs.declared.getting.GetRun.{GetRun}
 use Rattle.core_turns.specs.declared.getting.OutOfMemory.{OutOfMemory}
@@ -47,7 +47,7 @@ get_finds map old new disk actor id asked (More run) holds begins =
       told.0,
       held,
       record {
-        right = subst (λ (l : Layout). IsRightBlock l told.0 old.pool.uber.reflow (front_after_stop old.pool.uber.reflow)
+        right = subst (λ (l : Layout). IsRightBlock l told.0 old.pool.uber.reflow old.pool.done
             disk.reads old.pool.out) (sym begins.5.layout_is) (holds.right run.entry told.0 listed told.1);
         len_is = sym told.2.len;
         are_bytes = holds.bytes id told.0 held;
@@ -70,13 +70,13 @@ get_finds map old new disk actor id asked (Done given) holds begins = λ absent.
 
 -- A read that has one column more is of its block still.
 pub get_reads : (content : List ℕ) (before after : CoreState) (run : GetRun) (result : Turn GetRun)
-    → IsGetOf before.core run → IsAtColumn run.read → run.read.row < rows_of run.read.layout
+    → IsFrontOf before.core.pool.uber.reflow before.core.pool.done → IsGetOf before.core run → IsAtColumn run.read → run.read.row < rows_of run.read.layout
     → Unchanged before.disk after.disk
     → OnlyFailedGoOut (point_of before.core.pool.out before.disk) (point_of after.core.pool.out after.disk)
     → HoldsGet content before run → ReadsTurn before run after result → KeepsGet content after result
-get_reads content before after run (More next) of place left unchanged outs holds reads =
+get_reads content before after run (More next) front of place left unchanged outs holds reads =
     let reflow = before.core.pool.uber.reflow in
-    let done = front_after_stop reflow in
+    let done = before.core.pool.done in
     subst (λ (core : Core). HoldsGet content (at_disk core after.disk) next) (sym reads.2)
     (subst (HoldsGet content (at_disk (record before.core { pool = record before.core.pool { out = after.core.pool.out } }) after.disk))
     (sym reads.1)
@@ -89,12 +89,12 @@ get_reads content before after run (More next) of place left unchanged outs hold
       are_bytes = holds.are_bytes;
       digest_is = holds.digest_is;
       so_far = read_more content reflow done run.read next.read (point_of before.core.pool.out before.disk)
-          (point_of after.core.pool.out after.disk) place left of.pool (front_is_right reflow of.pool.right).front holds.right
+          (point_of after.core.pool.out after.disk) place left of.pool front.front holds.right
           reads.3 holds.so_far;
       solved = λ few. holds.solved reads.0;
     }))
-get_reads content before after run (Busy by) of place left unchanged outs holds reads = tt
-get_reads content before after run (Done given) of place left unchanged outs holds reads = tt
+get_reads content before after run (Busy by) front of place left unchanged outs holds reads = tt
+get_reads content before after run (Done given) front of place left unchanged outs holds reads = tt
 
 -- What is solved of a block that was read whole is the block.
 pub get_solves : (content : List ℕ) (state : CoreState) (run next : GetRun) → run.read.row ≡ rows_of run.read.layout
@@ -152,20 +152,19 @@ get_tells content old new disk run (Done given) asked holds ends = ⊎_elim
 -- A read stays with its block while others' turns leave what is read at the block's places, on devices that
 -- are in use still.
 pub get_stays : (content : List ℕ) (before after : CoreState) (run : GetRun)
-    → after.core.pool.uber.reflow ≡ before.core.pool.uber.reflow → IsWithin before.core.pool.out after.core.pool.out
+    → after.core.pool.uber.reflow ≡ before.core.pool.uber.reflow → after.core.pool.done ≡ before.core.pool.done → IsWithin before.core.pool.out after.core.pool.out
     → ((HasTooManyOut after.core → ⊥) → HasTooManyOut before.core → ⊥)
     → ((cell : Cell) (device device_sector : ℕ) → IsCell run.read.layout content cell
-    → IsRequiredPlace before.core.pool.uber.reflow (front_after_stop before.core.pool.uber.reflow) cell.row_end cell.sector device
-    device_sector
+    → IsRequiredPlace before.core.pool.uber.reflow before.core.pool.done cell.row_end cell.sector device device_sector
     → has_device after.core.pool.out device ≡ false → before.disk.reads device device_sector ≡ Some cell.bytes
     → after.disk.reads device device_sector ≡ Some cell.bytes)
     → HoldsGet content before run → HoldsGet content after run
-get_stays content before after run widths within few same holds =
+get_stays content before after run widths front within few same holds =
     let reflow = before.core.pool.uber.reflow in
-    let done = front_after_stop reflow in
+    let done = before.core.pool.done in
     record {
-      right = subst (λ (r : Reflow). IsRightBlock run.read.layout content r (front_after_stop r) after.disk.reads
-          after.core.pool.out) (sym widths)
+      right = subst (λ (at : Reflow × ℕ). IsRightBlock run.read.layout content at.0 at.1 after.disk.reads
+          after.core.pool.out) (λ i. (sym widths i, sym front i))
           (block_stays run.read.layout content reflow done before.disk.reads after.disk.reads before.core.pool.out after.core.pool.out
           within same holds.right);
       len_is = holds.len_is;

@@ -54,6 +54,7 @@ widths_held old new core = record {
   parity = ap (λ (c : Core). c.pool.uber.parity) core;
   births = ap (λ (c : Core). c.pool.uber.births) core;
   reflow = ap (λ (c : Core). c.pool.uber.reflow) core;
+  done = ap (λ (c : Core). c.pool.done) core;
   block_parity = ap (λ (c : Core). c.pool.blocks.parity) core;
   block_births = ap (λ (c : Core). c.pool.blocks.births) core;
   begun = (let begun : new.begun ≡ old.begun = ap (λ (c : Core). c.begun) core in omega (arith, begun));
@@ -182,6 +183,7 @@ frees_calls old new id given calls frees under are =
       parity = ap (λ (c : Core). c.pool.uber.parity) left.rest;
       births = ap (λ (c : Core). c.pool.uber.births) left.rest;
       reflow = ap (λ (c : Core). c.pool.uber.reflow) left.rest;
+      done = ap (λ (c : Core). c.pool.done) left.rest;
       block_parity = left.parity;
       block_births = left.births;
       begun = (let begun : new.begun ≡ old.begun = ap (λ (c : Core). c.begun) left.rest in omega (arith, begun));
@@ -230,45 +232,47 @@ groups_held setting last begun calls nexts (Some run) old new disk core adds gro
 module _ {setting : Setting} {last : Kept} {begun : List Kept} {map : Map} {contents : ℕ → List ℕ}
     {commit : Option CommitRun} where
   -- What stands, where only holds came or went and reads are told anew.
-  stands_held : {nows : ℕ → List ℕ} {calls nexts : List HoldingCall} (old new : Core) (disk : Disk) → OnlyHolds old new
-      → AddsNoPut calls nexts
+  stands_held : {nows : ℕ → List ℕ} {calls nexts : List HoldingCall} (old new : Core) (disk : Disk) → IsCore old
+      → OnlyHolds old new → AddsNoPut calls nexts
       → ((call : HoldingCall) → Contains nexts call → HoldsCall (at_disk new disk) (nows (actor_of call)) call
       ⊎ HoldsCall (at_disk old disk) (nows (actor_of call)) call)
       → Stands setting last begun map contents calls commit (at_disk old disk)
       → Stands setting last begun map nows nexts commit (at_disk new disk)
-  stands_held {nows} {calls} {nexts} old new disk core adds each stands =
+  stands_held {nows} {calls} {nexts} old new disk is core adds each stands =
       let leaves : Leaves Nowhere (at_disk old disk) (at_disk new disk) = record {
         parity = ap (λ (c : Core). c.pool.uber.parity) core;
         births = ap (λ (c : Core). c.pool.uber.births) core;
         reflow = ap (λ (c : Core). c.pool.uber.reflow) core;
+        done = ap (λ (c : Core). c.pool.done) core;
+        front = is.is.front;
         within = λ device has. subst (λ (c : Core). has_device c.pool.out device ≡ true) (sym core) has;
         reads = λ device device_sector used in_data away. refl;
       } in
       stands_still Nowhere (at_disk old disk) (at_disk new disk) leaves
-      (λ entry listed. off_nowhere old.pool.uber.reflow (layout_of old.pool.uber.parity old.pool.uber.births entry))
+      (λ entry listed. off_nowhere old.pool.uber.reflow old.pool.done (layout_of old.pool.uber.parity old.pool.uber.births entry))
       (ap (λ (c : Core). c.pool.uber) core) (ap (λ (c : Core). c.pool.blocks) core) (later_refl disk)
       (groups_held setting last begun calls nexts commit old new disk core adds stands.groups)
       (λ put listed. subst (λ (c : Core). SparesAll c.pool.blocks.parity c.pool.blocks.births last.entries
       (put_run put.range)) (sym core) (stands.spared put (adds put listed)))
       (λ call listed. ⊎_elim (λ now. now)
       (λ was. call_stays Nowhere (nows (actor_of call)) (at_disk old disk) (at_disk new disk) call leaves
-      (off_nowhere old.pool.uber.reflow (layout_of_call call)) was)
+      (off_nowhere old.pool.uber.reflow old.pool.done (layout_of_call call)) was)
       (each call listed))
       stands
 
   -- A read that begins is of the block that the map has at its id.
   pub get_begins_stands : {old new : Core} {disk : Disk} {run : GetRun} {left : List HoldingCall} (actor id : ℕ)
-      (asked : Kind) → BeginsGet old new actor asked id (More run)
+      (asked : Kind) → IsCore old → BeginsGet old new actor asked id (More run)
       → ((call : HoldingCall) → Contains left call → actor_of call ≢ actor)
       → Stands setting last begun map contents left commit (at_disk old disk)
       → (content : List ℕ) × (map id ≡ Some content)
       × ((nows : ℕ → List ℕ) (calls : List HoldingCall) → SetsContent contents nows actor content
       → Gains left calls (Reading run) → Stands setting last begun map nows calls commit (at_disk new disk))
-  get_begins_stands {old} {new} {disk} {run} {left} actor id asked begins apart stands =
+  get_begins_stands {old} {new} {disk} {run} {left} actor id asked is begins apart stands =
       let found = get_finds map old new disk actor id asked (More run) stands.holds begins in (
         found.0,
         found.1,
-        λ nows calls sets gains. stands_held old new disk begins.6 (read_adds gains)
+        λ nows calls sets gains. stands_held old new disk is begins.6 (read_adds gains)
             (λ call listed. ⊎_elim
             (λ (same : Reading run ≡ call). inl (subst (λ (c : HoldingCall). HoldsCall (at_disk new disk) (nows (actor_of c)) c) same
             (subst (λ (bytes : List ℕ). HoldsGet bytes (at_disk new disk) run)
@@ -281,18 +285,18 @@ module _ {setting : Setting} {last : Kept} {begun : List Kept} {map : Map} {cont
 
   -- It reads a column more,
   pub get_reads_stands : {before after : CoreState} {run next : GetRun} {left calls nexts : List HoldingCall}
-      → IsAtColumn run.read → run.read.row < rows_of run.read.layout
+      → IsCore before.core → IsAtColumn run.read → run.read.row < rows_of run.read.layout
       → ReadsTurn before run after (More next) → Unchanged before.disk after.disk
       → OnlyFailedGoOut (point_of before.core.pool.out before.disk) (point_of after.core.pool.out after.disk)
       → Lawful after.disk → Gains left calls (Reading run) → Gains left nexts (Reading next)
       → AreCallsOf before.core calls → Stands setting last begun map contents calls commit before
       → Stands setting last begun map contents nexts commit after
-  get_reads_stands {before} {after} {run} {next} {left} {calls} {nexts} place low reads unchanged outs lawful gains again are
+  get_reads_stands {before} {after} {run} {next} {left} {calls} {nexts} is place low reads unchanged outs lawful gains again are
       stands =
       let listed = gains_item left calls (Reading run) gains in
-      let leaves = leaves_read before after reads.2 outs.still unchanged in
+      let leaves = leaves_read before after is.is.front reads.2 outs.still unchanged in
       stands_anew Nowhere before after leaves
-      (λ entry has. off_nowhere before.core.pool.uber.reflow
+      (λ entry has. off_nowhere before.core.pool.uber.reflow before.core.pool.done
       (layout_of before.core.pool.uber.parity before.core.pool.uber.births entry))
       reads.2 unchanged.goes_on.later
       (groups_held setting last begun calls nexts commit after.core after.core after.disk refl adds
@@ -302,10 +306,10 @@ module _ {setting : Setting} {last : Kept} {begun : List Kept} {map : Map} {cont
       (λ call has. ⊎_elim
       (λ (same : Reading next ≡ call). subst (λ (c : HoldingCall). HoldsCall after (contents (actor_of c)) c) same
       (subst (λ (actor : ℕ). HoldsGet (contents actor) after next) (sym (ap (λ (r : GetRun). r.hold.actor) reads.1))
-      (get_reads (contents run.hold.actor) before after run (More next) (are.each (Reading run) listed).1 place low
+      (get_reads (contents run.hold.actor) before after run (More next) is.is.front (are.each (Reading run) listed).1 place low
       unchanged outs (stands.each (Reading run) listed) reads)))
       (λ was. call_stays Nowhere (contents (actor_of call)) before after call leaves
-      (off_nowhere before.core.pool.uber.reflow (layout_of_call call))
+      (off_nowhere before.core.pool.uber.reflow before.core.pool.done (layout_of_call call))
       (stands.each call (gains_old left calls (Reading run) call gains was)))
       (gains_cases left nexts (Reading next) call again has))
       stands
@@ -315,13 +319,13 @@ module _ {setting : Setting} {last : Kept} {begun : List Kept} {map : Map} {cont
 
   -- and is solved.
   pub get_solves_stands : {state : CoreState} {run next : GetRun} {left calls nexts : List HoldingCall}
-      → SolvesGet run next → run.read.row ≡ rows_of run.read.layout → Gains left calls (Reading run)
+      → IsCore state.core → SolvesGet run next → run.read.row ≡ rows_of run.read.layout → Gains left calls (Reading run)
       → Gains left nexts (Reading next) → AreCallsOf state.core calls
       → Stands setting last begun map contents calls commit state
       → Stands setting last begun map contents nexts commit state
-  get_solves_stands {state} {run} {next} {left} {calls} {nexts} solves whole gains again are stands =
+  get_solves_stands {state} {run} {next} {left} {calls} {nexts} is solves whole gains again are stands =
       let listed = gains_item left calls (Reading run) gains in
-      stands_held state.core state.core state.disk refl (λ put has. read_loses gains put (read_adds again put has))
+      stands_held state.core state.core state.disk is refl (λ put has. read_loses gains put (read_adds again put has))
       (λ call has. ⊎_elim
       (λ (same : Reading next ≡ call). inl (subst (λ (c : HoldingCall). HoldsCall state (contents (actor_of c)) c) same
       (subst (λ (actor : ℕ). HoldsGet (contents actor) state next) (sym (ap (λ (r : GetRun). r.hold.actor) solves.rest))
@@ -332,11 +336,11 @@ module _ {setting : Setting} {last : Kept} {begun : List Kept} {map : Map} {cont
       stands
 
   -- A read is gone, and its hold with it.
-  pub get_ends_stands : {old new : Core} {disk : Disk} {run : GetRun} {left calls : List HoldingCall} → OnlyHolds old new
+  pub get_ends_stands : {old new : Core} {disk : Disk} {run : GetRun} {left calls : List HoldingCall} → IsCore old → OnlyHolds old new
       → Gains left calls (Reading run) → Stands setting last begun map contents calls commit (at_disk old disk)
       → Stands setting last begun map contents left commit (at_disk new disk)
-  get_ends_stands {old} {new} {disk} {run} {left} {calls} core gains stands =
-      stands_held old new disk core (read_loses gains)
+  get_ends_stands {old} {new} {disk} {run} {left} {calls} is core gains stands =
+      stands_held old new disk is core (read_loses gains)
       (λ call listed. inr (stands.each call (gains_old left calls (Reading run) call gains listed)))
       stands
 
@@ -402,8 +406,10 @@ frees_stands {setting} {last} {begun} {map} {contents} {calls} {commit} {old} {n
             parity = ap (λ (u : Uber). u.parity) uber;
             births = ap (λ (u : Uber). u.births) uber;
             reflow = ap (λ (u : Uber). u.reflow) uber;
+            done = ap (λ (c : Core). c.pool.done) left.rest;
+            front = is.is.front;
             within = λ device has. subst (λ (n : ℕ). has_device n device ≡ true) (sym out) has;
             reads = λ device device_sector used in_data away. refl;
           })
-          (off_nowhere old.pool.uber.reflow (layout_of_call call)) (stands.each call listed);
+          (off_nowhere old.pool.uber.reflow old.pool.done (layout_of_call call)) (stands.each call listed);
     }

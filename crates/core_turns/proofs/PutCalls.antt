@@ -31,6 +31,7 @@ rearranged_widths old new change = record {
   parity = ap (λ (core : Core). core.pool.uber.parity) change.rest;
   births = ap (λ (core : Core). core.pool.uber.births) change.rest;
   reflow = ap (λ (core : Core). core.pool.uber.reflow) change.rest;
+  done = ap (λ (core : Core). core.pool.done) change.rest;
   block_parity = change.parity;
   block_births = change.births;
   begun = (let begun : new.begun ≡ old.begun = ap (λ (core : Core). core.begun) change.rest in omega (arith, begun));

@@ -9,7 +9,6 @@ use Rattle.range_locks.specs.declared.hold.Hold.{Hold}
 use Rattle.space_alloc.specs.Space.{Gains}
 use Rattle.row_layout.specs.Layout.{Layout}
 use Rattle.reflow_mark.specs.declared.reflow.Reflow.{Reflow}
-use Rattle.shadow_write.specs.Required.{front_after_stop}
 use Rattle.block_record.specs.declared.entry.IndexEntry.{IndexEntry}
 use Rattle.reconstruct.specs.Lost.{AreBytes}
 use Rattle.core_state.specs.Map.{Map, with_block}
@@ -236,7 +235,7 @@ put_ends_stands {setting} {last} {begun} {map} {contents} {commit} {left} {calls
     holds = stands.each (Putting run) its_calls
 
     so_far : (ends.filled.digest ≡ sha256 content)
-        × IsWrittenSoFar run.range.layout content old.pool.uber.reflow (front_after_stop old.pool.uber.reflow)
+        × IsWrittenSoFar run.range.layout content old.pool.uber.reflow old.pool.done
         disk.reads old.pool.out ends.filled.write
     so_far = holds.so_far ends.filled ends.filled_is
 
@@ -247,10 +246,10 @@ put_ends_stands {setting} {last} {begun} {map} {contents} {commit} {left} {calls
         same_filled : {one other : Filled} → Some one ≡ Some other → one ≡ other
         same_filled same = cc
 
-    read : ReadsAs (as_begun old).uber (filled_entry run ends.filled) content disk.reads old.pool.out
+    read : ReadsAs (as_begun old).uber old.pool.done (filled_entry run ends.filled) content disk.reads old.pool.out
     read =
         let reflow = old.pool.uber.reflow in
-        let done = front_after_stop reflow in
+        let done = old.pool.done in
         subst (λ (l : Layout). IsRightBlock l content reflow done disk.reads old.pool.out)
         (sym (entry_layout old.pool.uber.parity old.pool.uber.births old.pool.blocks run.range
         (filled_entry run ends.filled) run.len run.range.birth is.is.parity is.is.births of.range refl refl refl))
@@ -265,11 +264,11 @@ put_ends_stands {setting} {last} {begun} {map} {contents} {commit} {left} {calls
           right = stands.holds.right;
         } in
         let now = put_holds (state_of (as_begun old) disk)
-        (state_of (record (as_begun old) { blocks = new.pool.blocks }) disk) is.is is.step run.range.layout refl
+        (state_of (record (as_begun old) { blocks = new.pool.blocks }) disk) is.is is.step run.range.layout refl refl
         (λ device out. out) of.pool
         (λ other listed. listed_clear old run.range other is
         (are.under.each run.range (range_listed calls run its_calls)) listed)
-        (touches_none (IsWrittenTo run.range.layout old.pool.uber.reflow old.pool.out) disk) map
+        (touches_none (IsWrittenTo run.range.layout old.pool.uber.reflow old.pool.done old.pool.out) disk) map
         (filled_entry run ends.filled) content ends.change (record { len = sym holds.len_is; digest = so_far.0 })
         holds.are_bytes read was in
         subst (λ (core : Core). HoldsMap (with_block map (Some run.range.id) (Some content))
@@ -348,14 +347,14 @@ put_fills_stands {setting} {last} {begun} {contents = contents} {commit} {left} 
       are_bytes = was.are_bytes;
       so_far = λ other same. subst (λ (f : Filled). (f.digest ≡ sha256 content)
           × IsWrittenSoFar run.range.layout content state.core.pool.uber.reflow
-          (front_after_stop state.core.pool.uber.reflow) state.disk.reads state.core.pool.out f.write)
+          state.core.pool.done state.disk.reads state.core.pool.out f.write)
           (same_filled other same) (
             fills.digest_is,
             written_none run.range.layout content state.core.pool.uber.reflow
-                (front_after_stop state.core.pool.uber.reflow) state.disk.reads state.core.pool.out fills.filled.write
-                (subst (λ (r : Reflow). IsPlanOf run.range.layout r (front_after_stop r) content fills.filled.write.rows
+                state.core.pool.done state.disk.reads state.core.pool.out fills.filled.write
+                (subst (λ (at : Reflow × ℕ). IsPlanOf run.range.layout at.0 at.1 content fills.filled.write.rows
                 fills.filled.write.writes)
-                of.reflow_is fills.plan)
+                (λ i. (of.reflow_is i, of.done_is i)) fills.plan)
                 fills.next,
           );
     }

@@ -12,7 +12,6 @@ use Rattle.range_locks.specs.Holds.{EndsHold}
 use Rattle.row_layout.specs.Layout.{Layout, allocated_of}
 use Rattle.reflow_mark.specs.declared.reflow.Reflow.{Reflow}
 use Rattle.shadow_write.specs.declared.write.Write.{Write}
-use Rattle.shadow_write.specs.Required.{front_after_stop}
 use Rattle.shadow_write.specs.Writes.{writes_of}
 use Rattle.space_alloc.specs.Space.{Space, Gains, IsDropping, IsBusySpace, HasNoFreeRun}
 use Rattle.reconstruct.specs.Rows.{sectors_for}
@@ -22,6 +21,7 @@ use Rattle.block_table.specs.Table.{ChangesOnly, entry_of, without_one}
 use Rattle.uberblock_ring.specs.Devices.{has_device, IsWithin}
 use Rattle.uberblock_ring.specs.Uberblock.{Uber}
 use Rattle.uberblock_ring.proofs.Digest.{sha256_is_digest}
+use Rattle.reflow_band.specs.Band.{IsFrontOf}
 use Rattle.core_state.specs.Committing.{Point, point_of}
 use Rattle.core_blocks.specs.declared.range.PutRange.{PutRange}
 use Rattle.core_blocks.specs.declared.refused.PutRefused.{PutRefused}
@@ -84,7 +84,7 @@ pub put_begins : (core : Core) (actor id len : ℕ) (begun : Blocks) (range : Pu
     → SparesAll core.pool.blocks.parity core.pool.blocks.births kept (put_run range))
     → hold ≡ hold_on range actor → Gains core.holds holds hold → reflow ≡ core.pool.uber.reflow
     → BeginsPutTurn core (record core { pool = record core.pool { blocks = begun }; holds = holds }) actor id len
-    (More (record { hold = hold; range = range; len = len; reflow = reflow; filled = None }))
+    (More (record { hold = hold; range = range; len = len; reflow = reflow; done = core.pool.done; filled = None }))
 put_begins core actor id len begun range hold holds reflow is few some short of begins way under kept spares hold_is
     held same = record {
       few = few;
@@ -100,6 +100,8 @@ put_begins core actor id len begun range hold holds reflow is few some short of 
         pool = range_in_pool (as_begun core) begun range id len (core.begun + 1) core.holds is.is begins.parity
             begins.births of begins.first some short;
         reflow_is = same;
+        done_is = refl;
+        front = subst (λ (r : Reflow). IsFrontOf r core.pool.done) (sym same) is.is.front;
         range = layout_born begun range id len (core.begun + 1) of;
         born = (let birth = of.birth_is in omega (arith, birth), let birth = of.birth_is in omega (arith, birth));
         len = (some, short);
@@ -212,6 +214,8 @@ pub filled_of : (core : Core) (run : PutRun) (filled : Filled) (content : List �
 filled_of core run filled content with of = record {
   pool = of.pool;
   reflow_is = of.reflow_is;
+  done_is = of.done_is;
+  front = of.front;
   range = of.range;
   born = of.born;
   len = of.len;
@@ -229,14 +233,17 @@ pub fills_of : (core : Core) (old new : PutRun) (content : List ℕ) → FillsPu
     → IsPutOf core old → IsPutOf core new
 fills_of core old new content fills len of = subst (IsPutOf core) (sym fills.rest)
     (filled_of core old fills.filled content (record {
-      plan = subst (λ (r : Reflow). IsPlanOf old.range.layout r (front_after_stop r) content
-          fills.filled.write.rows fills.filled.write.writes) of.reflow_is fills.plan;
-      writes = subst (λ (r : Reflow). fills.filled.write.writes ≡ writes_of old.range.layout r (front_after_stop r))
-          of.reflow_is fills.writes;
+      plan = subst (λ (at : Reflow × ℕ). IsPlanOf old.range.layout at.0 at.1 content fills.filled.write.rows
+          fills.filled.write.writes) at_front fills.plan;
+      writes = subst (λ (at : Reflow × ℕ). fills.filled.write.writes ≡ writes_of old.range.layout at.0 at.1) at_front
+          fills.writes;
       so_far = (let first = fills.next in omega (arith, first));
       len_is = len;
       digest_is = fills.digest_is;
     }) of)
+  where
+    at_front : ◌≡◌ {A = Reflow × ℕ} (old.reflow, old.done) (core.pool.uber.reflow, core.pool.done)
+    at_front i = (of.reflow_is i, of.done_is i)
 
 -- whether memory was wanting for that or not,
 pub went_filled : (old new : PutRun) (content : List ℕ) (result : Result (Unit {0}) OutOfMemory)
@@ -271,7 +278,7 @@ pub put_inside : (core : Core) (run : PutRun) (filled : Filled) (disk : Disk) �
     → All (IsOnBank filled.write.rows core.pool.out disk) filled.write.writes
 put_inside core run filled disk of is bank =
     let plan = (of.filled filled is).1.plan in
-    plan_inside run.range.layout core.pool.uber.reflow (front_after_stop core.pool.uber.reflow) filled.write.rows
+    plan_inside run.range.layout core.pool.uber.reflow core.pool.done filled.write.rows
     filled.write.writes core.pool.out disk of.pool
     (bank_has core.pool.uber core.pool.uber.reflow core.pool.out disk refl bank) plan.encoded.shape plan.required
 
@@ -281,7 +288,7 @@ write_below : (core : Core) (run : PutRun) (filled : Filled) (write : Write) →
 write_below core run filled write of is (number, low, there) =
     let plan = (of.filled filled is).1.plan in
     subst (λ (w : Write). w.device < core.pool.uber.reflow.to) there
-    (plan_below run.range.layout core.pool.uber.reflow (front_after_stop core.pool.uber.reflow) filled.write.writes
+    (plan_below run.range.layout core.pool.uber.reflow core.pool.done filled.write.writes
     of.pool plan.required number write low)
 
 -- The write that comes next.

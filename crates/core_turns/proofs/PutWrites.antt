@@ -11,7 +11,7 @@ use Rattle.width_map.specs.declared.birth.Birth.{Birth}
 use Rattle.reflow_mark.specs.declared.reflow.Reflow.{Reflow}
 use Rattle.reflow_mark.specs.Reflow.{sectors_of}
 use Rattle.row_layout.specs.Layout.{Layout, sector_of, end_of}
-use Rattle.shadow_write.specs.Required.{front_after_stop}
+use Rattle.reflow_band.specs.Band.{IsFrontOf}
 use Rattle.shadow_write.specs.declared.write.Write.{Write}
 use Rattle.shadow_write.specs.Writes.{writes_of}
 use Rattle.shadow_write.proofs.Whole.{are_required}
@@ -30,7 +30,7 @@ use Rattle.core_state.specs.Committing.{Point, point_of}
 use Rattle.core_state.specs.Free.{IsSpare}
 use Rattle.core_state.specs.Moment.{IsRowOf, KeepsSince}
 use Rattle.core_state.proofs.Listed.{contains_cases, contains_none}
-use Rattle.core_state.proofs.Places.{IsDataSector, required_sector, data_is_no_page, page_place}
+use Rattle.core_state.proofs.Places.{IsDataSector, data_is_no_page, page_place}
 use Rattle.core_state.proofs.Touched.{touched_knows, touched_since}
 use Rattle.core_blocks.specs.Blocks.{AreInStep, IsUnderWay, layout_run, put_run}
 use Rattle.core_blocks.specs.Kept.{SparesAll}
@@ -55,7 +55,7 @@ use Rattle.core_turns.specs.Core.{Core, CoreState, IsCore, as_begun, at_disk}
 use Rattle.core_turns.specs.Putting.{IsPutOf, HoldsPut, WritesOne}
 use Rattle.core_turns.specs.Committing.{IsCommitOf}
 use Rattle.core_turns.specs.UnderWay.{HoldingCall, Putting, Reading, AreBeside, AreCallsOf, CommitStands, GroupsStand, HoldsCall, IsCallOfCore, NoCommitStands, PutsSpare, Stands, actor_of, layout_of_call}
-use Rattle.core_turns.proofs.Beside.{IsWrittenTo, AreInPool, never_asked, put_beside_commit}
+use Rattle.core_turns.proofs.Beside.{IsWrittenTo, AreInPool, never_asked, put_beside_commit, required_data}
 use Rattle.core_turns.proofs.Frames.{AreOff, commit_still, IsOff, Leaves, call_stays, leaves_touched, off_written, stands_anew}
 use Rattle.core_turns.proofs.Calls.{beside_turn, range_listed}
 use Rattle.core_turns.proofs.PutStands.{groups_with, listed_clear, next_spares}
@@ -64,13 +64,13 @@ use Rattle.core_turns.proofs.PutTurns.{outs_by_write}
 -- ---- where a put writes
 
 -- A put writes to data sectors alone.
-written_data : (reflow : Reflow) (layout : Layout) (out device device_sector : ℕ)
-    → IsWrittenTo layout reflow out device device_sector → IsDataSector device_sector
-written_data reflow layout out device device_sector (write, has, used, device_is, sector_is) =
-    let required = (are_required layout reflow (front_after_stop reflow)).only write has in
+written_data : (reflow : Reflow) (done : ℕ) (layout : Layout) (out device device_sector : ℕ) → IsFrontOf reflow done
+    → IsWrittenTo layout reflow done out device device_sector → IsDataSector device_sector
+written_data reflow done layout out device device_sector front (write, has, used, device_is, sector_is) =
+    let required = (are_required layout reflow done).only write has in
     subst IsDataSector (sym sector_is)
-    (required_sector reflow (end_of layout write.row) (sector_of layout write.row write.column) write.device
-    write.device_sector required.1)
+    (required_data reflow done (end_of layout write.row) (sector_of layout write.row write.column) write.device
+    write.device_sector front required.1)
 
 -- A group's blocks lie in the pool whose widths are the group's.
 sound_in_pool : (setting : Setting) (kept : Kept) (reflow : Reflow) → IsSound setting kept → reflow ≡ kept.uber.reflow
@@ -95,20 +95,20 @@ record IsClearOf (layout : Layout) (reflow : Reflow) (kept : Kept) : Type 0 wher
   spares : SparesAll kept.uber.parity kept.uber.births kept.entries (layout_run layout)
 
 -- Where it writes is spare beside such groups.
-written_spare : (setting : Setting) (first : Kept) (later : List Kept) (reflow : Reflow) (layout : Layout) (out : ℕ)
-    → IsSound setting first → IsInPool layout reflow
+written_spare : (setting : Setting) (first : Kept) (later : List Kept) (reflow : Reflow) (done : ℕ) (layout : Layout) (out : ℕ)
+    → IsFrontOf reflow done → IsSound setting first → IsInPool layout reflow
     → ((kept : Kept) → Contains (first ∷ later) kept → IsClearOf layout reflow kept)
-    → (device device_sector : ℕ) → IsWrittenTo layout reflow out device device_sector
+    → (device device_sector : ℕ) → IsWrittenTo layout reflow done out device device_sector
     → IsSpare setting first later device device_sector
-written_spare setting first later reflow layout out sound pool clear device device_sector written =
-    let data_sector = written_data reflow layout out device device_sector written in
+written_spare setting first later reflow done layout out front sound pool clear device device_sector written =
+    let data_sector = written_data reflow done layout out device device_sector front written in
     record {
       ring = ⊎_elim (λ scratch. scratch.0) (λ rows. omega (arith, rows)) data_sector;
       page = λ below works part low same.
           let paged = sound_paged setting first sound in
           let place = page_place first.uber part paged.area paged.count low in
           data_is_no_page device_sector data_sector (omega (arith, place.0, same)) (omega (arith, place.2, same));
-      cells = λ kept bytes listed asks. absurd (never_asked kept reflow layout out device device_sector bytes
+      cells = λ kept bytes listed asks. absurd (never_asked kept reflow done layout out device device_sector bytes front
           (clear kept listed).inside pool (clear kept listed).spares written asks);
     }
 
@@ -151,11 +151,14 @@ module _ {left calls : List HoldingCall} {before after : CoreState} {run next : 
   abbrev reflow : Reflow
   reflow = before.core.pool.uber.reflow
 
+  abbrev done : ℕ
+  done = before.core.pool.done
+
   abbrev layout : Layout
   layout = run.range.layout
 
   abbrev places : ℕ → ℕ → Type 0
-  places = IsWrittenTo layout reflow before.core.pool.out
+  places = IsWrittenTo layout reflow done before.core.pool.out
 
   abbrev here : Point
   here = point_of before.core.pool.out before.disk
@@ -182,32 +185,32 @@ module _ {left calls : List HoldingCall} {before after : CoreState} {run next : 
 
   module _ (of : IsPutOf before.core run) where
     -- The write is one of the block's,
-    write_listed : Contains (writes_of layout reflow (front_after_stop reflow)) writes.write
+    write_listed : Contains (writes_of layout reflow done) writes.write
     write_listed = subst (λ (l : List Write). Contains l writes.write)
         (of.filled writes.filled writes.filled_is).1.writes
         (listed_at writes.filled.write.writes writes.filled.write.next writes.write writes.write_is)
 
     -- so nothing is touched but the block's places.
     touched : TouchesOnly places before.disk after.disk
-    touched = one_touched writes.filled.write.rows (writes_of layout reflow (front_after_stop reflow)) writes.write
+    touched = one_touched writes.filled.write.rows (writes_of layout reflow done) writes.write
         here there write_listed writes.made
 
     leaves : Leaves places before written
-    leaves = leaves_touched places before written refl outs.still touched
+    leaves = leaves_touched places before written is.is.front refl outs.still touched
 
     -- Blocks that have no sector of the put are off it: those of other calls,
     calls_off : (call : HoldingCall) → AreBeside (Putting run) call → IsCallOfCore before.core call
-        → IsOff places reflow (layout_of_call call)
+        → IsOff places reflow done (layout_of_call call)
     calls_off (Putting other) beside other_of =
-        off_written reflow layout other.range.layout before.core.pool.out of.pool other_of.pool beside.apart
+        off_written reflow done layout other.range.layout before.core.pool.out is.is.front of.pool other_of.pool beside.apart
     calls_off (Reading other) beside other_of =
-        off_written reflow layout other.read.layout before.core.pool.out of.pool other_of.1.pool beside.apart
+        off_written reflow done layout other.read.layout before.core.pool.out is.is.front of.pool other_of.1.pool beside.apart
 
     -- and those of the table.
     table_off : AreInStep before.core.pool.blocks → IsUnderWay before.core.pool.blocks run.range
         → AreOff places before.core
-    table_off step under entry listed = off_written reflow layout
-        (layout_of before.core.pool.uber.parity before.core.pool.uber.births entry) before.core.pool.out of.pool
+    table_off step under entry listed = off_written reflow done layout
+        (layout_of before.core.pool.uber.parity before.core.pool.uber.births entry) before.core.pool.out is.is.front of.pool
         (listed_in_pool (as_begun before.core) entry is.is step listed)
         (listed_clear before.core run.range entry is under listed)
 
@@ -218,18 +221,18 @@ module _ {left calls : List HoldingCall} {before after : CoreState} {run next : 
       len_is = holds.len_is;
       are_bytes = holds.are_bytes;
       so_far = λ filled same. subst (λ (f : Filled). (f.digest ≡ sha256 content)
-          × IsWrittenSoFar layout content reflow (front_after_stop reflow) after.disk.reads after.core.pool.out f.write)
+          × IsWrittenSoFar layout content reflow done after.disk.reads after.core.pool.out f.write)
           (same_filled filled same) (
             so_far.0,
-            written_more layout content reflow (front_after_stop reflow) writes.filled.write writes.write here there
+            written_more layout content reflow done writes.filled.write writes.write here there
                 writes.write_is so_far.1 writes.made
-                (λ used. tells_at layout before.core.pool.uber before.core.pool.out before.disk of.pool bank tells
+                (λ used. tells_at layout before.core.pool.uber done before.core.pool.out before.disk of.pool is.is.front bank tells
                 writes.write write_listed used),
           );
     })
       where
         so_far : (writes.filled.digest ≡ sha256 content)
-            × IsWrittenSoFar layout content reflow (front_after_stop reflow) before.disk.reads before.core.pool.out
+            × IsWrittenSoFar layout content reflow done before.disk.reads before.core.pool.out
             writes.filled.write
         so_far = holds.so_far writes.filled writes.filled_is
 
@@ -268,7 +271,7 @@ module _ {left calls : List HoldingCall} {before after : CoreState} {run next : 
             → IsSpare setting last begun device device_sector
         spare_alone groups device device_sector place =
             subst (λ (later : List Kept). IsSpare setting last later device device_sector) (sym (groups.whole few).0)
-            (written_spare setting last [] reflow layout before.core.pool.out groups.knows.sound of.pool
+            (written_spare setting last [] reflow done layout before.core.pool.out is.is.front groups.knows.sound of.pool
             (λ kept listed. ⊎_elim
             (λ same. subst (IsClearOf layout reflow) (sym same) (last_clear groups.knows.sound))
             (λ none. absurd (contains_none kept none))
@@ -279,8 +282,8 @@ module _ {left calls : List HoldingCall} {before after : CoreState} {run next : 
         spare_beside : (commit : CommitRun) (groups : CommitStands setting last begun calls commit before)
             → (device device_sector : ℕ) → places device device_sector
             → IsSpare setting last (shown_by groups.next commit) device device_sector
-        spare_beside commit groups = written_spare setting last (shown_by groups.next commit) reflow layout
-            before.core.pool.out groups.come.sound_first of.pool
+        spare_beside commit groups = written_spare setting last (shown_by groups.next commit) reflow done layout
+            before.core.pool.out is.is.front groups.come.sound_first of.pool
             (λ kept listed. ⊎_elim
             (λ same. subst (IsClearOf layout reflow) (sym same) (last_clear groups.come.sound_first))
             (λ later. subst (IsClearOf layout reflow) (sym (shown_next commit.stage kept later))
@@ -307,8 +310,8 @@ module _ {left calls : List HoldingCall} {before after : CoreState} {run next : 
               begun_is = groups.begun_is;
               of = commit_still before.core written.core refl refl refl outs.still groups.of;
               come = committing_touched setting last groups.next places commit here there
-                  (put_beside_commit setting last groups.next reflow layout before.core.pool.out first.inside next.inside
-                  of.pool first.spares next.spares)
+                  (put_beside_commit setting last groups.next reflow done layout before.core.pool.out is.is.front first.inside
+                  next.inside of.pool first.spares next.spares)
                   touched outs.still still_lawful groups.come;
               kept = groups.kept;
               spared = groups.spared;

@@ -6,7 +6,6 @@ use Rattle.range_locks.specs.declared.hold.Hold.{Hold}
 use Rattle.range_locks.specs.declared.hold.HoldKind.TheVariants.{Shared}
 use Rattle.range_locks.specs.Holds.{IsBusyBy, IsClear, EndsHold}
 use Rattle.row_layout.specs.Layout.{allocated_of}
-use Rattle.shadow_write.specs.Required.{front_after_stop}
 use Rattle.space_alloc.specs.Space.{Gains}
 use Rattle.block_record.specs.declared.entry.IndexEntry.{IndexEntry}
 use Rattle.block_record.specs.Page.{IsRightEntry}
@@ -170,7 +169,7 @@ IsSolvedAs content Damaged = ⊥
 -- columns, and what was solved is it.
 pub record HoldsGet (content : List ℕ) (state : CoreState) (run : GetRun) : Type 0 where
   pub right : IsRightBlock run.read.layout content state.core.pool.uber.reflow
-      (front_after_stop state.core.pool.uber.reflow) state.disk.reads state.core.pool.out
+      state.core.pool.done state.disk.reads state.core.pool.out
   pub len_is : length content ≡ run.entry.len
   pub are_bytes : AreBytes content
   pub digest_is : sha256 content ≡ run.entry.digest

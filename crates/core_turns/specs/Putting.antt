@@ -6,7 +6,6 @@ use Rattle.range_locks.specs.declared.hold.HoldKind.TheVariants.{Shared}
 use Rattle.range_locks.specs.Holds.{EndsHold}
 use Rattle.row_layout.specs.Layout.{allocated_of}
 use Rattle.shadow_write.specs.declared.write.Write.{Write}
-use Rattle.shadow_write.specs.Required.{front_after_stop}
 use Rattle.shadow_write.specs.Writes.{writes_of}
 use Rattle.space_alloc.specs.Space.{Run, Gains, IsDropping, IsBusySpace, HasNoFreeRun}
 use Rattle.block_record.specs.declared.entry.IndexEntry.{IndexEntry}
@@ -22,6 +21,7 @@ use Rattle.core_blocks.specs.Kept.{NoneFree, SparesAll}
 use Rattle.core_blocks.specs.Puts.{BeginsPut, HoldsBack, IsRangeFor, sectors_taken}
 use Rattle.core_blocks.specs.Usage.{AddsAtMost}
 use Rattle.core_state.specs.Committing.{point_of}
+use Rattle.reflow_band.specs.Band.{IsFrontOf}
 use Rattle.core_client.specs.Pool.{IsInPool}
 use Rattle.core_client.specs.Writing.{IsPassedOrMade, IsPlanOf}
 use Rattle.core_client.specs.BlockTurns.{IsWrittenSoFar}
@@ -48,10 +48,10 @@ HoldsRange old new range actor None = new ≡ old
 
 -- What was filled in is a block of these bytes, of which no more was written than there is.
 pub record IsFilledWith (core : Core) (run : PutRun) (filled : Filled) (content : List ℕ) : Type 0 where
-  pub plan : IsPlanOf run.range.layout core.pool.uber.reflow (front_after_stop core.pool.uber.reflow) content
+  pub plan : IsPlanOf run.range.layout core.pool.uber.reflow core.pool.done content
       filled.write.rows filled.write.writes
   pub writes : filled.write.writes
-      ≡ writes_of run.range.layout core.pool.uber.reflow (front_after_stop core.pool.uber.reflow)
+      ≡ writes_of run.range.layout core.pool.uber.reflow core.pool.done
   pub so_far : filled.write.next ≤ length filled.write.writes
   pub len_is : length content ≡ run.len
   pub digest_is : filled.digest ≡ sha256 content
@@ -60,6 +60,8 @@ pub record IsFilledWith (core : Core) (run : PutRun) (filled : Filled) (content 
 pub record IsPutOf (core : Core) (run : PutRun) : Type 0 where
   pub pool : IsInPool run.range.layout core.pool.uber.reflow
   pub reflow_is : run.reflow ≡ core.pool.uber.reflow
+  pub done_is : run.done ≡ core.pool.done
+  pub front : IsFrontOf run.reflow run.done
   pub range : IsRangeFor core.pool.blocks run.range.id run.len run.range.birth run.range
   pub born : (1 ≤ run.range.birth) × (run.range.birth ≤ core.begun + 1)
   pub len : (1 ≤ run.len) × (run.len ≤ 65536)
@@ -139,9 +141,9 @@ pub record FillsPut (old new : PutRun) (content : List ℕ) : Type 0 where
   pub filled : Filled
   pub rest : new ≡ record old { filled = Some filled }
   pub next : filled.write.next ≡ 0
-  pub plan : IsPlanOf old.range.layout old.reflow (front_after_stop old.reflow) content filled.write.rows
+  pub plan : IsPlanOf old.range.layout old.reflow old.done content filled.write.rows
       filled.write.writes
-  pub writes : filled.write.writes ≡ writes_of old.range.layout old.reflow (front_after_stop old.reflow)
+  pub writes : filled.write.writes ≡ writes_of old.range.layout old.reflow old.done
   pub digest_is : filled.digest ≡ sha256 content
 
 -- A put is given up: its hold has ended, its sectors are free, and its id is no longer reserved for it.
@@ -241,4 +243,4 @@ pub record HoldsPut (content : List ℕ) (state : CoreState) (run : PutRun) : Ty
   pub so_far : (filled : Filled) → run.filled ≡ Some filled
       → (filled.digest ≡ sha256 content)
       × IsWrittenSoFar run.range.layout content state.core.pool.uber.reflow
-      (front_after_stop state.core.pool.uber.reflow) state.disk.reads state.core.pool.out filled.write
+      state.core.pool.done state.disk.reads state.core.pool.out filled.write

@@ -6,6 +6,7 @@ ghost use Rattle.reconstruct.specs.Rows.{sectors_for};
 ghost use Rattle.uberblock_ring.specs.Devices.{count_of};
 ghost use Rattle.core_state.specs.Map.{Map};
 ghost use Rattle.core_state.specs.Index.{layout_of};
+ghost use Rattle.reflow_band.specs.Band.{IsFrontOf};
 ghost use Rattle.core_client.specs.BlockTurns.{IsAtColumn};
 ghost use Rattle.core_client.specs.Outs.{OnlyFailedGoOut};
 ghost use Rattle.core_state.specs.Committing.{point_of};
@@ -188,6 +189,7 @@ impl Core {
         ensures reads { ReadsTurn (at_disk self.old (B.disk bank.old)) run
             (at_disk self.new (B.disk bank.new)) result }
         ensures place { IsAtColumn run.read }
+        ensures front { IsFrontOf self.old.pool.uber.reflow self.old.pool.done }
         ensures unchanged { Unchanged (B.disk bank.old) (B.disk bank.new) }
         ensures out { OnlyFailedGoOut (point_of self.old.pool.out (B.disk bank.old))
             (point_of self.new.pool.out (B.disk bank.new)) }

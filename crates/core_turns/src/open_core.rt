@@ -12,13 +12,14 @@ use std::marker::Model;
 use uberblock_ring::{DeviceSet, Uber};
 
 /// The last answered group's uberblock, the blocks with the sectors that they take, the devices that
-/// are out, the holds of the calls under way, the group that was begun last, and who makes it where it
+/// are out, the front, the holds of the calls under way, the group that was begun last, and who makes it where it
 /// isn't answered. A commit that is cut short stays there: too many devices are out then.
 #[derive(Drop)]
 pub struct Core {
     pub(crate) uber: Uber,
     pub(crate) blocks: Blocks,
     pub(crate) out: DeviceSet,
+    pub(crate) done: u64,
     pub(crate) locks: Locks,
     pub(crate) begun: u64,
     pub(crate) committing: Option<u8>,
@@ -30,14 +31,14 @@ impl Model for Core {
     ghost Value = { CoreOf };
 
     ghost view = { λ core. record {
-      pool = record { uber = core.uber; blocks = core.blocks; out = core.out };
+      pool = record { uber = core.uber; blocks = core.blocks; out = core.out; done = core.done };
       holds = core.locks;
       begun = core.begun;
       committing = core.committing;
     } };
 
     ghost invariant = { λ core. IsCore (record {
-      pool = record { uber = core.uber; blocks = core.blocks; out = core.out };
+      pool = record { uber = core.uber; blocks = core.blocks; out = core.out; done = core.done };
       holds = core.locks;
       begun = core.begun;
       committing = core.committing;
@@ -54,12 +55,13 @@ impl Core {
           committing = None;
         } }
     {
-        let (uber, blocks, out) = pool.into_parts();
+        let (uber, blocks, out, done) = pool.into_parts();
         let begun = uber.group();
         Core {
             uber,
             blocks,
             out,
+            done,
             locks: Locks::new(alloc),
             begun,
             committing: None,

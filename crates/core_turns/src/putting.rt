@@ -2,8 +2,8 @@
 ghost use Rattle.std.specs.Prelude.{◌≡◌, false, ◌+◌, ◌<◌, ◌≤◌, ◌^◌, ◌↔◌, IsTrue, OnErr, OnOk, Some, length};
 ghost use Rattle.row_layout.specs.Layout.{allocated_of};
 ghost use Rattle.range_locks.specs.Holds.{IsClear};
-ghost use Rattle.shadow_write.specs.Required.{front_after_stop};
 ghost use Rattle.reconstruct.specs.Rows.{sectors_for};
+ghost use Rattle.reflow_band.specs.Band.{IsFrontOf};
 ghost use Rattle.bank_trait.specs.Disk.{Disk};
 ghost use Rattle.core_blocks.specs.Blocks.{IsUnderWay};
 ghost use Rattle.core_client.specs.Outs.{OnlyFailedGoOut};
@@ -26,7 +26,6 @@ use core_state::Answer;
 use range_locks::{Hold, HoldKind, LockRefused, Locks};
 use reflow_mark::Reflow;
 use sha2::{Digest, Sha256};
-use shadow_write::front_after_stop;
 use std::alloc::Global;
 
 /// A put under way. It holds its block's sectors; no other call has one of them.
@@ -36,6 +35,7 @@ pub struct PutRun {
     range: PutRange,
     len: u32,
     reflow: Reflow,
+    done: u64,
     filled: Option<Filled>,
 }
 
@@ -107,6 +107,7 @@ impl PutRun {
     /// Fills in the block's bytes: makes its columns up, and its digest. Calls no device, and is no turn.
     pub fn fill(&mut self, alloc: Global, bytes: &[u8]) -> Result<(), OutOfMemory>
         requires pool { IsInPool self.old.range.layout self.old.reflow }
+        requires front { IsFrontOf self.old.reflow self.old.done }
         requires sectors { sectors_for self.old.len ≡ self.old.range.layout.sectors }
         requires len { length bytes.now ≡ self.old.len }
         ensures ok { OnOk result (FillsPut self.old self.new bytes.now) }
@@ -118,14 +119,14 @@ impl PutRun {
 
     fn fill_in(&mut self, alloc: Global, bytes: &[u8]) -> Result<(), OutOfMemory>
         requires pool { IsInPool self.old.range.layout self.old.reflow }
+        requires front { IsFrontOf self.old.reflow self.old.done }
         requires sectors { sectors_for self.old.len ≡ self.old.range.layout.sectors }
         requires len { length bytes.now ≡ self.old.len }
         ensures ok { OnOk result (FillsPut self.old self.new bytes.now) }
         ensures err { OnErr result (self.new ≡ self.old) }
     {
-        // Nothing is copied at one width, so the front stands where it stands after a stop.
-        let done = front_after_stop(&self.reflow);
-        let Ok(write) = BlockWrite::new(alloc, &self.range.layout, &self.reflow, done, bytes) else {
+        let Ok(write) = BlockWrite::new(alloc, &self.range.layout, &self.reflow, self.done, bytes)
+        else {
             return Err(OutOfMemory);
         };
         self.filled = Some(Filled {
@@ -161,6 +162,7 @@ impl Core {
             range,
             len,
             reflow: self.uber.reflow(),
+            done: self.done,
             filled: None,
         })
     }
@@ -201,6 +203,7 @@ impl Core {
             range,
             len,
             reflow: _,
+            done: _,
             filled,
         } = run;
         let digest = match filled {

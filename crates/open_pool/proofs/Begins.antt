@@ -13,6 +13,8 @@ use Rattle.space_alloc.specs.Space.{Run, IsIn}
 use Rattle.uberblock_ring.specs.Devices.{has_device, count_of, IsWithin}
 use Rattle.uberblock_ring.specs.Uberblock.{Uber}
 use Rattle.uberblock_ring.specs.Valid.{IsRightUber}
+use Rattle.shadow_write.specs.Required.{IsRequiredPlace, front_after_stop}
+use Rattle.reflow_band.specs.Band.{IsFrontOf}
 use Rattle.core_state.specs.Map.{Map}
 use Rattle.core_state.specs.Shown.{Shape}
 use Rattle.core_state.specs.Index.{IsIndexOf, AreApart}
@@ -34,11 +36,12 @@ use Rattle.core_open.specs.Failing.{HaveFailed}
 use Rattle.core_open.specs.Opens.{HasOpened, IsWithinBelow, LeavesBank, OpeningKeeps, RenewsChoice, WritesInOrder}
 use Rattle.core_open.specs.Regions.{IsOnBelow}
 use Rattle.core_open.proofs.BlockSpans.{block_width}
-use Rattle.open_pool.specs.Pool.{IsPool, HasBank, IsTableOf, HoldsMap, State, pool_of, state_of}
+use Rattle.open_pool.specs.Pool.{Pool, IsPool, HasBank, IsTableOf, HoldsMap, State, pool_of, state_of}
 use Rattle.open_pool.specs.HoldsGroup.{HoldsGroup}
 use Rattle.open_pool.specs.declared.opening.OpenedPool.{OpenedPool}
 use Rattle.open_pool.specs.Opening.{AreLoaded, MayBegin, OpensPool, CutsOpening}
 use Rattle.open_pool.proofs.Banks.{count_grows}
+use Rattle.open_pool.proofs.Layouts.{front_is_right}
 
 -- Blocks of every birth can be laid out in a pool whose uberblock is right.
 pub layouts_of : (uber : Uber) (parity : ℕ) (births : List Birth) → IsRightUber uber → parity ≡ uber.parity
@@ -73,10 +76,10 @@ renews_loaded {shape} {silent} {image} {uber} loaded renews =
     subst (λ (l : List IndexEntry). RenewsChoice shape silent image uber l) (sym loaded.entries_are) renews
 
 -- With its index loaded, an uberblock makes a pool.
-pub begun_is_pool : (uber : Uber) (entries : List IndexEntry) (blocks : Blocks) (out : ℕ) → IsRightUber uber
+pub begun_is_pool : (uber : Uber) (entries : List IndexEntry) (blocks : Blocks) (out done : ℕ) → IsRightUber uber
     → IsIndexFor uber entries → AreLoaded uber entries blocks → out < 2 ^ uber.reflow.to → IsWithin uber.out out
-    → IsPool (pool_of uber blocks out)
-begun_is_pool uber entries blocks out right is loaded below lists = record {
+    → done ≡ front_after_stop uber.reflow → IsPool (pool_of uber blocks out done)
+begun_is_pool uber entries blocks out done right is loaded below lists stopped = record {
   right = right;
   parity = loaded.parity;
   births = loaded.births;
@@ -87,6 +90,7 @@ begun_is_pool uber entries blocks out right is loaded below lists = record {
       let born : entry.birth ≤ uber.group =
       All-contains (λ (e : IndexEntry). e.birth ≤ uber.group) entries entry is.fitting.births among in
       omega (arith, born);
+  front = subst (IsFrontOf uber.reflow) (sym stopped) (front_is_right uber.reflow right.reflow);
   below = below;
   lists = lists;
 }
@@ -105,12 +109,16 @@ module _ (setting : Setting) (first : Kept) (later : List Kept) (uber : Uber) (e
     (old new : Disk) (may : MayBegin setting first later old) (right : IsRightUber uber) (is : IsIndexFor uber entries)
     (loaded : AreLoaded uber entries blocks) (silent : ℕ)
     (opened : HasOpened setting first later uber entries silent old new) (lawful : Lawful new)
-    (after : Later old new) (bank : HasBank uber out new) (lists : IsWithin uber.out out) where
+    (after : Later old new) (bank : HasBank uber out new) (lists : IsWithin uber.out out)
+    (done : ℕ) (stopped : done ≡ front_after_stop uber.reflow) where
   abbrev next : Kept
   next = opened.next
 
+  abbrev pool : Pool
+  pool = pool_of uber blocks out done
+
   abbrev state : State
-  state = state_of (pool_of uber blocks out) new
+  state = state_of pool new
 
   listed_next : blocks.table.entries ≡ next.entries
   listed_next = loaded.entries_are ∙ opened.entries_are
@@ -178,12 +186,12 @@ module _ (setting : Setting) (first : Kept) (later : List Kept) (uber : Uber) (e
               content = content;
               held = has;
               cell_is = cell_is;
-            }) place) used;
+            }) (subst (λ (d : ℕ). IsRequiredPlace uber.reflow d cell.row_end cell.sector device device_sector) stopped place)) used;
       };
     };
   }
 
-  pub begins : OpensPool setting first later (pool_of uber blocks out) silent old new
+  pub begins : OpensPool setting first later pool silent old new
   begins = record {
     opened = record {
       chosen = opened.chosen;

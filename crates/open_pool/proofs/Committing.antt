@@ -11,6 +11,7 @@ use Rattle.block_record.specs.Page.{index_page, IsIndex}
 use Rattle.uberblock_ring.specs.Devices.{has_device, count_below}
 use Rattle.uberblock_ring.specs.Uberblock.{Uber}
 use Rattle.uberblock_ring.specs.Valid.{IsRightUber}
+use Rattle.reflow_band.proofs.Within.{stop_asks_no_more}
 use Rattle.core_state.specs.Map.{Map}
 use Rattle.core_state.specs.Index.{IsFitting, IsIndexOf}
 use Rattle.core_state.specs.Keeps.{HasWidthIn, Kept, Setting, IsNextOf}
@@ -166,7 +167,8 @@ module _ (setting : Setting) (last : Kept) (map : Map) (before : State) (is : Is
         let entry_listed = among_listed before.pool.blocks.table.entries of.entry
         (subst IsIndex entries_are index) listed in
         let read = ((holds.right of.entry of.content entry_listed of.held).each asks.cell of.cell_is).at
-        device device_sector asks.place used (λ none. absurd (omega (arith, none.1))) in
+        device device_sector (stop_asks_no_more uber.reflow before.pool.done asks.cell.row_end asks.cell.sector device
+        device_sector is.front asks.place) used (λ none. absurd (omega (arith, none.1))) in
         read ∙ ap (λ (b : List ℕ). Some b) asks.bytes_are;
   }
 

@@ -31,7 +31,7 @@ pub freed_holds : (map : Map) (pool : Pool) (blocks : Blocks) (disk : Disk) (id 
     → ChangesOnly pool.blocks.table.entries blocks.table.entries id None → HoldsMap map (state_of pool disk)
     → HoldsMap (with_block map (Some id) None) (state_of (record pool { blocks = blocks }) disk)
 freed_holds map pool blocks disk id change holds =
-    free_holds map (state_of pool disk) (state_of (record pool { blocks = blocks }) disk) id refl refl refl change holds
+    free_holds map (state_of pool disk) (state_of (record pool { blocks = blocks }) disk) id refl refl refl refl change holds
 
 -- and where there was none.
 pub none_freed_holds : (map : Map) (pool : Pool) (blocks : Blocks) (disk : Disk) (id : ℕ)

@@ -10,7 +10,7 @@ use Rattle.width_map.specs.declared.birth.Birth.{Birth}
 use Rattle.reflow_mark.specs.declared.reflow.Reflow.{Reflow}
 use Rattle.reflow_mark.specs.Reflow.{sectors_of}
 use Rattle.row_layout.specs.Layout.{Layout, sector_of, end_of}
-use Rattle.shadow_write.specs.Required.{IsRequiredPlace, front_after_stop}
+use Rattle.shadow_write.specs.Required.{IsRequiredPlace}
 use Rattle.shadow_write.specs.Writes.{writes_of}
 use Rattle.shadow_write.proofs.Whole.{are_required}
 use Rattle.block_record.specs.declared.entry.IndexEntry.{IndexEntry}
@@ -68,13 +68,16 @@ with_other map id other value apart = grind (arith, nat_tests, apart)
 
 -- Writing a block of this layout, which has no sector in common with others.
 module _ (before after : State) (is : IsPool before.pool) (step : AreInStep before.pool.blocks) (layout : Layout)
-    (uber : after.pool.uber ≡ before.pool.uber) (within : IsWithin before.pool.out after.pool.out)
+    (uber : after.pool.uber ≡ before.pool.uber) (front : after.pool.done ≡ before.pool.done) (within : IsWithin before.pool.out after.pool.out)
     (pool : IsInPool layout before.pool.uber.reflow)
     (clear : (other : IndexEntry) → IsListed before.pool.blocks.table.entries other
     → AreClear (layout_run layout) (layout_run (layout_of before.pool.uber.parity before.pool.uber.births other)))
-    (touched : TouchesOnly (IsPlaceOf (writes_of layout before.pool.uber.reflow (front_after_stop before.pool.uber.reflow)) before.pool.out) before.disk after.disk) where
+    (touched : TouchesOnly (IsPlaceOf (writes_of layout before.pool.uber.reflow before.pool.done) before.pool.out) before.disk after.disk) where
   abbrev reflow : Reflow
   reflow = before.pool.uber.reflow
+
+  abbrev done : ℕ
+  done = before.pool.done
 
   abbrev other_layout : IndexEntry → Layout
   other_layout other = layout_of before.pool.uber.parity before.pool.uber.births other
@@ -82,24 +85,25 @@ module _ (before after : State) (is : IsPool before.pool) (step : AreInStep befo
   -- Nothing is written to a place of another block.
   away : (other : IndexEntry) → IsListed before.pool.blocks.table.entries other → (cell : Cell) (device device_sector : ℕ)
       (given : List ℕ) → IsCell (other_layout other) given cell
-      → IsRequiredPlace reflow (front_after_stop reflow) cell.row_end cell.sector device device_sector
-      → IsPlaceOf (writes_of layout reflow (front_after_stop reflow)) before.pool.out device device_sector
+      → IsRequiredPlace reflow done cell.row_end cell.sector device device_sector
+      → IsPlaceOf (writes_of layout reflow done) before.pool.out device device_sector
       → ⊥
   away other listed cell device device_sector given cell_is place (write, has, used, device_is, sector_is) =
-      let required = (are_required layout reflow (front_after_stop reflow)).only write has in
-      blocks_apart reflow layout (other_layout other) write.row write.column cell_is.row cell_is.column device device_sector
-      pool (listed_in_pool before.pool other is step listed) (clear other listed) required.0 cell_is.there
-      (subst (λ (d : ℕ). IsRequiredPlace reflow (front_after_stop reflow) (end_of layout write.row) (sector_of layout write.row write.column) d device_sector) (sym device_is)
-      (subst (λ (x : ℕ). IsRequiredPlace reflow (front_after_stop reflow) (end_of layout write.row) (sector_of layout write.row write.column) write.device x) (sym sector_is) required.1))
-      (subst (λ (e : ℕ). IsRequiredPlace reflow (front_after_stop reflow) e (sector_of (other_layout other) cell_is.row cell_is.column) device device_sector) cell_is.row_end
-      (subst (λ (x : ℕ). IsRequiredPlace reflow (front_after_stop reflow) cell.row_end x device device_sector) cell_is.sector place))
+      let required = (are_required layout reflow done).only write has in
+      blocks_apart reflow done done layout (other_layout other) write.row write.column cell_is.row cell_is.column device device_sector
+      pool (listed_in_pool before.pool other is step listed) is.front is.front (clear other listed) required.0 cell_is.there
+      (subst (λ (d : ℕ). IsRequiredPlace reflow done (end_of layout write.row) (sector_of layout write.row write.column) d device_sector) (sym device_is)
+      (subst (λ (x : ℕ). IsRequiredPlace reflow done (end_of layout write.row) (sector_of layout write.row write.column) write.device x) (sym sector_is) required.1))
+      (subst (λ (e : ℕ). IsRequiredPlace reflow done e (sector_of (other_layout other) cell_is.row cell_is.column) device device_sector) cell_is.row_end
+      (subst (λ (x : ℕ). IsRequiredPlace reflow done cell.row_end x device device_sector) cell_is.sector place))
 
   -- So another block is read as it was.
   others_read : (other : IndexEntry) (given : List ℕ) → IsListed before.pool.blocks.table.entries other
-      → ReadsAs before.pool.uber other given before.disk.reads before.pool.out
-      → ReadsAs after.pool.uber other given after.disk.reads after.pool.out
-  others_read other given listed read = subst (λ (u : Uber). ReadsAs u other given after.disk.reads after.pool.out) (sym uber)
-      (block_stays (other_layout other) given reflow (front_after_stop reflow)
+      → ReadsAs before.pool.uber done other given before.disk.reads before.pool.out
+      → ReadsAs after.pool.uber after.pool.done other given after.disk.reads after.pool.out
+  others_read other given listed read = subst (λ (f : Uber × ℕ). ReadsAs f.0 f.1 other given after.disk.reads after.pool.out)
+      (λ i. (sym uber i, sym front i))
+      (block_stays (other_layout other) given reflow done
       before.disk.reads after.disk.reads before.pool.out after.pool.out within
       (λ cell device device_sector cell_is place used was. touched.reads device device_sector
       (λ written. away other listed cell device device_sector given cell_is place written) ∙ was)
@@ -109,7 +113,7 @@ module _ (before after : State) (is : IsPool before.pool) (step : AreInStep befo
   pub put_holds : (map : Map) (entry : IndexEntry) (content : List ℕ)
       → ChangesOnly before.pool.blocks.table.entries after.pool.blocks.table.entries entry.id (Some entry)
       → IsEntryOf entry content → AreBytes content
-      → ReadsAs before.pool.uber entry content after.disk.reads after.pool.out
+      → ReadsAs before.pool.uber done entry content after.disk.reads after.pool.out
       → HoldsMap map before
       → HoldsMap (with_block map (Some entry.id) (Some content)) after
   put_holds map entry content change entry_is bytes right holds = record {
@@ -134,9 +138,10 @@ module _ (before after : State) (is : IsPool before.pool) (step : AreInStep befo
         (λ apart. holds.bytes id given (sym (with_other map entry.id id (Some content) apart) ∙ has))
         (cases_eq id entry.id);
     right = λ other given listed has. ⊎_elim
-        (λ same. subst (λ (u : Uber). ReadsAs u other given after.disk.reads after.pool.out) (sym uber)
-        (subst (λ (e : IndexEntry). ReadsAs before.pool.uber e given after.disk.reads after.pool.out) (sym same)
-        (subst (λ (b : List ℕ). ReadsAs before.pool.uber entry b after.disk.reads after.pool.out)
+        (λ same. subst (λ (f : Uber × ℕ). ReadsAs f.0 f.1 other given after.disk.reads after.pool.out)
+        (λ i. (sym uber i, sym front i))
+        (subst (λ (e : IndexEntry). ReadsAs before.pool.uber done e given after.disk.reads after.pool.out) (sym same)
+        (subst (λ (b : List ℕ). ReadsAs before.pool.uber done entry b after.disk.reads after.pool.out)
         (given_is (sym (ap (λ (e : IndexEntry). with_block map (Some entry.id) (Some content) e.id) same
         ∙ with_here map entry.id (Some content)) ∙ has)) right)))
         (λ old. others_read other given old.0
@@ -149,11 +154,11 @@ module _ (before after : State) (is : IsPool before.pool) (step : AreInStep befo
 
 -- A free leaves the other blocks.
 pub free_holds : (map : Map) (before after : State) (id : ℕ) → after.pool.uber ≡ before.pool.uber
-    → after.pool.out ≡ before.pool.out → after.disk ≡ before.disk
+    → after.pool.done ≡ before.pool.done → after.pool.out ≡ before.pool.out → after.disk ≡ before.disk
     → ChangesOnly before.pool.blocks.table.entries after.pool.blocks.table.entries id None
     → HoldsMap map before
     → HoldsMap (with_block map (Some id) None) after
-free_holds map before after id uber out disk change holds = record {
+free_holds map before after id uber front out disk change holds = record {
   table = record {
     listed = λ other listed. let old = left other listed in
         let was = holds.table.listed other old.0 in
@@ -164,9 +169,9 @@ free_holds map before after id uber out disk change holds = record {
   };
   bytes = λ other given has. holds.bytes other given (sym (with_other map id other None (kept other given has)) ∙ has);
   right = λ other given listed has. let old = left other listed in
-      subst (λ (u : Uber). ReadsAs u other given after.disk.reads after.pool.out) (sym uber)
-      (subst (λ (d : Disk). ReadsAs before.pool.uber other given d.reads after.pool.out) (sym disk)
-      (subst (λ (n : ℕ). ReadsAs before.pool.uber other given before.disk.reads n) (sym out)
+      subst (λ (f : Uber × ℕ). ReadsAs f.0 f.1 other given after.disk.reads after.pool.out) (λ i. (sym uber i, sym front i))
+      (subst (λ (d : Disk). ReadsAs before.pool.uber before.pool.done other given d.reads after.pool.out) (sym disk)
+      (subst (λ (n : ℕ). ReadsAs before.pool.uber before.pool.done other given before.disk.reads n) (sym out)
       (holds.right other given old.0 (sym (with_other map id other.id None old.1) ∙ has))));
 }
   where

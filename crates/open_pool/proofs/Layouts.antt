@@ -101,19 +101,19 @@ sector_inside layout reflow row column pool there =
     let total = total_few layout in
     (omega arith, omega (arith, below, total))
 
--- Blocks of which none has a sector of the other's require no place in common.
-pub blocks_apart : (reflow : Reflow) (one other : Layout) (row column other_row other_column device device_sector : ℕ)
-    → IsInPool one reflow → IsInPool other reflow → AreClear (layout_run one) (layout_run other)
-    → IsColumn one row column → IsColumn other other_row other_column
-    → IsRequiredPlace reflow (front_after_stop reflow) (end_of one row) (sector_of one row column) device device_sector
-    → IsRequiredPlace reflow (front_after_stop reflow) (end_of other other_row) (sector_of other other_row other_column) device device_sector
+-- Blocks of which none has a sector of the other's require no place in common, at whatever fronts.
+pub blocks_apart : (reflow : Reflow) (done front : ℕ) (one other : Layout) (row column other_row other_column device device_sector : ℕ)
+    → IsInPool one reflow → IsInPool other reflow → IsFrontOf reflow done → IsFrontOf reflow front
+    → AreClear (layout_run one) (layout_run other) → IsColumn one row column → IsColumn other other_row other_column
+    → IsRequiredPlace reflow done (end_of one row) (sector_of one row column) device device_sector
+    → IsRequiredPlace reflow front (end_of other other_row) (sector_of other other_row other_column) device device_sector
     → ⊥
-blocks_apart reflow one other row column other_row other_column device device_sector pool other_pool clear there other_there place other_place =
+blocks_apart reflow done front one other row column other_row other_column device device_sector pool other_pool its_front other_front clear there other_there place other_place =
     let widths = widths_of one reflow pool in
     let same : sector_of one row column ≡ sector_of other other_row other_column =
-    one_sector reflow (front_after_stop reflow) (sector_of one row column) (sector_of other other_row other_column)
+    one_sector reflow done front (sector_of one row column) (sector_of other other_row other_column)
     (end_of one row) (end_of other other_row) device device_sector widths.from_some widths.to_some widths.from_few
-    pool.right (front_is_right reflow pool.right) (close_to_end one reflow row column pool there)
+    pool.right its_front other_front (close_to_end one reflow row column pool there)
     (close_to_end other reflow other_row other_column other_pool other_there) place other_place in
     clear (sector_of one row column) (sector_inside one reflow row column pool there)
     (subst (λ (s : ℕ). (other.start ≤ s) × (s < other.start + allocated_of other)) (sym same)

@@ -7,7 +7,6 @@ use Rattle.width_map.specs.declared.birth.Birth.{Birth}
 use Rattle.range_locks.specs.declared.hold.Hold.{Hold}
 use Rattle.space_alloc.specs.Space.{IsFirstFit}
 use Rattle.row_layout.specs.Layout.{Layout, allocated_of}
-use Rattle.shadow_write.specs.Required.{front_after_stop}
 use Rattle.shadow_write.specs.Writes.{writes_of}
 use Rattle.reflow_mark.specs.Reflow.{sectors_of}
 use Rattle.block_record.specs.declared.entry.IndexEntry.{IndexEntry}
@@ -20,16 +19,17 @@ use Rattle.core_blocks.specs.Puts.{IsRangeFor, layout_at}
 use Rattle.core_client.specs.Pool.{IsInPool}
 use Rattle.core_client.specs.Writing.{TellsAt}
 use Rattle.core_client.proofs.Cells.{places_inside, writes_required}
+use Rattle.reflow_band.specs.Band.{IsFrontOf}
 use Rattle.open_pool.specs.Pool.{Pool, IsPool, HasBank}
-use Rattle.open_pool.proofs.Layouts.{front_is_right, layout_in_pool, total_few}
+use Rattle.open_pool.proofs.Layouts.{layout_in_pool, total_few}
 
 -- A bank that tells what it holds tells what stands where a block of the pool is written.
-pub tells_at : (layout : Layout) (uber : Uber) (out : ℕ) (disk : Disk) → IsInPool layout uber.reflow → HasBank uber out disk
-    → Tells disk → TellsAt (writes_of layout uber.reflow (front_after_stop uber.reflow)) out disk
-tells_at layout uber out disk pool bank tells write listed used =
-    let of = writes_required layout uber.reflow (front_after_stop uber.reflow) [] write listed in
-    let inside = places_inside layout uber.reflow (front_after_stop uber.reflow) [] of.cell write.device write.device_sector
-    pool (front_is_right uber.reflow pool.right).front of.is of.required in
+pub tells_at : (layout : Layout) (uber : Uber) (done out : ℕ) (disk : Disk) → IsInPool layout uber.reflow
+    → IsFrontOf uber.reflow done → HasBank uber out disk → Tells disk → TellsAt (writes_of layout uber.reflow done) out disk
+tells_at layout uber done out disk pool front bank tells write listed used =
+    let of = writes_required layout uber.reflow done [] write listed in
+    let inside = places_inside layout uber.reflow done [] of.cell write.device write.device_sector
+    pool front.front of.is of.required in
     let room = bank.room in
     tells write.device write.device_sector (bank.devices write.device inside.device_in used)
     (⊎_elim (λ scratch. omega (arith, scratch.1, room)) (λ rows. omega (arith, rows.1, room)) inside.sector_in)

@@ -2,7 +2,7 @@
 use Rattle.std.specs.Prelude.{◌≡◌, ℕ, ◌+◌, ◌^◌, ◌<◌, ◌≤◌, List, Some}
 use Rattle.bank_trait.specs.Disk.{Disk, Known}
 use Rattle.reflow_mark.specs.Reflow.{sectors_of}
-use Rattle.shadow_write.specs.Required.{front_after_stop}
+use Rattle.reflow_band.specs.Band.{IsFrontOf}
 use Rattle.block_record.specs.declared.entry.IndexEntry.{IndexEntry}
 use Rattle.reconstruct.specs.Lost.{AreBytes}
 use Rattle.uberblock_ring.specs.Devices.{IsWithin}
@@ -16,14 +16,16 @@ use Rattle.core_client.specs.Pool.{IsRightBlock}
 use Rattle.core_state.specs.declared.item.Group.{Group as GroupItem}
 pub use Rattle.core_open.specs.Opens.{HasBank}
 
--- the last answered group's uberblock, the blocks, and the devices that are out
+-- the last answered group's uberblock, the blocks, the devices that are out, and the front: how far a copy to the new
+-- width has come since
 pub record Pool : Type 0 where
   pub uber : Uber
   pub blocks : Blocks
   pub out : ℕ
+  pub done : ℕ
 
-abbrev pub pool_of : Uber → Blocks → ℕ → Pool
-pool_of uber blocks out = record { uber = uber; blocks = blocks; out = out }
+abbrev pub pool_of : Uber → Blocks → ℕ → ℕ → Pool
+pool_of uber blocks out done = record { uber = uber; blocks = blocks; out = out; done = done }
 
 -- the item with which a journal begins: the group that a pool was opened with
 abbrev pub first_item : Pool → GroupItem
@@ -38,7 +40,7 @@ first_item pool = record {
 abbrev pub open_group : Pool → ℕ
 open_group pool = pool.uber.group + 1
 
--- Uberblock and blocks belong together, and the devices that are out are the pool's.
+-- Uberblock and blocks belong together, the front is where it may be, and the devices that are out are the pool's.
 pub record IsPool (pool : Pool) : Type 0 where
   pub right : IsRightUber pool.uber
   pub parity : pool.blocks.parity ≡ pool.uber.parity
@@ -46,6 +48,7 @@ pub record IsPool (pool : Pool) : Type 0 where
   pub capacity : pool.blocks.space.capacity ≡ sectors_of pool.uber.reflow
   pub born : (entry : IndexEntry) → IsListed pool.blocks.table.entries entry
       → entry.birth ≤ open_group pool
+  pub front : IsFrontOf pool.uber.reflow pool.done
   pub below : pool.out < 2 ^ pool.uber.reflow.to
   pub lists : IsWithin pool.uber.out pool.out
 
@@ -64,10 +67,10 @@ pub record IsTableOf (entries : List IndexEntry) (map : Map) : Type 0 where
   pub every : (id : ℕ) (content : List ℕ) → map id ≡ Some content
       → (entry : IndexEntry) × (entry_of entries id ≡ Some entry)
 
--- The block of an entry has this content, and is read so wherever it has to be right.
-abbrev pub ReadsAs : Uber → IndexEntry → List ℕ → Known → ℕ → Type 0
-ReadsAs uber entry content known out = IsRightBlock (layout_of uber.parity uber.births entry) content
-    uber.reflow (front_after_stop uber.reflow) known out
+-- The block of an entry has this content, and is read so wherever it has to be right at this front.
+abbrev pub ReadsAs : Uber → ℕ → IndexEntry → List ℕ → Known → ℕ → Type 0
+ReadsAs uber done entry content known out = IsRightBlock (layout_of uber.parity uber.births entry) content
+    uber.reflow done known out
 
 -- Each block of the map is bytes, stands in the table, and is read at each place where it has to be
 -- right, on each device that isn't out.
@@ -76,4 +79,4 @@ pub record HoldsMap (map : Map) (state : State) : Type 0 where
   pub bytes : (id : ℕ) (content : List ℕ) → map id ≡ Some content → AreBytes content
   pub right : (entry : IndexEntry) (content : List ℕ)
       → IsListed state.pool.blocks.table.entries entry → map entry.id ≡ Some content
-      → ReadsAs state.pool.uber entry content state.disk.reads state.pool.out
+      → ReadsAs state.pool.uber state.pool.done entry content state.disk.reads state.pool.out

@@ -11,6 +11,7 @@ ghost use Rattle.core_open.specs.Failing.{HaveFailed};
 ghost use Rattle.core_open.specs.Holds.{HoldsImage, shape_of};
 ghost use Rattle.core_open.specs.Opens.{IsForMemory, IsWithinBelow, LeavesOthers, RenewsChoice, WritesInOrder};
 ghost use Rattle.core_open.specs.Regions.{IsOnBelow};
+ghost use Rattle.shadow_write.specs.Required.{front_after_stop};
 ghost use Rattle.open_pool.specs.Opening.{AreLoaded, CutsOpening, IsBegunWith, LeavesUnopened};
 ghost use Rattle.open_pool.specs.Pool.{HasBank};
 
@@ -19,6 +20,7 @@ use bank_trait::Bank;
 use block_record::IndexEntry;
 use core_blocks::Blocks;
 use core_open::{OpenWhy, open};
+use shadow_write::front_after_stop;
 use std::alloc::{AllocError, Global};
 use uberblock_ring::{DeviceSet, Uber};
 
@@ -54,6 +56,8 @@ pub fn open_pool<B: Bank>(alloc: Global, bank: &mut B) -> Result<OpenedPool, Ope
     ensures later { IfOk result (λ opened. Later (B.disk bank.old) (B.disk bank.new)) }
     ensures rest { IfOk result (λ opened. AreUnderWay opened.pool.blocks []) }
     ensures right { IfOk result (λ opened. IsRightUber opened.pool.uber) }
+    ensures front { IfOk result (λ opened.
+        opened.pool.done ≡ front_after_stop opened.pool.uber.reflow) }
     ensures loaded { IfOk result (λ opened. AreLoaded opened.pool.uber
         opened.pool.blocks.table.entries opened.pool.blocks) }
     ensures few { IfOk result (λ opened. count_of opened.pool.out ≤ opened.pool.uber.parity) }
@@ -86,11 +90,13 @@ pub fn open_pool<B: Bank>(alloc: Global, bank: &mut B) -> Result<OpenedPool, Ope
 {
     let opened = open(alloc, bank)?;
     let blocks = load(alloc, &opened.uber, &opened.entries)?;
+    let done = front_after_stop(&opened.uber.reflow());
     Ok(OpenedPool {
         pool: Pool {
             uber: opened.uber,
             blocks,
             out: opened.out,
+            done,
         },
         silent: opened.silent,
     })

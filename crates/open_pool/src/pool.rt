@@ -8,12 +8,14 @@ use std::marker::Model;
 use uberblock_ring::{DeviceSet, Uber};
 
 /// A pool of which no call is under way: the last answered group's uberblock, the blocks with the sectors
-/// that they take, and the devices that are out. They are not called again.
+/// that they take, the devices that are out, which are not called again, and the front: how far, in sectors, a copy to a
+/// new width has come since.
 #[derive(Drop)]
 pub struct Pool {
     pub(crate) uber: Uber,
     pub(crate) blocks: Blocks,
     pub(crate) out: DeviceSet,
+    pub(crate) done: u64,
 }
 
 impl Model for Pool {
@@ -21,12 +23,18 @@ impl Model for Pool {
 
     ghost Value = { PoolOf };
 
-    ghost view = { λ pool. record { uber = pool.uber; blocks = pool.blocks; out = pool.out } };
+    ghost view = { λ pool. record {
+      uber = pool.uber;
+      blocks = pool.blocks;
+      out = pool.out;
+      done = pool.done;
+    } };
 
     ghost invariant = { λ pool. IsPool (record {
       uber = pool.uber;
       blocks = pool.blocks;
       out = pool.out;
+      done = pool.done;
     }) };
 }
 
@@ -58,11 +66,11 @@ impl Pool {
         }
     }
 
-    /// The last answered group's uberblock, the blocks, and the devices that are out.
-    pub fn into_parts(self) -> (Uber, Blocks, DeviceSet)
-        ensures value { pool_of result.0 result.1 result.2 ≡ self }
+    /// The last answered group's uberblock, the blocks, the devices that are out, and the front.
+    pub fn into_parts(self) -> (Uber, Blocks, DeviceSet, u64)
+        ensures value { pool_of result.0 result.1 result.2 result.3 ≡ self }
         ensures is { IsPool self }
     {
-        (self.uber, self.blocks, self.out)
+        (self.uber, self.blocks, self.out, self.done)
     }
 }

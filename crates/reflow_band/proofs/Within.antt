@@ -97,6 +97,39 @@ stop_front reflow widening = record {
     limit from to rows mark Valid is = omega arith
     limit from to rows mark Moved is = omega arith
 
+-- What is asked for after a stop is asked for at whatever front.
+abbrev stop_in : State → ℕ → ℕ
+stop_in None mark = 0
+stop_in Valid mark = 0
+stop_in Moved mark = mark
+
+scratch_no_more : (state : State) (reflow : Reflow) (done sector : ℕ) → NeedsScratch state reflow (stop_in state reflow.mark) sector
+    → NeedsScratch state reflow done sector
+scratch_no_more None reflow done sector needs = absurd (omega (arith, needs.1))
+scratch_no_more Valid reflow done sector needs = needs
+scratch_no_more Moved reflow done sector needs = needs
+
+new_no_more : (state : State) (reflow : Reflow) (done sector : ℕ) → IsFrontIn state reflow done
+    → NeedsNew state (stop_in state reflow.mark) sector → NeedsNew state done sector
+new_no_more None reflow done sector front needs = needs
+new_no_more Valid reflow done sector front needs = absurd (omega (arith, needs))
+new_no_more Moved reflow done sector front needs = omega (arith, front.0, needs)
+
+pub stop_asks_no_more : (reflow : Reflow) (done row_end sector device device_sector : ℕ) → IsFrontOf reflow done
+    → IsRequiredPlace reflow (front_after_stop reflow) row_end sector device device_sector
+    → IsRequiredPlace reflow done row_end sector device device_sector
+stop_asks_no_more reflow done row_end sector device device_sector front required = ⊎_elim
+    (λ (old : NeedsOld reflow.state reflow.mark row_end × IsAt (old_place reflow sector) first_data_sector device device_sector). inl old)
+    (λ rest. ⊎_elim
+    (λ (scratch : NeedsScratch reflow.state reflow (front_after_stop reflow) sector
+    × IsAt (scratch_place reflow.to sector) first_scratch_sector device device_sector).
+    inr (inl (scratch_no_more reflow.state reflow done sector scratch.0, scratch.1)))
+    (λ (new : NeedsNew reflow.state (front_after_stop reflow) sector
+    × IsAt (new_place reflow sector) first_data_sector device device_sector).
+    inr (inr (new_no_more reflow.state reflow done sector front.front new.0, new.1)))
+    rest)
+    required
+
 -- A pool at rest asks for old places alone.
 rest_old : (other : Reflow) (done row_end sector device device_sector : ℕ) → other.to ≡ other.from → other.state ≡ None
     → IsRequiredPlace other done row_end sector device device_sector

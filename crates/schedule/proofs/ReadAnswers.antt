@@ -25,7 +25,7 @@ use Rattle.core_turns.specs.declared.getting.GetRun.{GetRun}
 use Rattle.core_turns.specs.declared.getting.Solved.{Solved}
 use Rattle.core_turns.specs.declared.getting.Solved.TheVariants.{NotYet, Bytes, Damaged}
 use Rattle.core_turns.specs.declared.turn.Turn.TheVariants.{Done}
-use Rattle.core_turns.specs.Core.{Core, CoreState, at_disk}
+use Rattle.core_turns.specs.Core.{Core, CoreState, IsCore, at_disk}
 use Rattle.core_turns.specs.Getting.{IsReadKind, HasTooManyOut, IsGetRefused, ReadsTurn, SolvesGet, AnswersSolved, EndsGet, answer_of}
 use Rattle.core_turns.specs.UnderWay.{HoldingCall, Reading, AreCallsOf, Stands}
 use Rattle.core_blocks.proofs.Lists.{gains_item}
@@ -141,9 +141,9 @@ pub record EndsRead (before after : CoreState) (run : GetRun) (given : Answer) (
 
 -- Too many devices are out,
 stopped_ends : {before after : CoreState} {run : GetRun} {given : Answer} {left calls : List HoldingCall}
-    → ReadsTurn before run after (Done given) → Gains left calls (Reading run) → AreCallsOf before.core calls
-    → EndsRead before after run given left calls
-stopped_ends {before} {after} {run} {given} {left} {calls} stops gains are = record {
+    → IsCore before.core → ReadsTurn before run after (Done given) → Gains left calls (Reading run)
+    → AreCallsOf before.core calls → EndsRead before after run given left calls
+stopped_ends {before} {after} {run} {given} {left} {calls} core stops gains are = record {
   leaves = leaves_pool before.core after.core before.core.pool.blocks after.core.holds stops.0.rest;
   answer_is = subst (IsAnswerOf run.kind) (sym stops.0.given_is) tt;
   too_many = λ out tells. (stops.0.many, same_out (sym tells ∙ stops.0.given_is));
@@ -151,7 +151,7 @@ stopped_ends {before} {after} {run} {given} {left} {calls} stops gains are = rec
   calls_are = get_ends_calls stops.0.rest stops.0.ends gains are;
   stands = λ setting last begun map contents commit stands. (
     subst (λ (d : Disk). Stands setting last begun map contents left commit (at_disk after.core d)) (sym stops.1)
-        (get_ends_stands stops.0.rest gains stands),
+        (get_ends_stands core stops.0.rest gains stands),
     subst (IsReadRight (Some (contents run.hold.actor)) run.kind) (sym stops.0.given_is) tt,
   );
 }
@@ -161,9 +161,10 @@ stopped_ends {before} {after} {run} {given} {left} {calls} stops gains are = rec
 
 -- or it is answered as it was solved,
 answered_ends : {before after : CoreState} {run : GetRun} {given : Answer} {left calls : List HoldingCall}
-    → IsReadKind run.kind → EndsGet before.core run after.core (Done given) → after.disk ≡ before.disk
-    → Gains left calls (Reading run) → AreCallsOf before.core calls → EndsRead before after run given left calls
-answered_ends {before} {after} {run} {given} {left} {calls} is ends disk gains are = record {
+    → IsCore before.core → IsReadKind run.kind → EndsGet before.core run after.core (Done given)
+    → after.disk ≡ before.disk → Gains left calls (Reading run) → AreCallsOf before.core calls
+    → EndsRead before after run given left calls
+answered_ends {before} {after} {run} {given} {left} {calls} core is ends disk gains are = record {
   leaves = leaves_pool before.core after.core before.core.pool.blocks after.core.holds ends.rest;
   answer_is = ⊎_elim
       (λ many. subst (IsAnswerOf run.kind) (sym (ends.too_many many)) tt)
@@ -180,7 +181,7 @@ answered_ends {before} {after} {run} {given} {left} {calls} is ends disk gains a
   calls_are = get_ends_calls ends.rest ends.ends gains are;
   stands = λ setting last begun map contents commit stands. (
     subst (λ (d : Disk). Stands setting last begun map contents left commit (at_disk after.core d)) (sym disk)
-        (get_ends_stands ends.rest gains stands),
+        (get_ends_stands core ends.rest gains stands),
     get_tells (contents run.hold.actor) before.core after.core before.disk run (Done given) is
         (stands.each (Reading run) (gains_item left calls (Reading run) gains)) ends,
   );
@@ -194,10 +195,10 @@ answered_ends {before} {after} {run} {given} {left} {calls} is ends disk gains a
 
 -- where it may be solved just then.
 solved_ends : {before after : CoreState} {run solved : GetRun} {given : Answer} {left calls : List HoldingCall}
-    → SolvesGet run solved → run.read.row ≡ rows_of run.read.layout → Gains left calls (Reading run)
-    → AreCallsOf before.core calls → EndsRead before after solved given left (Reading solved ∷ left)
+    → IsCore before.core → SolvesGet run solved → run.read.row ≡ rows_of run.read.layout
+    → Gains left calls (Reading run) → AreCallsOf before.core calls → EndsRead before after solved given left (Reading solved ∷ left)
     → EndsRead before after run given left calls
-solved_ends {before} {run = run} {solved} {given} {left} solves whole gains are ends = record {
+solved_ends {before} {run = run} {solved} {given} {left} core solves whole gains are ends = record {
   leaves = ends.leaves;
   answer_is = subst (λ (k : Kind). IsAnswerOf k given) same_kind ends.answer_is;
   too_many = ends.too_many;
@@ -205,7 +206,7 @@ solved_ends {before} {run = run} {solved} {given} {left} solves whole gains are 
   calls_are = ends.calls_are;
   stands = λ setting last begun map contents commit stands.
       let done = ends.stands setting last begun map contents commit
-      (get_solves_stands solves whole gains (gains_first (Reading solved) left) are stands) in (
+      (get_solves_stands core solves whole gains (gains_first (Reading solved) left) are stands) in (
         done.0,
         subst (λ (k : Kind). IsReadRight (Some (contents run.hold.actor)) k given) same_kind
             (subst (λ (actor : ℕ). IsReadRight (Some (contents actor)) solved.kind given)
@@ -218,16 +219,16 @@ solved_ends {before} {run = run} {solved} {given} {left} solves whole gains are 
 
 -- However it ends.
 pub read_ends_so : {before after : CoreState} {run : GetRun} {given : Answer} {left calls : List HoldingCall}
-    → IsReadKind run.kind → EndsReading before after run given → Gains left calls (Reading run)
-    → AreCallsOf before.core calls → EndsRead before after run given left calls
-read_ends_so {before} {after} {run} {given} {left} {calls} is ending gains are = elim ending.ends [
-  | inl stops ↦ stopped_ends stops gains are
+    → IsCore before.core → IsReadKind run.kind → EndsReading before after run given
+    → Gains left calls (Reading run) → AreCallsOf before.core calls → EndsRead before after run given left calls
+read_ends_so {before} {after} {run} {given} {left} {calls} core is ending gains are = elim ending.ends [
+  | inl stops ↦ stopped_ends core stops gains are
   | inr ended ↦ ⊎_elim
-      (λ same. answered_ends is (subst (λ (r : GetRun). EndsGet before.core r after.core (Done given)) same ended.3)
+      (λ same. answered_ends core is (subst (λ (r : GetRun). EndsGet before.core r after.core (Done given)) same ended.3)
       ending.disk gains are)
       (λ solves. let first = gains_first (Reading ended.0) left in
-      solved_ends solves ended.2 gains are
-      (answered_ends (subst IsReadKind (sym (ap (λ (r : GetRun). r.kind) solves.rest)) is) ended.3 ending.disk first
+      solved_ends core solves ended.2 gains are
+      (answered_ends core (subst IsReadKind (sym (ap (λ (r : GetRun). r.kind) solves.rest)) is) ended.3 ending.disk first
       (get_solves_calls solves gains first are)))
       ended.1
 ]

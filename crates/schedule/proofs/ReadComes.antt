@@ -66,7 +66,7 @@ module _ {script : Script} {actor : ℕ} {before after : Station} {clients news 
         (get_begins_calls actor id call.kind is takes.is begins others gains takes.schedule.going.are)
         (λ world past runs.
         let map = map_of world.handed world.opening before.items in
-        let found = get_begins_stands actor id call.kind begins others runs.stands in (
+        let found = get_begins_stands actor id call.kind takes.is begins others runs.stands in (
           found.0,
           ap (λ (m : Map). m run.entry.id) (map_at_end world.handed world.opening before.items) ∙ ap map entry_id ∙ found.1,
           subst (λ (d : Disk). Stands world.setting runs.last runs.begun map (with_content runs.contents actor found.0)
@@ -143,8 +143,8 @@ module _ {script : Script} {actor : ℕ} {before after : Station} {clients news 
         (λ world past runs. (
           (λ groups time row. since_read world.setting groups time before.state.disk after.state.disk reads.unchanged),
           (λ has. ap (λ (r : GetRun). map_after world.handed world.opening before.items under.at r.entry.id) same ∙ has),
-          get_reads_stands reads.place reads.left reads.reads reads.unchanged goes.out takes.still_lawful moves.1 moves.2
-              takes.schedule.going.are runs.stands,
+          get_reads_stands takes.is reads.place reads.left reads.reads reads.unchanged goes.out takes.still_lawful moves.1
+              moves.2 takes.schedule.going.are runs.stands,
         ))
       where
         same : next ≡ record run { read = next.read }
@@ -193,7 +193,7 @@ module _ {script : Script} {actor : ℕ} {before after : Station} {clients news 
         call_read = subst IsReadKind (sym asked_for.0) is_read
 
         ends : EndsRead before.state after.state run given (calls_under_way news) (calls_under_way clients)
-        ends = read_ends_so is_read ending gone takes.schedule.going.are
+        ends = read_ends_so takes.is is_read ending gone takes.schedule.going.are
 
         given_is : IsAnswerOf call.kind given
         given_is = subst (λ (k : Kind). IsAnswerOf k given) (sym asked_for.0) ends.answer_is

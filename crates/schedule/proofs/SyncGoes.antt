@@ -108,10 +108,10 @@ module _ {script : Script} {actor : ℕ} {before after : Station} {clients news 
       (λ world past handed within listed runs.
       let borne = within (few_out old steps.0) in
       commit_goes_on after.state takes.was takes.changes runs under run next (ap (λ (c : Core). c.pool.uber) steps.2)
-      goes.later (commit_steps_since steps borne (its_stands runs)) under_is does_is further.1
+      goes.later (commit_steps_since takes.is steps borne (its_stands runs)) under_is does_is further.1
       (subst (λ (l : List HoldingCall). Stands world.setting runs.last runs.begun
       (map_of world.handed world.opening before.items) runs.contents l (Some next) after.state)
-      (sym (same_calls none)) (commit_steps_stands steps borne (its_stands runs))))
+      (sym (same_calls none)) (commit_steps_stands takes.is steps borne (its_stands runs))))
     where
       next_is : after.client.under_way ≡ Some (record { at = under.at; work = work.Sync next })
       next_is = ap (λ (c : Client). c.under_way) further.1
@@ -208,7 +208,7 @@ module _ {script : Script} {actor : ℕ} {before after : Station} {clients news 
           let map : Map = map_of world.handed world.opening before.items in
           let stands = its_stands runs in
           let next : Kept = stands.groups.next in
-          let stood = commit_ends_stands answers (within (few_out old answers.few))
+          let stood = commit_ends_stands takes.is answers (within (few_out old answers.few))
           (subst (λ (l : List Kept). Stands world.setting runs.last l map runs.contents (calls_under_way clients) (Some run)
           before.state) stands.groups.begun_is stands) in
           let number_is : number ≡ next.uber.group =

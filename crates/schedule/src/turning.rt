@@ -3,6 +3,7 @@ ghost use Rattle.std.specs.Prelude.{◌≡◌, ◌≤◌, true, false, None, Som
 ghost use Rattle.bank_trait.specs.Disk.{Disk};
 ghost use Rattle.reconstruct.specs.Rows.{sectors_for};
 ghost use Rattle.core_blocks.specs.Blocks.{IsUnderWay};
+ghost use Rattle.reflow_band.specs.Band.{IsFrontOf};
 ghost use Rattle.core_client.specs.Pool.{IsInPool};
 ghost use Rattle.client_script.specs.Lines.{fill_bytes};
 ghost use Rattle.client_script.specs.Script.{IsAllowed};
@@ -104,6 +105,7 @@ fn begin_block_call(
 /// Fills a put's block in, unless it was before. Tells whether there was memory for it.
 fn fill_in(alloc: Global, call: &ScriptCall, run: &mut PutRun) -> bool
     requires pool { IsInPool run.old.range.layout run.old.reflow }
+    requires front { IsFrontOf run.old.reflow run.old.done }
     requires sectors { sectors_for run.old.len ≡ run.old.range.layout.sectors }
     requires len { length (fill_bytes call.now.fill) ≡ run.old.len }
     ensures fills { result ≡ true → IsFilledIn call.now run.old run.new }

@@ -1,5 +1,6 @@
-use Rattle.std.proofs.Common.{rules}
+use Rattle.std.proofs.Common.{◌∙◌, ap, rules}
 use Rattle.std.specs.Prelude.{IfErr}
+use Rattle.shadow_write.specs.Required.{front_after_stop}
 use Rattle.core_open.specs.Opens.{LeavesBank}
 use Rattle.open_pool.proofs.Begins.{loaded_of, renews_loaded, begun_is_pool, begins, refused_cuts, memory_cuts}
 use Rattle.open_pool.proofs.opening.open_pool.Goals as goal
@@ -20,8 +21,9 @@ returns-in_err-blocks-clause-cut g c = memory_cuts c.from_residual-in_err-blocks
 
 pub invariant_of-result : goal.invariant_of-result
 invariant_of-result g c = begun_is_pool c.in_ok-opened.opened.uber c.in_ok-opened.opened.entries.items _
-    c.in_ok-opened.opened.out c.in_ok-opened.ensures.right c.in_ok-opened.ensures.index (loaded_of c.deref.ensures.value c.in_ok-blocks.ensures.loaded)
-    c.in_ok-opened.ensures.below c.in_ok-opened.ensures.out.lists
+    c.in_ok-opened.opened.out c.front_after_stop-done.result c.in_ok-opened.ensures.right c.in_ok-opened.ensures.index
+    (loaded_of c.deref.ensures.value c.in_ok-blocks.ensures.loaded) c.in_ok-opened.ensures.below
+    c.in_ok-opened.ensures.out.lists (c.front_after_stop-done.ensures ∙ ap front_after_stop c.reflow.ensures.value)
 
 pub returns-clause-begins : goal.returns-clause-begins
 returns-clause-begins g c = record {
@@ -31,7 +33,8 @@ returns-clause-begins g c = record {
       c.in_ok-opened.ensures.index (loaded_of c.deref.ensures.value c.in_ok-blocks.ensures.loaded)
       c.in_ok-opened.opened.silent (c.in_ok-opened.ensures.kept.kept setting first later may.may missed within)
       (g.met.B.Bank.lawful c.open.new.bank) c.in_ok-opened.ensures.spares.later c.in_ok-opened.ensures.bank
-      c.in_ok-opened.ensures.out.lists;
+      c.in_ok-opened.ensures.out.lists c.front_after_stop-done.result
+      (c.front_after_stop-done.ensures ∙ ap front_after_stop c.reflow.ensures.value);
 }
 
 pub returns-clause-renews : goal.returns-clause-renews

@@ -12,7 +12,7 @@ pub returns : goal.returns
 returns c =
     let inside = c.self.inside in
     let core : Core = record {
-      pool = record { uber = inside.uber; blocks = inside.blocks; out = inside.out };
+      pool = record { uber = inside.uber; blocks = inside.blocks; out = inside.out; done = inside.done };
       holds = inside.locks;
       begun = inside.begun;
       committing = inside.committing;

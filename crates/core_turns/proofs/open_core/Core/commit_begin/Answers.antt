@@ -21,7 +21,7 @@ pub new-requires-clause-right : goal.new-requires-clause-right
 new-requires-clause-right c =
     let inside = c.self.inside in
     let core : Core = record {
-      pool = record { uber = inside.uber; blocks = inside.blocks; out = inside.out };
+      pool = record { uber = inside.uber; blocks = inside.blocks; out = inside.out; done = inside.done };
       holds = inside.locks;
       begun = inside.begun;
       committing = inside.committing;
@@ -39,7 +39,7 @@ pub invariant_of-self : goal.invariant_of-self
 invariant_of-self c =
     let inside = c.self.inside in
     begun_core (record {
-      pool = record { uber = inside.uber; blocks = inside.blocks; out = inside.out };
+      pool = record { uber = inside.uber; blocks = inside.blocks; out = inside.out; done = inside.done };
       holds = inside.locks;
       begun = inside.begun;
       committing = inside.committing;

@@ -12,11 +12,11 @@ use Rattle.core_turns.proofs.open_core.Core.free.Goals.{in-Some, in-None}
 
 pub returns-clause-holds : goal.returns-clause-holds
 returns-clause-holds c = λ map disk holds.
-    let pool = pool_of c.self.inside.uber c.self.inside.blocks c.self.inside.out in
+    let pool = pool_of c.self.inside.uber c.self.inside.blocks c.self.inside.out c.self.inside.done in
     let old : HoldsMap map (state_of pool disk) =
     subst (λ (core : Core). HoldsMap map (pool_at (at_disk core disk))) (sym c.self.view_is) holds in
     let now = λ (given : Answer). HoldsMap (map_after_free map c.args.id given)
-    (state_of (pool_of c.self.inside.uber c.remove.new.self c.self.inside.out) disk) in
+    (state_of (pool_of c.self.inside.uber c.remove.new.self c.self.inside.out c.self.inside.done) disk) in
     elim c.match-remove.branch [
       | in-Some w ↦ subst now (sym w.result-is)
           (freed_holds map pool c.remove.new.self disk c.args.id c.remove.ensures.change old)

@@ -7,8 +7,8 @@ use Rattle.core_turns.proofs.GetTurns.{get_of_more, reads_uber}
 use Rattle.core_turns.proofs.open_core.Core.get_read.Goals as goal
 
 pub returns-clause-keeps : goal.returns-clause-keeps
-returns-clause-keeps g c = λ content holds. get_reads content _ _ c.args.run c.read_get.result c.requires.of
-    c.read_get.ensures.place c.requires.left c.read_get.ensures.unchanged c.read_get.ensures.out holds c.read_get.ensures.reads
+returns-clause-keeps g c = λ content holds. get_reads content _ _ c.args.run c.read_get.result c.read_get.ensures.front
+    c.requires.of c.read_get.ensures.place c.requires.left c.read_get.ensures.unchanged c.read_get.ensures.out holds c.read_get.ensures.reads
 
 pub returns-clause-of : goal.returns-clause-of
 returns-clause-of g c = get_of_more _ _ c.args.run c.read_get.result c.requires.of c.read_get.ensures.reads

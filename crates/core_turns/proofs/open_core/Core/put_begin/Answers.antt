@@ -11,7 +11,7 @@ use Rattle.core_turns.proofs.open_core.Core.put_begin.Goals as goal
 
 pub returns-in-Err : goal.returns-in-Err
 returns-in-Err c =
-    let core = core_with c.self.inside.uber c.self.inside.blocks c.self.inside.out c.self.inside.locks
+    let core = core_with c.self.inside.uber c.self.inside.blocks c.self.inside.out c.self.inside.done c.self.inside.locks
     c.self.inside.begun c.self.inside.committing in
     let few : HasTooManyOut core → ⊥ = subst (λ (core : Core). HasTooManyOut core → ⊥) (sym c.self.view_is)
     (λ many. true≢false (sym (c.has_too_many_out.ensures.1 many) ∙ c.if-has_too_many_out.false)) in
@@ -26,7 +26,7 @@ returns-in-Err c =
 
 pub returns-in_default : goal.returns-in_default
 returns-in_default c =
-    let core = core_with c.self.inside.uber c.self.inside.blocks c.self.inside.out c.self.inside.locks
+    let core = core_with c.self.inside.uber c.self.inside.blocks c.self.inside.out c.self.inside.done c.self.inside.locks
     c.self.inside.begun c.self.inside.committing in
     let new = record core { pool = record core.pool { blocks = c.give_up.new.self }; holds = c.hold_range.new.locks } in
     record {
@@ -42,7 +42,7 @@ returns-in_default c =
 
 pub returns : goal.returns
 returns c =
-    let core = core_with c.self.inside.uber c.self.inside.blocks c.self.inside.out c.self.inside.locks
+    let core = core_with c.self.inside.uber c.self.inside.blocks c.self.inside.out c.self.inside.done c.self.inside.locks
     c.self.inside.begun c.self.inside.committing in
     let few : HasTooManyOut core → ⊥ = subst (λ (core : Core). HasTooManyOut core → ⊥) (sym c.self.view_is)
     (λ many. true≢false (sym (c.has_too_many_out.ensures.1 many) ∙ c.if-has_too_many_out.false)) in
@@ -51,6 +51,7 @@ returns c =
       range = c.in-Ok.range;
       len = c.args.len;
       reflow = c.reflow.result;
+      done = c.self.inside.done;
       filled = None;
     } in
     record {

@@ -14,7 +14,7 @@ use Rattle.core_turns.proofs.open_core.Core.step_commit.Goals as goal
 pub invariant_of-self : goal.invariant_of-self
 invariant_of-self g c =
     let core : Core = record {
-      pool = record { uber = c.self.inside.uber; blocks = c.self.inside.blocks; out = c.self.inside.out };
+      pool = record { uber = c.self.inside.uber; blocks = c.self.inside.blocks; out = c.self.inside.out; done = c.self.inside.done };
       holds = c.self.inside.locks;
       begun = c.self.inside.begun;
       committing = c.self.inside.committing;
@@ -26,7 +26,7 @@ invariant_of-self g c =
 pub invariant_of-self-in-Ended-1 : goal.invariant_of-self-in-Ended-1
 invariant_of-self-in-Ended-1 g c =
     let core : Core = record {
-      pool = record { uber = c.self.inside.uber; blocks = c.self.inside.blocks; out = c.self.inside.out };
+      pool = record { uber = c.self.inside.uber; blocks = c.self.inside.blocks; out = c.self.inside.out; done = c.self.inside.done };
       holds = c.self.inside.locks;
       begun = c.self.inside.begun;
       committing = c.self.inside.committing;
@@ -46,7 +46,7 @@ invariant_of-self-in-Ended-1 g c =
 pub returns-in-Called : goal.returns-in-Called
 returns-in-Called g c =
     let core : Core = record {
-      pool = record { uber = c.self.inside.uber; blocks = c.self.inside.blocks; out = c.self.inside.out };
+      pool = record { uber = c.self.inside.uber; blocks = c.self.inside.blocks; out = c.self.inside.out; done = c.self.inside.done };
       holds = c.self.inside.locks;
       begun = c.self.inside.begun;
       committing = c.self.inside.committing;
