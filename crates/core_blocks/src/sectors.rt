@@ -38,7 +38,7 @@ pub fn take(
     ensures err { OnErr result (space.new ≡ space.old) }
 {
     let sectors = layout_at(parity, births, 0, len_bytes, birth).alloc_size();
-    let start = space.take(sectors, locks)?;
+    let start = space.take_lowest(sectors, locks)?;
     Ok(layout_at(parity, births, start, len_bytes, birth))
 }
 

@@ -1,15 +1,14 @@
 -- The runs in use stay in order, and apart.
-use Rattle.std.proofs.Common.{◌≡◌, ℕ, ◌<◌, ◌≤◌, ◌+◌, List, ◌∷◌, ◌++◌, length, take, drop, get_or, sym, ◌∙◌, ap, subst, arith, ⊎_elim, length-drop, length-take}
-use Rattle.std.specs.Prelude.{Result, Ok, Err, OnOk, OnErr, Some, All, Contains, slice_get, filter}
+use Rattle.std.proofs.Common.{◌≡◌, ℕ, ◌<◌, ◌≤◌, ◌+◌, List, ◌∷◌, ◌++◌, length, take, drop, get_or, sym, ap, subst, arith, ⊎_elim, length-drop, length-take}
+use Rattle.std.specs.Prelude.{Result, Ok, Err, OnOk, OnErr, All, Contains, filter}
 use Rattle.std.specs.declared.alloc.AllocError.{AllocError}
 use Rattle.std.proofs.lemmas.Bool.{cases_lt}
-use Rattle.std.proofs.lemmas.List.{take_all, get_or-take, get_or-drop}
-use Rattle.std.proofs.lemmas.Option.{slice_get-get_or, slice_get_within}
+use Rattle.std.proofs.lemmas.List.{get_or-take, get_or-drop}
+use Rattle.std.proofs.lemmas.Option.{slice_get-get_or}
 use Rattle.std.proofs.lemmas.List.Elements.{All-take, All-drop, All-append, All-cons, All-filter, Contains-get_or}
 use Rattle.space_alloc.specs.declared.entry.Use.{Use}
 use Rattle.space_alloc.specs.declared.entry.Entry.{Entry}
-use Rattle.space_alloc.specs.Entries.{entry_end, IsEntry, IsBefore, AreEntries, IsPlaceBehind, IsInserted, IsRemoved, IsReplaced, is_left}
-use Rattle.space_alloc.specs.Fit.{Meets}
+use Rattle.space_alloc.specs.Entries.{entry_end, IsEntry, IsBefore, Meets, AreEntries, IsPlaceBehind, IsInserted, IsRemoved, IsReplaced, is_left}
 use Rattle.range_locks.proofs.Pairs.{all_pairs_insert, all_pairs_swap, all_pairs_leave, all_pairs_filter, all_swap, all_leave}
 
 -- No run in use has a sector of this one.
@@ -86,16 +85,3 @@ kept_filter entries group are = record {
   each = All-filter (is_left group) IsEntry entries are.each;
   apart = all_pairs_filter IsBefore (is_left group) entries are.apart;
 }
-
--- Where none begins behind, the place is the end.
-pub place_at_end : (entries : List Entry) (start at : ℕ) → length entries ≤ at → All (λ entry. entry.start ≤ start) (take at entries)
-    → IsPlaceBehind entries start (length entries)
-place_at_end entries start at all before = record {
-  within = omega arith;
-  before = subst (λ (l : List Entry). All (λ (entry : Entry). entry.start ≤ start) l)
-      (take_all at entries all ∙ sym (take_all (length entries) entries (omega arith))) before;
-  behind = λ entry here. absurd (no_place entry here);
-}
-  where
-    no_place : (entry : Entry) → slice_get entries (length entries) ≡ Some entry → ⊥
-    no_place entry here = omega (arith, slice_get_within entries (length entries) entry here)

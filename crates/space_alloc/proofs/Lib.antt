@@ -1,6 +1,13 @@
 pub mod Lists
-pub mod Walk
+pub mod Flipping
+pub mod Counting
 pub mod InUse
+pub mod Releasing
+pub mod Unused
 pub mod Free
+pub mod Places
 pub mod Kept
+pub mod Walking
 pub mod Steps
+pub mod Beside
+pub mod Taking

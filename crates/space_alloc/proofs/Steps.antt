@@ -4,6 +4,7 @@ use Rattle.std.specs.Prelude.{Result, Ok, Err, OnOk, OnErr, is_err, Contains, fi
 use Rattle.std.specs.declared.alloc.AllocError.{AllocError}
 use Rattle.std.proofs.lemmas.List.Elements.{Contains-append_left, Contains-append_right, Contains-push}
 use Rattle.range_locks.specs.declared.hold.Hold.{Hold}
+use Rattle.range_locks.proofs.Lists.{none_listed}
 use Rattle.space_alloc.specs.declared.entry.Use.TheVariants.{Taken, Held}
 use Rattle.space_alloc.specs.declared.entry.Entry.{Entry}
 use Rattle.space_alloc.specs.Space.{Run, Space, IsFreeRun, IsTaking, IsDropping, IsHolding, after_group}
@@ -12,7 +13,7 @@ use Rattle.space_alloc.proofs.InUse.{taken_listed, inserted_takes, removed_drops
 use Rattle.space_alloc.proofs.Free.{free_within, free_apart}
 use Rattle.space_alloc.proofs.Kept.{kept_either}
 
-abbrev taken_entry : ℕ → ℕ → Entry
+abbrev pub taken_entry : ℕ → ℕ → Entry
 taken_entry start len = record { start = start; len = len; used = Taken }
 
 -- What holds of an Ok holds of a result that is no error.
@@ -72,3 +73,12 @@ taking_listed old new start len taking =
     subst (λ (runs : List Run). Contains runs run) (sym taking.taken.is)
     (Contains-append_right taking.taken.before (run ∷ taking.taken.after) run
     (Contains-append_left (run ∷ []) taking.taken.after run (Contains-push [] run)))
+
+-- What is free beside the holds is free.
+pub free_of_holds : (space : Space) (holds : List Hold) (start len : ℕ) → IsFreeRun space holds start len → IsFreeRun space [] start len
+free_of_holds space holds start len free sector inside = record {
+  below = (free sector inside).below;
+  untaken = (free sector inside).untaken;
+  not_held = (free sector inside).not_held;
+  not_shared = λ shared. absurd (none_listed shared.0 shared.1);
+}

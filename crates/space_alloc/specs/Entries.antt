@@ -1,5 +1,5 @@
 -- The runs in use, in the order of their sectors.
-use Rattle.std.specs.Prelude.{◌≡◌, ◌^◌, ℕ, ◌+◌, ◌<◌, ◌≤◌, List, [], ◌∷◌, ◌++◌, All, AllPairs, Bool, true, nat_lt, length, take, drop, slice_get, Some}
+use Rattle.std.specs.Prelude.{◌≡◌, ◌^◌, ℕ, ◌+◌, ◌<◌, ◌≤◌, List, [], ◌∷◌, ◌++◌, All, AllPairs, Bool, true, nat_lt, get_or, length, take, drop, slice_get, Some}
 use Rattle.space_alloc.specs.declared.entry.Use.{Use}
 use Rattle.space_alloc.specs.declared.entry.Use.TheVariants.{Taken, Held}
 use Rattle.space_alloc.specs.declared.entry.Entry.{Entry}
@@ -32,6 +32,11 @@ space_of capacity entries =
 abbrev pub entry_end : Entry → ℕ
 entry_end entry = entry.start + entry.len
 
+-- The run has a sector of the range.
+pub record Meets (entry : Entry) (start end : ℕ) : Type 0 where
+  pub begins : entry.start < end
+  pub ends : start < entry_end entry
+
 -- The run has sectors, whose numbers fit.
 pub record IsEntry (entry : Entry) : Type 0 where
   pub some : 0 < entry.len
@@ -59,6 +64,13 @@ pub record IsPlaceBehind (entries : List Entry) (start at : ℕ) : Type 0 where
   pub within : at ≤ length entries
   pub before : All (λ entry. entry.start ≤ start) (take at entries)
   pub behind : (entry : Entry) → slice_get entries at ≡ Some entry → start < entry.start
+
+-- how far a search by halving for it has come: the place is between these two
+pub record IsPlaceBetween (entries : List Entry) (start low high : ℕ) : Type 0 where
+  pub order : low ≤ high
+  pub within : high ≤ length entries
+  pub before : (k : ℕ) (default : Entry) → k < low → (get_or entries k default).start ≤ start
+  pub behind : (k : ℕ) (default : Entry) → high ≤ k → k < length entries → start < (get_or entries k default).start
 
 -- A run is put before the first that begins behind it.
 pub record IsInserted (old new : List Entry) (entry : Entry) : Type 0 where

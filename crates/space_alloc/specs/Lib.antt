@@ -1,3 +1,4 @@
 pub mod Space
 pub mod Entries
+pub mod Edges
 pub mod Fit

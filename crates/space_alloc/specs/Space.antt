@@ -1,5 +1,5 @@
 -- Runs of sectors that are taken or held back, and what is free.
-use Rattle.std.specs.Prelude.{◌≡◌, ℕ, ◌+◌, ◌<◌, ◌≤◌, List, Contains, filter, nat_lt}
+use Rattle.std.specs.Prelude.{◌≡◌, ℕ, ◌+◌, ◌*◌, ◌<◌, ◌≤◌, List, [], Contains, filter, length, nat_lt}
 use Rattle.range_locks.specs.declared.hold.Hold.{Hold}
 use Rattle.range_locks.specs.declared.hold.HoldKind.TheVariants.{Shared}
 use Rattle.range_locks.specs.Holds.{Overlaps, IsClear, IsBusyBy}
@@ -47,6 +47,16 @@ pub record IsFree (space : Space) (holds : List Hold) (sector : ℕ) : Type 0 wh
 
 abbrev pub IsFreeRun : Space → List Hold → ℕ → ℕ → Type 0
 IsFreeRun space holds start len = (sector : ℕ) → IsIn start len sector → IsFree space holds sector
+
+-- A run of sectors that are neither taken nor held back begins here.
+pub record BeginsFree (space : Space) (sector : ℕ) : Type 0 where
+  pub free : IsFree space [] sector
+  pub first : (before : ℕ) → before + 1 ≡ sector → IsFree space [] before → ⊥
+
+-- No more steps than one and two for each free run and each hold: any list suffices that has the start of each free run.
+abbrev pub LooksAtEach : Space → List Hold → ℕ → ℕ → Type 0
+LooksAtEach space holds before after = (starts : List ℕ) → ((sector : ℕ) → BeginsFree space sector → Contains starts sector)
+    → after ≤ before + 2 * (length starts + length holds) + 1
 
 -- what a put takes: the lowest run of free sectors that no exclusive hold overlaps
 pub record IsFirstFit (space : Space) (holds : List Hold) (len start : ℕ) : Type 0 where

@@ -1,17 +1,17 @@
 // A run of sectors in use.
-ghost use Rattle.std.specs.Prelude.{◌≡◌, ◌+◌, ◌<◌, ◌^◌, ◌↔◌, IsTrue};
+ghost use Rattle.std.specs.Prelude.{◌≡◌, ◌+◌, ◌<◌, ◌^◌};
 ghost use Rattle.space_alloc.specs.Entries.{is_left};
 
 /// A taken run belongs to a block, or to a put under way; one that is held belonged to a block that
 /// was freed, and is free again when the group is answered.
-#[derive(Clone, Copy, Debug, PartialEq, Eq)]
+#[derive(Clone, Copy, Debug)]
 pub enum Use {
     Taken,
     Held { until: u64 },
 }
 
 /// Sectors from `start` on.
-#[derive(Clone, Copy, Debug, PartialEq, Eq)]
+#[derive(Clone, Copy, Debug)]
 pub struct Entry {
     pub start: u64,
     pub len: u64,
@@ -45,11 +45,5 @@ impl Entry {
             Use::Taken => true,
             Use::Held { until } => group < until,
         }
-    }
-
-    pub fn is(&self, other: &Entry) -> bool
-        ensures { IsTrue result ↔ (self.now ≡ other.now) }
-    {
-        self == other
     }
 }

@@ -1,12 +1,13 @@
 // The list of runs in use, by their start.
-ghost use Rattle.std.specs.Prelude.{◌≡◌, Some, Contains, OnOk, OnErr, slice_get, filter};
-ghost use Rattle.space_alloc.specs.Entries.{IsInserted, IsRemoved, IsReplaced, IsPlaceBehind, is_left};
+ghost use Rattle.std.specs.Prelude.{◌≡◌, AllPairs, Some, Contains, OnOk, OnErr, slice_get, filter};
+ghost use Rattle.space_alloc.specs.Entries.{AreEntries, IsBefore, IsInserted, IsRemoved, IsReplaced, IsPlaceBehind, is_left};
 
 use crate::entry::Entry;
 use std::alloc::AllocError;
 
 /// Puts a run before the first that begins behind it.
 pub fn insert(entries: &mut Vec<Entry>, entry: Entry) -> Result<(), AllocError>
+    requires { AreEntries entries.old.items }
     ensures ok { OnOk result (IsInserted entries.old.items entries.new.items entry) }
     ensures err { OnErr result (entries.new.items ≡ entries.old.items) }
 {
@@ -15,21 +16,28 @@ pub fn insert(entries: &mut Vec<Entry>, entry: Entry) -> Result<(), AllocError>
     Ok(())
 }
 
-/// The place of the first run that begins behind this sector.
+/// The place of the first run that begins behind this sector, found by halving.
 fn place(entries: &[Entry], start: u64) -> usize
+    requires { AllPairs IsBefore entries.now }
     ensures { IsPlaceBehind entries.now start result }
 {
-    for (at, entry) in entries.iter().enumerate() {
-        if start < entry.start {
-            return at;
+    let mut low = 0;
+    let mut high = entries.len();
+    while low < high {
+        let middle = low + (high - low) / 2;
+        if entries[middle].start <= start {
+            low = middle + 1;
+        } else {
+            high = middle;
         }
     }
-    entries.len()
+    low
 }
 
 /// Takes away a run that is listed.
 pub fn remove(entries: &mut Vec<Entry>, entry: &Entry)
-    requires { Contains entries.old.items entry.now }
+    requires listed { Contains entries.old.items entry.now }
+    requires entries { AreEntries entries.old.items }
     ensures { IsRemoved entries.old.items entries.new.items entry.now }
 {
     let at = position(entries, entry);
@@ -38,7 +46,8 @@ pub fn remove(entries: &mut Vec<Entry>, entry: &Entry)
 
 /// Puts another run in the place of one that is listed.
 pub fn replace(entries: &mut Vec<Entry>, entry: &Entry, other: Entry)
-    requires { Contains entries.old.items entry.now }
+    requires listed { Contains entries.old.items entry.now }
+    requires entries { AreEntries entries.old.items }
     ensures { IsReplaced entries.old.items entries.new.items entry.now other }
 {
     let at = position(entries, entry);
@@ -52,14 +61,11 @@ pub fn remove_until(entries: &mut Vec<Entry>, group: u64)
     entries.retain(|entry| entry.is_left(group));
 }
 
-/// The place of a run that is listed.
+/// The place of a run that is listed: the last that does not begin behind it.
 fn position(entries: &[Entry], entry: &Entry) -> usize
-    requires { Contains entries.now entry.now }
+    requires listed { Contains entries.now entry.now }
+    requires entries { AreEntries entries.now }
     ensures { slice_get entries.now result ≡ Some entry.now }
 {
-    let mut at = 0;
-    while !entries[at].is(entry) {
-        at += 1;
-    }
-    at
+    place(entries, entry.start) - 1
 }

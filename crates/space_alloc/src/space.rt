@@ -1,31 +1,34 @@
 // The sectors of the pool that are in use.
 ghost use Rattle.std.specs.Prelude.{◌≡◌, ◌≤◌, ◌<◌, [], Contains, IfOk, IfErr, OnOk, OnErr};
-ghost use Rattle.space_alloc.specs.Entries.{AreEntries, space_of};
-ghost use Rattle.space_alloc.specs.Space.{IsFreeRun, IsFirstFit, IsTaking, IsDropping, IsHolding, IsTakeCause, after_group};
+ghost use Rattle.space_alloc.specs.Fit.{refusal_of};
+ghost use Rattle.space_alloc.specs.Space.{IsFreeRun, IsFirstFit, IsTaking, IsDropping, IsHolding, IsTakeCause, LooksAtEach, after_group};
 
 use crate::entry::{Entry, Use};
-use crate::fit::{Spared, first_fit};
-use crate::{TakeRefused, runs};
-use range_locks::{HoldKind, Locks};
+use crate::{TakeRefused, edges, fit, runs};
+use range_locks::{Hold, Locks, Steps};
 use std::alloc::{AllocError, Global};
 use std::marker::Model;
+use std::sync::ledger::Ledger;
 
-/// The runs of sectors that are taken or held back, by their start.
+/// The runs of sectors that are taken or held back, by their start, and beside them the edges between what
+/// is free and what is in use.
 #[derive(Drop, Debug)]
 pub struct Space {
     capacity: u64,
     entries: Vec<Entry>,
+    edges: Vec<u64>,
 }
 
 impl Model for Space {
     ghost use Rattle.space_alloc.specs.Space.{Space};
-    ghost use Rattle.space_alloc.specs.Entries.{space_of, AreEntries};
+    ghost use Rattle.space_alloc.specs.Entries.{space_of};
+    ghost use Rattle.space_alloc.specs.Edges.{AreKept};
 
     ghost Value = { Space };
 
     ghost view = { λ space. space_of space.capacity space.entries.items };
 
-    ghost invariant = { λ space. AreEntries space.entries.items };
+    ghost invariant = { λ space. AreKept space.entries space.edges };
 }
 
 impl Space {
@@ -36,11 +39,19 @@ impl Space {
         Space {
             capacity,
             entries: Vec::new(alloc),
+            edges: Vec::new(alloc),
         }
     }
 
     /// Takes the lowest run of `len` free sectors that no exclusive hold overlaps.
-    pub fn take(&mut self, len: u64, locks: &Locks) -> Result<u64, TakeRefused>
+    ///
+    /// Looking at one free run or one hold is one step.
+    pub fn take<L: Ledger>(
+        &mut self,
+        len: u64,
+        locks: &Locks,
+        steps: &mut Steps<L>,
+    ) -> Result<u64, TakeRefused>
         requires len { 1 ≤ len }
         ensures ok { IfOk result (IsFirstFit self.old locks.now len) }
         ensures taken { IfOk result (λ start. IsTaking self.old self.new start len) }
@@ -48,9 +59,15 @@ impl Space {
             Contains self.new.taken (record { start = start; len = len })) }
         ensures cause { IfErr result (IsTakeCause self.old locks.now len) }
         ensures err { OnErr result (self.new ≡ self.old) }
+        ensures steps { LooksAtEach self.old locks.now steps.old steps.new }
     {
-        let start = choose(&self.entries, self.capacity, len, locks)?;
-        if runs::insert(&mut self.entries, Entry::taken(start, len)).is_err() {
+        let (shared, exclusive) = locks.as_slices();
+        let found = fit::search(&self.edges, self.capacity, len, shared, exclusive, steps);
+        let start = match found {
+            Ok(start) => start,
+            Err(hindered) => return Err(refusal(len, hindered)),
+        };
+        if self.claim(start, len).is_err() {
             return Err(TakeRefused::NoMemory);
         }
         Ok(start)
@@ -65,7 +82,10 @@ impl Space {
             Contains self.new.taken (record { start = start; len = len })) }
         ensures err { OnErr result (self.new ≡ self.old) }
     {
-        runs::insert(&mut self.entries, Entry::taken(start, len))
+        self.edges.reserve(2 * self.entries.len() + 4)?;
+        runs::insert(&mut self.entries, Entry::taken(start, len))?;
+        edges::flip_run(&mut self.edges, start, start + len);
+        Ok(())
     }
 
     /// Gives back a taken run at once.
@@ -73,7 +93,9 @@ impl Space {
         requires taken { Contains self.old.taken (record { start = start; len = len }) }
         ensures value { IsDropping self.old self.new start len }
     {
-        runs::remove(&mut self.entries, &Entry::taken(start, len));
+        let entry = Entry::taken(start, len);
+        runs::remove(&mut self.entries, &entry);
+        edges::flip_run(&mut self.edges, start, entry.end());
     }
 
     /// Gives back a taken run when this group is answered.
@@ -93,6 +115,7 @@ impl Space {
     pub fn synced(&mut self, group: u64)
         ensures value { self.new ≡ after_group self.old group }
     {
+        edges::flip_until(&mut self.edges, &self.entries, group);
         runs::remove_until(&mut self.entries, group);
     }
 
@@ -104,30 +127,12 @@ impl Space {
     }
 }
 
-/// The first run of `len` sectors that may be taken.
-fn choose(entries: &[Entry], capacity: u64, len: u64, locks: &Locks) -> Result<u64, TakeRefused>
-    requires len { 1 ≤ len }
-    requires entries { AreEntries entries.now }
-    ensures ok { IfOk result (IsFirstFit (space_of capacity entries.now) locks.now len) }
-    ensures cause { IfErr result (IsTakeCause (space_of capacity entries.now) locks.now len) }
+/// Why no run of `len` sectors is given out, from what hinders the lowest that is free.
+fn refusal(len: u64, hindered: Option<Hold>) -> TakeRefused
+    ensures { result ≡ refusal_of len hindered }
 {
-    let (shared, exclusive) = locks.as_slices();
-    let free = first_fit(
-        entries,
-        capacity,
-        len,
-        shared,
-        exclusive,
-        Spared::SharedHolds,
-    );
-    let Some(free) = free else {
-        return Err(TakeRefused::NoSpace { sectors: len });
-    };
-    let Some(hold) = locks.blocker(free, free + len, HoldKind::Shared) else {
-        return Ok(free);
-    };
-    match first_fit(entries, capacity, len, shared, exclusive, Spared::AllHolds) {
-        Some(start) => Ok(start),
-        None => Err(TakeRefused::Busy { by: hold.actor }),
+    match hindered {
+        Some(hold) => TakeRefused::Busy { by: hold.actor },
+        None => TakeRefused::NoSpace { sectors: len },
     }
 }

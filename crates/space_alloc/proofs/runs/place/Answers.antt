@@ -1,11 +1,14 @@
-use Rattle.std.proofs.Common.{◌≤◌}
-use Rattle.std.proofs.lemmas.List.Elements.{All-more}
-use Rattle.space_alloc.specs.declared.entry.Entry.{Entry}
-use Rattle.space_alloc.proofs.Kept.{place_at_end}
+use Rattle.std.proofs.Common.{arith}
+use Rattle.space_alloc.proofs.Places.{place_down, place_found, place_up}
 use Rattle.space_alloc.proofs.runs.place.Goals as goal
 
-pub loop-at-preserved : goal.loop-at-preserved
-loop-at-preserved c = All-more (λ (entry : Entry). entry.start ≤ c.args.start) _ _ _ c.loop-at-test.true c.loop-at.invariant c.if-start-entry.false
+pub loop-low-preserved-then-entries-middle : goal.loop-low-preserved-then-entries-middle
+loop-low-preserved-then-entries-middle c =
+    place_up _ _ _ _ _ _ c.requires c.loop-low.invariant (omega arith) (omega (arith, c.loop-low-test.true)) c.if-entries-middle.true
+
+pub loop-low-preserved : goal.loop-low-preserved
+loop-low-preserved c =
+    place_down _ _ _ _ _ _ c.requires c.loop-low.invariant (omega arith) (omega (arith, c.loop-low-test.true)) c.if-entries-middle.false
 
 pub returns : goal.returns
-returns c = place_at_end _ _ _ c.loop-at-test.false c.loop-at.invariant
+returns c = place_found _ _ _ _ c.loop-low.invariant c.loop-low-test.false

@@ -1,7 +1,9 @@
-use Rattle.std.proofs.Common.{◌≤◌, take}
-use Rattle.std.specs.Prelude.{All}
+use Rattle.std.proofs.Common.{◌-◌}
+use Rattle.space_alloc.specs.Entries.{IsPlaceBetween}
 use Rattle.space_alloc.proofs.runs.place.Given as goal
 
--- None of the runs so far begins behind the sector.
-abbrev pub invariant-loop-at : goal.invariant-loop-at
-invariant-loop-at l = All (λ entry. entry.start ≤ l.start) (take l.at l.entries)
+abbrev pub invariant-loop-low : goal.invariant-loop-low
+invariant-loop-low l = IsPlaceBetween l.entries l.start l.low l.high
+
+abbrev pub decreases-loop-low : goal.decreases-loop-low
+decreases-loop-low l = l.high - l.low

@@ -1,0 +1,58 @@
+// The sectors at which runs in use begin and end, in rising order.
+//
+// The free runs lie between them: from 0 to the first, from the second to the third, and so on, the last
+// without an end. Where two runs in use meet there is no edge, so neighbouring runs are one.
+ghost use Rattle.std.specs.Prelude.{◌≡◌, ◌+◌, ◌*◌, ◌<◌, ◌≤◌, [], ◌∷◌, All, filter, length, vec_len};
+ghost use Rattle.std.specs.Vec.{vec_capacity};
+ghost use Rattle.space_alloc.specs.Edges.{AreEdgesOf, IsFlipped, IsRising};
+ghost use Rattle.space_alloc.specs.Entries.{IsEntry, is_left};
+
+use crate::entry::Entry;
+
+/// What lies between the two sectors was free and is in use from now on, or the other way round.
+pub fn flip_run(edges: &mut Vec<u64>, start: u64, end: u64)
+    requires rising { IsRising edges.old.items }
+    requires room { vec_len edges.old + 2 ≤ vec_capacity edges.old }
+    ensures rising { IsRising edges.new.items }
+    ensures flipped { IsFlipped edges.old.items edges.new.items (start ∷ end ∷ []) }
+    ensures len { vec_len edges.new ≤ vec_len edges.old + 2 }
+    ensures capacity { vec_capacity edges.new ≡ vec_capacity edges.old }
+{
+    flip(edges, start);
+    flip(edges, end);
+}
+
+/// The runs that are held until this group or an earlier one are free from now on.
+pub fn flip_until(edges: &mut Vec<u64>, entries: &[Entry], group: u64)
+    requires entries { All IsEntry entries.now }
+    requires edges { AreEdgesOf entries.now edges.old.items }
+    requires room { vec_len edges.old + 2 * length entries.now ≤ vec_capacity edges.old }
+    ensures edges { AreEdgesOf (filter (is_left group) entries.now) edges.new.items }
+    ensures room { vec_len edges.new + 2 * length (filter (is_left group) entries.now) ≤ vec_capacity edges.new }
+{
+    for entry in entries {
+        if !entry.is_left(group) {
+            flip_run(edges, entry.start, entry.end());
+        }
+    }
+}
+
+/// Puts the sector in, or takes it out where it is there.
+fn flip(edges: &mut Vec<u64>, sector: u64)
+    requires rising { IsRising edges.old.items }
+    requires room { vec_len edges.old < vec_capacity edges.old }
+    ensures rising { IsRising edges.new.items }
+    ensures flipped { IsFlipped edges.old.items edges.new.items (sector ∷ []) }
+    ensures len { vec_len edges.new ≤ vec_len edges.old + 1 }
+    ensures capacity { vec_capacity edges.new ≡ vec_capacity edges.old }
+{
+    match edges.binary_search(&sector) {
+        Ok(at) => {
+            edges.remove(at);
+        }
+        Err(at) => match edges.insert(at, sector) {
+            Ok(()) => {}
+            Err(_) => unreachable!(),
+        },
+    }
+}
