@@ -6,8 +6,9 @@ use Rattle.client_script.specs.declared.refused.ParseRefused.TheVariants as pars
 use Rattle.client_script.specs.declared.refused.ReadRefused.{ReadRefused}
 use Rattle.client_script.specs.declared.refused.ReadRefused.TheVariants.{SourceFault, ScriptFault, Limit, NoMemory}
 use Rattle.client_script.specs.Script.{Script, IsScript, IsOverLimit, IsFaultAt, reached_by}
+use Rattle.client_script.specs.Faults.{IsFaultFor}
 use Rattle.client_script.specs.Reading.{IsRefusedFor}
-use Rattle.client_script.specs.FromSource.{read_refusal, IsToldWell, IsNotReadFor, IsReadUnlessNoMemory}
+use Rattle.client_script.specs.FromSource.{read_refusal, IsToldWell, IsNotReadFor, IsReadUnlessNoMemory, IsReadFaultUnlessNoMemory}
 use Rattle.client_script.proofs.OneAnswer.{one_script, script_or_fault, script_or_limit, one_fault, fault_or_limit, one_limit}
 
 -- So many bytes were read, and the rest is left.
@@ -17,7 +18,7 @@ pub record IsReadUpTo (bytes : List ℕ) (before now : Option (List ℕ)) : Type
 -- Bytes that were refused are no script, and why.
 pub not_parsed : (left : Option (List ℕ)) (before now : ℕ) (bytes : List ℕ) (refused : ParseRefused) → ((told : List ℕ) → left ≡ Some told → bytes ≡ told) → IsRefusedFor bytes refused
     → IsNotReadFor left before now (read_refusal refused)
-not_parsed left before now bytes (parse.ScriptFault line) all why = λ told is. subst (λ (l : List ℕ). IsFaultAt l line) (all told is) why
+not_parsed left before now bytes (parse.ScriptFault line reason) all why = λ told is. subst (λ (l : List ℕ). IsFaultFor l line reason) (all told is) why
 not_parsed left before now bytes (parse.Limit reached) all why = λ told is. subst (λ (l : List ℕ). (over : IsOverLimit l) × (reached ≡ reached_by l over)) (all told is) why
 not_parsed left before now bytes parse.NoMemory all why = tt
 
@@ -27,15 +28,15 @@ module _ (left : Option (List ℕ)) (before now : ℕ) (bytes : List ℕ) (well 
       → (script : Script) → IsScript bytes script → IsReadUnlessNoMemory result (Ok script)
   each_script (Ok other) ok err script is = inl (ap Ok (one_script bytes other script (ok bytes well.told) is))
   each_script (Err SourceFault) ok err script is = absurd (well.well err)
-  each_script (Err (ScriptFault line)) ok err script is = absurd (script_or_fault bytes script line is (err bytes well.told))
+  each_script (Err (ScriptFault line why)) ok err script is = absurd (script_or_fault bytes script line is (err bytes well.told).0)
   each_script (Err (Limit reached)) ok err script is = absurd (script_or_limit bytes script is (err bytes well.told).0)
   each_script (Err NoMemory) ok err script is = inr refl
 
   pub each_fault : (result : Result Script ReadRefused) → IfOk result (λ script. (told : List ℕ) → left ≡ Some told → IsScript told script) → IfErr result (IsNotReadFor left before now)
-      → (line : ℕ) → IsFaultAt bytes line → IsReadUnlessNoMemory result (Err (ScriptFault line))
+      → (line : ℕ) → IsFaultAt bytes line → IsReadFaultUnlessNoMemory result line
   each_fault (Ok other) ok err line is = absurd (script_or_fault bytes other line (ok bytes well.told) is)
   each_fault (Err SourceFault) ok err line is = absurd (well.well err)
-  each_fault (Err (ScriptFault other)) ok err line is = inl (ap (λ n. Err (ScriptFault n)) (one_fault bytes other line (err bytes well.told) is))
+  each_fault (Err (ScriptFault other why)) ok err line is = inl (why, ap (λ n. Err (ScriptFault n why)) (one_fault bytes other line (err bytes well.told).0 is))
   each_fault (Err (Limit reached)) ok err line is = absurd (fault_or_limit bytes line is (err bytes well.told).0)
   each_fault (Err NoMemory) ok err line is = inr refl
 
@@ -43,6 +44,6 @@ module _ (left : Option (List ℕ)) (before now : ℕ) (bytes : List ℕ) (well 
       → (over : IsOverLimit bytes) → IsReadUnlessNoMemory result (Err (Limit (reached_by bytes over)))
   each_limit (Ok other) ok err over = absurd (script_or_limit bytes other (ok bytes well.told) over)
   each_limit (Err SourceFault) ok err over = absurd (well.well err)
-  each_limit (Err (ScriptFault line)) ok err over = absurd (fault_or_limit bytes line (err bytes well.told) over)
+  each_limit (Err (ScriptFault line why)) ok err over = absurd (fault_or_limit bytes line (err bytes well.told).0 over)
   each_limit (Err (Limit reached)) ok err over = let why = err bytes well.told in inl (ap (λ n. Err (Limit n)) (why.1 ∙ one_limit bytes why.0 over))
   each_limit (Err NoMemory) ok err over = inr refl

@@ -1,10 +1,12 @@
 pub mod Allowed
 pub mod CallWords
 pub mod Cuts
+pub mod Faults
 pub mod FromSource
 pub mod Groups
 pub mod Hexes
 pub mod InOrder
+pub mod LineFaults
 pub mod LineWords
 pub mod Numbers
 pub mod OneAnswer

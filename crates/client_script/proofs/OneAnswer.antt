@@ -8,7 +8,7 @@ use Rattle.client_script.specs.declared.refused.ParseRefused.{ParseRefused}
 use Rattle.client_script.specs.declared.refused.ParseRefused.TheVariants.{ScriptFault, Limit, NoMemory}
 use Rattle.client_script.specs.Lines.{Line, Clients, CallLine, IsLineText, split_lines}
 use Rattle.client_script.specs.Script.{Script, AreLines, IsScript, BreaksAt, PassesLimit, IsOverLimit, IsFaultAt, reached_by, clients_in, calls_in, order_in}
-use Rattle.client_script.specs.Reading.{IsRefusedFor, IsUnlessNoMemory}
+use Rattle.client_script.specs.Reading.{IsRefusedFor, IsUnlessNoMemory, IsFaultUnlessNoMemory}
 use Rattle.client_script.proofs.OneMeaning.{one_meaning}
 use Rattle.client_script.proofs.RightLines.{right_take}
 use Rattle.client_script.proofs.WholeScript.{one_list}
@@ -114,19 +114,19 @@ one_limit bytes (inr (number, lines, text, breaks, inr (actor, kind, id, fill, i
 module _ (bytes : List ℕ) where
   pub each_script : (result : Result Script ParseRefused) → IfOk result (IsScript bytes) → IfErr result (IsRefusedFor bytes) → (script : Script) → IsScript bytes script → IsUnlessNoMemory result (Ok script)
   each_script (Ok other) ok err script is = inl (ap Ok (one_script bytes other script ok is))
-  each_script (Err (ScriptFault line)) ok err script is = absurd (script_or_fault bytes script line is err)
+  each_script (Err (ScriptFault line why)) ok err script is = absurd (script_or_fault bytes script line is err.0)
   each_script (Err (Limit reached)) ok err script is = absurd (script_or_limit bytes script is err.0)
   each_script (Err NoMemory) ok err script is = inr refl
 
-  pub each_fault : (result : Result Script ParseRefused) → IfOk result (IsScript bytes) → IfErr result (IsRefusedFor bytes) → (line : ℕ) → IsFaultAt bytes line → IsUnlessNoMemory result (Err (ScriptFault line))
+  pub each_fault : (result : Result Script ParseRefused) → IfOk result (IsScript bytes) → IfErr result (IsRefusedFor bytes) → (line : ℕ) → IsFaultAt bytes line → IsFaultUnlessNoMemory result line
   each_fault (Ok other) ok err line is = absurd (script_or_fault bytes other line ok is)
-  each_fault (Err (ScriptFault other)) ok err line is = inl (ap (λ n. Err (ScriptFault n)) (one_fault bytes other line err is))
+  each_fault (Err (ScriptFault other why)) ok err line is = inl (why, ap (λ n. Err (ScriptFault n why)) (one_fault bytes other line err.0 is))
   each_fault (Err (Limit reached)) ok err line is = absurd (fault_or_limit bytes line is err.0)
   each_fault (Err NoMemory) ok err line is = inr refl
 
   pub each_limit : (result : Result Script ParseRefused) → IfOk result (IsScript bytes) → IfErr result (IsRefusedFor bytes) → (over : IsOverLimit bytes)
       → IsUnlessNoMemory result (Err (Limit (reached_by bytes over)))
   each_limit (Ok other) ok err over = absurd (script_or_limit bytes other ok over)
-  each_limit (Err (ScriptFault line)) ok err over = absurd (fault_or_limit bytes line err over)
+  each_limit (Err (ScriptFault line why)) ok err over = absurd (fault_or_limit bytes line err.0 over)
   each_limit (Err (Limit reached)) ok err over = inl (ap (λ n. Err (Limit n)) (err.1 ∙ one_limit bytes err.0 over))
   each_limit (Err NoMemory) ok err over = inr refl

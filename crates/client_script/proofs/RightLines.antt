@@ -4,6 +4,7 @@ use Rattle.std.specs.Prelude.{All}
 use Rattle.std.proofs.lemmas.List.{append-nil}
 use Rattle.client_script.specs.Lines.{Line, Passed, Clients, CallLine, Order}
 use Rattle.client_script.specs.Script.{Script, Placed, AreRightLines, AreRightBelow, clients_in, calls_in, order_in, most_calls}
+use Rattle.client_script.specs.Faults.{named_by, named}
 use Rattle.client_script.specs.Reading.{MayFollow, with_line}
 
 -- what lines ask for, with the number of the first; None where none says how many clients there are
@@ -146,6 +147,18 @@ undescribed number (Passed ∷ lines) right is = undescribed (number + 1) lines 
 undescribed number (Clients count ∷ lines) right is = absurd (cc is)
 undescribed number (CallLine actor kind id fill ∷ lines) right is = absurd right
 undescribed number (Order actors ∷ lines) right is = absurd right
+
+-- How many clients are named by right lines.
+named_some : (count : ℕ) → 1 ≤ count → ◌≡◌ {A = Option ℕ} (Some count) (named count)
+named_some zero some = absurd (omega (arith, some))
+named_some (suc more) some = refl
+
+pub named_in : (number : ℕ) (lines : List Line) → AreRightLines lines → named_by (state_from number lines) ≡ named (clients_in lines)
+named_in number [] right = refl
+named_in number (Passed ∷ lines) right = named_in (number + 1) lines right
+named_in number (Clients count ∷ lines) right = named_some count right.0
+named_in number (CallLine actor kind id fill ∷ lines) right = absurd right
+named_in number (Order actors ∷ lines) right = absurd right
 
 -- Right lines have not too many calls.
 few_below : (clients calls number : ℕ) (lines : List Line) → AreRightBelow clients calls lines → calls ≤ most_calls → calls + length (calls_in number lines) ≤ most_calls

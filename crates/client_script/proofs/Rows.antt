@@ -9,7 +9,9 @@ use Rattle.core_state.specs.declared.item.Item.TheVariants.{Group, Call}
 use Rattle.client_script.specs.declared.call.Fill.TheVariants.{Nothing, Pattern, Hex}
 use Rattle.client_script.specs.Lines.{Line, Clients, CallLine, split_lines, fill_bytes, pattern_byte, IsLineText, IsNumberText}
 use Rattle.client_script.proofs.Numbers.{digits_tested}
-use Rattle.client_script.specs.Script.{calls_in, handed_by, IsFaultAt}
+use Rattle.client_script.specs.Script.{calls_in, handed_by}
+use Rattle.client_script.specs.Faults.{IsFaultFor}
+use Rattle.client_script.specs.declared.line_fault.LineFault.TheVariants.{NoClients}
 use Rattle.client_script.specs.Texts.{journal_text}
 
 -- `a put 1 3 5` stores these bytes.
@@ -104,8 +106,8 @@ unfolding digits
 text_of_scrub = refl
 
 -- An empty script is refused at line 1.
-empty_script : IsFaultAt [] 1
-empty_script = inl (record { few = omega arith; lines = []; are = record { each = tt; right = tt }; none = refl }, refl)
+empty_script : IsFaultFor [] 1 NoClients
+empty_script = (inl (record { few = omega arith; lines = []; are = record { each = tt; right = tt }; none = refl }, refl), refl)
 
 -- the calls of the first script, with the numbers of their lines
 calls_of_first : map (λ placed. placed.call.line) (calls_in 1 first_lines) ≡ 2 ∷ 3 ∷ 4 ∷ 5 ∷ []

@@ -2,9 +2,11 @@
 use Rattle.std.proofs.Common.{◌≡◌, ℕ, ◌+◌, ◌-◌, ◌<◌, ◌≤◌, List, [], ◌∷◌, ◌++◌, length, get_or, take, Option, Some, None, sym, ◌∙◌, ap, subst, arith, true, false, append_assoc, ◌≢◌}
 use Rattle.std.proofs.lemmas.List.{length-map, get_or-map, map_more, take_all}
 use Rattle.std.proofs.lemmas.List.Elements.{All-push}
-use Rattle.std.specs.Prelude.{All, min, Ok, is_some}
+use Rattle.std.specs.Prelude.{All, map, min, Ok, is_some}
 use Rattle.client_script.specs.declared.call.ScriptCall.{ScriptCall}
-use Rattle.client_script.specs.Lines.{Line, Clients, CallLine, Order, IsLineText}
+use Rattle.client_script.specs.Lines.{Line, Clients, CallLine, Order, IsLineText, client_letter}
+use Rattle.client_script.specs.Faults.{named_by, IsFaultOf}
+use Rattle.client_script.specs.declared.line_fault.LineFault.TheVariants.{Turns}
 use Rattle.client_script.specs.Script.{Script, most_calls}
 use Rattle.client_script.specs.Meanings.{actors_of}
 use Rattle.client_script.specs.Reading.{MayFollow, IsWrong, IsStep}
@@ -33,6 +35,15 @@ wrong_turns (Some script) text actors is isnt = record {
       let same : CallLine over.0 over.1 over.2 over.3 ≡ Order actors = one_meaning text (CallLine over.0 over.1 over.2 over.3) (Order actors) over.4 is in
       absurd (cc same);
 }
+
+-- The reason is that one of them is no client's.
+pub turns_of_none : (script : Option Script) (before : Script) (text actors : List ℕ) → script ≡ Some before → IsLineText text (Order actors) → (All (λ actor. actor < before.clients) actors → ⊥)
+    → IsFaultOf (named_by script) text Turns
+turns_of_none script before text actors there is none =
+    (before.clients, ap named_by there, map client_letter actors, is.1, λ others spelled below. none (subst (All (λ actor. actor < before.clients)) (same others spelled) below))
+  where
+    same : (others : List ℕ) → IsLineText text (Order others) → others ≡ actors
+    same others spelled = let one : Order others ≡ Order actors = one_meaning text (Order others) (Order actors) spelled is in cc one
 
 -- The line that says how many clients there are is the first.
 pub clients_step : (script : Option Script) (new : Script) (number clients count : ℕ) (text : List ℕ) → is_some script ≡ false → IsLineText text (Clients clients) → count ≡ min clients 9

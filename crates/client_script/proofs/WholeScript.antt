@@ -6,10 +6,12 @@ use Rattle.std.proofs.lemmas.List.{append-nil, length-append, take_at}
 use Rattle.client_script.specs.declared.refused.ParseRefused.{ParseRefused}
 use Rattle.client_script.specs.declared.refused.ParseRefused.TheVariants.{ScriptFault, Limit, NoMemory}
 use Rattle.client_script.specs.Lines.{Line, Clients, CallLine, IsLineText, split_lines}
-use Rattle.client_script.specs.Script.{Script, AreLines, AreRightLines, IsScript, BreaksAt, PassesLimit, IsOverLimit, IsFaultAt, reached_by, most_bytes, most_calls, most_clients}
+use Rattle.client_script.specs.Script.{Script, AreLines, AreRightLines, IsScript, BreaksAt, PassesLimit, IsOverLimit, reached_by, most_bytes, most_calls, most_clients}
+use Rattle.client_script.specs.Faults.{named_by, IsFaultOf, IsFaultFor}
+use Rattle.client_script.specs.declared.line_fault.LineFault.TheVariants.{NoClients}
 use Rattle.client_script.specs.Reading.{MayFollow, with_line, Reaches, IsStep, IsRefusedFor}
 use Rattle.client_script.proofs.OneMeaning.{one_meaning}
-use Rattle.client_script.proofs.RightLines.{state_from, right_more, may_follow, state_more, described, undescribed, few_calls}
+use Rattle.client_script.proofs.RightLines.{named_in, state_from, right_more, may_follow, state_more, described, undescribed, few_calls}
 
 -- Texts have one list of meanings at most.
 pub one_list : (texts : List (List ℕ)) (lines others : List Line) → AllZip IsLineText texts lines → AllZip IsLineText texts others → lines ≡ others
@@ -147,15 +149,17 @@ over_by bytes number lines text reached (Some script) breaks right is over =
 -- Why the next line was refused is why the script is.
 pub refused_step : (bytes rest below text : List ℕ) (number : ℕ) (old new : Option Script) (refused : ParseRefused) → length bytes ≤ most_bytes → IsReadTo bytes rest number old → split_lines rest ≡ text ∷ split_lines below
     → IsStep (number + 1) text old (Err refused) new → IsRefusedFor bytes refused
-refused_step bytes rest below text number old new (ScriptFault line) few so_far first step =
-    inr (
-      number,
-      so_far.lines,
-      text,
-      step.0,
-      broken bytes rest below text number old few so_far first step.1.breaks,
-      λ passes. let over = limit_passed so_far.lines text old so_far.are.right so_far.script_is passes in step.1.no_limit over.0 over.1,
-    )
+refused_step bytes rest below text number old new (ScriptFault line why) few so_far first step = (
+  inr (
+    number,
+    so_far.lines,
+    text,
+    step.0,
+    broken bytes rest below text number old few so_far first step.1.breaks,
+    λ passes. let over = limit_passed so_far.lines text old so_far.are.right so_far.script_is passes in step.1.no_limit over.0 over.1,
+  ),
+  subst (λ (o : Option ℕ). IsFaultOf o text why) (ap named_by so_far.script_is ∙ named_in 1 so_far.lines so_far.are.right) step.2,
+)
 refused_step bytes rest below text number old new (Limit reached) few so_far first step =
     over_by bytes number so_far.lines text reached old (broken bytes rest below text number old few so_far first (reaching_breaks old text reached step)) so_far.are.right so_far.script_is step
 refused_step bytes rest below text number old new NoMemory few so_far first step = tt
@@ -169,12 +173,14 @@ script_read bytes number script few so_far =
     let says = described 1 so_far.lines script so_far.are.right (sym so_far.script_is) in
     record { few = few; lines = so_far.lines; are = all_lines bytes number (Some script) so_far; clients = (says.some, says.clients); calls = says.calls; order = says.order }
 
-pub clients_lacking : (bytes : List ℕ) (number : ℕ) → length bytes ≤ most_bytes → IsReadTo bytes [] number None → IsFaultAt bytes (number + 1)
-clients_lacking bytes number few so_far =
-    inl (
-      record { few = few; lines = so_far.lines; are = all_lines bytes number None so_far; none = undescribed 1 so_far.lines so_far.are.right (sym so_far.script_is) },
-      omega (arith, so_far.count, ap length so_far.split, length-append so_far.texts []),
-    )
+pub clients_lacking : (bytes : List ℕ) (number : ℕ) → length bytes ≤ most_bytes → IsReadTo bytes [] number None → IsFaultFor bytes (number + 1) NoClients
+clients_lacking bytes number few so_far = (
+  inl (
+    record { few = few; lines = so_far.lines; are = all_lines bytes number None so_far; none = undescribed 1 so_far.lines so_far.are.right (sym so_far.script_is) },
+    omega (arith, so_far.count, ap length so_far.split, length-append so_far.texts []),
+  ),
+  refl,
+)
 
 -- Nothing is left to read.
 pub read_all : (bytes rest : List ℕ) (number : ℕ) (script now : Option Script) → IsReadTo bytes rest number script → rest ≡ [] → script ≡ now → IsReadTo bytes [] number now

@@ -1,3 +1,4 @@
+pub mod Faults
 pub mod FromSource
 pub mod Grouped
 pub mod InOrder

@@ -5,7 +5,9 @@ use Rattle.client_script.specs.declared.call.Fill.{Fill}
 use Rattle.client_script.specs.declared.refused.ParseRefused.{ParseRefused}
 use Rattle.client_script.specs.declared.refused.ParseRefused.TheVariants.{ScriptFault, Limit, NoMemory}
 use Rattle.client_script.specs.Lines.{Line, Passed, Clients, CallLine, Order, IsLineText}
-use Rattle.client_script.specs.Script.{Script, most_clients, most_calls, IsOverLimit, IsFaultAt, reached_by}
+use Rattle.client_script.specs.declared.line_fault.LineFault.{LineFault}
+use Rattle.client_script.specs.Faults.{named_by, IsFaultOf, IsFaultFor}
+use Rattle.client_script.specs.Script.{Script, most_clients, most_calls, IsOverLimit, reached_by}
 
 -- A line may follow a script; there is none above the line that says how many clients there are.
 abbrev pub MayFollow : Option Script → Line → Type 0
@@ -51,13 +53,14 @@ abbrev pub IsStep : ℕ → List ℕ → Option Script → Result (Unit {0}) Par
     Type 0
 IsStep number text old (Ok done) new =
     (line : Line) × IsLineText text line × MayFollow old line × (new ≡ with_line number line old)
-IsStep number text old (Err (ScriptFault line)) new = (line ≡ number) × IsWrong old text
+IsStep number text old (Err (ScriptFault line why)) new =
+    (line ≡ number) × IsWrong old text × IsFaultOf (named_by old) text why
 IsStep number text old (Err (Limit reached)) new = Reaches old text reached
 IsStep number text old (Err NoMemory) new = ⊤
 
 -- Why a script was refused.
 abbrev pub IsRefusedFor : List ℕ → ParseRefused → Type 0
-IsRefusedFor bytes (ScriptFault line) = IsFaultAt bytes line
+IsRefusedFor bytes (ScriptFault line why) = IsFaultFor bytes line why
 IsRefusedFor bytes (Limit reached) =
     (over : IsOverLimit bytes) × (reached ≡ reached_by bytes over)
 IsRefusedFor bytes NoMemory = ⊤
@@ -65,3 +68,8 @@ IsRefusedFor bytes NoMemory = ⊤
 -- The answer is this, unless there was no memory.
 abbrev pub IsUnlessNoMemory : Result Script ParseRefused → Result Script ParseRefused → Type 0
 IsUnlessNoMemory result answer = (result ≡ answer) ⊎ (result ≡ Err NoMemory)
+
+-- The answer is that this line breaks the grammar, and why, unless there was no memory.
+abbrev pub IsFaultUnlessNoMemory : Result Script ParseRefused → ℕ → Type 0
+IsFaultUnlessNoMemory result line =
+    ((why : LineFault) × (result ≡ Err (ScriptFault line why))) ⊎ (result ≡ Err NoMemory)

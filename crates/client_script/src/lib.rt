@@ -9,10 +9,12 @@
 #![tactic(auto)]
 
 mod call;
+mod call_fault;
 mod cut;
 mod hex;
 mod in_order;
 mod journal_text;
+mod line_fault;
 mod meaning;
 mod number;
 mod output;
@@ -24,8 +26,10 @@ mod text_writer;
 mod words;
 
 pub use call::{Fill, ScriptCall};
+pub use call_fault::CallFault;
 pub use in_order::{CallsInOrder, NumberedCall};
 pub use journal_text::{print_journal, write_journal};
+pub use line_fault::LineFault;
 pub use output::write_all;
 pub use reading::parse;
 pub use refused::{ParseRefused, ReadRefused};

@@ -1,14 +1,16 @@
 // A script from its bytes.
 ghost use Rattle.std.specs.Prelude.{◌≡◌, ◌⊎◌, ℕ, ◌<◌, ◌≤◌, ◌∷◌, List, length, All, Ok, Err, IfOk, IfErr};
 ghost use Rattle.client_script.specs.declared.meaning.Meaning.TheVariants as meaning;
-ghost use Rattle.client_script.specs.declared.refused.ParseRefused.TheVariants.{ScriptFault, Limit, NoMemory};
+ghost use Rattle.client_script.specs.declared.refused.ParseRefused.TheVariants.{Limit, NoMemory};
 ghost use Rattle.client_script.specs.Lines.{Order, IsLineText, split_lines};
 ghost use Rattle.client_script.specs.Script.{Script as Asked, IsAllowed, IsScript, IsFaultAt, IsOverLimit, reached_by};
+ghost use Rattle.client_script.specs.Faults.{named_by as named_so_far};
 ghost use Rattle.client_script.specs.Meanings.{IsMeant, actors_of};
-ghost use Rattle.client_script.specs.Reading.{IsStep, IsRefusedFor, IsUnlessNoMemory};
+ghost use Rattle.client_script.specs.Reading.{IsStep, IsRefusedFor, IsUnlessNoMemory, IsFaultUnlessNoMemory};
 
 use crate::call::ScriptCall;
 use crate::cut::cut;
+use crate::line_fault::{LineFault, line_fault};
 use crate::meaning::{Meaning, read_line};
 use crate::refused::ParseRefused;
 use crate::script::Script;
@@ -41,7 +43,7 @@ pub fn parse(alloc: Global, bytes: &[u8]) -> Result<Script, ParseRefused>
     ensures every_script { (script : Asked) → IsScript bytes.now script
         → IsUnlessNoMemory result (Ok script) }
     ensures every_fault { (line : ℕ) → IsFaultAt bytes.now line
-        → IsUnlessNoMemory result (Err (ScriptFault line)) }
+        → IsFaultUnlessNoMemory result line }
     ensures every_limit { (over : IsOverLimit bytes.now)
         → IsUnlessNoMemory result (Err (Limit (reached_by bytes.now over))) }
 {
@@ -68,7 +70,10 @@ fn read_all(alloc: Global, bytes: &[u8]) -> Result<Script, ParseRefused>
     }
     match script {
         Some(script) => Ok(script),
-        None => Err(ParseRefused::ScriptFault { line: number + 1 }),
+        None => Err(ParseRefused::ScriptFault {
+            line: number + 1,
+            why: LineFault::NoClients,
+        }),
     }
 }
 
@@ -86,7 +91,20 @@ fn take_line(
         Meaning::Clients { count } => take_clients(alloc, script, number, count),
         Meaning::Call { actor, call } => take_call(script, number, actor, call),
         Meaning::Order { letters } => take_order(script, number, letters),
-        Meaning::Broken => Err(ParseRefused::ScriptFault { line: number }),
+        Meaning::Broken => Err(ParseRefused::ScriptFault {
+            line: number,
+            why: line_fault(text, named_by(script)),
+        }),
+    }
+}
+
+// How many clients there are, where a line has said it.
+fn named_by(script: &Option<Script>) -> Option<u8>
+    ensures { result ≡ named_so_far script.now }
+{
+    match script {
+        Some(script) => Some(script.clients()),
+        None => None,
     }
 }
 
@@ -99,8 +117,17 @@ fn take_clients(
     ensures { (text : List ℕ) → IsMeant number text (meaning.Clients count)
         → IsStep number text script.old result script.new }
 {
-    if script.is_some() || count == 0 {
-        return Err(ParseRefused::ScriptFault { line: number });
+    if script.is_some() {
+        return Err(ParseRefused::ScriptFault {
+            line: number,
+            why: LineFault::ClientsAgain,
+        });
+    }
+    if count == 0 {
+        return Err(ParseRefused::ScriptFault {
+            line: number,
+            why: LineFault::ClientCount,
+        });
     }
     if count > MOST_CLIENTS {
         return Err(ParseRefused::Limit {
@@ -121,10 +148,18 @@ fn take_call(
         → IsStep number text script.old result script.new }
 {
     let Some(script) = script else {
-        return Err(ParseRefused::ScriptFault { line: number });
+        return Err(ParseRefused::ScriptFault {
+            line: number,
+            why: LineFault::NoClients,
+        });
     };
     if actor >= script.clients() {
-        return Err(ParseRefused::ScriptFault { line: number });
+        return Err(ParseRefused::ScriptFault {
+            line: number,
+            why: LineFault::NoSuchClient {
+                clients: script.clients(),
+            },
+        });
     }
     if script.in_line_order().len() >= MOST_CALLS {
         return Err(ParseRefused::Limit {
@@ -141,12 +176,18 @@ fn take_order(script: &mut Option<Script>, number: u64, letters: &[u8]) -> Resul
         → IsStep number text script.old result script.new }
 {
     let Some(script) = script else {
-        return Err(ParseRefused::ScriptFault { line: number });
+        return Err(ParseRefused::ScriptFault {
+            line: number,
+            why: LineFault::NoClients,
+        });
     };
     for letter in letters {
         let actor = *letter - b'a';
         if actor >= script.clients() {
-            return Err(ParseRefused::ScriptFault { line: number });
+            return Err(ParseRefused::ScriptFault {
+                line: number,
+                why: LineFault::Turns,
+            });
         }
         script.push_turn(actor)?;
     }

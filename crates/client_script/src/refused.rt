@@ -4,13 +4,14 @@ ghost use Rattle.client_script.specs.FromSource.{read_refusal};
 ghost use Rattle.client_script.specs.declared.refused.ParseRefused.TheVariants.{NoMemory};
 ghost use Rattle.client_script.specs.declared.refused.ReadRefused.TheVariants.{SourceFault, NoMemory as NoMemoryToRead};
 
+use crate::line_fault::LineFault;
 use bank_trait::Failed;
 use std::alloc::AllocError;
 
 #[derive(Clone, Copy, Debug, PartialEq, Eq)]
 pub enum ParseRefused {
-    /// The first line that breaks the grammar, from 1.
-    ScriptFault { line: u64 },
+    /// The first line that breaks the grammar, from 1, and what is wrong with it.
+    ScriptFault { line: u64, why: LineFault },
     /// Too many bytes, clients or calls: one more than are allowed.
     Limit { reached: u64 },
     NoMemory,
@@ -28,8 +29,8 @@ impl From<AllocError> for ParseRefused {
 pub enum ReadRefused {
     /// A read of the source failed.
     SourceFault,
-    /// The first line that breaks the grammar, from 1.
-    ScriptFault { line: u64 },
+    /// The first line that breaks the grammar, from 1, and what is wrong with it.
+    ScriptFault { line: u64, why: LineFault },
     /// Too many bytes, clients or calls: one more than are allowed.
     Limit { reached: u64 },
     NoMemory,
@@ -56,7 +57,7 @@ impl From<ParseRefused> for ReadRefused {
 
     fn from(refused: ParseRefused) -> ReadRefused {
         match refused {
-            ParseRefused::ScriptFault { line } => ReadRefused::ScriptFault { line },
+            ParseRefused::ScriptFault { line, why } => ReadRefused::ScriptFault { line, why },
             ParseRefused::Limit { reached } => ReadRefused::Limit { reached },
             ParseRefused::NoMemory => ReadRefused::NoMemory,
         }

@@ -1,8 +1,8 @@
 // A script from a source.
 ghost use Rattle.std.specs.Prelude.{◌≡◌, ℕ, ◌<◌, ◌≤◌, List, Some, All, Ok, Err, IfOk, IfErr};
-ghost use Rattle.client_script.specs.declared.refused.ReadRefused.TheVariants.{ScriptFault, Limit};
+ghost use Rattle.client_script.specs.declared.refused.ReadRefused.TheVariants.{Limit};
 ghost use Rattle.client_script.specs.Script.{Script as Asked, IsAllowed, IsScript, IsFaultAt, IsOverLimit, reached_by};
-ghost use Rattle.client_script.specs.FromSource.{IsToldWell, IsUnreadFor, IsNotReadFor, IsReadUnlessNoMemory};
+ghost use Rattle.client_script.specs.FromSource.{IsToldWell, IsUnreadFor, IsNotReadFor, IsReadUnlessNoMemory, IsReadFaultUnlessNoMemory};
 
 use crate::reading::{MOST_BYTES, parse};
 use crate::refused::ReadRefused;
@@ -35,7 +35,7 @@ pub fn read_script<S: Source>(alloc: Global, source: &mut S) -> Result<Script, R
         → IsScript bytes script → IsReadUnlessNoMemory result (Ok script) }
     ensures every_fault { (bytes : List ℕ) (line : ℕ)
         → IsToldWell (S.left source.old) bytes (S.faults source.old) (S.faults source.new)
-        → IsFaultAt bytes line → IsReadUnlessNoMemory result (Err (ScriptFault line)) }
+        → IsFaultAt bytes line → IsReadFaultUnlessNoMemory result line }
     ensures every_limit { (bytes : List ℕ)
         → IsToldWell (S.left source.old) bytes (S.faults source.old) (S.faults source.new)
         → (over : IsOverLimit bytes)

@@ -2,7 +2,9 @@
 ghost use Rattle.std.specs.Prelude.{None};
 
 use bank_trait::{Failed, Source};
-use client_script::{Fill, ParseRefused, ReadRefused, ScriptCall, parse, read_script};
+use client_script::{
+    CallFault, Fill, LineFault, ParseRefused, ReadRefused, ScriptCall, parse, read_script,
+};
 use core_state::Kind;
 use std::alloc::Global;
 use std::test::Fail;
@@ -54,8 +56,12 @@ fn refusal(alloc: Global, bytes: &[u8]) -> Option<ParseRefused> {
     }
 }
 
-fn fault(line: u64) -> Option<ParseRefused> {
-    Some(ParseRefused::ScriptFault { line })
+fn fault(line: u64, why: LineFault) -> Option<ParseRefused> {
+    Some(ParseRefused::ScriptFault { line, why })
+}
+
+fn fault_in_call(line: u64, why: CallFault) -> Option<ParseRefused> {
+    fault(line, LineFault::InCall { why })
 }
 
 fn limit(reached: u64) -> Option<ParseRefused> {
@@ -65,48 +71,113 @@ fn limit(reached: u64) -> Option<ParseRefused> {
 #[test]
 fn the_first_line_that_breaks_a_rule_decides(rt: HostRuntime) {
     let alloc = rt.alloc();
-    let rows: [(&[u8], Option<ParseRefused>); 35] = [
-        (b"", fault(1)),
-        (b"\n", fault(2)),
-        (b"# only this", fault(2)),
-        (b"\n# one\n\n", fault(4)),
-        (b"a sync\n", fault(1)),
-        (b"clients 1\na put 1 0 5\n", fault(2)),
+    let rows: [(&[u8], Option<ParseRefused>); 43] = [
+        (b"", fault(1, LineFault::NoClients)),
+        (b"\n", fault(2, LineFault::NoClients)),
+        (b"# only this", fault(2, LineFault::NoClients)),
+        (b"\n# one\n\n", fault(4, LineFault::NoClients)),
+        (b"a sync\n", fault(1, LineFault::NoClients)),
+        (
+            b"clients 1\na put 1 0 5\n",
+            fault_in_call(2, CallFault::NoBytes),
+        ),
         (b"clients 9\n", limit(9)),
         (b"# nine\nclients 18446744073709551617\n", limit(9)),
         (
             b"clients 100000000000000000000000000000000000000000000000000000000000000000000\n",
             limit(9),
         ),
-        (b"clients 0\n", fault(1)),
-        (b"clients 01\n", fault(1)),
-        (b"clients +1\n", fault(1)),
-        (b"clients 1\nclients 9\n", fault(2)),
-        (b"clients 1 \n", fault(1)),
-        (b"clients 1\r\n", fault(1)),
-        (b"clients 2\nc sync\n", fault(2)),
+        (b"clients 0\n", fault(1, LineFault::ClientCount)),
+        (b"clients 01\n", fault(1, LineFault::ClientCount)),
+        (b"clients +1\n", fault(1, LineFault::ClientCount)),
+        (b"clients 1\nclients 9\n", fault(2, LineFault::ClientsAgain)),
+        (b"clients 1 \n", fault(1, LineFault::StraySpace)),
+        (b"clients 1\r\n", fault(1, LineFault::CarriageReturn)),
+        (
+            b"clients 2\nc sync\n",
+            fault(2, LineFault::NoSuchClient { clients: 2 }),
+        ),
         (b"clients 8\nh sync", None),
         (b"clients 1\na put 1 65536 18446744073709551615", None),
-        (b"clients 1\na put 1 65537 5\n", fault(2)),
-        (b"clients 1\na put 1 5 18446744073709551616\n", fault(2)),
-        (b"clients 1\na put 01 5 5\n", fault(2)),
-        (b"clients 1\na put 1 5\n", fault(2)),
-        (b"clients 1\na put 1 5 5 5\n", fault(2)),
-        (b"clients 1\na puthex 1 6\n", fault(2)),
-        (b"clients 1\na puthex 1 6A\n", fault(2)),
-        (b"clients 1\na puthex 1 \n", fault(2)),
-        (b"clients 1\na  sync\n", fault(2)),
-        (b"clients 1\nsync\n", fault(2)),
-        (b"clients 2\norder ab\norder c\n", fault(3)),
-        (b"clients 2\norder \n", fault(2)),
-        (b"clients 1\na sync\nb sync\na sync\nclients 9", fault(3)),
+        (
+            b"clients 1\na put 1 65537 5\n",
+            fault_in_call(2, CallFault::TooManyBytes),
+        ),
+        (
+            b"clients 1\na put 1 5 18446744073709551616\n",
+            fault_in_call(2, CallFault::Number),
+        ),
+        (
+            b"clients 1\na put 01 5 5\n",
+            fault_in_call(2, CallFault::Number),
+        ),
+        (
+            b"clients 1\na put 1 5\n",
+            fault_in_call(2, CallFault::PutWords),
+        ),
+        (
+            b"clients 1\na put 1 5 5 5\n",
+            fault_in_call(2, CallFault::PutWords),
+        ),
+        (
+            b"clients 1\na puthex 1 6\n",
+            fault_in_call(2, CallFault::HexDigits),
+        ),
+        (
+            b"clients 1\na puthex 1 6A\n",
+            fault_in_call(2, CallFault::HexDigits),
+        ),
+        (b"clients 1\na puthex 1 \n", fault(2, LineFault::StraySpace)),
+        (b"clients 1\na  sync\n", fault(2, LineFault::StraySpace)),
+        (b"clients 1\nsync\n", fault(2, LineFault::NoCall)),
+        (
+            b"clients 2\norder ab\norder c\n",
+            fault(3, LineFault::Turns),
+        ),
+        (b"clients 2\norder \n", fault(2, LineFault::StraySpace)),
+        (
+            b"clients 1\na sync\nb sync\na sync\nclients 9",
+            fault(3, LineFault::NoSuchClient { clients: 1 }),
+        ),
         (
             b"clients 1\n\n#\na sync\na free 0\na sum 1\na get 2\n",
             None,
         ),
-        (b"clients 1\na attach\n", fault(2)),
-        (b"clients 1\na copy\n", fault(2)),
-        (b"clients 1\na scrub\n", fault(2)),
+        (
+            b"clients 1\na attach\n",
+            fault_in_call(2, CallFault::UnknownCall),
+        ),
+        (
+            b"clients 1\na copy\n",
+            fault_in_call(2, CallFault::UnknownCall),
+        ),
+        (
+            b"clients 1\na scrub\n",
+            fault_in_call(2, CallFault::UnknownCall),
+        ),
+        (b"clients 1\norder a\norder Z\n", fault(3, LineFault::Turns)),
+        (b"clients 1\na put\n", fault_in_call(2, CallFault::PutWords)),
+        (b"clients 1\na get\n", fault_in_call(2, CallFault::IdAlone)),
+        (
+            b"clients 1\na sum 1 2\n",
+            fault_in_call(2, CallFault::IdAlone),
+        ),
+        (
+            b"clients 1\na free x\n",
+            fault_in_call(2, CallFault::Number),
+        ),
+        (
+            b"clients 1\na puthex 1\n",
+            fault_in_call(2, CallFault::PutWords),
+        ),
+        (
+            b"clients 1\na puthex 01 61\n",
+            fault_in_call(2, CallFault::Number),
+        ),
+        (
+            b"clients 1\na sync 1\n",
+            fault_in_call(2, CallFault::SyncAlone),
+        ),
     ];
     for (bytes, wanted) in rows {
         assert_eq!(rt; refusal(alloc, bytes), wanted);
@@ -122,13 +193,19 @@ fn too_many_calls_and_too_many_bytes_are_refused(rt: HostRuntime) -> Result<(), 
     }
     assert_eq!(rt; refusal(alloc, bytes.as_slice()), None);
     bytes.extend_from_slice(b"a sink\n")?;
-    assert_eq!(rt; refusal(alloc, bytes.as_slice()), fault(10_002));
+    assert_eq!(rt;
+        refusal(alloc, bytes.as_slice()),
+        fault_in_call(10_002, CallFault::UnknownCall)
+    );
     bytes.truncate(70_010);
     bytes.extend_from_slice(b"a sync\na sink\n")?;
     assert_eq!(rt; refusal(alloc, bytes.as_slice()), limit(10_001));
     let comment = vec![in alloc; b'#'; 16_777_217]?;
     assert_eq!(rt; refusal(alloc, comment.as_slice()), limit(16_777_217));
-    assert_eq!(rt; refusal(alloc, &comment.as_slice()[1..]), fault(2));
+    assert_eq!(rt;
+        refusal(alloc, &comment.as_slice()[1..]),
+        fault(2, LineFault::NoClients)
+    );
     Ok(())
 }
 
@@ -220,7 +297,14 @@ fn a_source_is_read_to_its_end_in_pieces_of_any_length(rt: HostRuntime) -> Resul
 fn a_source_is_refused_for_a_failed_read_or_for_its_bytes(rt: HostRuntime) -> Result<(), Fail> {
     let alloc = rt.alloc();
     let rows: [(&[u8], u64, Option<ReadRefused>); 7] = [
-        (b"", 0, Some(ReadRefused::ScriptFault { line: 1 })),
+        (
+            b"",
+            0,
+            Some(ReadRefused::ScriptFault {
+                line: 1,
+                why: LineFault::NoClients,
+            }),
+        ),
         (b"", 1, Some(ReadRefused::SourceFault)),
         (b"clients 1", 0, None),
         (b"clients 1", 2, Some(ReadRefused::SourceFault)),
@@ -228,7 +312,12 @@ fn a_source_is_refused_for_a_failed_read_or_for_its_bytes(rt: HostRuntime) -> Re
         (
             b"clients 1\na sink",
             0,
-            Some(ReadRefused::ScriptFault { line: 2 }),
+            Some(ReadRefused::ScriptFault {
+                line: 2,
+                why: LineFault::InCall {
+                    why: CallFault::UnknownCall,
+                },
+            }),
         ),
         (b"clients 9", 0, Some(ReadRefused::Limit { reached: 9 })),
     ];

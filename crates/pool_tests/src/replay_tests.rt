@@ -1,6 +1,7 @@
 // Replays, and what they say line by line.
 use crate::banks::{MAKING, OPENING, bank_of_nine};
 use crate::calls::{REPLAY, RUN, call};
+use client_script::LineFault;
 use raidzx_top::Status;
 use std::test::Fail;
 
@@ -116,7 +117,10 @@ fn a_replay_that_is_refused_says_so(rt: HostRuntime) -> Result<(), Fail> {
         (
             REPLAY,
             order,
-            Status::ScriptFault { line: 3 },
+            Status::ScriptFault {
+                line: 3,
+                why: LineFault::Turns,
+            },
             b"script line 3\n",
         ),
         ("raidzx replay x", NO_ORDER, Status::Usage, b"usage\n"),

@@ -3,6 +3,7 @@ use crate::banks::bank_of_nine;
 use crate::calls::{RUN, call};
 use bank_mem::MemBank;
 use bank_trait::Bank;
+use client_script::{CallFault, LineFault};
 use raidzx_top::Status;
 use std::process::Abort;
 use std::test::Fail;
@@ -155,29 +156,42 @@ fn what_was_not_synced_is_gone_in_the_next_run(rt: HostRuntime) -> Result<(), Fa
     Ok(())
 }
 
+/// A call that there is not.
+const UNKNOWN_CALL: LineFault = LineFault::InCall {
+    why: CallFault::UnknownCall,
+};
+
+fn script_fault(line: u64, why: LineFault) -> Status {
+    Status::ScriptFault { line, why }
+}
+
 #[test]
 fn a_script_that_breaks_a_rule_is_told_and_changes_nothing(rt: HostRuntime) -> Result<(), Fail> {
     let alloc = rt.alloc();
     let rows: [(&[u8], Status, &[u8]); 7] = [
-        (b"", Status::ScriptFault { line: 1 }, b"script line 1\n"),
+        (
+            b"",
+            script_fault(1, LineFault::NoClients),
+            b"script line 1\n",
+        ),
         (
             b"# nothing\n",
-            Status::ScriptFault { line: 2 },
+            script_fault(2, LineFault::NoClients),
             b"script line 2\n",
         ),
         (
             b"clients 1\na sync\na sink\n",
-            Status::ScriptFault { line: 3 },
+            script_fault(3, UNKNOWN_CALL),
             b"script line 3\n",
         ),
         (
             b"clients 1\nb sync\n",
-            Status::ScriptFault { line: 2 },
+            script_fault(2, LineFault::NoSuchClient { clients: 1 }),
             b"script line 2\n",
         ),
         (
             b"clients 1\na attach\n",
-            Status::ScriptFault { line: 2 },
+            script_fault(2, UNKNOWN_CALL),
             b"script line 2\n",
         ),
         (b"clients 9\n", Status::Limit, b"limit\n"),

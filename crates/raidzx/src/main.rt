@@ -82,15 +82,14 @@ fn run_over<B: Bank + Drop>(rt: &HostRuntime, words: &[String], bank: B) -> Outc
     let mut script = Input {
         inner: rt.reader(),
         faults: 0,
-        handed: Some(Vec::new(rt.alloc())),
     };
     let mut out = Output {
         inner: io::writer(rt),
         faults: 0,
     };
     let outcome = raidzx(rt.alloc(), words, bank, &mut script, &mut out);
-    if let (Status::ScriptFault { line }, Some(text)) = (outcome.status, &script.handed) {
-        hint_line(rt, text, line);
+    if let Status::ScriptFault { line, why } = outcome.status {
+        hint_line(rt, line, why);
     }
     outcome
 }

@@ -69,13 +69,11 @@ impl<W: Write + Drop> Sink for Output<W> {
     }
 }
 
-/// A source over a reader, which keeps what it has handed over, as long as there is memory for it. It tells nothing of
-/// what is left. A read that a signal interrupts is made again.
+/// A source over a reader. It tells nothing of what is left. A read that a signal interrupts is made again.
 #[derive(Drop)]
 pub struct Input<R> {
     pub inner: R,
     pub faults: u64,
-    pub handed: Option<Vec<u8>>,
 }
 
 fn read_on<R: Read>(reader: &mut R, into: &mut [u8]) -> io::Result<usize>
@@ -90,15 +88,6 @@ fn read_on<R: Read>(reader: &mut R, into: &mut [u8]) -> io::Result<usize>
     Err(Error::from(ErrorKind::Interrupted))
 }
 
-/// These bytes behind those that are kept, if there is memory for them.
-fn kept(handed: Option<Vec<u8>>, more: &[u8]) -> Option<Vec<u8>> {
-    let mut bytes = handed?;
-    match bytes.extend_from_slice(more) {
-        Ok(()) => Some(bytes),
-        Err(_) => None,
-    }
-}
-
 impl<R: Read + Drop> Source for Input<R> {
     ghost left = { λ s. None };
 
@@ -106,10 +95,7 @@ impl<R: Read + Drop> Source for Input<R> {
 
     fn read(&mut self, into: &mut [u8]) -> Result<usize, Failed> {
         match read_on(&mut self.inner, into) {
-            Ok(count) => {
-                self.handed = kept(self.handed.take(), &into[..count]);
-                Ok(count)
-            }
+            Ok(count) => Ok(count),
             Err(_) => {
                 self.faults = self.faults.saturating_add(1);
                 Err(Failed)

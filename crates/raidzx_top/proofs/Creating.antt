@@ -373,7 +373,7 @@ module _ (call : TopCall) (made : NewPool) (served_as : IsServedAs call.words (s
       (subst (λ (disk : Disk). TouchesOnly (IsOnBelow made.width) call.old disk) (sym ends.0.1)
       (touches_none (IsOnBelow made.width) call.old)) refl ends.1
   created status.Usage is ends = absurd ends
-  created (status.ScriptFault line) is ends = absurd ends
+  created (status.ScriptFault line why) is ends = absurd ends
   created status.NotPool is ends = absurd ends
   created status.SourceFault is ends = absurd ends
   created status.NoMemory is ends = absurd ends

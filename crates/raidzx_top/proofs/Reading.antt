@@ -1,7 +1,8 @@
 -- How reading a script ends.
 use Rattle.std.proofs.Common.{◌≡◌, ◌⊎◌, inl, inr, ⊎_elim, ℕ, ◌<◌, ◌≤◌, List, Some, Result, Ok, Err, refl}
 use Rattle.std.specs.Prelude.{All}
-use Rattle.client_script.specs.FromSource.{IsNotReadFor, IsReadUnlessNoMemory}
+use Rattle.client_script.specs.FromSource.{IsNotReadFor, IsReadUnlessNoMemory, IsReadFaultUnlessNoMemory}
+use Rattle.client_script.specs.declared.line_fault.LineFault.{LineFault}
 use Rattle.client_script.specs.declared.refused.ReadRefused.{ReadRefused}
 use Rattle.client_script.specs.declared.refused.ReadRefused.TheVariants as read
 use Rattle.client_script.specs.Script.{Script, IsAllowed, IsScript, IsOverLimit, IsFaultAt, reached_by}
@@ -13,7 +14,7 @@ module _ (source source_after : Stream) (result : Result Script ReadRefused)
     (every_script : (bytes : List ℕ) (script : Script) → IsWell source source_after bytes → IsScript bytes script
     → IsReadUnlessNoMemory result (Ok script))
     (every_fault : (bytes : List ℕ) (line : ℕ) → IsWell source source_after bytes → IsFaultAt bytes line
-    → IsReadUnlessNoMemory result (Err (read.ScriptFault line)))
+    → IsReadFaultUnlessNoMemory result line)
     (every_limit : (bytes : List ℕ) → IsWell source source_after bytes → (over : IsOverLimit bytes)
     → IsReadUnlessNoMemory result (Err (read.Limit (reached_by bytes over)))) where
   -- A script that was read breaks no rule.
@@ -26,7 +27,7 @@ module _ (source source_after : Stream) (result : Result Script ReadRefused)
 
   read_right : (script : Script) → result ≡ Ok script → (bytes : List ℕ) (line : ℕ) → IsWell source source_after bytes
       → IsFaultAt bytes line → ⊥
-  read_right script is bytes line well at = ⊎_elim (λ other. clash other) (λ other. clash other) (every_fault bytes line well at)
+  read_right script is bytes line well at = ⊎_elim (λ other. clash other.1) (λ other. clash other) (every_fault bytes line well at)
     where
       clash : {why : ReadRefused} → result ≡ Err why → ⊥
       clash other = cc
@@ -43,9 +44,9 @@ module _ (source source_after : Stream) (result : Result Script ReadRefused)
 
   unread_fault : (why : ReadRefused) → result ≡ Err why → (bytes : List ℕ) (line : ℕ)
       → IsWell source source_after bytes → IsFaultAt bytes line
-      → (why ≡ read.ScriptFault line) ⊎ (why ≡ read.NoMemory)
+      → ((reason : LineFault) × (why ≡ read.ScriptFault line reason)) ⊎ (why ≡ read.NoMemory)
   unread_fault why is bytes line well at = ⊎_elim
-      (λ told. inl (same_why why (read.ScriptFault line) is told))
+      (λ told. inl (told.0, same_why why (read.ScriptFault line told.0) is told.1))
       (λ memory. inr (same_why why read.NoMemory is memory)) (every_fault bytes line well at)
 
   unread_script : (why : ReadRefused) → result ≡ Err why → (bytes : List ℕ) (script : Script)
@@ -64,7 +65,7 @@ pub was_read : (source source_after : Stream) (script : Script)
     → ((bytes : List ℕ) (asked : Script) → IsWell source source_after bytes → IsScript bytes asked
     → IsReadUnlessNoMemory (Ok script) (Ok asked))
     → ((bytes : List ℕ) (line : ℕ) → IsWell source source_after bytes → IsFaultAt bytes line
-    → IsReadUnlessNoMemory (Ok script) (Err (read.ScriptFault line)))
+    → IsReadFaultUnlessNoMemory (Ok script) line)
     → ((bytes : List ℕ) → IsWell source source_after bytes → (over : IsOverLimit bytes)
     → IsReadUnlessNoMemory (Ok script) (Err (read.Limit (reached_by bytes over))))
     → HasRead source source_after script
@@ -83,7 +84,7 @@ pub was_unread : (source source_after : Stream) (why : ReadRefused)
     → ((bytes : List ℕ) (asked : Script) → IsWell source source_after bytes → IsScript bytes asked
     → IsReadUnlessNoMemory (Err why) (Ok asked))
     → ((bytes : List ℕ) (line : ℕ) → IsWell source source_after bytes → IsFaultAt bytes line
-    → IsReadUnlessNoMemory (Err why) (Err (read.ScriptFault line)))
+    → IsReadFaultUnlessNoMemory (Err why) line)
     → ((bytes : List ℕ) → IsWell source source_after bytes → (over : IsOverLimit bytes)
     → IsReadUnlessNoMemory (Err why) (Err (read.Limit (reached_by bytes over))))
     → IsUnread source source_after why

@@ -14,7 +14,7 @@ use Rattle.raidzx_top.specs.declared.words.ServedCommand.{ServedCommand}
 use Rattle.raidzx_top.specs.declared.words.ServedCommand.TheVariants as served
 use Rattle.raidzx_top.specs.Call.{TopCall, Opens, ReadsScript}
 use Rattle.raidzx_top.specs.Order.{served_by}
-use Rattle.raidzx_top.specs.Causes.{IsCause, IsFoundImage, IsReadWhole, IsOrNoMemory, IsTooSmall, FindsNoPool}
+use Rattle.raidzx_top.specs.Causes.{IsCause, IsFoundImage, IsReadWhole, IsOrNoMemory, IsFaultOrNoMemory, IsTooSmall, FindsNoPool}
 use Rattle.raidzx_top.specs.Promises.{CallPromises, IsCarriedOut, RunPromises, RunIsKept, LeavesNone, RunsUnhindered, CompletesAll}
 use Rattle.raidzx_top.specs.RunText.{TextIsRight}
 use Rattle.raidzx_top.specs.Spelled.{IsServedAs, command_of}
@@ -60,7 +60,7 @@ pub record IsRunEnd (order : Order) (call : TopCall) : Type 0 where
   pub limit : (bytes : List ℕ) → IsReadWhole call (command_in order) bytes → IsOverLimit bytes
       → IsOrNoMemory call status.Limit
   pub fault : (bytes : List ℕ) (line : ℕ) → IsReadWhole call (command_in order) bytes → IsFaultAt bytes line
-      → IsOrNoMemory call (status.ScriptFault line)
+      → IsFaultOrNoMemory call line
   pub no_pool : FindsNoPool call (command_in order) → IsOrNoMemory call status.NotPool
   pub refused : call.journal ≡ [] → (IsCarriedOut call → ⊥) → TextIsRight call []
   pub opened : call.journal ≢ [] → RunPromises order call
@@ -121,7 +121,7 @@ module _ (order : Order) (call : TopCall) (served_as : IsServedAs call.words (se
           for_script (λ (c : Command). IsReadWhole call c bytes → IsOrNoMemory call status.Limit)
           (λ whole. ends.limit bytes whole over) given is read;
       fault = λ given bytes line is read at.
-          for_script (λ (c : Command). IsReadWhole call c bytes → IsOrNoMemory call (status.ScriptFault line))
+          for_script (λ (c : Command). IsReadWhole call c bytes → IsFaultOrNoMemory call line)
           (λ whole. ends.fault bytes line whole at) given is read;
       too_small = λ given is small.
           for_script (λ (c : Command). IsTooSmall call c → IsOrNoMemory call status.TooSmall)

@@ -16,7 +16,7 @@ use Rattle.raidzx_top.specs.declared.order.Order.{Order}
 use Rattle.raidzx_top.specs.declared.status.Status.{Status}
 use Rattle.raidzx_top.specs.declared.status.Status.TheVariants as status
 use Rattle.raidzx_top.specs.Call.{TopCall, shape_of}
-use Rattle.raidzx_top.specs.Causes.{IsCause, IsReadWhole, IsOrNoMemory, FindsNoPool}
+use Rattle.raidzx_top.specs.Causes.{IsCause, IsReadWhole, IsOrNoMemory, IsFaultOrNoMemory, FindsNoPool}
 use Rattle.raidzx_top.specs.Exit.{read_status, why_status}
 use Rattle.raidzx_top.specs.Promises.{LeavesNone, RunsUnhindered}
 use Rattle.raidzx_top.specs.Running.{IsWell, IsUnread, IsUnopened, HasRead, IsRefused, Unread, Roomless, Unopened, WasRefused}
@@ -36,7 +36,7 @@ pub record IsRefusal (given : Status) : Type 0 where
 refuses_read : (why : ReadRefused) → IsRefusal (read_status why)
 refuses_read read.SourceFault =
     record { no_usage = λ same. cc; no_small = λ same. cc; no_done = λ same. cc; no_fault = λ same. cc; line = refl }
-refuses_read (read.ScriptFault line) =
+refuses_read (read.ScriptFault line why) =
     record { no_usage = λ same. cc; no_small = λ same. cc; no_done = λ same. cc; no_fault = λ same. cc; line = refl }
 refuses_read (read.Limit reached) =
     record { no_usage = λ same. cc; no_small = λ same. cc; no_done = λ same. cc; no_fault = λ same. cc; line = refl }
@@ -60,7 +60,7 @@ record IsOwn (order : Order) (call : TopCall) : Type 0 where
   limit : (bytes : List ℕ) → IsWell call.source call.source_after bytes → IsOverLimit bytes
       → IsOrNoMemory call status.Limit
   fault : (bytes : List ℕ) (line : ℕ) → IsWell call.source call.source_after bytes → IsFaultAt bytes line
-      → IsOrNoMemory call (status.ScriptFault line)
+      → IsFaultOrNoMemory call line
   no_pool : FindsNoPool call (command_in order) → IsOrNoMemory call status.NotPool
   leaves : LeavesNone call
   smooth : RunsUnhindered order call → call.status ≡ status.NoMemory
@@ -87,7 +87,7 @@ unread order call no_turns why is same status_is = record {
       (λ told. inl (status_is ∙ ap read_status told.1))
       (λ memory. inr (status_is ∙ ap read_status memory)) (is.limit bytes well over);
   fault = λ bytes line well at. ⊎_elim
-      (λ told. inl (status_is ∙ ap read_status told))
+      (λ told. inl (told.0, status_is ∙ ap read_status told.1))
       (λ memory. inr (status_is ∙ ap read_status memory)) (is.fault bytes line well at);
   no_pool = λ finds. inr (status_is ∙ ap read_status (for_memory why is finds));
   leaves = record {
@@ -105,16 +105,16 @@ unread order call no_turns why is same status_is = record {
     caused : (why : ReadRefused) → IsUnread call.source call.source_after why
         → IsCause call (command_in order) (read_status why)
     caused read.SourceFault is = (reads order, is.cause)
-    caused (read.ScriptFault line) is = (reads order, is.cause)
+    caused (read.ScriptFault line reason) is = (reads order, is.cause)
     caused (read.Limit reached) is = inl (reads order, λ bytes told. (is.cause bytes told).0)
     caused read.NoMemory is = opens order
 
     for_memory : (why : ReadRefused) → IsUnread call.source call.source_after why
         → FindsNoPool call (command_in order) → why ≡ read.NoMemory
     for_memory read.SourceFault is finds = absurd ((finds.script (reads order)).1.2 is.cause)
-    for_memory (read.ScriptFault line) is finds =
+    for_memory (read.ScriptFault line reason) is finds =
         let whole = finds.script (reads order) in
-        absurd (whole.3 line (is.cause whole.0 whole.1.1))
+        absurd (whole.3 line (is.cause whole.0 whole.1.1).0)
     for_memory (read.Limit reached) is finds =
         let whole = finds.script (reads order) in
         absurd (whole.2 (is.cause whole.0 whole.1.1).0)

@@ -10,7 +10,9 @@ use Rattle.core_state.specs.Legal.{CallAt}
 use Rattle.core_state.specs.Choosing.{IsNotPool}
 use Rattle.core_state.specs.Create.{IsCreated, rows_for}
 use Rattle.core_open.specs.Causes.{IsShownChoice, AreTooMany}
+use Rattle.client_script.specs.Faults.{IsFaultFor}
 use Rattle.client_script.specs.Script.{IsOverLimit, IsFaultAt}
+use Rattle.client_script.specs.declared.line_fault.LineFault.{LineFault}
 pub use Rattle.schedule.specs.Turns.{most_turns}
 use Rattle.raidzx_top.specs.declared.status.Status.{Status}
 use Rattle.raidzx_top.specs.declared.status.Status.TheVariants as status
@@ -77,8 +79,8 @@ MeetsLimit call command =
 abbrev pub IsCause : TopCall → Command → Status → Type 0
 IsCause call command status.Done = ⊤
 IsCause call command status.Usage = ⊥
-IsCause call command (status.ScriptFault line) =
-    ReadsScript command × ((bytes : List ℕ) → call.source.bytes ≡ Some bytes → IsFaultAt bytes line)
+IsCause call command (status.ScriptFault line why) =
+    ReadsScript command × ((bytes : List ℕ) → call.source.bytes ≡ Some bytes → IsFaultFor bytes line why)
 IsCause call command status.NotPool = Opens command
     × ((image : Image) → IsFoundImage call command image → IsNotPool (shape_of call.old) 0 image)
 IsCause call command (status.TooManyFailed out) = IsTooManyFailed call command out
@@ -104,6 +106,11 @@ pub record IsCaused (call : TopCall) : Type 0 where
 -- The status is this one, or memory was wanting.
 abbrev pub IsOrNoMemory : TopCall → Status → Type 0
 IsOrNoMemory call wanted = (call.status ≡ wanted) ⊎ (call.status ≡ status.NoMemory)
+
+-- The status is that this line breaks the grammar, and why, or memory was wanting.
+abbrev pub IsFaultOrNoMemory : TopCall → ℕ → Type 0
+IsFaultOrNoMemory call line =
+    ((why : LineFault) × (call.status ≡ status.ScriptFault line why)) ⊎ (call.status ≡ status.NoMemory)
 
 -- The source didn't fail, and gave these bytes.
 abbrev pub IsReadWhole : TopCall → Command → List ℕ → Type 0
@@ -135,7 +142,7 @@ pub record ComesWhere (call : TopCall) : Type 0 where
       → IsOverLimit bytes → IsOrNoMemory call status.Limit
   pub fault : (given : ServedCommand) (bytes : List ℕ) (line : ℕ) → IsServedAs call.words given
       → IsReadWhole call (command_of given) bytes
-      → IsFaultAt bytes line → IsOrNoMemory call (status.ScriptFault line)
+      → IsFaultAt bytes line → IsFaultOrNoMemory call line
   pub too_small : (given : ServedCommand) → IsServedAs call.words given
       → IsTooSmall call (command_of given)
       → IsOrNoMemory call status.TooSmall

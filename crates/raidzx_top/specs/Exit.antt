@@ -10,7 +10,7 @@ use Rattle.raidzx_top.specs.declared.status.Status.TheVariants as status
 abbrev pub exit_code : Status → ℕ
 exit_code status.Done = 0
 exit_code status.Usage = 1
-exit_code (status.ScriptFault line) = 2
+exit_code (status.ScriptFault line why) = 2
 exit_code status.NotPool = 3
 exit_code (status.TooManyFailed out) = 4
 exit_code status.TooSmall = 5
@@ -22,7 +22,7 @@ exit_code status.Limit = 9
 -- the status for why there is no script
 abbrev pub read_status : ReadRefused → Status
 read_status read.SourceFault = status.SourceFault
-read_status (read.ScriptFault line) = status.ScriptFault line
+read_status (read.ScriptFault line why) = status.ScriptFault line why
 read_status (read.Limit reached) = status.Limit
 read_status read.NoMemory = status.NoMemory
 

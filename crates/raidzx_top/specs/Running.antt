@@ -17,6 +17,7 @@ use Rattle.client_script.specs.FromSource.{IsToldWell, IsNotReadFor}
 use Rattle.client_script.specs.Script.{Script, IsAllowed, IsScript, IsOverLimit, IsFaultAt, asked_by}
 use Rattle.client_script.specs.Texts.{journal_text}
 use Rattle.client_script.specs.Written.{IsAdded, IsPartAdded}
+use Rattle.client_script.specs.declared.line_fault.LineFault.{LineFault}
 use Rattle.client_script.specs.declared.refused.ReadRefused.{ReadRefused}
 use Rattle.client_script.specs.declared.refused.ReadRefused.TheVariants as read
 use Rattle.schedule.specs.Turns.{most_turns}
@@ -57,7 +58,7 @@ pub record IsUnread (source source_after : Stream) (why : ReadRefused) : Type 0 
       → ((reached : ℕ) × (why ≡ read.Limit reached)) ⊎ (why ≡ read.NoMemory)
   pub fault : (bytes : List ℕ) (line : ℕ) → IsWell source source_after bytes
       → IsFaultAt bytes line
-      → (why ≡ read.ScriptFault line) ⊎ (why ≡ read.NoMemory)
+      → ((reason : LineFault) × (why ≡ read.ScriptFault line reason)) ⊎ (why ≡ read.NoMemory)
   pub script : (bytes : List ℕ) (script : Script) → IsWell source source_after bytes
       → IsScript bytes script → why ≡ read.NoMemory
 

@@ -93,7 +93,7 @@ fn put_status<K: Sink>(writer: &mut TextWriter, out: &mut K, status: &Status)
     match status {
         Status::Done | Status::SinkFault => writer.text(out, b""),
         Status::Usage => writer.text(out, b"usage\n"),
-        Status::ScriptFault { line } => {
+        Status::ScriptFault { line, why: _ } => {
             writer.text(out, b"script line ");
             writer.number(out, *line);
             writer.text(out, b"\n");

@@ -3,7 +3,7 @@ ghost use Rattle.std.specs.Prelude.{◌≡◌};
 ghost use Rattle.raidzx_top.specs.declared.status.Status.TheVariants.{NoMemory};
 ghost use Rattle.raidzx_top.specs.Exit.{read_status, why_status};
 
-use client_script::ReadRefused;
+use client_script::{LineFault, ReadRefused};
 use core_open::OpenWhy;
 use std::alloc::AllocError;
 use uberblock_ring::DeviceSet;
@@ -30,7 +30,7 @@ impl Ending {
 pub enum Status {
     Done,
     Usage,
-    ScriptFault { line: u64 },
+    ScriptFault { line: u64, why: LineFault },
     NotPool,
     TooManyFailed { out: DeviceSet },
     TooSmall,
@@ -51,7 +51,7 @@ impl Status {
         match self {
             Status::Done => 0,
             Status::Usage => 1,
-            Status::ScriptFault { line: _ } => 2,
+            Status::ScriptFault { line: _, why: _ } => 2,
             Status::NotPool => 3,
             Status::TooManyFailed { out: _ } => 4,
             Status::TooSmall => 5,
@@ -78,7 +78,7 @@ impl From<ReadRefused> for Status {
     fn from(why: ReadRefused) -> Status {
         match why {
             ReadRefused::SourceFault => Status::SourceFault,
-            ReadRefused::ScriptFault { line } => Status::ScriptFault { line },
+            ReadRefused::ScriptFault { line, why } => Status::ScriptFault { line, why },
             ReadRefused::Limit { reached: _ } => Status::Limit,
             ReadRefused::NoMemory => Status::NoMemory,
         }
