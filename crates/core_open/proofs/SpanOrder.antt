@@ -10,7 +10,7 @@ use Rattle.std.proofs.lemmas.List.Elements.{All-head, All-tail, All-cons}
 use Rattle.std.proofs.lemmas.List.Kept.{AllPairs-cons}
 use Rattle.std.proofs.lemmas.List.Sorted.{IsPermutation-keeps, IsPermutation-sym}
 use Rattle.core_open.specs.declared.fitting.Span.{Span}
-use Rattle.core_open.specs.Spans.{AreDisjoint, AreInOrder, IsFilled}
+use Rattle.core_open.specs.Spans.{AreDisjoint, AreByStart, IsFilled}
 
 -- The first begins at this sector or after it, and each next one where the one before ends, or
 -- after it.
@@ -40,7 +40,7 @@ clear_from_follow end (span ∷ spans) filled follow =
 
 -- Of two that are clear, the one that begins later begins where the other ends, or after it.
 follow_next : (first : Span) (spans : List Span) → All IsFilled (first ∷ spans)
-    → AreInOrder (first ∷ spans) → AllPairs AreDisjoint (first ∷ spans) → FollowFrom first.end spans
+    → AreByStart (first ∷ spans) → AllPairs AreDisjoint (first ∷ spans) → FollowFrom first.end spans
 follow_next first [] filled sorted clear = tt
 follow_next first (next ∷ spans) filled sorted clear =
     let two : 1 < length (first ∷ next ∷ spans) = omega arith in
@@ -56,7 +56,7 @@ follow_next first (next ∷ spans) filled sorted clear =
           clear (suc i) (suc j) d (omega (arith, before)) (omega (arith, within))),
     )
 
-follow_from_clear : (spans : List Span) → All IsFilled spans → AreInOrder spans
+follow_from_clear : (spans : List Span) → All IsFilled spans → AreByStart spans
     → AllPairs AreDisjoint spans
     → FollowFrom 0 spans
 follow_from_clear [] filled sorted clear = tt
@@ -64,7 +64,7 @@ follow_from_clear (first ∷ spans) filled sorted clear =
     (omega arith, follow_next first spans filled sorted clear)
 
 -- So one walk in the order of their starts tells whether all are clear.
-pub follow_iff_clear : (spans : List Span) → All IsFilled spans → AreInOrder spans
+pub follow_iff_clear : (spans : List Span) → All IsFilled spans → AreByStart spans
     → FollowFrom 0 spans ↔ AllPairs AreDisjoint spans
 follow_iff_clear spans filled sorted =
     (clear_from_follow 0 spans filled, follow_from_clear spans filled sorted)

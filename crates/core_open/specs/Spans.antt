@@ -17,8 +17,8 @@ abbrev pub IsFilled : Span → Type 0
 IsFilled span = span.start < span.end
 
 -- They stand in the order of their starts.
-abbrev pub AreInOrder : List Span → Type 0
-AreInOrder spans = IsNonDecreasingBy (λ (span : Span). span.start) spans
+abbrev pub AreByStart : List Span → Type 0
+AreByStart spans = IsNonDecreasingBy (λ (span : Span). span.start) spans
 
 -- One of them ends where the other begins, or before.
 abbrev pub AreDisjoint : Span → Span → Type 0

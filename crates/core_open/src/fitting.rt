@@ -3,7 +3,7 @@ ghost use Rattle.std.specs.Prelude.{◌≡◌, ◌↔◌, ◌<◌, ◌≤◌, �
 ghost use Rattle.block_record.specs.Page.{IsIndex, IsRightEntry};
 ghost use Rattle.uberblock_ring.specs.Valid.{IsRightUber};
 ghost use Rattle.core_state.specs.Index.{IsFitting};
-ghost use Rattle.core_open.specs.Spans.{AreDisjoint, AreInOrder, FitsAlone, IsFilled, span_of};
+ghost use Rattle.core_open.specs.Spans.{AreDisjoint, AreByStart, FitsAlone, IsFilled, span_of};
 
 use block_record::IndexEntry;
 use row_layout::Layout;
@@ -95,7 +95,7 @@ fn are_clear(mut spans: Vec<Span>) -> bool
 /// Whether each span begins at the end of the one before, or after it.
 fn follow_each_other(spans: &[Span]) -> bool
     requires filled { All IsFilled spans.now }
-    requires sorted { AreInOrder spans.now }
+    requires sorted { AreByStart spans.now }
     ensures value { IsTrue result ↔ AllPairs AreDisjoint spans.now }
 {
     let mut end = 0;

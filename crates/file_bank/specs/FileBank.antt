@@ -2,7 +2,7 @@
 use Rattle.std.specs.Prelude.{◌≡◌, ℕ, ◌-◌, ◌^◌, ◌≤◌, None, length, slice_index, slice_index_or}
 use Rattle.bank_trait.specs.Disk.{Disk}
 use Rattle.file_bank.specs.BlockFile.{Contents}
-use Rattle.file_bank.specs.Files.{all_shown, all_faults, as_bank, EndsBefore}
+use Rattle.file_bank.specs.Files.{all_shown, all_faults, as_bank, FileEndsBefore}
 use Rattle.file_bank.specs.declared.bank.FileBank.{FileBank}
 
 -- the devices
@@ -20,7 +20,7 @@ LacksFile bank device = slice_index_or bank.files.items device None ≡ None
 
 -- The file of a device ends before this sector does, or could not be opened.
 abbrev pub LacksSector : {F : Type 0} {b : _} → (F → Contents) → FileBank F b → ℕ → ℕ → Type 0
-LacksSector contents bank device sector = EndsBefore (all_shown contents bank.files.items device) sector
+LacksSector contents bank device sector = FileEndsBefore (all_shown contents bank.files.items device) sector
 
 -- No moment is left for one more write or sync.
 abbrev pub LacksMoment : {F : Type 0} {b : _} → FileBank F b → Type 0

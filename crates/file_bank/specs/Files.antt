@@ -62,8 +62,8 @@ abbrev pub OthersStay : (ℕ → Contents) → (ℕ → Contents) → ℕ → Ty
 OthersStay old new d = (e : ℕ) → e ≢ d → new e ≡ old e
 
 -- The file ends before this sector does.
-abbrev pub EndsBefore : Contents → ℕ → Type 0
-EndsBefore file sector = file.length < 512 * sector + 512
+abbrev pub FileEndsBefore : Contents → ℕ → Type 0
+FileEndsBefore file sector = file.length < 512 * sector + 512
 
 -- No call on another file than this one has failed.
 abbrev pub OtherCountsStay : (ℕ → ℕ) → (ℕ → ℕ) → ℕ → Type 0

@@ -2,7 +2,7 @@
 ghost use Rattle.std.specs.Prelude.{◌≡◌, ◌⊎◌, ◌<◌, ◌≤◌, ◌+◌, ◌*◌, ◌/◌, ◌%◌, List, ℕ, Some, None, IfOk, IfErr, OnOk, OnErr, take};
 ghost use Rattle.bank_trait.specs.Causes.{FaultCounted, HasCause};
 ghost use Rattle.file_bank.specs.BlockFile.{Written, Settled};
-ghost use Rattle.file_bank.specs.Files.{EndsBefore, HasFileCause, faults_shown, shown};
+ghost use Rattle.file_bank.specs.Files.{FileEndsBefore, HasFileCause, faults_shown, shown};
 
 use crate::block_file::{BlockFile, ReadFault};
 use bank_trait::Failed;
@@ -55,7 +55,7 @@ fn read_whole<F: BlockFile>(file: &mut F, sector: u64, into: &mut [u8; 512]) -> 
     ensures bytes { OnOk result ((bytes : List ℕ)
         → (F.contents file.old).reads sector ≡ Some bytes → into.new ≡ bytes) }
     ensures same { F.contents file.new ≡ F.contents file.old }
-    ensures cause { HasFileCause (EndsBefore (F.contents file.old) sector)
+    ensures cause { HasFileCause (FileEndsBefore (F.contents file.old) sector)
         (F.faults file.old) (F.faults file.new) result }
 {
     let start = offset_of(file.length(), sector)?;
@@ -78,7 +78,7 @@ pub fn read_sector<F: BlockFile>(
     ensures bytes { OnOk result ((bytes : List ℕ)
         → (shown F.contents file.old).reads sector ≡ Some bytes → into.new ≡ bytes) }
     ensures same { shown F.contents file.new ≡ shown F.contents file.old }
-    ensures cause { HasFileCause (EndsBefore (shown F.contents file.old) sector)
+    ensures cause { HasFileCause (FileEndsBefore (shown F.contents file.old) sector)
         (faults_shown F.faults file.old) (faults_shown F.faults file.new) result }
 {
     match file {
@@ -97,7 +97,7 @@ pub fn write_sector<F: BlockFile>(
     requires { (shown F.contents file.old).last < moment }
     ensures written { Written (shown F.contents file.old) (shown F.contents file.new) moment sector
         from.now result }
-    ensures cause { HasFileCause (EndsBefore (shown F.contents file.old) sector)
+    ensures cause { HasFileCause (FileEndsBefore (shown F.contents file.old) sector)
         (faults_shown F.faults file.old) (faults_shown F.faults file.new) result }
 {
     match file {
@@ -114,7 +114,7 @@ fn write_whole<F: BlockFile>(
 ) -> Result<(), Failed>
     requires { (F.contents file.old).last < moment }
     ensures written { Written (F.contents file.old) (F.contents file.new) moment sector from.now result }
-    ensures cause { HasFileCause (EndsBefore (F.contents file.old) sector)
+    ensures cause { HasFileCause (FileEndsBefore (F.contents file.old) sector)
         (F.faults file.old) (F.faults file.new) result }
 {
     let offset = offset_of(file.length(), sector)?;

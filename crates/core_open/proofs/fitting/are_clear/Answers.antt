@@ -3,7 +3,7 @@ use Rattle.std.specs.Prelude.{All}
 use Rattle.std.specs.List.Sorted.{IsPermutation}
 use Rattle.std.proofs.lemmas.List.Sorted.{All-permutation, IsNonDecreasingBy-from_sort_by_key}
 use Rattle.core_open.specs.declared.fitting.Span.{Span}
-use Rattle.core_open.specs.Spans.{AreInOrder, IsFilled}
+use Rattle.core_open.specs.Spans.{AreByStart, IsFilled}
 use Rattle.core_open.proofs.SpanOrder.{clear_by}
 use Rattle.core_open.proofs.fitting.are_clear.Goals as goal
 
@@ -15,7 +15,7 @@ follow_each_other-requires-clause-filled c =
 
 pub follow_each_other-requires-clause-sorted : goal.follow_each_other-requires-clause-sorted
 follow_each_other-requires-clause-sorted c =
-    subst AreInOrder (sym c.deref.ensures.value)
+    subst AreByStart (sym c.deref.ensures.value)
     (IsNonDecreasingBy-from_sort_by_key (λ (span : Span). span.start) _
     c.sort_unstable_by_key.ensures.sorted (λ a r q k. search rules))
 

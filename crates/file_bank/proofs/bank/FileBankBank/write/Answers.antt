@@ -1,5 +1,5 @@
 use Rattle.std.proofs.Common.{◌≡◌, ◌+◌, ◌-◌, ◌^◌, ◌≤◌, inl, arith, rules}
-use Rattle.file_bank.specs.Files.{EndsBefore, shown}
+use Rattle.file_bank.specs.Files.{FileEndsBefore, shown}
 use Rattle.file_bank.proofs.Causes.{in_bank, not_asked, or_lacks}
 use Rattle.file_bank.proofs.Joined.{wrote_one}
 use Rattle.file_bank.proofs.bank.FileBankBank.write.Goals as goal
@@ -15,7 +15,7 @@ pub returns-clause-cause : goal.returns-clause-cause
 returns-clause-cause g c =
     or_lacks _ _ _ _ _ (λ full. omega (arith, full, c.in-Some.ensures.0))
     (in_bank g.F.BlockFile.faults c.args.self.now.files.items _ _ _ c.requires.device c.index_mut.ensures.value
-    (λ file. EndsBefore (shown g.F.BlockFile.contents file) c.args.sector) _ c.write_sector-outcome.ensures.cause)
+    (λ file. FileEndsBefore (shown g.F.BlockFile.contents file) c.args.sector) _ c.write_sector-outcome.ensures.cause)
 
 pub returns-in_default-clause-cause : goal.returns-in_default-clause-cause
 returns-in_default-clause-cause g c =
