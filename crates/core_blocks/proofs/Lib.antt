@@ -3,6 +3,7 @@ pub mod Runs
 pub mod Listed
 pub mod Steps
 pub mod Keeping
+pub mod Growing
 pub mod Fitting
 pub mod Beginning
 pub mod Loaded

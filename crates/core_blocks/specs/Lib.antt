@@ -3,5 +3,6 @@ pub mod Runs
 pub mod Blocks
 pub mod Puts
 pub mod Kept
+pub mod Growing
 pub mod Loading
 pub mod Usage

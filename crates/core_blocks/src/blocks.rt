@@ -1,6 +1,7 @@
 // The blocks of a pool and its free sectors.
-ghost use Rattle.std.specs.Prelude.{◌≡◌, ◌↔◌, ◌≤◌, ◌<◌, ◌^◌, ℕ, ◌++◌, ◌∷◌, [], List, Some, None, All, Contains, IfOk, IfErr, IfSome, IsErrOf, IsTrue, OnErr, length};
+ghost use Rattle.std.specs.Prelude.{◌≡◌, ◌↔◌, ◌+◌, ◌≤◌, ◌<◌, ◌^◌, ℕ, ◌++◌, ◌∷◌, [], List, Some, None, All, Contains, IfOk, IfErr, IfSome, IsErrOf, IsTrue, OnErr, length};
 ghost use Rattle.std.specs.Option.{option_copied};
+ghost use Rattle.width_map.specs.Births.{last_width};
 ghost use Rattle.reflow_mark.specs.Reflow.{sectors_of};
 ghost use Rattle.uberblock_ring.specs.Uberblock.{Uber};
 ghost use Rattle.block_record.specs.declared.entry.IndexEntry.{IndexEntry};
@@ -9,7 +10,8 @@ ghost use Rattle.block_table.specs.Table.{ChangesOnly, IsFull, IsTable, entry_of
 ghost use Rattle.space_alloc.specs.Space.{after_group, Gains, IsDropping};
 ghost use Rattle.row_layout.specs.Layout.{allocated_of};
 ghost use Rattle.core_state.specs.Index.{AreApart, IsFitting, block_end};
-ghost use Rattle.core_blocks.specs.Blocks.{AreInStep, AreUnderWay, HasLayouts, IsStanding, IsUnderWay, range_of, put_run};
+ghost use Rattle.core_blocks.specs.Blocks.{AreInStep, AreUnderWay, HasLayouts, IsListed, IsStanding, IsUnderWay, range_of, put_run};
+ghost use Rattle.core_blocks.specs.Growing.{grown_by};
 ghost use Rattle.core_blocks.specs.declared.range.PutRange.{PutRange};
 ghost use Rattle.core_blocks.specs.Puts.{BeginsPut, HoldsBack, IsAsBefore, IsPutCause, IsRangeFor, sectors_taken};
 ghost use Rattle.core_blocks.specs.Kept.{NoneFree, SparesAll};
@@ -261,5 +263,30 @@ impl Blocks {
             → NoneFree self.old past kept → NoneFree self.new past kept }
     {
         self.space.synced(group);
+    }
+
+    /// An expansion ended in this group: blocks born two groups later are one device wider, and the
+    /// pool has so many sectors. Those that are there, and the puts under way, stay where they are.
+    pub fn grow(&mut self, group: u64, capacity: u64)
+        requires room { length self.old.births < 16 }
+        requires wide { self.old.parity ≤ last_width self.old.births }
+        requires narrow { last_width self.old.births < 16 }
+        requires group_fits { group ≤ 2 ^ 62 }
+        requires larger { self.old.space.capacity ≤ capacity }
+        requires small { capacity ≤ 2 ^ 54 }
+        requires born { (entry : IndexEntry) → IsListed self.old.table.entries entry
+            → entry.birth < group + 2 }
+        ensures value { self.new ≡ grown_by self.old group capacity }
+        ensures stays { AreInStep self.new }
+        ensures under { (ranges : List PutRange) → AreUnderWay self.old ranges
+            → AreUnderWay self.new ranges }
+        ensures range { (id len birth : ℕ) (range : PutRange) → birth < group + 2
+            → IsRangeFor self.old id len birth range → IsRangeFor self.new id len birth range }
+        ensures kept { (past : ℕ) (kept : List IndexEntry)
+            → ((entry : IndexEntry) → Contains kept entry → entry.birth < group + 2)
+            → NoneFree self.old past kept → NoneFree self.new past kept }
+    {
+        self.births.add(group);
+        self.space.enlarge(capacity);
     }
 }

@@ -8,3 +8,4 @@ pub mod Frees
 pub mod Begins
 pub mod Framing
 pub mod Reopened
+pub mod Growing

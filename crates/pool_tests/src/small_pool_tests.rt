@@ -1,5 +1,6 @@
 // A small pool through its calls. At parity 1 and width 3 a block of 512 bytes takes two sectors.
-ghost use Rattle.std.specs.Prelude.{◌≤◌, ◌<◌, ◌^◌};
+ghost use Rattle.std.specs.Prelude.{◌≡◌, ◌≤◌, ◌<◌, ◌^◌, [], IfOk};
+ghost use Rattle.width_map.specs.Births.{first_births};
 
 use block_record::IndexEntry;
 use core_blocks::{Blocks, PutRefused};
@@ -12,6 +13,10 @@ const X: u8 = 8;
 
 fn empty_pool(alloc: Global, capacity: u64) -> Result<Blocks, AllocError>
     requires { capacity ≤ 2 ^ 54 }
+    ensures parity { IfOk result (λ blocks. blocks.parity ≡ 1) }
+    ensures births { IfOk result (λ blocks. blocks.births ≡ first_births 3) }
+    ensures entries { IfOk result (λ blocks. blocks.table.entries ≡ []) }
+    ensures capacity { IfOk result (λ blocks. blocks.space.capacity ≡ capacity) }
 {
     let entries: [IndexEntry; 0] = [];
     Blocks::load(alloc, 1, Births::first(3), capacity, &entries)
@@ -124,5 +129,29 @@ fn a_loaded_block_has_its_sectors(rt: HostRuntime) -> Result<(), Fail> {
     assert_eq!(rt; blocks.get(7).map(|entry| entry.start), Some(2));
     assert_eq!(rt; put(&mut blocks, 1, 2, &locks), Ok(0));
     assert_eq!(rt; put(&mut blocks, 2, 2, &locks), Ok(4));
+    Ok(())
+}
+
+// At width 4 three sectors are one row and a parity column; at width 3 they are two of each.
+#[test]
+fn a_pool_that_has_grown_gives_wider_blocks_its_new_sectors(rt: HostRuntime) -> Result<(), Fail> {
+    let locks = Locks::new(rt.alloc());
+    let mut blocks = empty_pool(rt.alloc(), 192)?;
+    blocks.grow(4, 256);
+    let older = blocks.begin_put(1, 1536, 5, &locks)?;
+    assert_eq!(rt; (older.layout.width(), older.layout.alloc_size()), (3, 6));
+    let wider = blocks.begin_put(2, 1536, 6, &locks)?;
+    assert_eq!(rt; (wider.layout.width(), wider.layout.alloc_size()), (4, 4));
+    assert_eq!(rt; (older.layout.start(), wider.layout.start()), (0, 6));
+    let large = blocks.begin_put(3, 65_536, 6, &locks)?;
+    assert_eq!(rt;
+        (large.layout.start(), large.layout.alloc_size()),
+        (10, 172)
+    );
+    let beyond = blocks.begin_put(4, 24_576, 6, &locks)?;
+    assert_eq!(rt;
+        (beyond.layout.start(), beyond.layout.alloc_size()),
+        (182, 64)
+    );
     Ok(())
 }
