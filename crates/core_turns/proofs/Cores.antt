@@ -1,5 +1,5 @@
 -- A core of which devices went out, and its bank.
-use Rattle.std.proofs.Common.{List, arith, ◌≡◌, ℕ, Option, None, ◌+◌, ◌^◌, ◌<◌, ◌≤◌, sym, ◌∙◌, subst}
+use Rattle.std.proofs.Common.{List, ◌≡◌, ℕ, Option, ◌+◌, ◌^◌, ◌<◌, ◌≤◌, sym, ◌∙◌, subst}
 use Rattle.bank_trait.specs.Disk.{Disk}
 use Rattle.reflow_mark.specs.declared.reflow.Reflow.{Reflow}
 use Rattle.range_locks.specs.declared.hold.Hold.{Hold}
@@ -42,11 +42,6 @@ core_out core out is below within = record {
   few = is.few;
   step = is.step;
 }
-
--- A pool at rest is a core: its last answered group is the last one begun.
-pub core_of : (pool : Pool) (holds : List Hold) → IsPool pool → AreInStep pool.blocks
-    → IsCore (record { pool = pool; holds = holds; begun = pool.uber.group; committing = None })
-core_of pool holds is step = record { is = is; begun = omega arith; few = is.right.group.1; step = step }
 
 -- The bank of a pool has what a block's calls ask for.
 pub bank_has : (uber : Uber) (reflow : Reflow) (out : ℕ) (disk : Disk) → reflow ≡ uber.reflow → HasBank uber out disk

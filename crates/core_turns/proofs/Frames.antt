@@ -11,7 +11,6 @@ use Rattle.reflow_mark.specs.declared.reflow.Reflow.{Reflow}
 use Rattle.row_layout.specs.Layout.{Layout, allocated_of}
 use Rattle.shadow_write.specs.Required.{IsRequiredPlace}
 use Rattle.reflow_band.specs.Band.{IsFrontOf}
-use Rattle.shadow_write.specs.Writes.{writes_of}
 use Rattle.block_record.specs.declared.entry.IndexEntry.{IndexEntry}
 use Rattle.uberblock_ring.specs.Devices.{has_device, IsWithin}
 use Rattle.uberblock_ring.specs.Uberblock.{Uber}
@@ -45,7 +44,7 @@ use Rattle.core_turns.specs.declared.getting.GetRun.{GetRun}
 use Rattle.core_turns.specs.declared.putting.PutRun.{PutRun}
 use Rattle.core_turns.specs.Core.{Core, CoreState, pool_at}
 use Rattle.core_turns.specs.Getting.{IsGetOf, HoldsGet}
-use Rattle.core_turns.specs.Putting.{IsPutOf, HoldsPut}
+use Rattle.core_turns.specs.Putting.{AsksAlike, IsPutOf, HoldsPut}
 use Rattle.core_turns.specs.Committing.{IsCommitOf}
 use Rattle.core_turns.specs.UnderWay.{HoldingCall, Putting, Reading, actor_of, hold_of_call, layout_of_call, ranges_of, IsCallOfCore, HoldsCall, AreCallsOf, PutsSpare, GroupsStand, Stands}
 use Rattle.core_turns.proofs.Beside.{IsWrittenTo, never_both, required_data, written_cell}
@@ -213,9 +212,11 @@ pub put_of_stays : (old new : Core) (run : PutRun) → KeepsWidths old new → C
     → IsPutOf new run
 put_of_stays old new run widths listed of = record {
   pool = subst (λ (r : Reflow). IsInPool run.range.layout r) (sym widths.reflow) of.pool;
-  reflow_is = of.reflow_is ∙ sym widths.reflow;
-  done_is = of.done_is ∙ sym widths.done;
-  front = of.front;
+  front = subst (λ (at : Reflow × ℕ). IsFrontOf at.0 at.1) (λ i. (sym widths.reflow i, sym widths.done i)) of.front;
+  begun_pool = of.begun_pool;
+  begun_front = of.begun_front;
+  places = subst (λ (at : Reflow × ℕ). AsksAlike run.range.layout run.reflow run.done at.0 at.1)
+      (λ i. (sym widths.reflow i, sym widths.done i)) of.places;
   range = record {
     id_is = of.range.id_is;
     birth_is = of.range.birth_is;
@@ -233,7 +234,6 @@ put_of_stays old new run widths listed of = record {
       plan = subst (λ (at : Reflow × ℕ). IsPlanOf run.range.layout at.0 at.1 was.0 filled.write.rows
           filled.write.writes)
           (λ i. (sym widths.reflow i, sym widths.done i)) was.1.plan;
-      writes = was.1.writes ∙ (λ i. writes_of run.range.layout (sym widths.reflow i) (sym widths.done i));
       so_far = was.1.so_far;
       len_is = was.1.len_is;
       digest_is = was.1.digest_is;

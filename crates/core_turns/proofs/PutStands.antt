@@ -8,7 +8,6 @@ use Rattle.width_map.specs.declared.birth.Birth.{Birth}
 use Rattle.range_locks.specs.declared.hold.Hold.{Hold}
 use Rattle.space_alloc.specs.Space.{Gains}
 use Rattle.row_layout.specs.Layout.{Layout}
-use Rattle.reflow_mark.specs.declared.reflow.Reflow.{Reflow}
 use Rattle.block_record.specs.declared.entry.IndexEntry.{IndexEntry}
 use Rattle.reconstruct.specs.Lost.{AreBytes}
 use Rattle.core_state.specs.Map.{Map, with_block}
@@ -20,7 +19,6 @@ use Rattle.core_blocks.specs.Kept.{NoneFree, SparesAll}
 use Rattle.core_blocks.specs.Runs.{AreClear}
 use Rattle.core_blocks.proofs.Lists.{gains_item, gains_old, gains_cases}
 use Rattle.core_client.specs.Pool.{IsRightBlock}
-use Rattle.core_client.specs.Writing.{IsPlanOf}
 use Rattle.core_client.specs.BlockTurns.{IsWrittenSoFar}
 use Rattle.core_client.proofs.BlockTurns.{written_all, written_none}
 use Rattle.core_commit.specs.CommitTurns.{CommitRun}
@@ -36,6 +34,7 @@ use Rattle.core_turns.proofs.Beside.{IsWrittenTo}
 use Rattle.core_turns.proofs.Calls.{range_listed}
 use Rattle.core_turns.proofs.Frames.{commit_still}
 use Rattle.core_turns.proofs.PutRanges.{same_put}
+use Rattle.core_turns.proofs.PutTurns.{plan_now}
 use Rattle.core_turns.proofs.PutCalls.{Rearranges, begins_rearranges, ends_rearranges, gives_up_rearranges, leaves_rearranges}
 
 -- The groups whose blocks are kept: the last answered one, and the last one begun.
@@ -352,9 +351,7 @@ put_fills_stands {setting} {last} {begun} {contents = contents} {commit} {left} 
             fills.digest_is,
             written_none run.range.layout content state.core.pool.uber.reflow
                 state.core.pool.done state.disk.reads state.core.pool.out fills.filled.write
-                (subst (λ (at : Reflow × ℕ). IsPlanOf run.range.layout at.0 at.1 content fills.filled.write.rows
-                fills.filled.write.writes)
-                (λ i. (of.reflow_is i, of.done_is i)) fills.plan)
+                (plan_now state.core run content fills.filled.write.rows fills.filled.write.writes of fills.plan)
                 fills.next,
           );
     }

@@ -9,12 +9,11 @@ use Rattle.bank_trait.proofs.Touches.{touches_none, wrote_touches}
 use Rattle.width_map.specs.declared.birth.Birth.{Birth}
 use Rattle.range_locks.specs.declared.hold.Hold.{Hold}
 use Rattle.range_locks.specs.Holds.{EndsHold}
-use Rattle.row_layout.specs.Layout.{Layout, allocated_of}
+use Rattle.row_layout.specs.Layout.{allocated_of}
 use Rattle.reflow_mark.specs.declared.reflow.Reflow.{Reflow}
 use Rattle.shadow_write.specs.declared.write.Write.{Write}
-use Rattle.shadow_write.specs.Writes.{writes_of}
 use Rattle.space_alloc.specs.Space.{Space, Gains, IsDropping, IsBusySpace, HasNoFreeRun}
-use Rattle.reconstruct.specs.Rows.{sectors_for}
+use Rattle.reconstruct.specs.Rows.{Rows}
 use Rattle.block_record.specs.Bytes.{IsDigest}
 use Rattle.block_record.specs.declared.entry.IndexEntry.{IndexEntry}
 use Rattle.block_table.specs.Table.{ChangesOnly, entry_of, without_one}
@@ -51,7 +50,7 @@ use Rattle.core_turns.specs.declared.turn.Turn.{Turn}
 use Rattle.core_turns.specs.declared.turn.Turn.TheVariants.{More, Busy, Done}
 use Rattle.core_turns.specs.Core.{Core, CoreState, IsCore, as_begun, at_disk}
 use Rattle.core_turns.specs.Getting.{HasTooManyOut}
-use Rattle.core_turns.specs.Putting.{BeginsPutTurn, FillsPut, IsFilledWith, IsMorePut, IsPutOf, LeavesBlocks, StoresBlock, WritesOne, WritesTurn, filled_entry, hold_on, refused_turn}
+use Rattle.core_turns.specs.Putting.{AsksAlike, BeginsPutTurn, FillsPut, IsFilledWith, IsMorePut, IsPutOf, LeavesBlocks, StoresBlock, WritesOne, WritesTurn, filled_entry, hold_on, refused_turn}
 use Rattle.core_turns.specs.UnderWay.{TurnGoesOn}
 use Rattle.core_turns.proofs.Cores.{bank_has, core_blocks}
 use Rattle.core_turns.proofs.Frames.{put_of_stays, widths_out}
@@ -97,11 +96,12 @@ put_begins core actor id len begun range hold holds reflow is few some short of 
       rest = refl;
       holds = held;
       of = record {
-        pool = range_in_pool (as_begun core) begun range id len (core.begun + 1) core.holds is.is begins.parity
-            begins.births of begins.first some short;
-        reflow_is = same;
-        done_is = refl;
-        front = subst (λ (r : Reflow). IsFrontOf r core.pool.done) (sym same) is.is.front;
+        pool = pool;
+        front = is.is.front;
+        begun_pool = subst (IsInPool range.layout) (sym same) pool;
+        begun_front = subst (λ (r : Reflow). IsFrontOf r core.pool.done) (sym same) is.is.front;
+        places = subst (λ (r : Reflow). AsksAlike range.layout r core.pool.done core.pool.uber.reflow core.pool.done)
+            (sym same) (λ row column there device device_sector. (λ is. is, λ is. is));
         range = layout_born begun range id len (core.begun + 1) of;
         born = (let birth = of.birth_is in omega (arith, birth), let birth = of.birth_is in omega (arith, birth));
         len = (some, short);
@@ -114,6 +114,10 @@ put_begins core actor id len begun range hold holds reflow is few some short of 
       spares = spares;
     }
   where
+    pool : IsInPool range.layout core.pool.uber.reflow
+    pool = range_in_pool (as_begun core) begun range id len (core.begun + 1) core.holds is.is begins.parity begins.births
+        of begins.first some short
+
     clash : {filled : Filled} → None ≡ Some filled → ⊥
     clash is_filled = cc
 
@@ -213,9 +217,10 @@ pub filled_of : (core : Core) (run : PutRun) (filled : Filled) (content : List �
     → IsPutOf core (record run { filled = Some filled })
 filled_of core run filled content with of = record {
   pool = of.pool;
-  reflow_is = of.reflow_is;
-  done_is = of.done_is;
   front = of.front;
+  begun_pool = of.begun_pool;
+  begun_front = of.begun_front;
+  places = of.places;
   range = of.range;
   born = of.born;
   len = of.len;
@@ -228,22 +233,32 @@ filled_of core run filled content with of = record {
   );
 }
 
+-- What is filled in for the widths and the front of the put's begin is the pool's block now.
+pub plan_now : (core : Core) (run : PutRun) (content : List ℕ) (rows : Rows) (writes : List Write) → IsPutOf core run
+    → IsPlanOf run.range.layout run.reflow run.done content rows writes
+    → IsPlanOf run.range.layout core.pool.uber.reflow core.pool.done content rows writes
+plan_now core run content rows writes of plan = record {
+  pool = of.pool;
+  front = of.front;
+  encoded = plan.encoded;
+  required = record {
+    only = λ write listed. let is = plan.required.only write listed in
+        (is.0, (of.places write.row write.column is.0 write.device write.device_sector).0 is.1);
+    all = λ row column device device_sector there needed. plan.required.all row column device device_sector there
+        ((of.places row column there device device_sector).1 needed);
+  };
+}
+
 -- So it is where a block of the put's length is filled in,
 pub fills_of : (core : Core) (old new : PutRun) (content : List ℕ) → FillsPut old new content → length content ≡ old.len
     → IsPutOf core old → IsPutOf core new
 fills_of core old new content fills len of = subst (IsPutOf core) (sym fills.rest)
     (filled_of core old fills.filled content (record {
-      plan = subst (λ (at : Reflow × ℕ). IsPlanOf old.range.layout at.0 at.1 content fills.filled.write.rows
-          fills.filled.write.writes) at_front fills.plan;
-      writes = subst (λ (at : Reflow × ℕ). fills.filled.write.writes ≡ writes_of old.range.layout at.0 at.1) at_front
-          fills.writes;
+      plan = plan_now core old content fills.filled.write.rows fills.filled.write.writes of fills.plan;
       so_far = (let first = fills.next in omega (arith, first));
       len_is = len;
       digest_is = fills.digest_is;
     }) of)
-  where
-    at_front : ◌≡◌ {A = Reflow × ℕ} (old.reflow, old.done) (core.pool.uber.reflow, core.pool.done)
-    at_front i = (of.reflow_is i, of.done_is i)
 
 -- whether memory was wanting for that or not,
 pub went_filled : (old new : PutRun) (content : List ℕ) (result : Result (Unit {0}) OutOfMemory)
@@ -264,7 +279,6 @@ written_of core run filled write is there of =
     let was = of.filled filled is in
     filled_of core run (written filled) was.0 (record {
       plan = was.1.plan;
-      writes = was.1.writes;
       so_far = (let low = slice_get_within filled.write.writes filled.write.next write there in omega (arith, low));
       len_is = was.1.len_is;
       digest_is = was.1.digest_is;
@@ -503,13 +517,3 @@ put_end_core core run entry after holds gone is of birth change held parity birt
     (λ old. is.is.born other old.0)
     (put_cases core.pool.blocks.table.entries after.table.entries entry other change listed))
     step
-
--- ---- what turns leave of the others
-
--- The block's bytes can be filled in: it is in the pool,
-pub put_in_pool : (core : Core) (run : PutRun) → IsPutOf core run → IsInPool run.range.layout run.reflow
-put_in_pool core run of = subst (IsInPool run.range.layout) (sym of.reflow_is) of.pool
-
--- and has as many sectors as they fill.
-pub put_sectors : (core : Core) (run : PutRun) → IsPutOf core run → sectors_for run.len ≡ run.range.layout.sectors
-put_sectors core run of = sym (ap (λ (l : Layout). l.sectors) of.range.layout_is)

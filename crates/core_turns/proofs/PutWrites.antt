@@ -15,6 +15,7 @@ use Rattle.reflow_band.specs.Band.{IsFrontOf}
 use Rattle.shadow_write.specs.declared.write.Write.{Write}
 use Rattle.shadow_write.specs.Writes.{writes_of}
 use Rattle.shadow_write.proofs.Whole.{are_required}
+use Rattle.shadow_write.proofs.Whole.{are_required}
 use Rattle.space_alloc.specs.Space.{Gains}
 use Rattle.block_record.specs.declared.entry.IndexEntry.{IndexEntry}
 use Rattle.block_record.specs.Page.{IsRightEntry}
@@ -186,9 +187,11 @@ module _ {left calls : List HoldingCall} {before after : CoreState} {run next : 
   module _ (of : IsPutOf before.core run) where
     -- The write is one of the block's,
     write_listed : Contains (writes_of layout reflow done) writes.write
-    write_listed = subst (λ (l : List Write). Contains l writes.write)
-        (of.filled writes.filled writes.filled_is).1.writes
-        (listed_at writes.filled.write.writes writes.filled.write.next writes.write writes.write_is)
+    write_listed =
+        let is = (of.filled writes.filled writes.filled_is).1.plan.required.only writes.write
+        (listed_at writes.filled.write.writes writes.filled.write.next writes.write writes.write_is) in
+        (are_required layout reflow done).all writes.write.row writes.write.column writes.write.device
+        writes.write.device_sector is.0 is.1
 
     -- so nothing is touched but the block's places.
     touched : TouchesOnly places before.disk after.disk

@@ -4,7 +4,8 @@ use Rattle.sha2.specs.Sha256.{sha256}
 use Rattle.range_locks.specs.declared.hold.Hold.{Hold}
 use Rattle.range_locks.specs.declared.hold.HoldKind.TheVariants.{Shared}
 use Rattle.range_locks.specs.Holds.{EndsHold}
-use Rattle.row_layout.specs.Layout.{allocated_of}
+use Rattle.reflow_mark.specs.declared.reflow.Reflow.{Reflow}
+use Rattle.row_layout.specs.Layout.{IsColumn, Layout, allocated_of, end_of, sector_of}
 use Rattle.shadow_write.specs.declared.write.Write.{Write}
 use Rattle.shadow_write.specs.Writes.{writes_of}
 use Rattle.space_alloc.specs.Space.{Run, Gains, IsDropping, IsBusySpace, HasNoFreeRun}
@@ -21,7 +22,7 @@ use Rattle.core_blocks.specs.Kept.{NoneFree, SparesAll}
 use Rattle.core_blocks.specs.Puts.{BeginsPut, HoldsBack, IsRangeFor, sectors_taken}
 use Rattle.core_blocks.specs.Usage.{AddsAtMost}
 use Rattle.core_state.specs.Committing.{point_of}
-use Rattle.reflow_band.specs.Band.{IsFrontOf}
+use Rattle.reflow_band.specs.Band.{AsksSame, IsFrontOf}
 use Rattle.core_client.specs.Pool.{IsInPool}
 use Rattle.core_client.specs.Writing.{IsPassedOrMade, IsPlanOf}
 use Rattle.core_client.specs.BlockTurns.{IsWrittenSoFar}
@@ -50,18 +51,23 @@ HoldsRange old new range actor None = new ≡ old
 pub record IsFilledWith (core : Core) (run : PutRun) (filled : Filled) (content : List ℕ) : Type 0 where
   pub plan : IsPlanOf run.range.layout core.pool.uber.reflow core.pool.done content
       filled.write.rows filled.write.writes
-  pub writes : filled.write.writes
-      ≡ writes_of run.range.layout core.pool.uber.reflow core.pool.done
   pub so_far : filled.write.next ≤ length filled.write.writes
   pub len_is : length content ≡ run.len
   pub digest_is : filled.digest ≡ sha256 content
 
--- The put is one of this pool, whose sectors it holds.
+-- Two states of a widening ask for the columns of a block at the same places.
+abbrev pub AsksAlike : Layout → Reflow → ℕ → Reflow → ℕ → Type 0
+AsksAlike layout one front other front_then = (row column : ℕ) → IsColumn layout row column
+    → AsksSame one front other front_then (end_of layout row) (sector_of layout row column)
+
+-- The put is one of this pool, whose sectors it holds. The pool asks for its block at the places at which it asked for
+-- it when the put began.
 pub record IsPutOf (core : Core) (run : PutRun) : Type 0 where
   pub pool : IsInPool run.range.layout core.pool.uber.reflow
-  pub reflow_is : run.reflow ≡ core.pool.uber.reflow
-  pub done_is : run.done ≡ core.pool.done
-  pub front : IsFrontOf run.reflow run.done
+  pub front : IsFrontOf core.pool.uber.reflow core.pool.done
+  pub begun_pool : IsInPool run.range.layout run.reflow
+  pub begun_front : IsFrontOf run.reflow run.done
+  pub places : AsksAlike run.range.layout run.reflow run.done core.pool.uber.reflow core.pool.done
   pub range : IsRangeFor core.pool.blocks run.range.id run.len run.range.birth run.range
   pub born : (1 ≤ run.range.birth) × (run.range.birth ≤ core.begun + 1)
   pub len : (1 ≤ run.len) × (run.len ≤ 65536)

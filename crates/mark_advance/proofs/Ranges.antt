@@ -9,8 +9,8 @@ use Rattle.reflow_mark.specs.Reflow.{IsMark, sectors_of}
 use Rattle.range_locks.specs.declared.hold.Hold.{Hold}
 use Rattle.shadow_write.specs.Required.{IsRequiredPlace, IsFrontIn}
 use Rattle.mark_choice.specs.CommitChoice.{IsChoiceIn, IsCommitChoice, range_of_commit}
-use Rattle.reflow_band.specs.Band.{IsWidening, IsFrontOf}
-use Rattle.mark_advance.specs.Behind.{AsksNoMoreAt, IsOutside, AsksSame, front_behind}
+use Rattle.reflow_band.specs.Band.{AsksSame, IsWidening, IsFrontOf}
+use Rattle.mark_advance.specs.Behind.{AsksNoMoreAt, IsOutside, front_behind}
 use Rattle.mark_choice.proofs.Clear.{next_mark_between}
 
 module _ (from to rows mark : ℕ) (done : ℕ) (expands : to ≡ from + 1) where

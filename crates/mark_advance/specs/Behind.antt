@@ -1,5 +1,5 @@
 -- Where a pool stands behind the answer of a commit, in the middle of an expansion or at its end.
-use Rattle.std.specs.Prelude.{◌≡◌, ◌⊎◌, ◌↔◌, ℕ, ◌+◌, ◌<◌, ◌≤◌}
+use Rattle.std.specs.Prelude.{◌≡◌, ◌⊎◌, ℕ, ◌+◌, ◌<◌, ◌≤◌}
 use Rattle.reflow_mark.specs.declared.reflow.State.{State}
 use Rattle.reflow_mark.specs.declared.reflow.State.TheVariants.{None, Valid, Moved}
 use Rattle.reflow_mark.specs.declared.reflow.Reflow.{Reflow}
@@ -31,12 +31,6 @@ AsksNoMoreAt reflow done chosen front = (row_end sector device device_sector : �
 -- The row from `first` to `row_end` is outside a range of sectors.
 abbrev pub IsOutside : ℕ → ℕ → ℕ → ℕ → Type 0
 IsOutside lo hi first row_end = (hi ≤ lo) ⊎ ((row_end ≤ lo) ⊎ (hi ≤ first))
-
--- A row is asked for at the same places at both.
-abbrev pub AsksSame : Reflow → ℕ → Reflow → ℕ → ℕ → ℕ → Type 0
-AsksSame reflow done chosen front row_end sector = (device device_sector : ℕ)
-    → IsRequiredPlace reflow done row_end sector device device_sector
-    ↔ IsRequiredPlace chosen front row_end sector device device_sector
 
 -- What a choice comes to: the expansion goes on, with its front where it may be, or it has ended.
 pub data GoesOnOrEnds (reflow : Reflow) (done : ℕ) (chosen : Reflow) : Type 0 where

@@ -12,10 +12,10 @@ ghost use Rattle.core_state.specs.Index.{IsIndexOf};
 ghost use Rattle.core_state.specs.Whole.{Cell, Excepted, IsCellOf, IsWhole, RightAt};
 ghost use Rattle.core_state.specs.Keeps.{Kept};
 ghost use Rattle.core_state.specs.Certain.{CellsOn};
-ghost use Rattle.mark_choice.specs.CommitChoice.{IsCommitChoice, births_of_commit};
-ghost use Rattle.reflow_band.specs.Band.{IsFrontOf, IsWidening, copied_of};
+ghost use Rattle.mark_choice.specs.CommitChoice.{IsCommitChoice, births_of_commit, range_of_commit};
+ghost use Rattle.reflow_band.specs.Band.{AsksSame, IsFrontOf, IsWidening, copied_of};
 ghost use Rattle.spare_write.specs.Around.{IsCellIn, IsClose, StandAround};
-ghost use Rattle.mark_advance.specs.Behind.{GoesOnOrEnds, begun, front_behind};
+ghost use Rattle.mark_advance.specs.Behind.{GoesOnOrEnds, IsOutside, begun, front_behind};
 
 /// Each cell that is right at the front is right as the chosen reflow asks for it: after a stop in the commit, and
 /// behind its answer.
@@ -74,4 +74,14 @@ pub fn front_goes_on()
     ensures { (reflow : Reflow) (done : ℕ) (holds : List Hold) (chosen : Reflow) → IsWidening reflow
         → IsFrontOf reflow done → scratch_end reflow < sectors_of reflow
         → IsCommitChoice reflow done holds chosen → GoesOnOrEnds reflow done chosen }
+{}
+
+/// A row outside the sectors that the commit holds until its answer is asked for at the same places behind that: a put
+/// that began before goes on with its list of writes, and a read with its columns.
+pub fn rows_stand_still()
+    ensures { (reflow : Reflow) (done : ℕ) (holds : List Hold) (chosen : Reflow) → IsWidening reflow
+        → IsFrontOf reflow done → IsCommitChoice reflow done holds chosen
+        → (first row_end sector : ℕ) → first ≤ sector → sector < row_end → row_end ≤ sectors_of reflow
+        → IsOutside (range_of_commit reflow chosen).0 (range_of_commit reflow chosen).1 first row_end
+        → AsksSame reflow done chosen (front_behind reflow done chosen) row_end sector }
 {}

@@ -7,4 +7,6 @@
 
 mod laws;
 
-pub use laws::{blocks_are_right, front_goes_on, group_is_whole, groups_stand_around};
+pub use laws::{
+    blocks_are_right, front_goes_on, group_is_whole, groups_stand_around, rows_stand_still,
+};

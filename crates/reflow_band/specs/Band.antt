@@ -1,5 +1,5 @@
 -- The places in which sectors may stand around one mark, whatever group or front asks for them.
-use Rattle.std.specs.Prelude.{◌≡◌, ◌⊎◌, ℕ, ◌+◌, ◌<◌, ◌≤◌, max}
+use Rattle.std.specs.Prelude.{◌≡◌, ◌↔◌, ◌⊎◌, ℕ, ◌+◌, ◌<◌, ◌≤◌, max}
 use Rattle.width_map.specs.Place.{first_data_sector, limit_of}
 use Rattle.reflow_mark.specs.declared.reflow.State.{State}
 use Rattle.reflow_mark.specs.declared.reflow.State.TheVariants.{None, Valid, Moved}
@@ -82,3 +82,9 @@ pub record HasWidthAtRest (other : Reflow) (width : ℕ) : Type 0 where
   pub from_is : other.from ≡ width
   pub to_is : other.to ≡ other.from
   pub state_is : other.state ≡ None
+
+-- Two states of a widening ask for a sector of a row that ends here at the same places.
+abbrev pub AsksSame : Reflow → ℕ → Reflow → ℕ → ℕ → ℕ → Type 0
+AsksSame one front other front_then row_end sector = (device device_sector : ℕ)
+    → IsRequiredPlace one front row_end sector device device_sector
+    ↔ IsRequiredPlace other front_then row_end sector device device_sector

@@ -16,6 +16,7 @@ use Rattle.client_script.specs.declared.call.ScriptCall.{ScriptCall}
 use Rattle.client_script.specs.Lines.{fill_bytes, pattern_from}
 use Rattle.core_turns.specs.declared.getting.GetRun.{GetRun}
 use Rattle.core_turns.specs.declared.getting.OutOfMemory.{OutOfMemory}
+use Rattle.core_blocks.specs.Blocks.{Blocks, IsUnderWay}
 use Rattle.core_turns.specs.declared.putting.PutRun.{PutRun}
 use Rattle.core_turns.specs.declared.turn.Turn.{Turn}
 use Rattle.core_turns.specs.declared.turn.Turn.TheVariants.{More, Busy, Done}
@@ -113,6 +114,15 @@ filled_of core call run filled fills len of = ⊎_elim
     (λ (same : filled ≡ run). subst (IsPutOf core) (sym same) of)
     (λ (now : (run.filled ≡ None) × FillsPut run filled (fill_bytes call.fill)).
     fills_of core run filled (fill_bytes call.fill) now.1 len of)
+    fills
+
+-- and has its sectors.
+pub filled_under : (blocks : Blocks) (call : ScriptCall) (run filled : PutRun) → IsFilledIn call run filled
+    → IsUnderWay blocks run.range → IsUnderWay blocks filled.range
+filled_under blocks call run filled fills under = ⊎_elim
+    (λ (same : filled ≡ run). subst (λ (r : PutRun). IsUnderWay blocks r.range) (sym same) under)
+    (λ (now : (run.filled ≡ None) × FillsPut run filled (fill_bytes call.fill)).
+    subst (λ (r : PutRun). IsUnderWay blocks r.range) (sym now.1.rest) under)
     fills
 
 -- A put for which memory was wanting is given up.

@@ -1,9 +1,13 @@
-use Rattle.schedule.proofs.CallTurns.{filled_of, put_gives, put_gives_goes}
+use Rattle.schedule.proofs.CallTurns.{filled_of, filled_under, put_gives, put_gives_goes}
 use Rattle.schedule.proofs.turning.go_on_putting.Goals as goal
 
 pub write_on-requires-clause-of : goal.write_on-requires-clause-of
 write_on-requires-clause-of g c = filled_of c.args.core.now c.args.call.now c.args.run c.fill_in.new.run
     (c.fill_in.ensures.fills c.if-fill_in.true) c.requires.len c.requires.of
+
+pub write_on-requires-clause-under_way : goal.write_on-requires-clause-under_way
+write_on-requires-clause-under_way g c = filled_under c.args.core.now.pool.blocks c.args.call.now c.args.run
+    c.fill_in.new.run (c.fill_in.ensures.fills c.if-fill_in.true) c.requires.under_way
 
 pub returns-else-fill_in-clause-goes : goal.returns-else-fill_in-clause-goes
 returns-else-fill_in-clause-goes g c =
