@@ -13,7 +13,7 @@ use Rattle.uberblock_ring.specs.Devices.{has_device, count_below, IsWithin}
 use Rattle.uberblock_ring.specs.Uberblock.{Uber}
 use Rattle.uberblock_ring.specs.Valid.{IsRightUber}
 use Rattle.core_state.specs.Index.{IsFitting, IsIndexOf}
-use Rattle.core_state.specs.Keeps.{Kept, Setting, IsNextOf, Renews, SameGroup, HasWidthIn}
+use Rattle.core_state.specs.Keeps.{AreNearWidths, Kept, Setting, IsNextOf, Renews, SameGroup, HasWidthIn}
 use Rattle.core_state.specs.Certain.{Asks, IsSound, IsCertain, IsSuccession, Knows}
 use Rattle.core_state.specs.Committing.{Point}
 use Rattle.core_state.specs.Moment.{IsRowOf}
@@ -242,6 +242,13 @@ module _ (setting : Setting) (first : Kept) (later : List Kept) (kept : Kept) (u
           (λ renews. let is_two : kept.uber.group ≡ first.uber.group + 2 = ap (λ (u : Uber). u.group) renews.alike in
           omega (arith, is_two, above, number)) next
 
+      near_back : {other : Kept} → other.uber.reflow.to ≡ first.uber.reflow.to → AreNearWidths first kept
+          → AreNearWidths kept other
+      near_back to near = record {
+        up = (let down = near.down in omega (arith, to, down));
+        down = (let up = near.up in omega (arith, to, up));
+      }
+
       between : IsNextOf first kept → IsNextOf first other → kept.uber.group < other.uber.group
           → IsNextOf kept other
       between (inl one) (inl two) above =
@@ -249,7 +256,12 @@ module _ (setting : Setting) (first : Kept) (later : List Kept) (kept : Kept) (u
       between (inl one) (inr renews) above =
           let number : other.uber.group ≡ first.uber.group + 2 = ap (λ (u : Uber). u.group) renews.alike in
           let area : other.uber.area ≡ first.uber.area = ap (λ (u : Uber). u.area) renews.alike in
-          inl ((let one_is = one.0 in omega (arith, one_is, number)), (λ same. one.1 (sym same ∙ area)))
+          let to : other.uber.reflow.to ≡ first.uber.reflow.to = ap (λ (u : Uber). u.reflow.to) renews.alike in
+          inl (
+            (let one_is = one.0 in omega (arith, one_is, number)),
+            (λ same. one.1 (sym same ∙ area)),
+            near_back to one.2,
+          )
       between (inr renews) (inl two) above =
           let number : kept.uber.group ≡ first.uber.group + 2 = ap (λ (u : Uber). u.group) renews.alike in
           absurd (let two_is = two.0 in omega (arith, number, two_is, above))

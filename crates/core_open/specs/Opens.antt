@@ -9,7 +9,7 @@ use Rattle.uberblock_ring.specs.Uberblock.{Uber, max_group}
 use Rattle.uberblock_ring.specs.Valid.{AreAlike}
 use Rattle.core_state.specs.Shown.{Shape}
 use Rattle.core_state.specs.Choosing.{IsChosen, IsOutAtOpening}
-use Rattle.core_state.specs.Keeps.{Kept, Setting, Renews}
+use Rattle.core_state.specs.Keeps.{HaveParity, Kept, Setting, Renews}
 use Rattle.core_state.specs.Collision.{BankKeeps, HasNoOtherPage}
 use Rattle.core_state.specs.Certain.{IsCertain, Knows}
 use Rattle.core_state.specs.Committing.{Point}
@@ -35,7 +35,7 @@ pub record MayOpen (setting : Setting) (first : Kept) (later : List Kept) (disk 
   pub tells : Tells disk
   pub pages : (image : Image) → HoldsImage disk image
       → HasNoOtherPage setting (first ∷ later) image
-  pub parity : (kept : Kept) → Contains (first ∷ later) kept → kept.uber.parity ≡ first.uber.parity
+  pub parity : HaveParity first.uber.parity (first ∷ later)
 
 -- At most one group joins these, which renews one of them.
 pub record AddsOne (groups joined : List Kept) : Type 0 where

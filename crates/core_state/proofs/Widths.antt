@@ -1,8 +1,11 @@
 -- The widths of the groups of a row: each group has one that the pool may have.
-use Rattle.std.proofs.Common.{◌≡◌, ℕ, suc, ◌++◌, ◌<◌, List, [], ◌∷◌, arith, All}
-use Rattle.std.specs.Prelude.{Contains}
+use Rattle.std.proofs.Common.{◌≡◌, inl, inr, ⊎_elim, ℕ, suc, ◌+◌, ◌++◌, ◌<◌, List, [], ◌∷◌, sym, ◌∙◌, ap, subst, arith, All}
+use Rattle.std.specs.Prelude.{AllPairs, Contains}
 use Rattle.std.proofs.lemmas.List.Elements.{All-contains, All-cons, All-nil}
-use Rattle.core_state.specs.Keeps.{Kept, Setting, HasWidthIn}
+use Rattle.uberblock_ring.specs.Uberblock.{Uber}
+use Rattle.core_state.specs.Keeps.{AreNearWidths, HasWidthIn, IsNextOf, Kept, Renews, Setting}
+use Rattle.core_state.proofs.Listed.{contains_cases}
+use Rattle.core_state.proofs.Reader.{same_group}
 
 pub first_width : (setting : Setting) (first : Kept) (later : List Kept)
     → All (HasWidthIn setting) (first ∷ later)
@@ -45,3 +48,53 @@ pub first_within : (setting : Setting) (first : Kept) (later : List Kept) (devic
     → device < setting.reach
 first_within setting first later device widths below =
     let most = (first_width setting first later widths).most in omega (arith, most, below)
+
+-- The widths of any two groups of a row differ by one device at most: one that is two after the first renews it.
+module _ (first : Kept) (later : List Kept)
+    (ascending : AllPairs (λ one other. one.uber.group < other.uber.group) (first ∷ later))
+    (further : All (IsNextOf first) later) where
+  near_same : (one other : Kept) → one.uber.reflow.to ≡ other.uber.reflow.to → AreNearWidths one other
+  near_same one other same = record { up = omega (arith, same); down = omega (arith, same) }
+
+  near_back : {one other : Kept} → AreNearWidths one other → AreNearWidths other one
+  near_back near = record { up = near.down; down = near.up }
+
+  renewed_to : {next : Kept} → Renews first next → next.uber.reflow.to ≡ first.uber.reflow.to
+  renewed_to renews = ap (λ (u : Uber). u.reflow.to) renews.alike
+
+  near_first : (next : Kept) → IsNextOf first next → AreNearWidths first next
+  near_first next (inl is) = is.2
+  near_first next (inr renews) = near_same first next (sym (renewed_to renews))
+
+  -- One that renews the first has its width.
+  near_renewed : (one next : Kept) → Renews first next → IsNextOf first one → AreNearWidths one next
+  near_renewed one next renews is =
+      let near = near_first one is in
+      let to = renewed_to renews in
+      record {
+        up = (let down = near.down in omega (arith, down, to));
+        down = (let up = near.up in omega (arith, up, to));
+      }
+
+  near_later : (one other : Kept) → Contains (first ∷ later) one → Contains (first ∷ later) other → IsNextOf first one
+      → IsNextOf first other → AreNearWidths one other
+  near_later one other has also (inl is) (inl other_is) = near_same one other (ap (λ (k : Kept). k.uber.reflow.to)
+      (same_group (first ∷ later) one other ascending has also (is.0 ∙ sym other_is.0)))
+  near_later one other has also is (inr renews) = near_renewed one other renews is
+  near_later one other has also (inr renews) is = near_back (near_renewed other one renews is)
+
+  pub near_widths : (one other : Kept) → Contains (first ∷ later) one → Contains (first ∷ later) other
+      → AreNearWidths one other
+  near_widths one other has also = ⊎_elim
+      (λ (same : one ≡ first). ⊎_elim
+      (λ (other_same : other ≡ first). near_same one other (ap (λ (k : Kept). k.uber.reflow.to) (same ∙ sym other_same)))
+      (λ listed. subst (λ (k : Kept). AreNearWidths k other) (sym same)
+      (near_first other (All-contains (IsNextOf first) later other further listed)))
+      (contains_cases first later other also))
+      (λ listed. ⊎_elim
+      (λ (other_same : other ≡ first). subst (AreNearWidths one) (sym other_same)
+      (near_back (near_first one (All-contains (IsNextOf first) later one further listed))))
+      (λ other_listed. near_later one other has also (All-contains (IsNextOf first) later one further listed)
+      (All-contains (IsNextOf first) later other further other_listed))
+      (contains_cases first later other also))
+      (contains_cases first later one has)

@@ -28,6 +28,10 @@ pub record Setting : Type 0 where
   pub failed : ℕ
   pub excepted : Excepted
 
+-- The groups have this parity.
+abbrev pub HaveParity : ℕ → List Kept → Type 0
+HaveParity parity groups = (kept : Kept) → Contains groups kept → kept.uber.parity ≡ parity
+
 -- A device shows a candidate of the pool, with a page that some device gives.
 abbrev pub ShowsCandidate : Setting → Image → ℕ → Uber → List IndexEntry → Type 0
 ShowsCandidate setting image device uber entries =
@@ -87,11 +91,16 @@ pub record Renews (chosen next : Kept) : Type 0 where
   pub map : SameMap next.map chosen.map
   pub alike : AreAlike next.uber (record chosen.uber { group = chosen.uber.group + 2 })
 
--- The group is the next one, with its page in the other index area, or that of an opening which chose
--- the first.
+-- The widths of two groups differ by one device at most.
+pub record AreNearWidths (one other : Kept) : Type 0 where
+  pub up : other.uber.reflow.to ≤ one.uber.reflow.to + 1
+  pub down : one.uber.reflow.to ≤ other.uber.reflow.to + 1
+
+-- The group is the next one, at most one device wider or narrower, with its page in the other index area, or that of an
+-- opening which chose the first.
 abbrev pub IsNextOf : Kept → Kept → Type 0
 IsNextOf first next =
-    ((next.uber.group ≡ first.uber.group + 1) × (next.uber.area ≢ first.uber.area))
+    ((next.uber.group ≡ first.uber.group + 1) × (next.uber.area ≢ first.uber.area) × AreNearWidths first next)
     ⊎ Renews first next
 
 -- No device that is the pool's or may join it shows an uberblock of another pool: creating cleared its

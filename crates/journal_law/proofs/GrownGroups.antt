@@ -48,6 +48,13 @@ one_before items index one other first second = ⊎_elim
     (subst (λ (k : ℕ). GroupAt items k one) same first.there) second.there)
     (cases_lt second.place first.place)) (cases_lt first.place second.place)
 
+-- What lets a group be wider may be told in other words.
+pub width_step_where : {attached told : Type 0} (before next : GroupItem) → (attached → told)
+    → IsWidthStep attached before next → IsWidthStep told before next
+width_step_where before next tells (inl same) = inl same
+width_step_where before next tells (inr (inl ended)) = inr (inl ended)
+width_step_where before next tells (inr (inr began)) = inr (inr (tells began.0, began.1, began.2, began.3))
+
 -- An earlier group follows the one before it in the grown journal too.
 follows_grown : (items more : List Item) (index : ℕ) (before next : GroupItem)
     → Follows items index before next
@@ -56,18 +63,12 @@ follows_grown items more index before next follows = record {
   number = follows.number;
   later = follows.later;
   listed = follows.listed;
-  widths = widths follows.widths;
+  widths = width_step_where before next attached follows.widths;
 }
   where
     attached : IsAttachOf items (before.from + 1) next.group
         → IsAttachOf (items ++ more) (before.from + 1) next.group
     attached is = (is.0, is.1, grown_has items more is.0 (Call is.1) is.2, is.3)
-
-    widths : IsWidthStep (IsAttachOf items (before.from + 1) next.group) before next
-        → IsWidthStep (IsAttachOf (items ++ more) (before.from + 1) next.group) before next
-    widths (inl same) = inl same
-    widths (inr (inl ended)) = inr (inl ended)
-    widths (inr (inr began)) = inr (inr (attached began.0, began.1, began.2, began.3))
 
 earlier_follows : (items more : List Item) → GroupsAreRight items
     → (index : ℕ) (before next : GroupItem) → index < length items

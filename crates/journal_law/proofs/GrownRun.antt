@@ -10,12 +10,12 @@ use Rattle.core_state.specs.declared.item.Item.{Item}
 use Rattle.core_state.specs.declared.item.Item.TheVariants.{Group, Call}
 use Rattle.core_state.specs.Map.{Map, PutBytes}
 use Rattle.core_state.specs.Legal.{GroupAt, IsGroupBefore}
-use Rattle.core_state.specs.Journal.{GroupsAreRight}
+use Rattle.core_state.specs.Journal.{Calls, GroupsAreRight}
 use Rattle.core_state.specs.Keeps.{Kept}
-use Rattle.core_state.specs.Moment.{groups_in, IsGroupOf, IsBegunAfter, IsUnanswered, Groups}
+use Rattle.core_state.specs.Moment.{AwaitsAttach, groups_in, item_of, IsGroupOf, IsBegunAfter, IsUnanswered, Groups}
 use Rattle.core_state.proofs.Listed.{contains_none}
-use Rattle.journal_law.proofs.Grown.{map_before}
-use Rattle.journal_law.proofs.GrownGroups.{group_of_grown, after_listed}
+use Rattle.journal_law.proofs.Grown.{first_has, map_before}
+use Rattle.journal_law.proofs.GrownGroups.{group_of_grown, after_listed, width_step_where}
 
 -- The groups of a journal with a new item.
 groups_with_call : (items : List Item) (entry : Entry)
@@ -72,26 +72,43 @@ each_pushed handed opening items (first ∷ groups) [] group kept each is = absu
 each_pushed handed opening items (other ∷ groups) (first ∷ answered) group kept each is =
     (each.0, each_pushed handed opening items groups answered group kept each.1 is)
 
+-- An attach that was to be answered then is told so by a journal that has grown.
+awaits_grown : (calls : Calls) (items more : List Item) (after : ℕ) → after ≤ length items
+    → AwaitsAttach calls items after → AwaitsAttach calls (items ++ more) after
+awaits_grown calls items more after within awaits = record {
+  caller = awaits.caller;
+  number = awaits.number;
+  asked = awaits.asked;
+  before = λ index entry below there. awaits.before index entry below
+      (first_has items more index (Call entry) (omega (arith, below, within)) there);
+}
+
 -- A group that was begun and isn't answered stays so.
-unanswered_grown : (handed : PutBytes) (opening : Map) (items more : List Item) (known : List Kept)
-    (groups : List GroupItem) (kept : Kept) → IsUnanswered handed opening items known groups kept
-    → IsUnanswered handed opening (items ++ more) known groups kept
-unanswered_grown handed opening items more known [] kept is = is
-unanswered_grown handed opening items more known (group ∷ groups) kept is = record {
+begun_grown : (calls : Calls) (handed : PutBytes) (opening : Map) (items more : List Item) (last : GroupItem)
+    (kept : Kept) → IsBegunAfter calls handed opening items last kept
+    → IsBegunAfter calls handed opening (items ++ more) last kept
+begun_grown calls handed opening items more last kept is = record {
   number = is.number;
   after = is.after;
   listed = (is.listed.0, omega (arith, is.listed.1, length-append items more));
   map = λ id. is.map id ∙ ap (λ (map : Map). map id)
       (sym (map_before handed opening items more is.after is.listed.1));
-  widths = is.widths;
+  widths = width_step_where last (item_of kept is.after) (awaits_grown calls items more is.after is.listed.1) is.widths;
 }
 
+unanswered_grown : (calls : Calls) (handed : PutBytes) (opening : Map) (items more : List Item) (known : List Kept)
+    (groups : List GroupItem) (kept : Kept) → IsUnanswered calls handed opening items known groups kept
+    → IsUnanswered calls handed opening (items ++ more) known groups kept
+unanswered_grown calls handed opening items more known [] kept is = is
+unanswered_grown calls handed opening items more known (group ∷ groups) kept is =
+    begun_grown calls handed opening items more _ kept is
+
 -- A new answer changes no group of a run.
-pub groups_call : (handed : PutBytes) (opening : Map) (known : List Kept) (items : List Item)
-    (groups : Groups handed opening known items) → GroupsAreRight items → (entry : Entry)
-    → (grown : Groups handed opening known (items ++ Call entry ∷ []))
+pub groups_call : (calls : Calls) (handed : PutBytes) (opening : Map) (known : List Kept) (items : List Item)
+    (groups : Groups calls handed opening known items) → GroupsAreRight items → (entry : Entry)
+    → (grown : Groups calls handed opening known (items ++ Call entry ∷ []))
     × (grown.answered ≡ groups.answered) × (grown.begun ≡ groups.begun)
-groups_call handed opening known items groups right entry = (
+groups_call calls handed opening known items groups right entry = (
   record {
     answered = groups.answered;
     begun = groups.begun;
@@ -101,8 +118,8 @@ groups_call handed opening known items groups right entry = (
         items groups.answered (all_within items right) groups.each);
     one = groups.one;
     unanswered = λ kept has. subst (λ (list : List GroupItem).
-        IsUnanswered handed opening (items ++ Call entry ∷ []) known list kept)
-        (sym (groups_with_call items entry)) (unanswered_grown handed opening items
+        IsUnanswered calls handed opening (items ++ Call entry ∷ []) known list kept)
+        (sym (groups_with_call items entry)) (unanswered_grown calls handed opening items
         (Call entry ∷ []) known (groups_in items) kept (groups.unanswered kept has));
   },
   refl,
@@ -110,13 +127,13 @@ groups_call handed opening known items groups right entry = (
 )
 
 -- A new group is answered behind the others.
-pub groups_end : (handed : PutBytes) (opening : Map) (known : List Kept) (items : List Item)
-    (groups : Groups handed opening known items) → groups.begun ≡ []
+pub groups_end : (calls : Calls) (handed : PutBytes) (opening : Map) (known : List Kept) (items : List Item)
+    (groups : Groups calls handed opening known items) → groups.begun ≡ []
     → (group : GroupItem) (kept : Kept)
     → IsGroupOf handed opening (items ++ Group group ∷ []) group kept → GroupsAreRight items
-    → (grown : Groups handed opening known (items ++ Group group ∷ []))
+    → (grown : Groups calls handed opening known (items ++ Group group ∷ []))
     × (grown.answered ≡ groups.answered ++ kept ∷ []) × (grown.begun ≡ [])
-groups_end handed opening known items groups none group kept is right = (
+groups_end calls handed opening known items groups none group kept is right = (
   record {
     answered = groups.answered ++ kept ∷ [];
     begun = [];
@@ -170,32 +187,32 @@ last_in (Call entry ∷ items) (suc place) last there latest = last_in items pla
     (λ index other after at. latest (suc index) other (omega (arith, after)) at)
 
 -- A group that was begun after the last one is the one that isn't answered.
-begun_after_last : (handed : PutBytes) (opening : Map) (items : List Item) (known : List Kept)
+begun_after_last : (calls : Calls) (handed : PutBytes) (opening : Map) (items : List Item) (known : List Kept)
     (front : List GroupItem) (last : GroupItem) (kept : Kept)
-    → IsBegunAfter handed opening items last kept
-    → IsUnanswered handed opening items known (front ++ last ∷ []) kept
-begun_after_last handed opening items known [] last kept is = is
-begun_after_last handed opening items known (first ∷ []) last kept is = is
-begun_after_last handed opening items known (first ∷ next ∷ front) last kept is =
-    begun_after_last handed opening items known (next ∷ front) last kept is
+    → IsBegunAfter calls handed opening items last kept
+    → IsUnanswered calls handed opening items known (front ++ last ∷ []) kept
+begun_after_last calls handed opening items known [] last kept is = is
+begun_after_last calls handed opening items known (first ∷ []) last kept is = is
+begun_after_last calls handed opening items known (first ∷ next ∷ front) last kept is =
+    begun_after_last calls handed opening items known (next ∷ front) last kept is
 
-after_last_begun : (handed : PutBytes) (opening : Map) (items : List Item) (known : List Kept)
+after_last_begun : (calls : Calls) (handed : PutBytes) (opening : Map) (items : List Item) (known : List Kept)
     (front : List GroupItem) (last : GroupItem) (kept : Kept)
-    → IsUnanswered handed opening items known (front ++ last ∷ []) kept
-    → IsBegunAfter handed opening items last kept
-after_last_begun handed opening items known [] last kept is = is
-after_last_begun handed opening items known (first ∷ []) last kept is = is
-after_last_begun handed opening items known (first ∷ next ∷ front) last kept is =
-    after_last_begun handed opening items known (next ∷ front) last kept is
+    → IsUnanswered calls handed opening items known (front ++ last ∷ []) kept
+    → IsBegunAfter calls handed opening items last kept
+after_last_begun calls handed opening items known [] last kept is = is
+after_last_begun calls handed opening items known (first ∷ []) last kept is = is
+after_last_begun calls handed opening items known (first ∷ next ∷ front) last kept is =
+    after_last_begun calls handed opening items known (next ∷ front) last kept is
 
 -- The group that isn't answered was begun after the last one.
-pub groups_begun : (handed : PutBytes) (opening : Map) (known : List Kept) (items : List Item)
-    (groups : Groups handed opening known items) (last : GroupItem)
+pub groups_begun : (calls : Calls) (handed : PutBytes) (opening : Map) (known : List Kept) (items : List Item)
+    (groups : Groups calls handed opening known items) (last : GroupItem)
     → IsGroupBefore items (length items) last → (kept : Kept) → Contains groups.begun kept
-    → IsBegunAfter handed opening items last kept
-groups_begun handed opening known items groups last latest kept has =
-    after_last_begun handed opening items known found.0 last kept
-    (subst (λ (list : List GroupItem). IsUnanswered handed opening items known list kept) found.1
+    → IsBegunAfter calls handed opening items last kept
+groups_begun calls handed opening known items groups last latest kept has =
+    after_last_begun calls handed opening items known found.0 last kept
+    (subst (λ (list : List GroupItem). IsUnanswered calls handed opening items known list kept) found.1
     (groups.unanswered kept has))
   where
     found : (front : List GroupItem) × (groups_in items ≡ front ++ last ∷ [])
@@ -204,21 +221,21 @@ groups_begun handed opening known items groups last latest kept has =
         (slice_get_within items index (Group group) there) there)
 
 -- A new group was begun after the last one, or none was.
-pub groups_cut : (handed : PutBytes) (opening : Map) (known : List Kept) (items : List Item)
-    (groups : Groups handed opening known items) → groups.begun ≡ [] → (last : GroupItem)
+pub groups_cut : (calls : Calls) (handed : PutBytes) (opening : Map) (known : List Kept) (items : List Item)
+    (groups : Groups calls handed opening known items) → groups.begun ≡ [] → (last : GroupItem)
     → IsGroupBefore items (length items) last → (begun : List Kept) → length begun ≤ 1
-    → ((kept : Kept) → Contains begun kept → IsBegunAfter handed opening items last kept)
-    → (grown : Groups handed opening known items)
+    → ((kept : Kept) → Contains begun kept → IsBegunAfter calls handed opening items last kept)
+    → (grown : Groups calls handed opening known items)
     × (grown.answered ≡ groups.answered) × (grown.begun ≡ begun)
-groups_cut handed opening known items groups none last latest begun one after = (
+groups_cut calls handed opening known items groups none last latest begun one after = (
   record {
     answered = groups.answered;
     begun = begun;
     each = groups.each;
     one = one;
     unanswered = λ kept has. subst (λ (list : List GroupItem).
-        IsUnanswered handed opening items known list kept) (sym found.1)
-        (begun_after_last handed opening items known found.0 last kept (after kept has));
+        IsUnanswered calls handed opening items known list kept) (sym found.1)
+        (begun_after_last calls handed opening items known found.0 last kept (after kept has));
   },
   refl,
   refl,
@@ -230,11 +247,11 @@ groups_cut handed opening known items groups none last latest begun one after = 
         (slice_get_within items index (Group group) there) there)
 
 -- The groups of a journal of one group.
-pub groups_one : (handed : PutBytes) (opening : Map) (known : List Kept) (group : GroupItem)
+pub groups_one : (calls : Calls) (handed : PutBytes) (opening : Map) (known : List Kept) (group : GroupItem)
     (kept : Kept) → IsGroupOf handed opening (Group group ∷ []) group kept
-    → (groups : Groups handed opening known (Group group ∷ []))
+    → (groups : Groups calls handed opening known (Group group ∷ []))
     × (groups.answered ≡ kept ∷ []) × (groups.begun ≡ [])
-groups_one handed opening known group kept is = (
+groups_one calls handed opening known group kept is = (
   record {
     answered = kept ∷ [];
     begun = [];

@@ -4,7 +4,7 @@ pub mod GrownGroups
 pub mod GrownRun
 pub mod Moments
 pub mod Rows
-pub mod Widths
+pub mod Parity
 pub mod RunBytes
 pub mod Distinct
 pub mod ManyIds

@@ -5,14 +5,7 @@ use Rattle.std.specs.Prelude.{Contains}
 use Rattle.core_state.specs.Keeps.{Kept}
 use Rattle.core_state.specs.Moment.{IsRowOf}
 
-pub cut_row : (known earlier answered left begun : List Kept) (last : Kept) → answered ≡ earlier ++ last ∷ []
-    → begun ≡ left
-    → ((known ++ earlier) ++ last ∷ []) ++ left ≡ known ++ answered ++ begun
-cut_row known earlier answered left begun last answered_are same =
-    ap (λ (l : List Kept). l ++ left) (append_assoc known earlier (last ∷ []))
-    ∙ (λ i. known ++ sym answered_are i ++ sym same i)
-
--- and groups in a row are among all.
+-- Groups in a row are among all.
 pub row_among : {groups later : List Kept} {first : Kept} → IsRowOf groups first later
     → (kept : Kept) → Contains (first ∷ later) kept → Contains groups kept
 row_among {later = later} {first = first} row kept listed = subst (λ (l : List Kept). Contains l kept) (sym row.row)

@@ -1,6 +1,6 @@
 pub mod Points
 pub mod FirstGroup
-pub mod Widths
+pub mod Parity
 pub mod Moments
 pub mod Caused
 pub mod NoSpace

@@ -134,7 +134,11 @@ module _ (setting : Setting) (last : Kept) (map : Map) (before : State) (is : Is
         (All-cons (λ (other : Kept). last.uber.group < other.uber.group) next [] (omega (arith, group_is))
         (λ k d within. absurd (omega (arith, within))))
         (λ i j d less within. absurd (omega (arith, less, within)));
-    further = All-cons (IsNextOf last) next [] (inl (omega (arith, group_is), λ same. apart (sym same)))
+    further = All-cons (IsNextOf last) next [] (inl (
+      omega (arith, group_is),
+      (λ same. apart (sym same)),
+      record { up = omega (arith, to_is); down = omega (arith, to_is) },
+    ))
         (λ k d within. absurd (omega (arith, within)));
     widths = All-cons (HasWidthIn setting) last (next ∷ []) last_width
         (only_width setting next (width_like setting last next (sym to_is) last_width));

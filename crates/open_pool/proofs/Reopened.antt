@@ -5,7 +5,7 @@ use Rattle.bank_trait.specs.Disk.{Image, Disk}
 use Rattle.bank_trait.specs.Regions.{Tells}
 use Rattle.reconstruct.specs.Lost.{AreBytes}
 use Rattle.core_state.specs.Shown.{Shape}
-use Rattle.core_state.specs.Keeps.{Kept, Setting, Keeps}
+use Rattle.core_state.specs.Keeps.{HaveParity, Kept, Setting, Keeps}
 use Rattle.core_state.specs.Collision.{BankKeeps, HasNoOtherPage}
 use Rattle.core_open.specs.Holds.{HoldsImage, shape_of}
 use Rattle.open_pool.specs.Opening.{MayBegin}
@@ -36,18 +36,17 @@ alone_keeps setting first later disk image shape alone only keeps left might =
     keeps_same setting first later image left
     (same_back (subst (λ (s : Shape). SameOn s left image) (sym shape) (alone.leaves left might.fits))) only keeps
 
--- A bank that holds alone what a stop left, where that keeps groups of one width with bytes in their maps, may be
+-- A bank that holds alone what a stop left, where that keeps groups of one parity with bytes in their maps, may be
 -- opened again.
 pub stopped_begins : (setting : Setting) (first : Kept) (later : List Kept) (disk : Disk) (image : Image)
     → setting.shape ≡ shape_of disk → setting.excepted ≡ [] → HoldsAlone disk image → IsImageOf setting.shape image
     → Keeps setting first later image
     → HasNoOtherPage setting (first ∷ later) image
-    → ((kept : Kept) → Contains (first ∷ later) kept
-    → (kept.uber.reflow.to ≡ first.uber.reflow.to) × (kept.uber.parity ≡ first.uber.parity))
+    → HaveParity first.uber.parity (first ∷ later)
     → ((kept : Kept) (id : ℕ) (content : List ℕ) → Contains (first ∷ later) kept → kept.map id ≡ Some content
     → AreBytes content)
     → MayBegin setting first later disk
-stopped_begins setting first later disk image shape excepted alone only keeps pages width bytes = record {
+stopped_begins setting first later disk image shape excepted alone only keeps pages parity bytes = record {
   may = record {
     keeps = alone_keeps setting first later disk image shape alone only keeps;
     shape = shape;
@@ -55,9 +54,8 @@ stopped_begins setting first later disk image shape excepted alone only keeps pa
     pages = λ held holds. pages_same setting first later image held
         (subst (λ (s : Shape). SameOn s image held) (sym shape) (held_same disk image held alone.holds holds))
         only keeps (first ∷ later) pages;
-    parity = λ kept listed. (width kept listed).1;
+    parity = parity;
   };
-  one_width = λ kept listed. (width kept listed).0;
   excepted = excepted;
   bytes = bytes;
 }

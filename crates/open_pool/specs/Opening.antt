@@ -23,12 +23,9 @@ pub record AreLoaded (uber : Uber) (entries : List IndexEntry) (blocks : Blocks)
   pub entries_are : blocks.table.entries ≡ entries
   pub space : IsTakenBy uber.parity uber.births (sectors_of uber.reflow) entries blocks.space
 
--- A pool may be opened where images keep these groups, all of one width, whose maps hold bytes, with no place
--- that may be wrong.
+-- A pool may be opened where images keep these groups, whose maps hold bytes, with no place that may be wrong.
 pub record MayBegin (setting : Setting) (first : Kept) (later : List Kept) (disk : Disk) : Type 0 where
   pub may : MayOpen setting first later disk
-  pub one_width : (kept : Kept) → Contains (first ∷ later) kept
-      → kept.uber.reflow.to ≡ first.uber.reflow.to
   pub excepted : setting.excepted ≡ []
   pub bytes : (kept : Kept) (id : ℕ) (content : List ℕ) → Contains (first ∷ later) kept
       → kept.map id ≡ Some content → AreBytes content

@@ -13,5 +13,4 @@ pub mod RunCarried
 pub mod RunEnding
 pub mod Ending
 pub mod NewPools
-pub mod Choices
 pub mod Bearing

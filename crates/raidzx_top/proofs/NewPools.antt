@@ -11,7 +11,7 @@ use Rattle.journal_law.proofs.Moments.{contains_one}
 use Rattle.raidzx_top.specs.Call.{TopCall, HoldsImage, shape_of}
 use Rattle.raidzx_top.specs.Promises.{IsNewSetting}
 
--- The bank meets what a run asks for: it keeps the pool's first group, of one width, without blocks. As for each
+-- The bank meets what a run asks for: it keeps the pool's first group, without blocks. As for each
 -- opening, no page on the bank may be another's by chance.
 module _ (call : TopCall) (parity width id : ℕ) (later : Later call.old call.new) (tells : Tells call.old)
     (setting : Setting) (new : IsNewSetting call parity width id setting) (excepted : setting.excepted ≡ []) where
@@ -33,7 +33,6 @@ module _ (call : TopCall) (parity width id : ℕ) (later : Later call.old call.n
       pages = pages;
       parity = λ kept listed. ap (λ (k : Kept). k.uber.parity) (contains_one first kept listed);
     };
-    one_width = λ kept listed. ap (λ (k : Kept). k.uber.reflow.to) (contains_one first kept listed);
     excepted = excepted;
     bytes = λ kept id content listed has. absurd (no_block id content
         (subst (λ (k : Kept). k.map id ≡ Some content) (contains_one first kept listed) has));

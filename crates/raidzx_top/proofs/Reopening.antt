@@ -12,17 +12,17 @@ use Rattle.core_state.specs.declared.item.Item.{Item}
 use Rattle.core_state.specs.declared.item.Item.TheVariants.{Call}
 use Rattle.core_state.specs.Map.{Map, PutBytes, SameMap, map_after}
 use Rattle.core_state.specs.Legal.{CallAt}
-use Rattle.core_state.specs.Keeps.{Kept, Setting, Keeps}
+use Rattle.core_state.specs.Keeps.{HaveParity, Kept, Setting, Keeps}
 use Rattle.core_state.specs.Moment.{IsGroupOf, IsBegunAfter, IsUnanswered, KeepsSince, groups_in}
-use Rattle.core_state.proofs.Listed.{contains_none, contains_cases}
-use Rattle.core_open.specs.Opens.{AddsOne}
+use Rattle.core_state.proofs.Listed.{contains_none, contains_cases, contains_head}
+use Rattle.core_state.proofs.Widths.{first_width}
+use Rattle.core_open.specs.Opens.{AddsOne, IsWithinBelow}
 use Rattle.uberblock_ring.specs.Devices.{IsWithin}
 use Rattle.core_open.proofs.Unchanged.{unchanged_keeps}
 use Rattle.open_pool.specs.Opening.{CutsOpening, MayBegin}
 use Rattle.open_pool.specs.Stopped.{IsImageOf}
 use Rattle.open_pool.proofs.Reopened.{stopped_begins}
-use Rattle.client_script.specs.Script.{Script, IsAllowed, handed_by}
-use Rattle.journal_law.specs.Widths.{HaveWidthOf}
+use Rattle.client_script.specs.Script.{Script, IsAllowed, asked_by, handed_by}
 use Rattle.journal_law.proofs.Rows.{row_among}
 use Rattle.journal_law.proofs.RunBytes.{HoldsBytes, HandsBytes, after_bytes, script_hands}
 use Rattle.schedule.specs.WholeRun.{HasRun, RunKeeps, banks_of}
@@ -56,34 +56,28 @@ taken_there (item ∷ items) (suc count) (suc index) entry there = taken_there i
 read_back : (setting : Setting) (groups : List Kept) (opened first : Kept) (later : List Kept) (image : Image)
     → setting.excepted ≡ [] → IsImageOf setting.shape image → Keeps setting first later image
     → ((kept : Kept) → Contains (first ∷ later) kept → Contains groups kept)
-    → HaveWidthOf opened.uber groups → HaveBytes groups
-    → IsReadBack setting opened.uber.reflow.to groups image
-read_back setting groups opened first later image excepted only keeps among width bytes = record {
+    → HaveParity opened.uber.parity groups → HaveBytes groups → IsReadBack setting groups image
+read_back setting groups opened first later image excepted only keeps among parity bytes = record {
   opened = λ disk left. record {
     first = first;
     later = later;
     among = among;
-    width_is = (width.each first here).0;
     may = may disk left;
   };
   each = reads;
 }
   where
-    here : Contains groups first
-    here = among first (0, omega arith, refl)
-
     may : (disk : Disk) → IsLeftOn setting groups image disk → MayBegin setting first later disk
     may disk left = stopped_begins setting first later disk image left.shape excepted left.alone only keeps
         (record { page = λ one shower giver uber listed. left.pages.page one shower giver uber (among one listed) })
-        (λ one listed. let its = width.each one (among one listed) in let firsts = width.each first here in
-        (its.0 ∙ sym firsts.0, its.1 ∙ sym firsts.1))
+        (λ one listed. parity one (among one listed) ∙ sym (parity first (among first (contains_head first later))))
         (λ one id content listed. bytes one (among one listed) id content)
 
     reads : (script : Script) (old new : Disk) (items : List Item) (out : ℕ) → (run : HasRun script old new items out)
-        → IsLeftOn setting groups image old → run.opened.to ≡ opened.uber.reflow.to
+        → IsLeftOn setting groups image old → IsWithinBelow setting.reach run.silent setting.failed
         → IsWithin run.borne setting.failed
         → ReadsBack groups script items
-    reads script old new items out run left width_is bears = record {
+    reads script old new items out run left missed bears = record {
       chosen = kept.chosen;
       known = among kept.chosen kept.known;
       legal = kept.legal;
@@ -91,14 +85,17 @@ read_back setting groups opened first later image excepted only keeps among widt
     }
       where
         kept : RunKeeps script setting first later old new items run.parity run.silent (banks_of run)
-        kept = run.keeps setting first later (may old left) ((width.each first here).0 ∙ sym width_is) bears
+        kept = run.keeps setting first later (may old left)
+            (λ device below. missed device (let wide = (first_width setting first later keeps.widths).most in
+            omega (arith, below, wide))) bears
 
 module _ (script : Script) (old new : Disk) (items : List Item) (out : ℕ) (run : HasRun script old new items out)
     (allowed : All (λ placed. IsAllowed placed.call) script.calls)
     (setting : Setting) (first : Kept) (later : List Kept) (may : MayBegin setting first later old)
-    (width_is : first.uber.reflow.to ≡ run.opened.to) (bears : IsWithin run.borne setting.failed) where
+    (missed : IsWithinBelow first.uber.reflow.to run.silent setting.failed)
+    (bears : IsWithin run.borne setting.failed) where
   keeps : RunKeeps script setting first later old new items run.parity run.silent (banks_of run)
-  keeps = run.keeps setting first later may width_is bears
+  keeps = run.keeps setting first later may missed bears
 
   -- the groups of the run
   abbrev run_groups : List Kept
@@ -119,7 +116,8 @@ module _ (script : Script) (old new : Disk) (items : List Item) (out : ℕ) (run
 
   -- one that was begun and not answered,
   begun_bytes : (groups : List GroupItem) (kept : Kept)
-      → IsUnanswered (handed_by script) keeps.chosen.map items (first ∷ later) groups kept → HoldsBytes kept.map
+      → IsUnanswered (asked_by script) (handed_by script) keeps.chosen.map items (first ∷ later) groups kept
+      → HoldsBytes kept.map
   begun_bytes [] kept is id content has = known_bytes is.0 is.1 id content (sym (is.2.map id) ∙ has)
   begun_bytes (group ∷ groups) kept is id content has = map_bytes items hands kept is.after is.map id content has
 
@@ -138,7 +136,8 @@ module _ (script : Script) (old new : Disk) (items : List Item) (out : ℕ) (run
   -- and the last group of some items with those begun after it.
   last_bytes : (part : List Item) → HandsBytes (handed_by script) part → (item : GroupItem) (last : Kept)
       (begun : List Kept) → IsGroupOf (handed_by script) keeps.chosen.map part item last
-      → ((kept : Kept) → Contains begun kept → IsBegunAfter (handed_by script) keeps.chosen.map part item kept)
+      → ((kept : Kept) → Contains begun kept
+      → IsBegunAfter (asked_by script) (handed_by script) keeps.chosen.map part item kept)
       → HaveBytes (last ∷ begun)
   last_bytes part part_hands item last begun last_is begun_is kept listed = ⊎_elim
       (λ same. subst (λ (k : Kept). HoldsBytes k.map) (sym same)
@@ -148,16 +147,16 @@ module _ (script : Script) (old new : Disk) (items : List Item) (out : ℕ) (run
 
   any_moment : (moment : ℕ) (image : Image) → old.clock ≤ moment → moment ≤ new.clock
       → IsLeft setting new moment image
-      → IsReadBack setting first.uber.reflow.to run_groups image
+      → IsReadBack setting run_groups image
   any_moment moment image since until left =
       let some = keeps.any_moment.since.each moment image since until left.might in
       read_back setting run_groups first some.first some.later image may.excepted left.only some.keeps
-      (row_among (record { before = some.before; after = some.after; row = some.row })) keeps.widths all_bytes
+      (row_among (record { before = some.before; after = some.after; row = some.row })) keeps.parities all_bytes
 
   by_then : (count : ℕ) (some : 1 ≤ count) (all : count ≤ length items) (moment : ℕ) (image : Image)
       → (banks_of run count).clock ≤ moment → moment ≤ (banks_of run (count + 1)).clock
       → IsLeft setting (banks_of run (count + 1)) moment image
-      → IsReadBack setting first.uber.reflow.to (last_groups (keeps.no_older.each count some all)) image
+      → IsReadBack setting (last_groups (keeps.no_older.each count some all)) image
   by_then count some all moment image since until_then left =
       let until = keeps.no_older.each count some all in
       let found = until.since.each moment image since until_then left.might in
@@ -166,15 +165,15 @@ module _ (script : Script) (old new : Disk) (items : List Item) (out : ℕ) (run
       } in
       read_back setting (last_groups until) first found.first found.later image may.excepted left.only found.keeps
       (row_among (record { before = found.before; after = found.after; row = found.row }))
-      (until.alike first (0, omega arith, refl))
+      (until.parity first (contains_head first later))
       (last_bytes (take count items) part_hands until.kept.group until.kept.last until.onward until.kept.last_is
       until.onward_is)
 
   at_end : (image : Image) → IsLeft setting new new.clock image
-      → IsReadBack setting first.uber.reflow.to (keeps.kept.last ∷ keeps.kept.begun) image
+      → IsReadBack setting (keeps.kept.last ∷ keeps.kept.begun) image
   at_end image left = read_back setting (keeps.kept.last ∷ keeps.kept.begun) first keeps.kept.last keeps.kept.begun
       image may.excepted left.only (keeps.kept.keeps image left.might) (λ kept listed. listed)
-      (record { each = λ kept has. keeps.widths.each kept (keeps.kept_among kept has) })
+      (λ kept has. keeps.parities kept (keeps.kept_among kept has))
       (last_bytes items hands keeps.kept.group keeps.kept.last keeps.kept.begun keeps.kept.last_is
       keeps.kept.begun_is)
 
@@ -193,18 +192,14 @@ module _ (script : Script) (old new : Disk) (items : List Item) (out : ℕ) (run
 
 module _ (setting : Setting) (first : Kept) (later : List Kept) (old : Disk) (may : MayBegin setting first later old)
   where
-    -- A group that renews one of those kept before has their width and parity, and a map of bytes.
+    -- A group that renews one of those kept before has their parity, and a map of bytes.
     module _ (joined : List Kept) (adds : AddsOne (first ∷ later) joined) where
-      joined_widths : HaveWidthOf first.uber ((first ∷ later) ++ joined)
-      joined_widths = record {
-        each = λ kept listed. ⊎_elim (λ known. (may.one_width kept known, may.may.parity kept known))
-            (λ here.
-            let from = adds.renews kept here in (
-              ap (λ (u : Uber). u.reflow.to) from.2.alike ∙ may.one_width from.0 from.1,
-              ap (λ (u : Uber). u.parity) from.2.alike ∙ may.may.parity from.0 from.1,
-            ))
-            (Contains-append_cases (first ∷ later) joined kept listed);
-      }
+      joined_parity : HaveParity first.uber.parity ((first ∷ later) ++ joined)
+      joined_parity kept listed = ⊎_elim (may.may.parity kept)
+          (λ here.
+          let from = adds.renews kept here in
+          ap (λ (u : Uber). u.parity) from.2.alike ∙ may.may.parity from.0 from.1)
+          (Contains-append_cases (first ∷ later) joined kept listed)
 
       joined_bytes : HaveBytes ((first ∷ later) ++ joined)
       joined_bytes kept listed id content has = ⊎_elim
@@ -222,7 +217,7 @@ module _ (setting : Setting) (first : Kept) (later : List Kept) (old : Disk) (ma
         any_moment = λ moment image from until left.
             let some = since.each moment image from until left.might in
             read_back setting ((first ∷ later) ++ joined) first some.first some.later image may.excepted left.only some.keeps
-            (row_among (record { before = some.before; after = some.after; row = some.row })) joined_widths joined_bytes;
+            (row_among (record { before = some.before; after = some.after; row = some.row })) joined_parity joined_bytes;
       }
 
     none_joins : AddsOne (first ∷ later) []
@@ -235,6 +230,5 @@ module _ (setting : Setting) (first : Kept) (later : List Kept) (old : Disk) (ma
     survives_opening new (inl same) bears =
         some_back [] none_joins (unchanged_keeps setting first later [] same may.may.keeps)
     survives_opening new (inr cuts) bears =
-        let keeps = cuts.keeps.since setting first later may.may
-        (λ device below gone. bears.1 device (cuts.missed device (omega (arith, below, bears.0)) gone)) bears.1 in
+        let keeps = cuts.keeps.since setting first later may.may bears.0 bears.1 in
         some_back keeps.0 keeps.1 keeps.2

@@ -37,7 +37,6 @@ use Rattle.raidzx_top.specs.Promises.{RunPromises, RunsUnhindered, IsSmoothAnswe
 use Rattle.raidzx_top.specs.Running.{IsStatusOf, HasMet, StoppedFor, after_fault, EndsTelling, WasCarriedOut}
 use Rattle.raidzx_top.specs.RunText.{IsLineFor, TextIsRight}
 use Rattle.raidzx_top.proofs.Bearing.{may_bear}
-use Rattle.raidzx_top.proofs.Choices.{choice_width}
 use Rattle.raidzx_top.proofs.Reopening.{survives_stops}
 use Rattle.raidzx_top.proofs.RunParts.{IsRunEnd, command_in, opens, held_at_entry, none_silent}
 use Rattle.raidzx_top.proofs.RunAnswers.{IsClients, answers_client}
@@ -207,9 +206,10 @@ module _ (order : Order) (call : TopCall) (lawful : Lawful call.old)
     taken = was.done.run.turns;
     turns = was.turns_are;
     lines = λ is. was.done.run.lines (ap (λ (o : Order). listed_by o was.script) is);
-    binds = λ setting first later failed may width bears.
+    binds = λ setting first later failed may bears.
         was.done.run.run.keeps (setting_with setting failed) first later
-        (may_bear setting first later call.old was.done.run.run.borne failed may bears) width bears.now;
+        (may_bear setting first later call.old was.done.run.run.silent was.done.run.run.borne failed may bears)
+        bears.missed bears.now;
     survives = survives_stops was.script call.old call.new call.journal was.ran.out was.done.run.run was.read.allowed;
     complete = λ other counted. was.done.complete (λ stopped. had_memory other (inl stopped)) counted;
     memory = λ other index entry there is. had_memory other (inr (index, entry, there, is));
@@ -259,13 +259,9 @@ module _ (order : Order) (call : TopCall) (lawful : Lawful call.old)
         (subst (λ (n : ℕ). IsOutAtOpening (shape_of call.old) n (present call.old) choice.uber device) silent missed))
         (λ rose. none_rose device rose) (each.each device has)
 
-    opened : AreOutIn call.old call.new run.silent run.opened.to run.parity out (present call.old)
-    opened = run.each (present call.old) (present_held call.old smooth.may.may.tells)
-
     keeps : RunKeeps was.script smooth.setting smooth.first smooth.later call.old call.new call.journal run.parity run.silent (banks_of run)
     keeps = run.keeps smooth.setting smooth.first smooth.later smooth.may
-        (sym (choice_width smooth.setting smooth.first smooth.later call.old run.silent smooth.may lawful
-        (λ device below has. absurd (none_rose device (failed device has).1)) opened.choice) ∙ opened.width_is)
+        (λ device below has. absurd (none_rose device (failed device has).1))
         (λ device has. absurd (none_out device (run.within device has)))
 
     -- Each answer is one for a client's call.

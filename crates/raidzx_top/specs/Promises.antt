@@ -17,7 +17,7 @@ use Rattle.core_state.specs.Shown.{Shows}
 use Rattle.core_state.specs.Collision.{BankKeeps, HasNoOtherPage, MightStand}
 use Rattle.core_state.specs.Create.{IsCreated, first_kept, rows_for}
 use Rattle.core_open.specs.Causes.{AreTooMany}
-use Rattle.core_open.specs.Opens.{IsUnhindered, LeavesOthers}
+use Rattle.core_open.specs.Opens.{IsUnhindered, IsWithinBelow, LeavesOthers}
 use Rattle.open_pool.specs.Opening.{CutsOpening, MayBegin}
 use Rattle.client_script.specs.Script.{Script, IsScript, asked_by}
 use Rattle.client_script.specs.Texts.{journal_text}
@@ -123,12 +123,12 @@ pub record RunPromises (order : Order) (call : TopCall) : Type 0 where
   -- That binds however many devices fail: those that have to be borne are no more than there are parities, and what was
   -- answered is right for whoever can bear them.
   pub binds : (setting : Setting) (first : Kept) (later : List Kept) (failed : ℕ) → MayBegin setting first later call.old
-      → first.uber.reflow.to ≡ run.opened.to → CanBear setting first call.old run.borne failed
+      → CanBear setting first call.old run.silent run.borne failed
       → RunKeeps script (setting_with setting failed) first later call.old call.new call.journal run.parity run.silent
       (banks_of run)
   -- What a stop leaves of it, at any moment, the next run or replay reads back.
   pub survives : (setting : Setting) (first : Kept) (later : List Kept) → MayBegin setting first later call.old
-      → first.uber.reflow.to ≡ run.opened.to → IsWithin run.borne setting.failed
+      → IsWithinBelow first.uber.reflow.to run.silent setting.failed → IsWithin run.borne setting.failed
       → SurvivesStops setting first later script call.old call.new call.journal (banks_of run)
   -- Each call is answered, unless memory was wanting, and then the status tells so, or the turns were used up.
   pub complete : call.status ≢ status.NoMemory → (StoppedFor ran trouble.Limit → ⊥)

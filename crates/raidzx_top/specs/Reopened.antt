@@ -8,12 +8,12 @@ use Rattle.core_state.specs.declared.item.Entry.{Entry}
 use Rattle.core_state.specs.declared.item.Item.{Item}
 use Rattle.core_state.specs.Map.{Map, PutBytes}
 use Rattle.core_state.specs.Legal.{CallAt}
-use Rattle.core_state.specs.Journal.{IsLegalJournal}
+use Rattle.core_state.specs.Journal.{Calls, IsLegalJournal}
 use Rattle.core_state.specs.Keeps.{Kept, Setting}
 use Rattle.core_state.specs.Moment.{Groups}
 use Rattle.core_state.specs.Collision.{MightStand, HasNoOtherPage}
 use Rattle.core_open.specs.Holds.{shape_of}
-use Rattle.core_open.specs.Opens.{AddsOne}
+use Rattle.core_open.specs.Opens.{AddsOne, IsWithinBelow}
 use Rattle.client_script.specs.Script.{Script, asked_by, handed_by}
 use Rattle.open_pool.specs.Opening.{CutsOpening, MayBegin}
 use Rattle.open_pool.specs.Stopped.{IsImageOf, HoldsAlone}
@@ -33,12 +33,11 @@ pub record IsLeftOn (setting : Setting) (groups : List Kept) (image : Image) (di
   pub alone : HoldsAlone disk image
   pub pages : HasNoOtherPage setting groups image
 
--- The bank keeps some of these groups, with which a pool of this width may be opened.
-pub record MayBeginAmong (setting : Setting) (width : ℕ) (groups : List Kept) (disk : Disk) : Type 0 where
+-- The bank keeps some of these groups, with which a pool may be opened.
+pub record MayBeginAmong (setting : Setting) (groups : List Kept) (disk : Disk) : Type 0 where
   pub first : Kept
   pub later : List Kept
   pub among : (kept : Kept) → Contains (first ∷ later) kept → Contains groups kept
-  pub width_is : first.uber.reflow.to ≡ width
   pub may : MayBegin setting first later disk
 
 -- The journal goes on from one of these groups: it is legal for its script from that group's map on, and no read is
@@ -50,16 +49,17 @@ pub record ReadsBack (groups : List Kept) (script : Script) (items : List Item) 
   pub sound : (index : ℕ) (entry : Entry) → CallAt items index entry → entry.answer ≢ answer.Damaged
 
 -- A bank that holds the image alone may be opened with some of these groups, and each script that is carried out on
--- it reads back one of them, where the pool that it opened has this width and the devices that have to be borne may fail.
-pub record IsReadBack (setting : Setting) (width : ℕ) (groups : List Kept) (image : Image) : Type 0 where
-  pub opened : (disk : Disk) → IsLeftOn setting groups image disk → MayBeginAmong setting width groups disk
+-- it reads back one of them, where the silent devices of the pool and those that have to be borne may fail.
+pub record IsReadBack (setting : Setting) (groups : List Kept) (image : Image) : Type 0 where
+  pub opened : (disk : Disk) → IsLeftOn setting groups image disk → MayBeginAmong setting groups disk
   pub each : (script : Script) (old new : Disk) (items : List Item) (out : ℕ) → (run : HasRun script old new items out)
-      → IsLeftOn setting groups image old → run.opened.to ≡ width → IsWithin run.borne setting.failed
-      → ReadsBack groups script items
+      → IsLeftOn setting groups image old → IsWithinBelow setting.reach run.silent setting.failed
+      → IsWithin run.borne setting.failed → ReadsBack groups script items
 
 -- what is kept from one item of a journal to the next: the last group listed, and at most one begun after it
-abbrev pub last_groups : {setting : Setting} → {handed : PutBytes} → {opening : Map} → {known : List Kept}
-    → {items : List Item} → {now next : Disk} → KeepsUntil setting handed opening known items now next → List Kept
+abbrev pub last_groups : {setting : Setting} → {calls : Calls} → {handed : PutBytes} → {opening : Map}
+    → {known : List Kept} → {items : List Item} → {now next : Disk}
+    → KeepsUntil setting calls handed opening known items now next → List Kept
 last_groups until = until.kept.last ∷ until.onward
 
 -- A stop of a script that was carried out loses no group that was answered. What it leaves at any moment is read
@@ -70,25 +70,24 @@ pub record SurvivesStops (setting : Setting) (first : Kept) (later : List Kept) 
     (items : List Item) (banks : ℕ → Disk) : Type 0 where
   pub opening : Map
   pub legal : IsLegalJournal (asked_by script) (handed_by script) opening items
-  pub groups : Groups (handed_by script) opening (first ∷ later) items
+  pub groups : Groups (asked_by script) (handed_by script) opening (first ∷ later) items
   pub any_moment : (moment : ℕ) (image : Image) → old.clock ≤ moment → moment ≤ new.clock
       → IsLeft setting new moment image
-      → IsReadBack setting first.uber.reflow.to ((first ∷ later) ++ groups.answered ++ groups.begun) image
-  pub no_older : KeepsTurnByTurn setting (handed_by script) opening (first ∷ later) items
+      → IsReadBack setting ((first ∷ later) ++ groups.answered ++ groups.begun) image
+  pub no_older : KeepsTurnByTurn setting (asked_by script) (handed_by script) opening (first ∷ later) items
       (record { origin = old; banks = banks }) new
   pub by_then : (count : ℕ) (some : 1 ≤ count) (all : count ≤ length items) (moment : ℕ) (image : Image)
       → (banks count).clock ≤ moment → moment ≤ (banks (count + 1)).clock
       → IsLeft setting (banks (count + 1)) moment image
-      → IsReadBack setting first.uber.reflow.to (last_groups (no_older.each count some all)) image
-  pub kept : KeepsLast setting (handed_by script) opening items new
+      → IsReadBack setting (last_groups (no_older.each count some all)) image
+  pub kept : KeepsLast setting (asked_by script) (handed_by script) opening items new
   pub at_end : (image : Image) → IsLeft setting new new.clock image
-      → IsReadBack setting first.uber.reflow.to (kept.last ∷ kept.begun) image
+      → IsReadBack setting (kept.last ∷ kept.begun) image
 
--- The pool that an opening chose which was cut short has this width, and the devices that have to be borne in it may
--- fail.
+-- The silent devices of so many of the pool may fail, and those that have to be borne, where an opening was cut short.
 abbrev pub BearsCut : Setting → ℕ → {old new : Disk} → Unchanged old new ⊎ CutsOpening old new → Type 0
 BearsCut setting width (inl same) = ⊤
-BearsCut setting width (inr cuts) = (width ≡ cuts.width) × IsWithin cuts.borne setting.failed
+BearsCut setting width (inr cuts) = IsWithinBelow width cuts.silent setting.failed × IsWithin cuts.borne setting.failed
 
 -- A stop of a call that opened no pool loses nothing either. What it leaves at any moment is read back as one of the
 -- groups kept before, or as one that was begun in place of one of these.
@@ -97,4 +96,4 @@ pub record SurvivesOpening (setting : Setting) (first : Kept) (later : List Kept
   pub adds : AddsOne (first ∷ later) joined
   pub any_moment : (moment : ℕ) (image : Image) → old.clock ≤ moment → moment ≤ new.clock
       → IsLeft setting new moment image
-      → IsReadBack setting first.uber.reflow.to ((first ∷ later) ++ joined) image
+      → IsReadBack setting ((first ∷ later) ++ joined) image

@@ -1,18 +1,15 @@
--- A commit that is under way stays begun where it was, as the journal goes on.
+-- A commit begins after the last group listed, which is one alone.
 use Rattle.std.proofs.Common.{◌≡◌, ⊎_elim, ℕ, ◌+◌, ◌<◌, ◌≤◌, List, [], ◌∷◌, ◌++◌, length, Some, sym, ◌∙◌, ap, subst, arith, length-append}
 use Rattle.std.proofs.lemmas.Bool.{cases_lt}
 use Rattle.bank_trait.specs.Disk.{Disk}
-use Rattle.uberblock_ring.specs.Uberblock.{Uber}
-use Rattle.core_state.specs.declared.item.Entry.{Entry}
 use Rattle.core_state.specs.declared.item.Group.{Group as GroupItem}
 use Rattle.core_state.specs.declared.item.Item.{Item}
-use Rattle.core_state.specs.declared.item.Item.TheVariants.{Group, Call}
+use Rattle.core_state.specs.declared.item.Item.TheVariants.{Group}
 use Rattle.core_state.specs.Map.{Map, SameMap, map_of}
 use Rattle.core_state.specs.Legal.{GroupAt, IsGroupBefore}
 use Rattle.core_state.specs.Keeps.{Kept}
 use Rattle.core_state.specs.World.{World}
-use Rattle.journal_law.proofs.Grown.{map_before, map_at_end}
-use Rattle.journal_law.proofs.GrownGroups.{latest_grown_call}
+use Rattle.journal_law.proofs.Grown.{map_at_end}
 use Rattle.schedule.specs.Recorded.{Recorded, IsBegunAt}
 use Rattle.schedule.proofs.Recording.{after_few}
 use Rattle.schedule.specs.Moments.{Past}
@@ -33,36 +30,13 @@ one_latest {items = items} {one = one} {other = other} first second = ⊎_elim
     same : Some (Group one) ≡ Some (Group other) → one ≡ other
     same is = cc
 
-module _ {world : World} {past : Past} {items : List Item} {last next : Kept} {begun : List Kept} {uber : Uber}
-    {now : Disk} {point : ℕ} (before : Recorded world past items last begun uber now)
-    (is : IsBegunAt world items before.item point next) where
-  -- While the journal is the same,
-  pub begun_same : {newer : Kept} {left : List Kept} {other : Uber} {later : Disk}
-      → (after : Recorded world past items newer left other later)
-      → IsBegunAt world items after.item point next
-  begun_same after = subst (λ (item : GroupItem). IsBegunAt world items item point next)
-      (one_latest before.latest after.latest) is
-
-  -- and when a call is answered.
-  pub begun_answers : {newer : Kept} {left : List Kept} {other : Uber} {later : Disk} (entry : Entry)
-      → (after : Recorded world past (items ++ Call entry ∷ []) newer left other later)
-      → IsBegunAt world (items ++ Call entry ∷ []) after.item point next
-  begun_answers entry after =
-      subst (λ (item : GroupItem). IsBegunAt world (items ++ Call entry ∷ []) item point next)
-      (one_latest (latest_grown_call items entry before.item before.latest) after.latest) (record {
-        number = is.number;
-        listed = (is.listed.0, (let few = is.listed.1 in omega (arith, few, length-append items (Call entry ∷ []))));
-        map = λ id. is.map id ∙ ap (λ (map : Map). map id)
-            (sym (map_before world.handed world.opening items (Call entry ∷ []) point is.listed.1));
-        widths = is.widths;
-      })
-
 -- A commit begins now: the group after the last one, with its widths and the map of all items.
-pub begun_now : {world : World} {past : Past} {items : List Item} {last next : Kept} {begun : List Kept} {uber : Uber}
-    {now : Disk} (so_far : Recorded world past items last begun uber now) → next.uber.group ≡ last.uber.group + 1
+pub begun_now : {world : World} {past : Past} {items : List Item} {item : GroupItem} {last next : Kept}
+    {begun : List Kept} {now : Disk} (so_far : Recorded world past items item last begun now)
+    → next.uber.group ≡ last.uber.group + 1
     → (next.uber.reflow.from ≡ last.uber.reflow.from) × (next.uber.reflow.to ≡ last.uber.reflow.to)
     → SameMap next.map (map_of world.handed world.opening items)
-    → IsBegunAt world items so_far.item (length items) next
+    → IsBegunAt world items item (length items) next
 begun_now {world = world} {items = items} so_far number widths same = record {
   number = number ∙ ap (λ (n : ℕ). n + 1) so_far.item_is.number;
   listed = (after_few so_far, omega arith);

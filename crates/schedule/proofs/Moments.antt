@@ -10,6 +10,7 @@ use Rattle.core_state.specs.declared.item.Group.{Group as GroupItem}
 use Rattle.core_state.specs.declared.item.Item.{Item}
 use Rattle.core_state.specs.Map.{Map, PutBytes}
 use Rattle.core_state.specs.Legal.{IsGroupBefore}
+use Rattle.core_state.specs.Journal.{Calls}
 use Rattle.core_state.specs.Keeps.{Kept, Setting}
 use Rattle.core_state.specs.Certain.{Knows}
 use Rattle.core_state.specs.Moment.{IsGroupOf, IsBegunAfter, IsRowOf, KeepsSince, KeepsThroughout}
@@ -17,30 +18,30 @@ use Rattle.core_state.proofs.Keeping.{knows_keep}
 use Rattle.core_state.proofs.Since.{since_now}
 use Rattle.open_pool.proofs.Committing.{since_wider}
 use Rattle.journal_law.specs.Moments.{KeepsUntil}
-use Rattle.journal_law.specs.Widths.{HaveWidthOfEach}
+use Rattle.journal_law.specs.Parity.{HaveParityOf}
 use Rattle.journal_law.proofs.Moments.{moved}
 use Rattle.schedule.specs.Moments.{KeepsTurnByTurn, KeepsOn, KeptSoFar, Past}
 
--- The last group of a journal, and at most one that was begun after it, alike to the groups known.
-pub record AreLatest (handed : PutBytes) (opening : Map) (known : List Kept) (items : List Item) (item : GroupItem)
-    (last : Kept) (begun : List Kept) : Type 0 where
+-- The last group of a journal, and at most one that was begun after it, of the parity of the groups known.
+pub record AreLatest (calls : Calls) (handed : PutBytes) (opening : Map) (known : List Kept) (items : List Item)
+    (item : GroupItem) (last : Kept) (begun : List Kept) : Type 0 where
   pub latest : IsGroupBefore items (length items) item
   pub last_is : IsGroupOf handed opening items item last
   pub one : length begun ≤ 1
-  pub begun_is : (kept : Kept) → Contains begun kept → IsBegunAfter handed opening items item kept
-  pub alike : HaveWidthOfEach known (last ∷ begun)
+  pub begun_is : (kept : Kept) → Contains begun kept → IsBegunAfter calls handed opening items item kept
+  pub parity : HaveParityOf known (last ∷ begun)
 
 -- A group and those after it are a row of themselves.
 pub whole_row : (first : Kept) (later : List Kept) → IsRowOf (first ∷ later) first later
 whole_row first later = record { before = []; after = []; row = sym (append-nil (first ∷ later)) }
 
-module _ {setting : Setting} {handed : PutBytes} {opening : Map} {items : List Item} {item : GroupItem} {last : Kept}
-    {begun : List Kept} where
+module _ {setting : Setting} {calls : Calls} {handed : PutBytes} {opening : Map} {items : List Item}
+    {item : GroupItem} {last : Kept} {begun : List Kept} where
   -- The devices go on, and what they keep with them.
-  pub on_goes : {from now next : Disk} → KeepsOn setting handed opening items item last begun from now
+  pub on_goes : {from now next : Disk} → KeepsOn setting calls handed opening items item last begun from now
       → Later now next
       → (KeepsSince setting (last ∷ begun) from.clock now → KeepsSince setting (last ∷ begun) from.clock next)
-      → KeepsOn setting handed opening items item last begun from next
+      → KeepsOn setting calls handed opening items item last begun from next
   on_goes on later keeps = record {
     later = later_trans on.later later;
     first = on.first;
@@ -51,8 +52,8 @@ module _ {setting : Setting} {handed : PutBytes} {opening : Map} {items : List I
   }
 
   -- Groups that are begun are no loss.
-  pub on_wider : {from now : Disk} (more : List Kept) → KeepsOn setting handed opening items item last begun from now
-      → KeepsOn setting handed opening items item last (begun ++ more) from now
+  pub on_wider : {from now : Disk} (more : List Kept) → KeepsOn setting calls handed opening items item last begun from now
+      → KeepsOn setting calls handed opening items item last (begun ++ more) from now
   on_wider {from = from} {now = now} more on = record {
     later = on.later;
     first = on.first;
@@ -62,11 +63,11 @@ module _ {setting : Setting} {handed : PutBytes} {opening : Map} {items : List I
     since = since_wider setting (last ∷ begun) more from.clock now on.since;
   }
 
-module _ {setting : Setting} {handed : PutBytes} {opening : Map} {known : List Kept} {items : List Item}
+module _ {setting : Setting} {calls : Calls} {handed : PutBytes} {opening : Map} {known : List Kept} {items : List Item}
     {item : GroupItem} {last : Kept} {begun : List Kept} where
   -- What is certain now the bank keeps, and each image from now on.
-  pub on_now : {now : Disk} → AreLatest handed opening known items item last begun → Knows setting last begun now
-      → KeepsOn setting handed opening items item last begun now now
+  pub on_now : {now : Disk} → AreLatest calls handed opening known items item last begun → Knows setting last begun now
+      → KeepsOn setting calls handed opening items item last begun now now
   on_now {now = now} are knows = record {
     later = later_refl now;
     first = begun;
@@ -77,9 +78,9 @@ module _ {setting : Setting} {handed : PutBytes} {opening : Map} {known : List K
   }
 
   -- So the bank kept the last group until then.
-  pub until_of : {from now : Disk} → AreLatest handed opening known items item last begun
-      → KeepsOn setting handed opening items item last begun from now
-      → KeepsUntil setting handed opening known items from now
+  pub until_of : {from now : Disk} → AreLatest calls handed opening known items item last begun
+      → KeepsOn setting calls handed opening items item last begun from now
+      → KeepsUntil setting calls handed opening known items from now
   until_of are on = record {
     later = on.later;
     kept = record {
@@ -96,55 +97,55 @@ module _ {setting : Setting} {handed : PutBytes} {opening : Map} {known : List K
     one = are.one;
     onward_is = are.begun_is;
     since = on.since;
-    alike = are.alike;
+    parity = are.parity;
   }
 
 -- The opening's item alone.
-pub kept_first : {setting : Setting} {handed : PutBytes} {opening : Map} {known : List Kept} {past : Past} {now : Disk}
-    {item : Item} → past.banks 1 ≡ now → Later past.origin now
-    → KeepsThroughout setting handed opening known (item ∷ []) past.origin now
-    → KeptSoFar setting handed opening known (item ∷ []) past
-kept_first {setting = setting} {handed = handed} {opening = opening} {known = known} {past = past} {item = item} here
-    later opened = record {
+pub kept_first : {setting : Setting} {calls : Calls} {handed : PutBytes} {opening : Map} {known : List Kept}
+    {past : Past} {now : Disk} {item : Item} → past.banks 1 ≡ now → Later past.origin now
+    → KeepsThroughout setting calls handed opening known (item ∷ []) past.origin now
+    → KeptSoFar setting calls handed opening known (item ∷ []) past
+kept_first {setting = setting} {calls = calls} {handed = handed} {opening = opening} {known = known} {past = past}
+    {item = item} here later opened = record {
       later = subst (λ (d : Disk). Later past.origin d) (sym here) later;
-      opened = subst (λ (d : Disk). KeepsThroughout setting handed opening known (item ∷ []) past.origin d) (sym here)
+      opened = subst (λ (d : Disk). KeepsThroughout setting calls handed opening known (item ∷ []) past.origin d) (sym here)
           opened;
       each = λ count from below. absurd (omega (arith, from, below));
     }
 
-module _ {setting : Setting} {handed : PutBytes} {opening : Map} {known : List Kept} {items : List Item}
-    {past : Past} (by : KeptSoFar setting handed opening known items past) (some : 1 ≤ length items) {now : Disk}
+module _ {setting : Setting} {calls : Calls} {handed : PutBytes} {opening : Map} {known : List Kept} {items : List Item}
+    {past : Past} (by : KeptSoFar setting calls handed opening known items past) (some : 1 ≤ length items) {now : Disk}
     {item : GroupItem} {last : Kept} {begun : List Kept}
-    (are : AreLatest handed opening known items item last begun)
-    (on : KeepsOn setting handed opening items item last begun (past.banks (length items)) now) where
+    (are : AreLatest calls handed opening known items item last begun)
+    (on : KeepsOn setting calls handed opening items item last begun (past.banks (length items)) now) where
   -- Until now the bank kept the last group of so many items, if this is the bank of one more.
   until : (count : ℕ) → past.banks (length items + 1) ≡ now → 1 ≤ count → count ≤ length items
-      → KeepsUntil setting handed opening known (take count items) (past.banks count) (past.banks (count + 1))
+      → KeepsUntil setting calls handed opening known (take count items) (past.banks count) (past.banks (count + 1))
   until count next from below = ⊎_elim
       (λ (less : count < length items). by.each count from less)
       (λ (not_less : length items ≤ count).
       let end : count ≡ length items = omega (arith, not_less, below) in
-      moved setting handed opening known items _ (past.banks (length items)) now _ _
+      moved setting calls handed opening known items _ (past.banks (length items)) now _ _
       (ap (λ (k : ℕ). take k items) end ∙ take-length items) (ap past.banks end)
       (ap (λ (k : ℕ). past.banks (k + 1)) end ∙ next) (until_of are on))
       (cases_lt count (length items))
 
   -- One item more is listed with this bank,
   pub kept_more : (new : Item) → past.banks (length items + 1) ≡ now
-      → KeptSoFar setting handed opening known (items ++ new ∷ []) past
+      → KeptSoFar setting calls handed opening known (items ++ new ∷ []) past
   kept_more new next = record {
     later = by.later;
-    opened = subst (λ (l : List Item). KeepsThroughout setting handed opening known l past.origin (past.banks 1))
+    opened = subst (λ (l : List Item). KeepsThroughout setting calls handed opening known l past.origin (past.banks 1))
         (sym (take-append-le 1 items (new ∷ []) some)) by.opened;
     each = λ count from below.
         let low : count ≤ length items = omega (arith, below, length-append items (new ∷ [])) in
-        subst (λ (l : List Item). KeepsUntil setting handed opening known l (past.banks count) (past.banks (count + 1)))
+        subst (λ (l : List Item). KeepsUntil setting calls handed opening known l (past.banks count) (past.banks (count + 1)))
         (sym (take-append-le count items (new ∷ []) low)) (until count next from low);
   }
 
   -- or the run ends with it.
   pub kept_to_end : past.banks (length items + 1) ≡ now
-      → KeepsTurnByTurn setting handed opening known items past now
+      → KeepsTurnByTurn setting calls handed opening known items past now
   kept_to_end next = record {
     later = by.later;
     opened = by.opened;

@@ -4,7 +4,8 @@ use Rattle.std.specs.Prelude.{slice_get}
 use Rattle.bank_trait.specs.Disk.{Disk, Later}
 use Rattle.core_state.specs.declared.item.Item.TheVariants.{Group}
 use Rattle.core_state.specs.Map.{Map, PutBytes}
-use Rattle.core_state.specs.Keeps.{Kept, Setting}
+use Rattle.core_state.specs.Journal.{Calls}
+use Rattle.core_state.specs.Keeps.{HaveParity, Kept, Setting}
 use Rattle.core_state.specs.World.{World}
 use Rattle.core_state.proofs.Listed.{contains_none}
 use Rattle.core_blocks.specs.Blocks.{AreUnderWay}
@@ -12,8 +13,6 @@ use Rattle.open_pool.specs.Opening.{OpensPool}
 use Rattle.open_pool.specs.Pool.{Pool, HasBank, HoldsMap, state_of}
 use Rattle.client_script.specs.Script.{Script}
 use Rattle.open_pool.specs.Pool.{first_item}
-use Rattle.journal_law.proofs.GrownGroups.{latest_alone}
-use Rattle.journal_law.specs.Widths.{HaveWidthOf}
 use Rattle.core_turns.specs.Core.{Core, at_disk}
 use Rattle.core_turns.specs.UnderWay.{Putting, AreCallsOf, Stands, HoldingCall}
 use Rattle.schedule.specs.declared.client.Client.{Client}
@@ -59,14 +58,21 @@ calls_none core rest = record {
   beside = λ place further call less low. absurd (omega (arith, less, low));
 }
 
-module _ {setting : Setting} {first : Kept} {later : List Kept} {pool : Pool} {silent : ℕ} {old mid : Disk} (handed : PutBytes)
-    (wide : HaveWidthOf first.uber (first ∷ later)) (begins : OpensPool setting first later pool silent old mid) where
+module _ {setting : Setting} {first : Kept} {later : List Kept} {pool : Pool} {silent : ℕ} {old mid : Disk}
+    (calls : Calls) (handed : PutBytes)
+    (begins : OpensPool setting first later pool silent old mid) where
   abbrev chosen_map : Map
   chosen_map = begins.opened.chosen.map
 
   -- the world of a run that begins with the chosen group's map
   abbrev pub opened_world : World
-  opened_world = record { setting = setting; known = first ∷ later; opening = chosen_map; handed = handed }
+  opened_world = record {
+    setting = setting;
+    known = first ∷ later;
+    opening = chosen_map;
+    calls = calls;
+    handed = handed;
+  }
 
   -- The pool stands, and holds the map of the group that was chosen.
   stands_first : HasBank pool.uber pool.out mid
@@ -86,17 +92,16 @@ module _ {setting : Setting} {first : Kept} {later : List Kept} {pool : Pool} {s
   }
 
   -- So a run of turns begins, with its journal's first group.
-  pub runs_first : (past : Past) → past.origin ≡ old → past.banks 1 ≡ mid → Later old mid → HasBank pool.uber pool.out mid
-      → (script : Script) (count : ℕ)
+  pub runs_first : HaveParity first.uber.parity (first ∷ later) → (past : Past) → past.origin ≡ old
+      → past.banks 1 ≡ mid → Later old mid → HasBank pool.uber pool.out mid → (script : Script) (count : ℕ)
       → Runs opened_world script past (at_disk (resting pool) mid) (Group (first_item pool) ∷ []) (blank_clients count)
-  runs_first past origin here opened_later bank script count = record {
+  runs_first parity past origin here opened_later bank script count = record {
     last = begins.opened.next;
     begun = [];
     contents = λ actor. [];
     commit = None;
     item = first_item pool;
-    latest = latest_alone (first_item pool);
-    recorded = recorded_first handed wide begins past origin here opened_later;
+    recorded = recorded_first calls handed parity begins past origin here opened_later;
     stands = subst (λ (calls : List HoldingCall). Stands setting begins.opened.next [] chosen_map (λ actor. []) calls None
         (at_disk (resting pool) mid)) (sym (none_held count)) (stands_first bank);
     sync = λ index client under going. absurd (none_of_blank count index client under going);

@@ -125,7 +125,6 @@ module _ (setting : Setting) (first : Kept) (later : List Kept) (disk : Disk)
       };
       parity = λ kept listed. may.may.parity kept (fewer_listed kept listed);
     };
-    one_width = λ kept listed. may.one_width kept (fewer_listed kept listed);
     excepted = may.excepted;
     bytes = λ kept id content listed. may.bytes kept id content (fewer_listed kept listed);
   }

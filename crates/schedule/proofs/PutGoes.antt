@@ -75,7 +75,7 @@ module _ {script : Script} {actor : ℕ} {before after : Station} {clients news 
         asked_for.1 ∙ ap (λ (r : PutRun). Some r.range.id) (sym same),
         asked_for.2 ∙ ap (λ (r : PutRun). r.len) (sym same),
       )
-      (put_writes_calls writes filled.gains moves.2 filled.are) (ap (λ (core : Core). core.pool.uber) writes.rest)
+      (put_writes_calls writes filled.gains moves.2 filled.are)
       (λ world past runs.
       let stood = filled.stands _ _ _ _ _ _ (content_is runs) runs.stands in (
         put_writes_since takes.is takes.lawful writes filled.gains filled.are stood,

@@ -23,10 +23,6 @@ use Rattle.schedule.proofs.Fitting.{TellsOut}
 use Rattle.schedule.proofs.RightNext.{IsPlain}
 use Rattle.schedule.proofs.LeavesPool.{LeavesPool, leaves_pool}
 
--- a put is no sync
-pub put_no_sync : (does : Work) (run : PutRun) → does ≡ work.Put run → IsSync does → ⊥
-put_no_sync does run is sync = subst IsSync is sync
-
 -- ---- turns that call no device
 
 -- Where only blocks and holds are others, all else of the core is left.

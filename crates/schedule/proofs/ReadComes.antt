@@ -24,7 +24,6 @@ use Rattle.core_turns.specs.UnderWay.{HoldingCall, Reading, AreCallsOf, Stands, 
 use Rattle.core_turns.proofs.Frames.{since_read}
 use Rattle.core_turns.proofs.GetLaws.{get_finds}
 use Rattle.core_turns.proofs.GetStands.{get_begins_calls, get_reads_calls, get_begins_stands, get_reads_stands}
-use Rattle.core_turns.proofs.GetTurns.{reads_uber}
 use Rattle.schedule.specs.declared.client.Client.{Client}
 use Rattle.schedule.specs.declared.client.UnderWay.{UnderWay}
 use Rattle.schedule.specs.declared.client.Work.TheVariants as work
@@ -106,7 +105,7 @@ module _ {script : Script} {actor : ℕ} {before after : Station} {clients news 
         let none : given ≡ answer.Absent → map id ≡ None = get_finds map old now before.state.disk actor id call.kind
         (Done given) runs.stands.holds begins in (
           right_read world before.items call actor (before.client.begun + 1) (length before.items) given is
-              (let some = runs.latest.before in omega (arith, some)) (omega arith) (below_end before.items actor)
+              (let some = runs.recorded.latest.before in omega (arith, some)) (omega arith) (below_end before.items actor)
               (refused_right old id (option_and_then map_now call.id) call.kind given
               (λ absent. ap (option_and_then map_now) id_is
               ∙ ap (λ (m : Map). m id) (map_at_end world.handed world.opening before.items) ∙ none absent)
@@ -139,7 +138,6 @@ module _ {script : Script} {actor : ℕ} {before after : Station} {clients news 
         (out_keeps reads.reads.2 goes.out.still) (ap (λ (r : GetRun). r.hold.actor) same ∙ its)
         (asked_for.0 ∙ sym (ap (λ (r : GetRun). r.kind) same), asked_for.1 ∙ sym (ap (λ (r : GetRun). Some r.entry.id) same))
         (get_reads_calls reads.reads moves.1 moves.2 takes.schedule.going.are)
-        (reads_uber before.state after.state run (More next) reads.reads)
         (λ world past runs. (
           (λ groups time row. since_read world.setting groups time before.state.disk after.state.disk reads.unchanged),
           (λ has. ap (λ (r : GetRun). map_after world.handed world.opening before.items under.at r.entry.id) same ∙ has),

@@ -4,7 +4,6 @@ use Rattle.std.proofs.lemmas.List.{append-nil}
 use Rattle.std.proofs.lemmas.List.Elements.{Contains-append_cases}
 use Rattle.std.specs.Prelude.{◌≢◌, Contains}
 use Rattle.bank_trait.specs.Disk.{Disk, Later}
-use Rattle.uberblock_ring.specs.Uberblock.{Uber}
 use Rattle.core_state.specs.declared.answer.Answer.TheVariants as answer
 use Rattle.core_state.specs.declared.answer.Kind.TheVariants as kind
 use Rattle.core_state.specs.declared.item.Entry.{Entry}
@@ -13,21 +12,22 @@ use Rattle.core_state.specs.declared.item.Item.{Item}
 use Rattle.core_state.specs.declared.item.Item.TheVariants.{Group, Call}
 use Rattle.core_state.specs.Map.{Map, PutBytes, map_after}
 use Rattle.core_state.specs.Legal.{IsGroupBefore, IsAnswerOf}
-use Rattle.core_state.specs.Journal.{Follows}
+use Rattle.core_state.specs.Journal.{Calls, Follows}
 use Rattle.core_state.specs.Keeps.{Kept, Setting}
 use Rattle.core_state.specs.Certain.{Knows}
 use Rattle.core_state.specs.Moment.{IsGroupOf, IsBegunAfter, Groups, IsRowOf, KeepsSince, KeepsThroughout}
 use Rattle.core_state.specs.World.{World}
 use Rattle.core_state.proofs.Keeping.{knows_keep}
-use Rattle.core_state.proofs.Listed.{contains_none}
+use Rattle.core_state.proofs.Listed.{contains_head, contains_none, contains_tail}
 use Rattle.open_pool.proofs.Committing.{since_wider}
 use Rattle.journal_law.specs.Moments.{KeepsLast}
-use Rattle.journal_law.specs.Widths.{HaveWidthOf, HaveWidthOfEach}
+use Rattle.journal_law.specs.Parity.{HaveParityOf}
+use Rattle.journal_law.proofs.Parity.{parity_with}
 use Rattle.journal_law.proofs.Grown.{map_before}
 use Rattle.journal_law.proofs.GrownAnswers.{answers_grown_call, answers_grown_group}
 use Rattle.journal_law.proofs.GrownGroups.{groups_grown_call, groups_grown_group, latest_grown_call, latest_grown_group, group_of_grown, after_listed}
 use Rattle.journal_law.proofs.GrownRun.{groups_call, groups_end, groups_begun, groups_cut}
-use Rattle.journal_law.proofs.Moments.{contains_one, last_alike}
+use Rattle.journal_law.proofs.Moments.{contains_one}
 use Rattle.journal_law.proofs.Rows.{row_among}
 use Rattle.journal_law.proofs.GrownAnswers.{each_grown_call, each_grown_group}
 use Rattle.schedule.specs.Recorded.{Recorded, IsRightNext, IsBegunAt, AllBelow}
@@ -60,28 +60,10 @@ ended_row known answered begun all left next begun_is all_is none =
     ∙ next_at_end known answered next
     ∙ (λ i. known ++ sym all_is i ++ sym none i)
 
--- One group more that has their width and parity.
-widths_with : (uber : Uber) (groups : List Kept) (next : Kept) → next.uber.reflow.to ≡ uber.reflow.to
-    → next.uber.parity ≡ uber.parity → HaveWidthOf uber groups
-    → HaveWidthOf uber (groups ++ next ∷ [])
-widths_with uber groups next to_is parity_is wide = record {
-  each = λ kept has. ⊎_elim (wide.each kept)
-      (λ (one : Contains (next ∷ []) kept).
-      subst (λ (k : Kept). (k.uber.reflow.to ≡ uber.reflow.to) × (k.uber.parity ≡ uber.parity))
-      (sym (contains_one next kept one)) (to_is, parity_is))
-      (Contains-append_cases groups (next ∷ []) kept has);
-}
-
-widths_like : (uber other : Uber) (groups : List Kept) → other.reflow.to ≡ uber.reflow.to → other.parity ≡ uber.parity
-    → HaveWidthOf uber groups → HaveWidthOf other groups
-widths_like uber other groups to_is parity_is wide = record {
-  each = λ kept has. let its = wide.each kept has in (its.0 ∙ sym to_is, its.1 ∙ sym parity_is);
-}
-
 -- The groups with none that is begun.
-groups_none : {handed : PutBytes} {opening : Map} {known : List Kept} {items : List Item}
-    → (groups : Groups handed opening known items)
-    → (none : Groups handed opening known items) × (none.answered ≡ groups.answered) × (none.begun ≡ [])
+groups_none : {calls : Calls} {handed : PutBytes} {opening : Map} {known : List Kept} {items : List Item}
+    → (groups : Groups calls handed opening known items)
+    → (none : Groups calls handed opening known items) × (none.answered ≡ groups.answered) × (none.begun ≡ [])
 groups_none groups = (
   record {
     answered = groups.answered;
@@ -95,51 +77,44 @@ groups_none groups = (
 )
 
 -- The last group of a journal and those begun, as its groups tell of them.
-latest_of : {handed : PutBytes} {opening : Map} {known : List Kept} {items : List Item} {item : GroupItem} {last : Kept}
-    {begun : List Kept} → (groups : Groups handed opening known items) → groups.begun ≡ begun
+latest_of : {calls : Calls} {handed : PutBytes} {opening : Map} {known : List Kept} {items : List Item}
+    {item : GroupItem} {last : Kept} {begun : List Kept} → (groups : Groups calls handed opening known items) → groups.begun ≡ begun
     → IsGroupBefore items (length items) item → IsGroupOf handed opening items item last
-    → HaveWidthOfEach known (last ∷ begun)
-    → AreLatest handed opening known items item last begun
-latest_of {handed = handed} {opening = opening} {known = known} {items = items} {item = item} groups begun_are latest
-    last_is alike = record {
+    → HaveParityOf known (last ∷ begun)
+    → AreLatest calls handed opening known items item last begun
+latest_of {calls = calls} {handed = handed} {opening = opening} {known = known} {items = items} {item = item} groups
+    begun_are latest last_is parity = record {
       latest = latest;
       last_is = last_is;
       one = subst (λ (l : List Kept). length l ≤ 1) begun_are groups.one;
-      begun_is = λ kept has. groups_begun handed opening known items groups item latest kept
+      begun_is = λ kept has. groups_begun calls handed opening known items groups item latest kept
           (subst (λ (l : List Kept). Contains l kept) (sym begun_are) has);
-      alike = alike;
+      parity = parity;
     }
 
 -- Just after an item was listed nothing else was done.
-on_listed : {setting : Setting} {handed : PutBytes} {opening : Map} {item : GroupItem} {last : Kept} {begun : List Kept}
-    {now : Disk} (items : List Item) (new : Item) (past : Past) → past.banks (length items + 1) ≡ now
-    → KeepsOn setting handed opening (items ++ new ∷ []) item last begun now now
-    → KeepsOn setting handed opening (items ++ new ∷ []) item last begun (past.banks (length (items ++ new ∷ []))) now
-on_listed {setting = setting} {handed = handed} {opening = opening} {item = item} {last = last} {begun = begun}
-    {now = now} items new past here on =
-    subst (λ (d : Disk). KeepsOn setting handed opening (items ++ new ∷ []) item last begun d now)
+on_listed : {setting : Setting} {calls : Calls} {handed : PutBytes} {opening : Map} {item : GroupItem} {last : Kept}
+    {begun : List Kept} {now : Disk} (items : List Item) (new : Item) (past : Past) → past.banks (length items + 1) ≡ now
+    → KeepsOn setting calls handed opening (items ++ new ∷ []) item last begun now now
+    → KeepsOn setting calls handed opening (items ++ new ∷ []) item last begun (past.banks (length (items ++ new ∷ []))) now
+on_listed {setting = setting} {calls = calls} {handed = handed} {opening = opening} {item = item} {last = last}
+    {begun = begun} {now = now} items new past here on =
+    subst (λ (d : Disk). KeepsOn setting calls handed opening (items ++ new ∷ []) item last begun d now)
     (sym (ap past.banks (length-append items (new ∷ [])) ∙ here)) on
 
 abbrev IsSound : Entry → Type 0
 IsSound entry = entry.answer ≢ answer.Damaged
 
-module _ {world : World} {past : Past} {items : List Item} {last : Kept} {begun : List Kept} {uber : Uber}
-    {now : Disk} (so_far : Recorded world past items last begun uber now) where
+module _ {world : World} {past : Past} {items : List Item} {item : GroupItem} {last : Kept} {begun : List Kept}
+    {now : Disk} (so_far : Recorded world past items item last begun now) where
   some_items : 1 ≤ length items
   some_items = let low = so_far.latest.before in omega (arith, low)
 
   -- The last group was begun within the journal.
-  pub after_few : so_far.item.after ≤ length items
+  pub after_few : item.after ≤ length items
   after_few =
-      let few = after_listed items so_far.in_order so_far.latest.place so_far.item so_far.latest.there in
+      let few = after_listed items so_far.in_order so_far.latest.place item so_far.latest.there in
       let low = so_far.latest.before in omega (arith, few, low)
-
-  alike_now : HaveWidthOfEach world.known (last ∷ begun)
-  alike_now = last_alike uber world.known so_far.earlier so_far.groups.answered so_far.groups.begun begun last
-      so_far.answered_are so_far.begun_are so_far.widths
-
-  latest_now : AreLatest world.handed world.opening world.known items so_far.item last begun
-  latest_now = latest_of so_far.groups so_far.begun_are so_far.latest so_far.item_is alike_now
 
   -- The last group and those begun after it stand in a row.
   row_now : IsRowOf (world.known ++ so_far.groups.answered ++ so_far.groups.begun) last begun
@@ -150,17 +125,22 @@ module _ {world : World} {past : Past} {items : List Item} {last : Kept} {begun 
         ∙ in_row world.known so_far.earlier begun last;
   }
 
+  parity_now : HaveParityOf world.known (last ∷ begun)
+  parity_now group known kept has = so_far.parity group known kept (row_among row_now kept has)
+
+  latest_now : AreLatest world.calls world.handed world.opening world.known items item last begun
+  latest_now = latest_of so_far.groups so_far.begun_are so_far.latest so_far.item_is parity_now
+
   -- The devices go on, and keep what they kept.
   pub recorded_goes : {next : Disk} → Later now next
       → ((groups : List Kept) (time : ℕ) → IsRowOf groups last begun → KeepsSince world.setting groups time now
       → KeepsSince world.setting groups time next)
-      → Recorded world past items last begun uber next
+      → Recorded world past items item last begun next
   recorded_goes later keeps = record {
     groups = so_far.groups;
     earlier = so_far.earlier;
     answered_are = so_far.answered_are;
     begun_are = so_far.begun_are;
-    item = so_far.item;
     latest = so_far.latest;
     item_is = so_far.item_is;
     in_order = so_far.in_order;
@@ -168,7 +148,7 @@ module _ {world : World} {past : Past} {items : List Item} {last : Kept} {begun 
     sound = so_far.sound;
     counted = so_far.counted;
     since = keeps (world.known ++ so_far.groups.answered ++ so_far.groups.begun) past.origin.clock row_now so_far.since;
-    widths = so_far.widths;
+    parity = so_far.parity;
     no_older = so_far.no_older;
     kept_on = on_goes so_far.kept_on later
         (keeps (last ∷ begun) (past.banks (length items)).clock (whole_row last begun));
@@ -177,18 +157,17 @@ module _ {world : World} {past : Past} {items : List Item} {last : Kept} {begun 
   -- A call is answered that ends no group.
   pub recorded_answers : (entry : Entry) → past.banks (length items + 1) ≡ now → Knows world.setting last begun now
       → IsRightNext world items entry → IsAnswerOf entry.kind entry.answer
-      → Recorded world past (items ++ Call entry ∷ []) last begun uber now
+      → Recorded world past (items ++ Call entry ∷ []) item last begun now
   recorded_answers entry here knows right is_answer =
-      let grown = groups_call world.handed world.opening world.known items so_far.groups so_far.in_order entry in
-      let latest = latest_grown_call items entry so_far.item so_far.latest in
-      let item_is = group_of_grown world.handed world.opening items so_far.item last (Call entry ∷ []) after_few
+      let grown = groups_call world.calls world.handed world.opening world.known items so_far.groups so_far.in_order entry in
+      let latest = latest_grown_call items entry item so_far.latest in
+      let item_is = group_of_grown world.handed world.opening items item last (Call entry ∷ []) after_few
       so_far.item_is in
       record {
         groups = grown.0;
         earlier = so_far.earlier;
         answered_are = grown.1 ∙ so_far.answered_are;
         begun_are = grown.2 ∙ so_far.begun_are;
-        item = so_far.item;
         latest = latest;
         item_is = item_is;
         in_order = groups_grown_call items entry so_far.in_order;
@@ -197,29 +176,30 @@ module _ {world : World} {past : Past} {items : List Item} {last : Kept} {begun 
         counted = counted_call items entry so_far.counted right.counted;
         since = subst (λ (l : List Kept). KeepsSince world.setting l past.origin.clock now)
             (λ i. world.known ++ sym grown.1 i ++ sym grown.2 i) so_far.since;
-        widths = subst (λ (l : List Kept). HaveWidthOf uber l)
-            (λ i. world.known ++ sym grown.1 i ++ sym grown.2 i) so_far.widths;
+        parity = subst (HaveParityOf world.known) (λ i. world.known ++ sym grown.1 i ++ sym grown.2 i) so_far.parity;
         no_older = kept_more so_far.no_older some_items latest_now so_far.kept_on (Call entry) here;
-        kept_on = on_listed items (Call entry) past here (on_now (latest_of grown.0 (grown.2 ∙ so_far.begun_are) latest item_is alike_now) knows);
+        kept_on = on_listed items (Call entry) past here
+            (on_now (latest_of grown.0 (grown.2 ∙ so_far.begun_are) latest item_is parity_now) knows);
       }
 
   -- What each image of the run keeps,
-  abbrev pub recorded_throughout : KeepsThroughout world.setting world.handed world.opening world.known items past.origin now
+  abbrev pub recorded_throughout : KeepsThroughout world.setting world.calls world.handed world.opening world.known items
+      past.origin now
   recorded_throughout = record { groups = so_far.groups; since = so_far.since }
 
   -- and none older than the last group listed by then,
   pub recorded_no_older : past.banks (length items + 1) ≡ now
-      → KeepsTurnByTurn world.setting world.handed world.opening world.known items past now
+      → KeepsTurnByTurn world.setting world.calls world.handed world.opening world.known items past now
   recorded_no_older here = kept_to_end so_far.no_older some_items latest_now so_far.kept_on here
 
   -- and what the bank keeps at its end: groups that are among those.
   pub recorded_keeps : Knows world.setting last begun now
-      → (at_end : KeepsLast world.setting world.handed world.opening items now)
+      → (at_end : KeepsLast world.setting world.calls world.handed world.opening items now)
       × ((kept : Kept) → Contains (at_end.last ∷ at_end.begun) kept
       → Contains (world.known ++ so_far.groups.answered ++ so_far.groups.begun) kept)
   recorded_keeps knows = (
     record {
-      group = so_far.item;
+      group = item;
       latest = so_far.latest;
       last = last;
       last_is = so_far.item_is;
@@ -232,18 +212,17 @@ module _ {world : World} {past : Past} {items : List Item} {last : Kept} {begun 
   )
 
 -- A commit begins the next group.
-module _ {world : World} {past : Past} {items : List Item} {last : Kept} {uber : Uber} {now : Disk}
-    (so_far : Recorded world past items last [] uber now) {after : ℕ} {next : Kept}
-    (is : IsBegunAt world items so_far.item after next) where
-  next_after : IsBegunAfter world.handed world.opening items so_far.item next
+module _ {world : World} {past : Past} {items : List Item} {item : GroupItem} {last : Kept} {now : Disk}
+    (so_far : Recorded world past items item last [] now) {after : ℕ} {next : Kept}
+    (is : IsBegunAt world items item after next) where
+  next_after : IsBegunAfter world.calls world.handed world.opening items item next
   next_after = record { number = is.number; after = after; listed = is.listed; map = is.map; widths = inl is.widths }
 
-  pub recorded_begins : next.uber.reflow.to ≡ uber.reflow.to → next.uber.parity ≡ uber.parity
-      → Recorded world past items last (next ∷ []) uber now
-  recorded_begins to_is parity_is =
-      let grown = groups_cut world.handed world.opening world.known items so_far.groups so_far.begun_are so_far.item
+  pub recorded_begins : next.uber.parity ≡ last.uber.parity → Recorded world past items item last (next ∷ []) now
+  recorded_begins parity =
+      let grown = groups_cut world.calls world.handed world.opening world.known items so_far.groups so_far.begun_are item
       so_far.latest (next ∷ []) (omega arith)
-      (λ kept has. subst (IsBegunAfter world.handed world.opening items so_far.item) (sym (contains_one next kept has))
+      (λ kept has. subst (IsBegunAfter world.calls world.handed world.opening items item) (sym (contains_one next kept has))
       next_after) in
       let all = world.known ++ so_far.groups.answered ++ so_far.groups.begun in
       let row = begun_row world.known so_far.groups.answered so_far.groups.begun grown.0.answered grown.0.begun next
@@ -252,7 +231,6 @@ module _ {world : World} {past : Past} {items : List Item} {last : Kept} {uber :
         earlier = so_far.earlier;
         answered_are = grown.1 ∙ so_far.answered_are;
         begun_are = grown.2;
-        item = so_far.item;
         latest = so_far.latest;
         item_is = so_far.item_is;
         in_order = so_far.in_order;
@@ -261,16 +239,17 @@ module _ {world : World} {past : Past} {items : List Item} {last : Kept} {uber :
         counted = so_far.counted;
         since = subst (λ (l : List Kept). KeepsSince world.setting l past.origin.clock now) row
             (since_wider world.setting all (next ∷ []) past.origin.clock now so_far.since);
-        widths = subst (λ (l : List Kept). HaveWidthOf uber l) row
-            (widths_with uber all next to_is parity_is so_far.widths);
+        parity = subst (HaveParityOf world.known) row
+            (parity_with world.known all last next (row_among (row_now so_far) last (contains_head last [])) parity
+            so_far.parity);
         no_older = so_far.no_older;
         kept_on = on_wider (next ∷ []) so_far.kept_on;
       }
 
 -- A commit has ended the group that was begun.
-module _ {world : World} {past : Past} {items : List Item} {last next : Kept} {uber : Uber} {now : Disk}
-    (so_far : Recorded world past items last (next ∷ []) uber now) {after : ℕ}
-    (is : IsBegunAt world items so_far.item after next) (knows : Knows world.setting next [] now)
+module _ {world : World} {past : Past} {items : List Item} {item : GroupItem} {last next : Kept} {now : Disk}
+    (so_far : Recorded world past items item last (next ∷ []) now) {after : ℕ}
+    (is : IsBegunAt world items item after next) (knows : Knows world.setting next [] now)
     {group : GroupItem} (number : group.group ≡ next.uber.group) (after_is : group.after ≡ after)
     (from_is : group.from ≡ next.uber.reflow.from) (group_to_is : group.to ≡ next.uber.reflow.to)
     (here : past.banks (length items + 1) ≡ now) where
@@ -289,7 +268,7 @@ module _ {world : World} {past : Past} {items : List Item} {last next : Kept} {u
         ∙ sym (map_before world.handed world.opening items (Group group ∷ []) group.after within));
   }
 
-  follows : Follows with_group (length items) so_far.item group
+  follows : Follows with_group (length items) item group
   follows = record {
     number = number ∙ is.number;
     later = (let low = is.listed.0 in omega (arith, low, after_is));
@@ -297,45 +276,41 @@ module _ {world : World} {past : Past} {items : List Item} {last next : Kept} {u
     widths = inl (from_is ∙ is.widths.0, group_to_is ∙ is.widths.1);
   }
 
-  module _ {other : Uber} (to_is : other.reflow.to ≡ uber.reflow.to) (parity_is : other.parity ≡ uber.parity) where
-    -- Its item is listed,
-    pub recorded_group : Recorded world past (items ++ Group group ∷ []) next [] other now
-    recorded_group =
-        let none = groups_none so_far.groups in
-        let ended = groups_end world.handed world.opening world.known items none.0 none.2 group next next_is
-        so_far.in_order in
-        let answered_are = ended.1 ∙ ap (λ (l : List Kept). l ++ next ∷ []) none.1 in
-        let latest = latest_grown_group items group in
-        let row = ended_row world.known so_far.groups.answered so_far.groups.begun ended.0.answered ended.0.begun next
-        so_far.begun_are answered_are ended.2 in
-        let widths = subst (λ (l : List Kept). HaveWidthOf other l) row
-        (widths_like uber other (world.known ++ so_far.groups.answered ++ so_far.groups.begun) to_is parity_is
-        so_far.widths) in
-        let alike = last_alike other world.known so_far.groups.answered ended.0.answered ended.0.begun [] next
-        answered_are ended.2 widths in
-        record {
-          groups = ended.0;
-          earlier = so_far.groups.answered;
-          answered_are = answered_are;
-          begun_are = ended.2;
-          item = group;
-          latest = latest;
-          item_is = next_is;
-          in_order = groups_grown_group items group so_far.in_order so_far.item so_far.latest follows;
-          right = answers_grown_group world.handed world.opening items group so_far.right;
-          sound = each_grown_group IsSound items group so_far.sound;
-          counted = counted_group items group so_far.counted;
-          since = subst (λ (l : List Kept). KeepsSince world.setting l past.origin.clock now) row so_far.since;
-          widths = widths;
-          no_older = kept_more so_far.no_older (some_items so_far) (latest_now so_far) so_far.kept_on (Group group) here;
-          kept_on = on_listed items (Group group) past here (on_now (latest_of ended.0 ended.2 latest next_is alike) knows);
-        }
+  -- Its item is listed,
+  pub recorded_group : Recorded world past (items ++ Group group ∷ []) group next [] now
+  recorded_group =
+      let none = groups_none so_far.groups in
+      let ended = groups_end world.calls world.handed world.opening world.known items none.0 none.2 group next next_is
+      so_far.in_order in
+      let answered_are = ended.1 ∙ ap (λ (l : List Kept). l ++ next ∷ []) none.1 in
+      let latest = latest_grown_group items group in
+      let row = ended_row world.known so_far.groups.answered so_far.groups.begun ended.0.answered ended.0.begun next
+      so_far.begun_are answered_are ended.2 in
+      let next_parity : HaveParityOf world.known (next ∷ []) = λ one known kept has. parity_now so_far one known kept
+      (contains_tail last (next ∷ []) kept has) in
+      record {
+        groups = ended.0;
+        earlier = so_far.groups.answered;
+        answered_are = answered_are;
+        begun_are = ended.2;
+        latest = latest;
+        item_is = next_is;
+        in_order = groups_grown_group items group so_far.in_order item so_far.latest follows;
+        right = answers_grown_group world.handed world.opening items group so_far.right;
+        sound = each_grown_group IsSound items group so_far.sound;
+        counted = counted_group items group so_far.counted;
+        since = subst (λ (l : List Kept). KeepsSince world.setting l past.origin.clock now) row so_far.since;
+        parity = subst (HaveParityOf world.known) row so_far.parity;
+        no_older = kept_more so_far.no_older (some_items so_far) (latest_now so_far) so_far.kept_on (Group group) here;
+        kept_on = on_listed items (Group group) past here
+            (on_now (latest_of ended.0 ended.2 latest next_is next_parity) knows);
+      }
 
-    -- and the sync that asked for it is answered.
-    pub recorded_ends : (entry : Entry) → entry.kind ≡ kind.Sync → entry.answer ≡ answer.Synced group.group → 1 ≤ after
-        → AllBelow items entry.caller after → past.banks (length with_group + 1) ≡ now
-        → Recorded world past ((items ++ Group group ∷ []) ++ Call entry ∷ []) next [] other now
-    recorded_ends entry asked answer_is some below then = recorded_answers recorded_group entry then knows
-        (sync_right world items group entry asked answer_is (omega (arith, some, after_is))
-        (subst (AllBelow items entry.caller) (sym after_is) below))
-        (subst (IsAnswerOf entry.kind) (sym answer_is) asked)
+  -- and the sync that asked for it is answered.
+  pub recorded_ends : (entry : Entry) → entry.kind ≡ kind.Sync → entry.answer ≡ answer.Synced group.group → 1 ≤ after
+      → AllBelow items entry.caller after → past.banks (length with_group + 1) ≡ now
+      → Recorded world past ((items ++ Group group ∷ []) ++ Call entry ∷ []) group next [] now
+  recorded_ends entry asked answer_is some below then = recorded_answers recorded_group entry then knows
+      (sync_right world items group entry asked answer_is (omega (arith, some, after_is))
+      (subst (AllBelow items entry.caller) (sym after_is) below))
+      (subst (IsAnswerOf entry.kind) (sym answer_is) asked)

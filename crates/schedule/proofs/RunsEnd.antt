@@ -1,7 +1,6 @@
 -- What stood before a turn of one client stands after it, where its call is answered.
 use Rattle.std.proofs.Common.{◌≡◌, ℕ, List, [], ◌∷◌, ◌++◌, Some, None, sym, ◌∙◌, ap, subst, length, ◌+◌, ◌<◌, arith, ◌≤◌, length-append, Option}
 use Rattle.std.specs.Prelude.{slice_get}
-use Rattle.uberblock_ring.specs.Uberblock.{Uber}
 use Rattle.core_state.specs.declared.answer.Answer.TheVariants as answer
 use Rattle.core_state.specs.declared.answer.Kind.TheVariants as kind
 use Rattle.core_state.specs.declared.item.Entry.{Entry}
@@ -16,7 +15,6 @@ use Rattle.core_state.specs.World.{World}
 use Rattle.core_commit.specs.CommitTurns.{CommitRun}
 use Rattle.client_script.specs.Script.{Script}
 use Rattle.journal_law.proofs.Grown.{map_grown_call, map_grown_group}
-use Rattle.journal_law.proofs.GrownGroups.{latest_grown_call, latest_grown_group}
 use Rattle.core_turns.specs.Core.{CoreState}
 use Rattle.core_turns.specs.UnderWay.{Stands}
 use Rattle.schedule.specs.declared.client.Client.{Client}
@@ -28,7 +26,6 @@ use Rattle.schedule.specs.Running.{IsClient, IsGoing, IsSync, IsSyncOf, IsTheirs
 use Rattle.schedule.proofs.Theirs.{IsNoSync, OnlyIt, each_going, idle_no_sync, no_one, sync_gone, sync_stays}
 use Rattle.schedule.proofs.Running.{head_is, client_grown, entry_apart, group_apart, sync_grown, sync_free}
 use Rattle.schedule.proofs.Recording.{recorded_answers, recorded_ends}
-use Rattle.schedule.proofs.Begun.{one_latest}
 use Rattle.schedule.specs.Moments.{Past}
 use Rattle.schedule.specs.Turns.{IsListedWith}
 
@@ -41,18 +38,17 @@ module _ {world : World} {script : Script} {past : Past} {before : CoreState} {i
 
   -- A call is answered, and its entry listed: the client has nothing under way then.
   module _ (entry : Entry) (caller : entry.caller ≡ index) (ended : client.under_way ≡ None)
-      (uber : after.core.pool.uber ≡ before.core.pool.uber) (disk : after.disk ≡ before.disk)
+      (disk : after.disk ≡ before.disk)
       (knows : Knows world.setting runs.last runs.begun before.disk)
       (right : IsRightNext world items entry) (answers : IsAnswerOf entry.kind entry.answer)
       (with : IsListedWith past.banks items (items ++ CallItem entry ∷ []) after.disk) where
     abbrev grown : List Item
     grown = items ++ CallItem entry ∷ []
 
-    recorded_entry : Recorded world past grown runs.last runs.begun after.core.pool.uber after.disk
-    recorded_entry = subst (λ (u : Uber). Recorded world past grown runs.last runs.begun u after.disk) (sym uber)
-        (subst (Recorded world past grown runs.last runs.begun before.core.pool.uber) (sym disk)
+    recorded_entry : Recorded world past grown runs.item runs.last runs.begun after.disk
+    recorded_entry = subst (Recorded world past grown runs.item runs.last runs.begun) (sym disk)
         (recorded_answers runs.recorded entry (with (length items + 1) (omega arith)
-        (omega (arith, length-append items (CallItem entry ∷ []))) ∙ disk) knows right answers))
+        (omega (arith, length-append items (CallItem entry ∷ []))) ∙ disk) knows right answers)
 
     each_left : (other : ℕ) (its_client : Client) (its_under : UnderWay) → IsGoing news other its_client its_under
         → IsClient world script grown runs.item runs.begun (runs.contents other) other its_client its_under
@@ -82,7 +78,6 @@ module _ {world : World} {script : Script} {past : Past} {before : CoreState} {i
       contents = runs.contents;
       commit = commit;
       item = runs.item;
-      latest = latest_grown_call items entry runs.item runs.latest;
       recorded = recorded_entry;
       stands = subst (λ (m : Map). Stands world.setting runs.last runs.begun m runs.contents (calls_under_way news) commit
           after) (sym map_is) stands;
@@ -104,8 +99,7 @@ module _ {world : World} {script : Script} {past : Past} {before : CoreState} {i
       (caller : entry.caller ≡ index) (ended : client.under_way ≡ None)
       (old_is : old.under_way ≡ Some under) (does_is : under.work ≡ work.Sync run)
       (begun_is : runs.begun ≡ next ∷ [])
-      (only : OnlyIt clients index) (disk : after.disk ≡ before.disk) (to_is : after.core.pool.uber.reflow.to ≡ before.core.pool.uber.reflow.to)
-      (parity_is : after.core.pool.uber.parity ≡ before.core.pool.uber.parity)
+      (only : OnlyIt clients index) (disk : after.disk ≡ before.disk)
       (group_is : group ≡ record {
         group = next.uber.group;
         after = under.at;
@@ -133,23 +127,17 @@ module _ {world : World} {script : Script} {past : Past} {before : CoreState} {i
         let sync = subst (IsSyncOf world items runs.item runs.begun under.at) does_is my_end.sync in
         subst (IsBegunAt world items runs.item under.at) (head_is (sym sync.1 ∙ begun_is)) sync.2
 
-    recorded_one : Recorded world past items runs.last (next ∷ []) before.core.pool.uber before.disk
-    recorded_one = subst (λ (l : List Kept). Recorded world past items runs.last l before.core.pool.uber before.disk)
-        begun_is runs.recorded
-
-    item_one : recorded_one.item ≡ runs.item
-    item_one = one_latest recorded_one.latest runs.latest
-
     abbrev with_both : List Item
     with_both = (items ++ Group group ∷ []) ++ CallItem entry ∷ []
 
-    recorded_end : Recorded world past with_both next [] after.core.pool.uber after.disk
-    recorded_end = subst (Recorded world past with_both next [] after.core.pool.uber) (sym disk)
-        (recorded_ends recorded_one
-        (subst (λ (g : GroupItem). IsBegunAt world items g under.at next) (sym item_one) is_next) knows
+    recorded_end : Recorded world past with_both group next [] after.disk
+    recorded_end = subst (Recorded world past with_both group next []) (sym disk)
+        (recorded_ends
+        (subst (λ (l : List Kept). Recorded world past items runs.item runs.last l before.disk) begun_is runs.recorded)
+        is_next knows
         (ap (λ (g : GroupItem). g.group) group_is) (ap (λ (g : GroupItem). g.after) group_is)
         (ap (λ (g : GroupItem). g.from) group_is) (ap (λ (g : GroupItem). g.to) group_is)
-        (both_with (length items + 1) (omega arith) (omega arith)) to_is parity_is entry asked answer_is my_end.at.0
+        (both_with (length items + 1) (omega arith) (omega arith)) entry asked answer_is my_end.at.0
         (λ place one there its. my_end.after place one there (its ∙ caller))
         (both_with (length (items ++ Group group ∷ []) + 1) (omega (arith, length-append items (Group group ∷ [])))
         (omega (arith, length-append items (Group group ∷ [])))))
@@ -184,7 +172,6 @@ module _ {world : World} {script : Script} {past : Past} {before : CoreState} {i
       contents = runs.contents;
       commit = None;
       item = group;
-      latest = latest_grown_call (items ++ Group group ∷ []) entry group (latest_grown_group items group);
       recorded = recorded_end;
       stands = subst (λ (m : Map). Stands world.setting next [] m runs.contents (calls_under_way news) None after)
           (sym map_both) stands;

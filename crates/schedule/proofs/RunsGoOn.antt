@@ -3,8 +3,6 @@ use Rattle.std.proofs.Common.{◌≡◌, ◌≢◌, ℕ, ◌+◌, ◌-◌, ◌<�
 use Rattle.std.specs.Prelude.{slice_get}
 use Rattle.std.proofs.lemmas.Option.{slice_get_within}
 use Rattle.bank_trait.specs.Disk.{Disk, Later}
-use Rattle.bank_trait.proofs.Moments.{later_refl}
-use Rattle.uberblock_ring.specs.Uberblock.{Uber}
 use Rattle.core_state.specs.declared.item.Group.{Group as GroupItem}
 use Rattle.core_state.specs.declared.item.Item.{Item}
 use Rattle.core_state.specs.declared.item.Item.TheVariants.{Call as CallItem}
@@ -27,7 +25,6 @@ use Rattle.schedule.specs.Clients.{Changes}
 use Rattle.schedule.specs.Moments.{Past}
 use Rattle.schedule.specs.Recorded.{Recorded, IsBegunAt}
 use Rattle.schedule.specs.Running.{HasContent, IsClient, IsGoing, IsSync, IsSyncOf, IsTheirs, Runs, calls_under_way}
-use Rattle.schedule.proofs.Begun.{one_latest}
 use Rattle.schedule.proofs.Recording.{recorded_begins, recorded_goes}
 use Rattle.schedule.proofs.Running.{sync_free, with_content, with_other, with_own}
 use Rattle.schedule.proofs.Theirs.{IsNoSync, each_going, idle_no_sync, no_one, sync_stays, the_one, work_no_sync}
@@ -46,20 +43,15 @@ module _ {world : World} {script : Script} {past : Past} {before : CoreState} {i
 
   -- The journal has items.
   some_items : 1 ≤ length items
-  some_items = let low = runs.latest.before in omega (arith, low)
+  some_items = let low = runs.recorded.latest.before in omega (arith, low)
 
-  recorded_on : after.core.pool.uber ≡ before.core.pool.uber → Later before.disk after.disk
-      → GoesOnSince world runs.last runs.begun before.disk after.disk
-      → Recorded world past items runs.last runs.begun after.core.pool.uber after.disk
-  recorded_on uber later since =
-      subst (λ (u : Uber). Recorded world past items runs.last runs.begun u after.disk) (sym uber)
-      (recorded_goes runs.recorded later since)
+  -- what the journal tells, with this bank
+  abbrev IsRecorded : List Kept → Disk → Type 0
+  IsRecorded begun now = Recorded world past items runs.item runs.last begun now
 
   -- Where no device was called.
-  recorded_still : after.core.pool.uber ≡ before.core.pool.uber → after.disk ≡ before.disk
-      → Recorded world past items runs.last runs.begun after.core.pool.uber after.disk
-  recorded_still uber disk = recorded_on uber (subst (Later before.disk) (sym disk) (later_refl before.disk))
-      (λ groups time row kept. subst (KeepsSince world.setting groups time) (sym disk) kept)
+  recorded_still : after.disk ≡ before.disk → IsRecorded runs.begun after.disk
+  recorded_still disk = subst (IsRecorded runs.begun) (sym disk) runs.recorded
 
   -- what is known of the client's call
   abbrev IsMine : List Kept → List ℕ → UnderWay → Type 0
@@ -67,8 +59,7 @@ module _ {world : World} {script : Script} {past : Past} {before : CoreState} {i
 
   -- The groups are as they were, and so is the commit.
   beside_commit : (nows : ℕ → List ℕ) → ((other : ℕ) → other ≢ index → nows other ≡ runs.contents other)
-      → Recorded world past items runs.last runs.begun after.core.pool.uber after.disk
-      → IsNoSync old.under_way → IsNoSync client.under_way
+      → IsRecorded runs.begun after.disk → IsNoSync old.under_way → IsNoSync client.under_way
       → ((under : UnderWay) → client.under_way ≡ Some under → IsMine runs.begun (nows index) under)
       → Stands world.setting runs.last runs.begun map nows (calls_under_way news) runs.commit after
       → Runs world script past after items news
@@ -78,7 +69,6 @@ module _ {world : World} {script : Script} {past : Past} {before : CoreState} {i
     contents = nows;
     commit = runs.commit;
     item = runs.item;
-    latest = runs.latest;
     recorded = recorded;
     stands = stands;
     sync = sync_stays was changes runs.commit was_none is_none runs.sync;
@@ -90,8 +80,8 @@ module _ {world : World} {script : Script} {past : Past} {before : CoreState} {i
   }
 
   -- A put or a read goes on.
-  pub goes_on : (under : UnderWay) (does : Work) → after.core.pool.uber ≡ before.core.pool.uber
-      → Later before.disk after.disk → GoesOnSince world runs.last runs.begun before.disk after.disk
+  pub goes_on : (under : UnderWay) (does : Work) → Later before.disk after.disk
+      → GoesOnSince world runs.last runs.begun before.disk after.disk
       → old.under_way ≡ Some under
       → client ≡ record { begun = old.begun; under_way = Some (record { at = under.at; work = does }) }
       → (IsSync under.work → ⊥) → (IsSync does → ⊥)
@@ -99,8 +89,9 @@ module _ {world : World} {script : Script} {past : Past} {before : CoreState} {i
       → HasContent world items asked under.at (runs.contents index) does)
       → Stands world.setting runs.last runs.begun map runs.contents (calls_under_way news) runs.commit after
       → Runs world script past after items news
-  goes_on under does uber later since old_is client_is was_no_sync no_sync has = beside_commit runs.contents
-      (λ other apart. refl) (recorded_on uber later since) (work_no_sync old_is was_no_sync) (work_no_sync going no_sync)
+  goes_on under does later since old_is client_is was_no_sync no_sync has = beside_commit runs.contents
+      (λ other apart. refl) (recorded_goes runs.recorded later since) (work_no_sync old_is was_no_sync)
+      (work_no_sync going no_sync)
       (the_one (IsMine runs.begun (runs.contents index)) going (record {
         at = mine.at;
         after = mine.after;
@@ -116,20 +107,19 @@ module _ {world : World} {script : Script} {past : Past} {before : CoreState} {i
       mine = runs.each index old under (record { there = was; under_way = old_is })
 
   -- A commit goes on.
-  pub commit_goes_on : (under : UnderWay) (run next : CommitRun) → after.core.pool.uber ≡ before.core.pool.uber
-      → Later before.disk after.disk → GoesOnSince world runs.last runs.begun before.disk after.disk
+  pub commit_goes_on : (under : UnderWay) (run next : CommitRun) → Later before.disk after.disk
+      → GoesOnSince world runs.last runs.begun before.disk after.disk
       → old.under_way ≡ Some under → under.work ≡ work.Sync run
       → client ≡ record { begun = old.begun; under_way = Some (record { at = under.at; work = work.Sync next }) }
       → Stands world.setting runs.last runs.begun map runs.contents (calls_under_way news) (Some next) after
       → Runs world script past after items news
-  commit_goes_on under run next uber later since old_is does_is client_is stands = record {
+  commit_goes_on under run next later since old_is does_is client_is stands = record {
     last = runs.last;
     begun = runs.begun;
     contents = runs.contents;
     commit = Some next;
     item = runs.item;
-    latest = runs.latest;
-    recorded = recorded_on uber later since;
+    recorded = recorded_goes runs.recorded later since;
     stands = stands;
     sync = (index, client, syncing, record { there = changes.there; under_way = going }, refl);
     each = each_going was changes {T = λ other its its_under.
@@ -159,8 +149,7 @@ module _ {world : World} {script : Script} {past : Past} {before : CoreState} {i
   none_after place entry there caller = slice_get_within items place (CallItem entry) there
 
   -- A put or a read begins, with these bytes of its block.
-  pub begins : (content : List ℕ) (does : Work) → old.under_way ≡ None → after.core.pool.uber ≡ before.core.pool.uber
-      → after.disk ≡ before.disk
+  pub begins : (content : List ℕ) (does : Work) → old.under_way ≡ None → after.disk ≡ before.disk
       → client ≡ record { begun = old.begun + 1; under_way = Some (record { at = length items; work = does }) }
       → (IsSync does → ⊥)
       → ((asked : ScriptCall) → slice_get (calls_of script index) old.begun ≡ Some asked
@@ -168,8 +157,8 @@ module _ {world : World} {script : Script} {past : Past} {before : CoreState} {i
       → Stands world.setting runs.last runs.begun map (with_content runs.contents index content) (calls_under_way news)
       runs.commit after
       → Runs world script past after items news
-  begins content does idle uber disk client_is no_sync has = beside_commit (with_content runs.contents index content)
-      (with_other runs.contents index content) (recorded_still uber disk) (idle_no_sync idle) (work_no_sync going no_sync)
+  begins content does idle disk client_is no_sync has = beside_commit (with_content runs.contents index content)
+      (with_other runs.contents index content) (recorded_still disk) (idle_no_sync idle) (work_no_sync going no_sync)
       (the_one (IsMine runs.begun (with_content runs.contents index content index)) going
       (subst (λ (bytes : List ℕ). IsMine runs.begun bytes (record { at = length items; work = does }))
       (sym (with_own runs.contents index content)) (record {
@@ -184,33 +173,27 @@ module _ {world : World} {script : Script} {past : Past} {before : CoreState} {i
       going = ap (λ (c : Client). c.under_way) client_is
 
   -- A call waits.
-  pub waits : old.under_way ≡ None → after.core.pool.uber ≡ before.core.pool.uber → after.disk ≡ before.disk
-      → client.under_way ≡ None
+  pub waits : old.under_way ≡ None → after.disk ≡ before.disk → client.under_way ≡ None
       → Stands world.setting runs.last runs.begun map runs.contents (calls_under_way news) runs.commit after
       → Runs world script past after items news
-  waits idle uber disk still = beside_commit runs.contents (λ other apart. refl) (recorded_still uber disk)
+  waits idle disk still = beside_commit runs.contents (λ other apart. refl) (recorded_still disk)
       (idle_no_sync idle) (idle_no_sync still) (no_one (IsMine runs.begun (runs.contents index)) still)
 
   -- A commit begins, which calls no device.
   pub commit_begins : (run : CommitRun) (next : Kept) → runs.begun ≡ [] → runs.commit ≡ None
-      → after.core.pool.uber ≡ before.core.pool.uber → after.disk ≡ before.disk
+      → after.disk ≡ before.disk
       → client ≡ record { begun = old.begun + 1; under_way = Some (record { at = length items; work = work.Sync run }) }
-      → IsBegunAt world items runs.recorded.item (length items) next
-      → next.uber.reflow.to ≡ before.core.pool.uber.reflow.to → next.uber.parity ≡ before.core.pool.uber.parity
+      → IsBegunAt world items runs.item (length items) next → next.uber.parity ≡ runs.last.uber.parity
       → Stands world.setting runs.last (next ∷ []) map runs.contents (calls_under_way news) (Some run) after
       → Runs world script past after items news
-  commit_begins run next none_begun no_commit uber disk client_is is_begun to_is parity_is stands = record {
+  commit_begins run next none_begun no_commit disk client_is is_begun parity stands = record {
     last = runs.last;
     begun = next ∷ [];
     contents = runs.contents;
     commit = Some run;
     item = runs.item;
-    latest = runs.latest;
-    recorded = subst (λ (u : Uber). Recorded world past items runs.last (next ∷ []) u after.disk) (sym uber)
-        (subst (Recorded world past items runs.last (next ∷ []) before.core.pool.uber) (sym disk)
-        (recorded_begins recorded_none
-        (subst (λ (g : GroupItem). IsBegunAt world items g (length items) next) (sym item_none) is_begun)
-        to_is parity_is));
+    recorded = subst (IsRecorded (next ∷ [])) (sym disk) (recorded_begins
+        (subst (λ (l : List Kept). IsRecorded l before.disk) none_begun runs.recorded) is_begun parity);
     stands = stands;
     sync = (index, client, syncing, record { there = changes.there; under_way = going }, refl);
     each = each_going was changes
@@ -218,12 +201,7 @@ module _ {world : World} {script : Script} {past : Past} {before : CoreState} {i
         (the_one (IsMine (next ∷ []) (runs.contents index)) going (record {
           at = (some_items, omega arith);
           after = none_after;
-          sync = (
-            next,
-            refl,
-            subst (λ (g : GroupItem). IsBegunAt world items g (length items) next)
-                (one_latest runs.recorded.latest runs.latest) is_begun,
-          );
+          sync = (next, refl, is_begun);
           content = λ asked is. tt;
         }))
         (λ other its its_under apart is. let was = runs.each other its its_under is in record {
@@ -239,14 +217,6 @@ module _ {world : World} {script : Script} {past : Past} {before : CoreState} {i
 
       going : client.under_way ≡ Some syncing
       going = ap (λ (c : Client). c.under_way) client_is
-
-      recorded_none : Recorded world past items runs.last [] before.core.pool.uber before.disk
-      recorded_none = subst
-          (λ (l : List Kept). Recorded world past items runs.last l before.core.pool.uber before.disk) none_begun
-          runs.recorded
-
-      item_none : recorded_none.item ≡ runs.recorded.item
-      item_none = one_latest recorded_none.latest runs.recorded.latest
 
       no_sync : (other : ℕ) (its : Client) (its_under : UnderWay) → IsGoing clients other its its_under
           → IsSync its_under.work → ⊥

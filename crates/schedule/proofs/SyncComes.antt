@@ -104,12 +104,11 @@ module _ {script : Script} {actor : ℕ} {before after : Station} {clients news 
           let begun : now.begun ≡ old.begun + 1 = ap (λ (c : Core). c.begun) begins.4 in
           let widths : made.0.uber.reflow ≡ runs.last.uber.reflow =
           made.3 ∙ ap (λ (u : Uber). u.reflow) runs.stands.alike in
-          commit_begins after.state takes.was takes.changes runs run made.0 empty none
-          (ap (λ (c : Core). c.pool.uber) begins.4) disk leaves.1
+          commit_begins after.state takes.was takes.changes runs run made.0 empty none disk leaves.1
           (begun_now runs.recorded (let number = made.2 in omega (arith, number, begun, rest, last))
           (ap (λ (r : Reflow). r.from) widths, ap (λ (r : Reflow). r.to) widths)
           (λ id. ap (λ (m : Map). m id) made.1))
-          (ap (λ (r : Reflow). r.to) made.3) made.4
+          (made.4 ∙ ap (λ (u : Uber). u.parity) runs.stands.alike)
           (subst (λ (l : List HoldingCall). Stands world.setting runs.last (made.0 ∷ []) map runs.contents l (Some run)
           after.state)
           (sym same_calls)
@@ -140,7 +139,7 @@ module _ {script : Script} {actor : ℕ} {before after : Station} {clients news 
       let map : Map = map_of world.handed world.opening before.items in
       let entry = first_entry call actor before given in
       let last : old.pool.uber.group ≡ runs.last.uber.group = ap (λ (u : Uber). u.group) runs.stands.alike in (
-        refused_right world before.items runs.recorded.item entry old given asked refl runs.recorded.latest
+        refused_right world before.items runs.item entry old given asked refl runs.recorded.latest
             (λ none. rests old takes.is none ∙ last ∙ runs.recorded.item_is.number) refused.0,
         subst (λ (m : Map). Stands world.setting runs.last runs.begun m runs.contents (calls_under_way clients) runs.commit
             after.state)

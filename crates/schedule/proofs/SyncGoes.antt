@@ -107,7 +107,7 @@ module _ {script : Script} {actor : ℕ} {before after : Station} {clients news 
       (ap (λ (c : Core). c.committing) steps.2 ∙ of_core.1))
       (λ world past handed within listed runs.
       let borne = within (few_out old steps.0) in
-      commit_goes_on after.state takes.was takes.changes runs under run next (ap (λ (c : Core). c.pool.uber) steps.2)
+      commit_goes_on after.state takes.was takes.changes runs under run next
       goes.later (commit_steps_since takes.is steps borne (its_stands runs)) under_is does_is further.1
       (subst (λ (l : List HoldingCall). Stands world.setting runs.last runs.begun
       (map_of world.handed world.opening before.items) runs.contents l (Some next) after.state)
@@ -218,7 +218,6 @@ module _ {script : Script} {actor : ℕ} {before after : Station} {clients news 
           ∙ ap (λ (u : Uber). u.reflow) stands.groups.come.alike in
           runs_ends after.state takes.was takes.changes runs under run next group entry refl
           (idle_now (answer.Synced number) leaves) under_is does_is stands.groups.begun_is only disk
-          (ap (λ (r : Reflow). r.to) goes.widths) goes.parity
           (λ i. record {
             group = number_is i;
             after = under.at;
@@ -242,7 +241,7 @@ module _ {script : Script} {actor : ℕ} {before after : Station} {clients news 
       (λ world past handed within listed runs.
       let map : Map = map_of world.handed world.opening before.items in
       commit_is_cut after.state takes.was takes.changes runs (entry given leaves) refl (idle_now given leaves)
-      (ap (λ (s : CoreState). s.core.pool.uber) steps.2) (ap (λ (s : CoreState). s.disk) steps.2)
+      (ap (λ (s : CoreState). s.disk) steps.2)
       (stands_know runs.stands) (sync_cut_right world before.items (entry given leaves) for_call.0 tt) tt listed only
       (subst (λ (l : List HoldingCall). Stands world.setting runs.last runs.begun map runs.contents l None after.state)
       (sym (ended_calls given leaves))

@@ -100,13 +100,6 @@ pub none_going : {clients : List Client} {index : ℕ} {client its : Client} {un
 none_going was idle is =
     none_some (sym idle ∙ ap (λ (c : Client). c.under_way) (some_is (sym was ∙ is.there)) ∙ is.under_way)
 
--- and one that has, with that one.
-pub going_under : {clients : List Client} {index : ℕ} {client its : Client} {under its_under : UnderWay}
-    → slice_get clients index ≡ Some client → client.under_way ≡ Some under → IsGoing clients index its its_under
-    → its_under ≡ under
-going_under was is going =
-    some_is (sym going.under_way ∙ ap (λ (c : Client). c.under_way) (sym (some_is (sym was ∙ going.there))) ∙ is)
-
 -- Where it has none, all calls under way are others'.
 pub calls_of_others : {script : Script} {core : Core} {clients : List Client} {index : ℕ} {client : Client}
     → slice_get clients index ≡ Some client → client.under_way ≡ None → AreGoing script core clients

@@ -183,7 +183,7 @@ module _ {script : Script} {actor : ℕ} {before after : Station} {clients news 
         comes_on still items (ap answered client_is) (omega (arith, begun_is, few))
         (no_one (λ under. 1 ≤ after.client.begun) rests) (still_going rests are)
         (λ world past handed within listed runs.
-        runs_waits after.state takes.was takes.changes runs idle leaves.uber disk rests
+        runs_waits after.state takes.was takes.changes runs idle disk rests
         (subst (λ (calls : List HoldingCall). Stands world.setting runs.last runs.begun
         (map_of world.handed world.opening before.items) runs.contents calls runs.commit after.state)
         (sym (same_calls rests are)) (stands world past runs)))
@@ -206,8 +206,8 @@ module _ {script : Script} {actor : ℕ} {before after : Station} {clients news 
         (still_going rests are)
         (λ world past handed within with runs.
         let now = stands world past runs in
-        runs_answer after.state takes.was takes.changes runs (first_entry call actor before given) refl rests leaves.uber
-        disk (stands_know runs.stands) now.0 fit.of_kind with (idle_no_sync idle)
+        runs_answer after.state takes.was takes.changes runs (first_entry call actor before given) refl rests disk
+        (stands_know runs.stands) now.0 fit.of_kind with (idle_no_sync idle)
         (subst (λ (calls : List HoldingCall). Stands world.setting runs.last runs.begun
         (map_after_answer world.handed (map_of world.handed world.opening before.items)
         (first_entry call actor before given) given) runs.contents calls runs.commit after.state)
@@ -253,7 +253,7 @@ module _ {script : Script} {actor : ℕ} {before after : Station} {clients news 
           })))
           (λ world past handed within listed runs.
           let now = stands world past runs in
-          runs_begins after.state takes.was takes.changes runs now.0 does idle leaves.uber disk begins.1 no_sync
+          runs_begins after.state takes.was takes.changes runs now.0 does idle disk begins.1 no_sync
           (λ other other_is. subst
           (λ (c : ScriptCall). HasContent world before.items c (length before.items) now.0 does)
           (some_is (sym next ∙ other_is)) now.1)
@@ -324,14 +324,14 @@ module _ {script : Script} {actor : ℕ} {before after : Station} {clients news 
         held_moves = call_goes takes.was takes.changes was_held (ap held_under next_is ∙ holds)
 
         pub comes_going : KeepsCommit old now → IsHoldOf actor next → IsWorkFor call next
-            → AreCallsOf now (calls_under_way news) → now.pool.uber ≡ old.pool.uber
+            → AreCallsOf now (calls_under_way news)
             → ((world : World) (past : Past) → (runs : Runs world script past before.state before.items clients)
             → GoesOnSince world runs.last runs.begun before.state.disk after.state.disk
             × (HasContent world before.items call under.at (runs.contents actor) does
             → HasContent world before.items call under.at (runs.contents actor) next)
             × StandsNow world past runs runs.contents (map_of world.handed world.opening before.items))
             → ItComes
-        comes_going keeps its asked are uber stands = comes_further next goes further
+        comes_going keeps its asked are stands = comes_further next goes further
             (going_goes takes.was takes.changes takes.schedule.going are keeps (work_no_sync under_is no_sync)
             (the_one (λ its_under. IsWorkOf script now actor after.client its_under.work) next_is (record {
               hold = its;
@@ -342,7 +342,7 @@ module _ {script : Script} {actor : ℕ} {before after : Station} {clients news 
             })))
             (λ world past handed within listed runs.
             let now = stands world past runs in
-            runs_goes_on after.state takes.was takes.changes runs under next uber goes.later now.0 under_is further.1
+            runs_goes_on after.state takes.was takes.changes runs under next goes.later now.0 under_is further.1
             no_sync next_no_sync
             (λ other other_is. subst
             (λ (c : ScriptCall). HasContent world before.items c under.at (runs.contents actor) next)
@@ -377,5 +377,5 @@ module _ {script : Script} {actor : ℕ} {before after : Station} {clients news 
             (no_one (λ its_under. IsWorkOf script now actor after.client its_under.work) idle_now))
             (λ world past handed within with runs.
             let now = stands world past handed runs in
-            runs_answer after.state takes.was takes.changes runs entry refl idle_now leaves.uber disk
+            runs_answer after.state takes.was takes.changes runs entry refl idle_now disk
             (stands_know runs.stands) now.0 fit.of_kind with (work_no_sync under_is no_sync) now.1)

@@ -13,6 +13,7 @@ use Rattle.core_state.specs.declared.item.Item.TheVariants.{Group}
 use Rattle.core_state.specs.Journal.{CallsAreRight}
 use Rattle.core_state.specs.Keeps.{Kept, Setting}
 use Rattle.core_state.specs.World.{World}
+use Rattle.core_state.proofs.Listed.{contains_head}
 use Rattle.core_blocks.specs.Blocks.{AreUnderWay}
 use Rattle.core_client.specs.Outs.{OnlyFailedGoOut}
 use Rattle.core_state.specs.Committing.{point_of}
@@ -30,8 +31,7 @@ use Rattle.journal_law.specs.NoSpace.{NoSpaceIsCaused}
 use Rattle.journal_law.specs.FirstGroup.{BeginsAfter}
 use Rattle.open_pool.specs.Pool.{first_item}
 use Rattle.journal_law.proofs.NoSpace.{no_space_alike}
-use Rattle.journal_law.proofs.Widths.{opened_width, widths_of_one}
-use Rattle.journal_law.specs.Widths.{HaveWidthOf}
+use Rattle.journal_law.proofs.Parity.{opened_parity}
 use Rattle.core_turns.specs.Core.{CoreState, at_disk}
 use Rattle.schedule.specs.declared.client.Client.{Client}
 use Rattle.schedule.specs.declared.whole_run.Ended.{Ended}
@@ -110,25 +110,18 @@ module _ (script : Script) (old mid : Disk) (pool : Pool) (silent : ℕ) (items 
       ∙ ap (λ (turns : Turns). turns.state.disk) come.ends
 
   module _ (setting : Setting) (first : Kept) (later : List Kept) (may : MayBegin setting first later old)
-      (width : first.uber.reflow.to ≡ pool.uber.reflow.to)
+      (missed_in : IsWithinBelow first.uber.reflow.to silent setting.failed)
       (borne_in : IsWithin come.borne setting.failed) where
-    missed_in : IsWithinBelow first.uber.reflow.to silent setting.failed
-    missed_in device below gone = borne_in device (come.from_start few device
-        (outs.lists device (missed device (omega (arith, below, width)) gone)))
-
     begins : OpensPool setting first later pool silent old mid
     begins = begun.each setting first later may missed_in
         (λ device out. borne_in device (come.from_start few device out))
 
-    wide : HaveWidthOf first.uber (first ∷ later)
-    wide = record { each = λ kept listed. (may.one_width kept listed, may.may.parity kept listed) }
-
     abbrev world : World
-    world = opened_world (handed_by script) wide begins
+    world = opened_world (asked_by script) (handed_by script) begins
 
     first_runs : Runs world script past (at_disk (resting pool) mid) (Group item ∷ []) (blank_clients script.clients)
-    first_runs = runs_first (handed_by script) wide begins past refl (at_start first_state passed 1 (omega arith)) opened_later bank
-        script script.clients
+    first_runs = runs_first (asked_by script) (handed_by script) begins may.may.parity past refl
+        (at_start first_state passed 1 (omega arith)) opened_later bank script script.clients
 
     runs : Runs world script past final items clients
     runs = come.runs world past refl first_runs borne_in (are_listed script first_state passed taken)
@@ -141,7 +134,7 @@ module _ (script : Script) (old mid : Disk) (pool : Pool) (silent : ℕ) (items 
     abbrev run_groups : List Kept
     run_groups = (first ∷ later) ++ runs.recorded.groups.answered ++ runs.recorded.groups.begun
 
-    at_end : (kept : KeepsLast setting (handed_by script) begins.opened.chosen.map items final.disk)
+    at_end : (kept : KeepsLast setting (asked_by script) (handed_by script) begins.opened.chosen.map items final.disk)
         × ((group : Kept) → Contains (kept.last ∷ kept.begun) group → Contains run_groups group)
     at_end = recorded_keeps runs.recorded
         (stands_know runs.stands)
@@ -193,8 +186,8 @@ module _ (script : Script) (old mid : Disk) (pool : Pool) (silent : ℕ) (items 
       no_older = recorded_no_older runs.recorded last_bank;
       kept = at_end.0;
       kept_among = at_end.1;
-      widths = widths_of_one run_groups first (0, omega arith, refl) runs.recorded.widths;
-      parity_is = sym (opened_width wide begins.opened).1;
+      parities = runs.recorded.parity first (contains_head first later);
+      parity_is = sym (opened_parity may.may.parity begins.opened);
     }
 
   -- The calls of the script were carried out on the pool that the devices showed,

@@ -1,7 +1,6 @@
 -- What a journal tells while calls are under way, and what the devices kept meanwhile.
 use Rattle.std.specs.Prelude.{◌≡◌, ◌≢◌, ℕ, ◌+◌, ◌<◌, ◌≤◌, List, [], ◌∷◌, ◌++◌, length}
 use Rattle.bank_trait.specs.Disk.{Disk}
-use Rattle.uberblock_ring.specs.Uberblock.{Uber}
 use Rattle.core_state.specs.declared.answer.Answer.TheVariants as answer
 use Rattle.core_state.specs.declared.item.Entry.{Entry}
 use Rattle.core_state.specs.declared.item.Group.{Group as GroupItem}
@@ -14,7 +13,7 @@ use Rattle.core_state.specs.Keeps.{Kept}
 use Rattle.core_state.specs.Moment.{IsGroupOf, Groups, KeepsSince}
 use Rattle.core_state.specs.World.{World}
 use Rattle.journal_law.specs.Caused.{IsAtLastGroup}
-use Rattle.journal_law.specs.Widths.{HaveWidthOf}
+use Rattle.journal_law.specs.Parity.{HaveParityOf}
 use Rattle.schedule.specs.Moments.{KeptSoFar, KeepsOn, Past}
 
 -- Each answer that tells of a limit has its cause in the items before it.
@@ -23,16 +22,14 @@ pub record GroupsAreCounted (items : List Item) : Type 0 where
       → entry.answer ≡ answer.Limit reached → IsAtLastGroup items index reached
 
 -- The journal is right so far; each image since the bank was the first one keeps groups of the run in a row, none
--- older than the last one listed by then. The last group listed is this one, and these were begun after it; each
--- image since the last item was listed keeps some of them. All groups of the run have the width and the parity of
--- the uberblock.
-pub record Recorded (world : World) (past : Past) (items : List Item) (last : Kept) (begun : List Kept)
-    (uber : Uber) (now : Disk) : Type 0 where
-  pub groups : Groups world.handed world.opening world.known items
+-- older than the last one listed by then. The last group listed is this one, by this item, and these were begun after
+-- it; each image since the last item was listed keeps some of them. All groups of the run have one parity.
+pub record Recorded (world : World) (past : Past) (items : List Item) (item : GroupItem) (last : Kept)
+    (begun : List Kept) (now : Disk) : Type 0 where
+  pub groups : Groups world.calls world.handed world.opening world.known items
   pub earlier : List Kept
   pub answered_are : groups.answered ≡ earlier ++ last ∷ []
   pub begun_are : groups.begun ≡ begun
-  pub item : GroupItem
   pub latest : IsGroupBefore items (length items) item
   pub item_is : IsGroupOf world.handed world.opening items item last
   pub in_order : GroupsAreRight items
@@ -40,9 +37,9 @@ pub record Recorded (world : World) (past : Past) (items : List Item) (last : Ke
   pub sound : (index : ℕ) (entry : Entry) → CallAt items index entry → entry.answer ≢ answer.Damaged
   pub counted : GroupsAreCounted items
   pub since : KeepsSince world.setting (world.known ++ groups.answered ++ groups.begun) past.origin.clock now
-  pub widths : HaveWidthOf uber (world.known ++ groups.answered ++ groups.begun)
-  pub no_older : KeptSoFar world.setting world.handed world.opening world.known items past
-  pub kept_on : KeepsOn world.setting world.handed world.opening items item last begun
+  pub parity : HaveParityOf world.known (world.known ++ groups.answered ++ groups.begun)
+  pub no_older : KeptSoFar world.setting world.calls world.handed world.opening world.known items past
+  pub kept_on : KeepsOn world.setting world.calls world.handed world.opening items item last begun
       (past.banks (length items)) now
 
 -- The next entry is right where it is listed.

@@ -5,7 +5,7 @@ use Rattle.core_state.specs.declared.item.Entry.{Entry}
 use Rattle.core_state.specs.declared.item.Group.{Group as GroupItem}
 use Rattle.core_state.specs.declared.item.Item.{Item}
 use Rattle.core_state.specs.Map.{map_of, map_after}
-use Rattle.core_state.specs.Legal.{CallAt, IsGroupBefore}
+use Rattle.core_state.specs.Legal.{CallAt}
 use Rattle.core_state.specs.Keeps.{Kept}
 use Rattle.core_state.specs.World.{World}
 use Rattle.core_commit.specs.CommitTurns.{CommitRun}
@@ -126,8 +126,7 @@ pub record Runs (world : World) (script : Script) (past : Past) (state : CoreSta
   pub contents : ℕ → List ℕ
   pub commit : Option CommitRun
   pub item : GroupItem
-  pub latest : IsGroupBefore items (length items) item
-  pub recorded : Recorded world past items last begun state.core.pool.uber state.disk
+  pub recorded : Recorded world past items item last begun state.disk
   pub stands : Stands world.setting last begun (map_of world.handed world.opening items) contents
       (calls_under_way clients) commit state
   pub sync : IsTheirs clients commit

@@ -10,7 +10,7 @@ use Rattle.core_state.specs.declared.item.Item.{Item}
 use Rattle.core_state.specs.declared.item.Item.TheVariants.{Group}
 use Rattle.core_state.specs.Legal.{GroupAt, CallAt}
 use Rattle.core_state.specs.Journal.{CallsAreRight, IsLegalJournal}
-use Rattle.core_state.specs.Keeps.{Kept, Setting}
+use Rattle.core_state.specs.Keeps.{HaveParity, Kept, Setting}
 use Rattle.core_state.specs.Moment.{KeepsThroughout}
 use Rattle.core_open.specs.Causes.{IsChoiceWithout, AreOutIn}
 use Rattle.core_open.specs.Failing.{HaveFailed}
@@ -24,7 +24,6 @@ use Rattle.core_turns.specs.Core.{CoreState}
 use Rattle.journal_law.specs.Caused.{HasTooManyIds}
 use Rattle.journal_law.specs.Moments.{KeepsLast}
 use Rattle.journal_law.specs.NoSpace.{NoSpaceIsCaused}
-use Rattle.journal_law.specs.Widths.{HaveWidthOf}
 use Rattle.journal_law.specs.FirstGroup.{BeginsAfter}
 use Rattle.open_pool.specs.Pool.{first_item}
 use Rattle.schedule.specs.declared.whole_run.Ran.{Ran}
@@ -41,8 +40,8 @@ use Rattle.schedule.specs.Turns.{Turns, TurnTaken, bank_when, last_left, turns_o
 -- A run began with one of the groups that the bank kept, and its journal is legal from that group's map on.
 -- Whatever a stop leaves, at any moment of the run, keeps some of the groups in a row: those kept before, the
 -- journal's, and at most one that was begun after them; and none older than the last one listed by then. At its end
--- that is the journal's last one, and what the bank keeps then is among these groups. All of them have the width and
--- the parity of the first one that the bank kept, and that is the run's parity. No read is told as damaged. An answer
+-- that is the journal's last one, and what the bank keeps then is among these groups. All of them have the parity of
+-- the first one that the bank kept, and that is the run's parity. No read is told as damaged. An answer
 -- that tells of a limit has its cause: the last group, or more ids than a table has room for. Where one says `NoSpace`,
 -- the chosen group's index and the script have too many blocks.
 pub record RunKeeps (script : Script) (setting : Setting) (first : Kept) (later : List Kept) (old new : Disk)
@@ -58,13 +57,13 @@ pub record RunKeeps (script : Script) (setting : Setting) (first : Kept) (later 
   pub full : (index : ℕ) (entry : Entry) → CallAt items index entry → entry.answer ≡ answer.Full
       → HasTooManyIds script chosen.map
   pub no_space : NoSpaceIsCaused script chosen.uber chosen.entries items
-  pub any_moment : KeepsThroughout setting (handed_by script) chosen.map (first ∷ later) items old new
-  pub no_older : KeepsTurnByTurn setting (handed_by script) chosen.map (first ∷ later) items
+  pub any_moment : KeepsThroughout setting (asked_by script) (handed_by script) chosen.map (first ∷ later) items old new
+  pub no_older : KeepsTurnByTurn setting (asked_by script) (handed_by script) chosen.map (first ∷ later) items
       (record { origin = old; banks = banks }) new
-  pub kept : KeepsLast setting (handed_by script) chosen.map items new
+  pub kept : KeepsLast setting (asked_by script) (handed_by script) chosen.map items new
   pub kept_among : (group : Kept) → Contains (kept.last ∷ kept.begun) group
       → Contains ((first ∷ later) ++ any_moment.groups.answered ++ any_moment.groups.begun) group
-  pub widths : HaveWidthOf first.uber
+  pub parities : HaveParity first.uber.parity
       ((first ∷ later) ++ any_moment.groups.answered ++ any_moment.groups.begun)
   pub parity_is : first.uber.parity ≡ parity
 
@@ -113,11 +112,11 @@ pub record HasRun (script : Script) (old new : Disk) (items : List Item) (out : 
   pub within : IsWithin borne out
   pub missed : IsWithinBelow opened.to silent borne
   pub listed : IsWithin start.core.pool.uber.out borne
-  -- Where these may fail, and the groups that the bank kept have the pool's width, all that a run keeps is kept. An
-  -- item was listed with the bank as its turn left it.
+  -- Where these may fail, and those that were silent of the first group's devices, all that a run keeps is kept. An item
+  -- was listed with the bank as its turn left it.
   pub keeps : (setting : Setting) (first : Kept) (later : List Kept)
       → MayBegin setting first later old
-      → first.uber.reflow.to ≡ opened.to → IsWithin borne setting.failed
+      → IsWithinBelow first.uber.reflow.to silent setting.failed → IsWithin borne setting.failed
       → RunKeeps script setting first later old new items parity silent
       (bank_when (first_turns script start opened) passed)
 
