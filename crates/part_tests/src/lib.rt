@@ -20,6 +20,8 @@ mod gf_parity_tests;
 #[cfg(test)]
 mod gf_solve_tests;
 #[cfg(test)]
+mod job_copy_tests;
+#[cfg(test)]
 mod mark_choice_tests;
 #[cfg(test)]
 mod plain_places;
