@@ -1,8 +1,10 @@
 #!/usr/bin/env bash
-# The drawing of the crates shows those that there are, and lines that crates.txt has; the list of clauses is that of the
-# sources, and the clauses that are promised are in it; no bullet of a crate's README is long; the manual page is shown
-# without a warning.
+# The drawing of the crates shows those that there are, and the lines of crates.txt that do not follow from others; the
+# list of clauses is that of the sources, and the clauses that are promised are in it; no bullet of a crate's README is
+# long; the manual page is shown without a warning.
 set -eu
+WORK=$(mktemp -d)
+trap 'rm -rf "$WORK"' EXIT
 cd "$(dirname "${BASH_SOURCE[0]}")/.."
 failed() {
   printf 'FAILED %s\n' "$1"
@@ -12,9 +14,35 @@ failed() {
 listed=$(sed -n 's/^\([a-z_]*\):.*/\1/p' crates.txt | sort)
 drawn=$(sed -n 's/.*monospace".*>\([a-z_]*\)<\/text>/\1/p' docs/crates.svg | sort)
 [ "$listed" = "$drawn" ] || failed 'the drawing has not the crates of crates.txt'
-sed -n 's/.*<title>\([a-z_]*\) stands on \([a-z_]*\)<.*/\1 \2/p' docs/crates.svg | while read -r above below; do
-  grep -Eq "^$above:(.* )?$below( |\$)" crates.txt || failed "$above does not stand on $below"
-done
+# What crates.txt says and does not follow from other lines of it.
+awk '
+  function reaches(upper, lower,   middle) {
+    if ((upper, lower) in below) return 1
+    if ((upper, lower) in known) return known[upper, lower]
+    known[upper, lower] = 0
+    for (middle in crates)
+      if ((upper, middle) in below && reaches(middle, lower)) return known[upper, lower] = 1
+    return 0
+  }
+  /^[a-z_]+:/ {
+    name = substr($1, 1, length($1) - 1)
+    crates[name]
+    for (at = 2; at <= NF; at++) below[name, $at]
+  }
+  END {
+    for (upper in crates) for (lower in crates) {
+      needed = ((upper, lower) in below)
+      for (middle in crates)
+        if (needed && middle != lower && (upper, middle) in below && reaches(middle, lower)) needed = 0
+      if (needed) print upper, lower
+    }
+  }
+' crates.txt | sort >"$WORK/needed"
+sed -n 's/.*<title>\([a-z_]*\) stands on \([a-z_]*\)<.*/\1 \2/p' docs/crates.svg | sort >"$WORK/drawn"
+lacking=$(comm -23 "$WORK/needed" "$WORK/drawn")
+[ -z "$lacking" ] || failed "the drawing lacks these lines: $lacking"
+surplus=$(comm -13 "$WORK/needed" "$WORK/drawn")
+[ -z "$surplus" ] || failed "these lines of the drawing are not of crates.txt, or follow from others: $surplus"
 echo 'ok the drawing of the crates'
 
 if python3 --version >/dev/null 2>&1; then
