@@ -30,3 +30,36 @@ status=0
 "$RAIDZX" disk0 disk1 disk2 -- create --parity 1 --width 3 --id 9 >/dev/full || status=$?
 [ "$status" = 7 ] || { echo 'FAILED a full output ends with 7'; exit 1; }
 echo 'ok a full output'
+
+# Words that memory is wanting for, by less and less room. `ulimit` would leave the shell too little to start anything.
+if command -v prlimit >/dev/null; then
+  long=$(head -c 100000 /dev/zero | tr '\0' x)
+  many=()
+  for number in $(seq 16); do many+=("$long"); done
+  wanting=0
+  starts=yes
+  for room in $(seq 9000 -100 1000); do
+    status=0
+    found=$(prlimit --as=$((room * 1024)) "$RAIDZX" "${many[@]}" 2>told) || status=$?
+    case $status in
+      1) [ "$found" = usage ] && [ $wanting = 0 ] || failed 'words that are no command' "$room: $found" ;;
+      8)
+        [ "$found" = 'no memory' ] || failed 'words without memory' "$found"
+        wanting=$((wanting + 1))
+        ;;
+      *) # there is no room for the program itself
+        starts=no
+        break
+        ;;
+    esac
+  done
+  if [ $wanting -gt 0 ]; then
+    printf 'ok words without memory, in %s runs\n' $wanting
+  elif [ $starts = no ]; then
+    failed 'words without memory' 'they are told as no command'
+  else
+    echo 'skipped words without memory: this machine does not bound it'
+  fi
+else
+  echo 'skipped words without memory: prlimit is not installed'
+fi
