@@ -2,7 +2,7 @@
 ghost use Rattle.bank_trait.specs.Disk.{Unchanged};
 
 use crate::bank::FileBank;
-use crate::notes::{note_failed_calls, note_further, note_out, note_seen};
+use crate::notes::{note_failed_calls, note_further, note_out, note_seen, note_unknown};
 use crate::seen::{out_for_good, seen_anywhere, seen_in_place};
 use bank_trait::Bank;
 use core_state::Journal;
@@ -74,7 +74,10 @@ fn tell_of_run<R: Eprint>(
     bank: &mut FileBank,
 ) {
     if !journal.is_empty() {
-        note_out(rt, names, out_for_good(alloc, bank, journal));
+        match out_for_good(alloc, bank, journal) {
+            Ok(out) => note_out(rt, names, out),
+            Err(_) => note_unknown(rt),
+        }
         return;
     }
     match status {

@@ -76,6 +76,11 @@ pub fn note_out<R: Eprint>(rt: &R, names: &[String], out: DeviceSet) {
     }
 }
 
+/// That nothing is told of which images are out, for want of memory.
+pub fn note_unknown<R: Eprint>(rt: &R) {
+    let _ = eprintln!(rt; "raidzx: no memory to see which images are out of the pool for good");
+}
+
 /// An image that a new pool of this width does not have, and the pool that stands there.
 pub fn note_further<R: Eprint>(rt: &R, name: &str, width: usize, seen: Option<Seen>) {
     let _ = match seen {

@@ -1,0 +1,3 @@
+pub mod LastGroups
+pub mod Listed
+pub mod Slots
