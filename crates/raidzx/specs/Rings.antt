@@ -25,7 +25,7 @@ abbrev pub SlotShowsNone : Disk → ℕ → ℕ → ℕ → ℕ → Type 0
 SlotShowsNone disk device first end slot = (bytes : List ℕ) → disk.reads device slot ≡ Some bytes
     → ShowsNoPlace bytes slot first end
 
--- What the bank tells of the first slot of a device's ring that is an uberblock in one of these places is this.
+-- This is seen in a slot of a device's ring, and nothing in those before it, as far as the bank tells them.
 pub record IsFirstSeen (disk : Disk) (device first end : ℕ) (seen : Seen) : Type 0 where
   pub slot : ℕ
   pub in_ring : slot < ring_slots
@@ -34,7 +34,7 @@ pub record IsFirstSeen (disk : Disk) (device first end : ℕ) (seen : Seen) : Ty
       → ShowsPlace bytes slot first end seen
   pub before : (earlier : ℕ) → earlier < slot → SlotShowsNone disk device first end earlier
 
--- No slot of a device's ring is one, or a read of a slot failed.
+-- Nothing is seen in any slot of a device's ring, or a read of one failed.
 abbrev pub IsNoneSeen : Disk → Disk → ℕ → ℕ → ℕ → Type 0
 IsNoneSeen old new device first end = FaultCounted (old.faults device) (new.faults device)
     ⊎ ((slot : ℕ) → slot < ring_slots → slot < old.sectors → SlotShowsNone old device first end slot)

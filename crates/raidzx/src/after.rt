@@ -52,37 +52,43 @@ fn tell_seen<R: Eprint, B: Bank>(rt: &R, names: &[String], bank: &mut B)
 }
 
 /// What a status leaves to tell, where the command was a `create`.
-fn tell_of_create<R: Eprint>(
+#[tactic(auto, using(core_open::proofs::Unchanged::unchanged_none, core_open::proofs::Unchanged::unchanged_then))]
+fn tell_of_create<R: Eprint, B: Bank>(
     rt: &R,
     names: &[String],
     width: usize,
     status: Status,
-    bank: &mut FileBank,
-) {
+    bank: &mut B,
+)
+    ensures { Unchanged (B.disk bank.old) (B.disk bank.new) }
+{
     if status == Status::Done {
         tell_further(rt, names, width, bank);
     }
 }
 
 /// What a run has left to tell: what images show, where no pool was opened, or which are out for good.
-fn tell_of_run<R: Eprint>(
+#[tactic(auto, using(core_open::proofs::Unchanged::unchanged_none, core_open::proofs::Unchanged::unchanged_then))]
+fn tell_of_run<R: Eprint, B: Bank>(
     rt: &R,
     alloc: Global,
     names: &[String],
     status: Status,
     journal: &Journal,
-    bank: &mut FileBank,
-) {
-    if !journal.is_empty() {
-        match out_for_good(alloc, bank, journal) {
-            Ok(out) => note_out(rt, names, out),
-            Err(_) => note_unknown(rt),
+    bank: &mut B,
+)
+    ensures { Unchanged (B.disk bank.old) (B.disk bank.new) }
+{
+    if journal.is_empty() {
+        match status {
+            Status::NotPool | Status::TooManyFailed { out: _ } => tell_seen(rt, names, bank),
+            _ => {}
         }
         return;
     }
-    match status {
-        Status::NotPool | Status::TooManyFailed { out: _ } => tell_seen(rt, names, bank),
-        _ => {}
+    match out_for_good(alloc, bank, journal) {
+        Ok(out) => note_out(rt, names, out),
+        Err(_) => note_unknown(rt),
     }
 }
 
