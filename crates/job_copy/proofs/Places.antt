@@ -13,10 +13,10 @@ use Rattle.reflow_copier.specs.declared.job.Job.{Job}
 use Rattle.reflow_copier.specs.declared.job.Job.TheVariants.{Fill, Drain, Chunk}
 use Rattle.reflow_copier.specs.Jobs.{job_begin, job_end}
 use Rattle.core_state.specs.JobTurns.{MayRun}
-use Rattle.reflow_band.specs.Band.{IsWidening, IsFrontOf, copied_of, copied_in, reach_in}
+use Rattle.reflow_band.specs.Band.{AsksSame, IsWidening, IsFrontOf, copied_of, copied_in, reach_in}
 use Rattle.reflow_band.proofs.Apart.{scratch_low, one_sector, same_place, copy_misses}
 use Rattle.reflow_band.proofs.Within.{front_stays}
-use Rattle.mark_advance.specs.Behind.{AsksSame, IsOutside}
+use Rattle.mark_advance.specs.Behind.{IsOutside}
 use Rattle.job_copy.specs.Progress.{CopiesSector, IsSource, IsTarget}
 
 -- a required place, told with the state apart

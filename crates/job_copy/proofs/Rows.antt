@@ -8,7 +8,8 @@ use Rattle.shadow_write.specs.Writes.{AreRequired}
 use Rattle.reflow_copier.specs.declared.job.Job.{Job}
 use Rattle.reflow_copier.specs.Jobs.{job_begin, job_end}
 use Rattle.core_state.specs.JobTurns.{MayRun}
-use Rattle.mark_advance.specs.Behind.{AsksSame, IsOutside}
+use Rattle.mark_advance.specs.Behind.{IsOutside}
+use Rattle.reflow_band.specs.Band.{AsksSame}
 use Rattle.job_copy.proofs.Places.{rows_same}
 
 -- A row of a block is outside a range that the block is outside of.

@@ -35,9 +35,9 @@ ghost use Rattle.core_state.specs.Keeps.{Kept, Setting};
 ghost use Rattle.core_state.specs.Whole.{Cell, Excepted, IsCell, RightAt};
 ghost use Rattle.core_state.proofs.Laying.{IsPaged};
 ghost use Rattle.mark_choice.specs.CommitChoice.{IsCommitChoice, range_of_commit};
-ghost use Rattle.reflow_band.specs.Band.{IsFrontOf, IsWidening, copied_of};
+ghost use Rattle.reflow_band.specs.Band.{AsksSame, IsFrontOf, IsWidening, copied_of};
 ghost use Rattle.spare_write.specs.Around.{IsCellIn, IsClose, StandAround};
-ghost use Rattle.mark_advance.specs.Behind.{AsksSame, IsOutside, front_behind};
+ghost use Rattle.mark_advance.specs.Behind.{IsOutside, front_behind};
 ghost use Rattle.job_copy.specs.Progress.{CopiesSector, HasComeTo, IsOnPool, IsPlaceSoFar, IsSource, IsTarget, MovesMark};
 
 /// Where a job reads a sector it is required, so what is read there of a cell that is right is the cell.
