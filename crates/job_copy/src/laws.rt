@@ -5,8 +5,10 @@
 // - The front is where it may be (`IsFrontOf`): at an opening (`front_stays_in_band` of `reflow_band`), behind a commit
 //   (`front_goes_on` of `mark_advance`, `commit_leaves_job`) and behind a job (`job_front`).
 // - The job may run (`MayRun`): `due_job`, and `commit_leaves_job`.
-// - The call is about a sector of the job, at its source or target (`CopiesSector`, `IsSource`, `IsTarget`): `next_call`.
-// - The groups of a row stand around the mark (`StandAround`): `groups_stand_around` of `mark_advance`, and `job_front`.
+// - The call is about a sector of the job, at its source or target (`CopiesSector`, `IsSource`, `IsTarget`):
+//   `next_call`.
+// - The groups of a row stand around the mark (`StandAround`): `groups_stand_around` of `mark_advance`, and
+//   `job_front`.
 // - No device leaves the out set (`IsWithin`): one that fails is put in, and stays.
 // No place is excepted in a pool that runs, and a device that is out is not called.
 ghost use Rattle.std.specs.Prelude.{◌≡◌, ◌≢◌, ◌⊎◌, ◌+◌, ◌≤◌, ◌<◌, ℕ, List, ◌∷◌, Some, Ok, Result, true, false, All, Contains, IsSome};
@@ -168,8 +170,8 @@ pub fn job_ends()
         → RightAt disk.reads reflow (job_end reflow job) out excepted cell }
 {}
 
-/// A job begins at the front and has sectors to copy, and the front that it leaves is one that may be. New places that were in use still are,
-/// and groups that stood around the mark do.
+/// A job begins at the front and has sectors to copy, and the front that it leaves is one that may be. New places that
+/// were in use still are, and groups that stood around the mark do.
 pub fn job_front()
     ensures begin { (reflow : Reflow) (done : ℕ) (job : Job) → MayRun reflow done job
         → job_begin job ≡ done }
@@ -244,9 +246,9 @@ pub fn commit_leaves_job()
         → HasComeTo chosen done job next disk out excepted cell }
 {}
 
-/// The range that a commit's choice changes is clear to be held alone beside a job, where it has a sector. Exclusive holds begin at the front
-/// or above it: that of a job does (`begin` of `job_front`), and no other commit is under way. That holds have sectors
-/// is a clause of `Locks::as_slices`.
+/// The range that a commit's choice changes is clear to be held alone beside a job, where it has a sector. Exclusive
+/// holds begin at the front or above it: that of a job does (`begin` of `job_front`), and no other commit is under way.
+/// That holds have sectors is a clause of `Locks::as_slices`.
 pub fn commit_range_is_clear()
     ensures { (reflow : Reflow) (done : ℕ) (holds : List Hold) (chosen : Reflow)
         → IsFrontOf reflow done → All HasSectors holds

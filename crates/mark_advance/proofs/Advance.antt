@@ -25,7 +25,7 @@ use Rattle.core_state.specs.Certain.{CellsOn}
 use Rattle.mark_choice.specs.CommitChoice.{IsChoiceIn, IsCommitChoice, births_of_commit}
 use Rattle.core_state.proofs.Listed.{contains_cases}
 use Rattle.reflow_band.specs.Band.{IsWidening, StaysIn, IsFrontOf, copied_of, copied_in}
-use Rattle.mark_advance.specs.Behind.{GoesOnOrEnds, GoesOn, HasEnded, AsksNoMoreAt, front_behind}
+use Rattle.mark_advance.specs.Behind.{GoesOnOrEnds, GoesOn, HasEnded, AsksNoMoreAt, front_behind, front_in}
 use Rattle.spare_write.specs.Around.{IsClose, IsCellIn, StandAround}
 use Rattle.reflow_band.proofs.Within.{near_within, now_near, stop_front, before_within}
 use Rattle.mark_choice.proofs.Advance.{choice_asks_no_more, choice_within}
@@ -248,6 +248,15 @@ pub choice_goes : (reflow : Reflow) (done : ℕ) (holds : List Hold) (chosen : R
 choice_goes reflow done holds chosen widening front room choice =
     in_state reflow.from reflow.to reflow.rows reflow.mark done widening.expands widening.some widening.narrow reflow.state holds chosen room
     widening.mark front choice
+
+-- Where the reflow stays, so does the front.
+front_stays_in : (state : State) (done mark : ℕ) → front_in state state done mark ≡ done
+front_stays_in None done mark = refl
+front_stays_in Valid done mark = refl
+front_stays_in Moved done mark = refl
+
+pub front_stays_behind : (reflow : Reflow) (done : ℕ) → front_behind reflow done reflow ≡ done
+front_stays_behind reflow done = front_stays_in reflow.state done reflow.mark
 
 -- ---- an attach
 

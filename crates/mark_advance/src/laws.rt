@@ -5,6 +5,8 @@ ghost use Rattle.width_map.specs.declared.birth.Birth.{Birth};
 ghost use Rattle.reflow_mark.specs.declared.reflow.Reflow.{Reflow};
 ghost use Rattle.reflow_mark.specs.Reflow.{at_rest, scratch_end, sectors_of};
 ghost use Rattle.range_locks.specs.declared.hold.Hold.{Hold};
+ghost use Rattle.range_locks.specs.declared.hold.HoldKind.TheVariants.{Exclusive, Shared};
+ghost use Rattle.range_locks.specs.Holds.{HasSectors, IsClear};
 ghost use Rattle.shadow_write.specs.Required.{front_after_stop};
 ghost use Rattle.block_record.specs.declared.entry.IndexEntry.{IndexEntry};
 ghost use Rattle.uberblock_ring.specs.Devices.{has_device};
@@ -69,19 +71,27 @@ pub fn groups_stand_around()
         → StandAround next.uber.reflow 0 (last ∷ next ∷ []) }
 {}
 
-/// Behind the answer the front is where it may be, or the expansion has ended and all was copied.
+/// Behind the answer the front is where it may be, or the expansion has ended and all was copied. A commit that leaves
+/// the reflow leaves the front.
 pub fn front_goes_on()
-    ensures { (reflow : Reflow) (done : ℕ) (holds : List Hold) (chosen : Reflow) → IsWidening reflow
+    ensures goes { (reflow : Reflow) (done : ℕ) (holds : List Hold) (chosen : Reflow) → IsWidening reflow
         → IsFrontOf reflow done → scratch_end reflow < sectors_of reflow
         → IsCommitChoice reflow done holds chosen → GoesOnOrEnds reflow done chosen }
+    ensures stays { (reflow : Reflow) (done : ℕ) → front_behind reflow done reflow ≡ done }
 {}
 
 /// A row outside the sectors that the commit holds until its answer is asked for at the same places behind that: a put
-/// that began before goes on with its list of writes, and a read with its columns.
+/// that began before goes on with its list of writes, and a read with its columns. What others hold is outside of them:
+/// what was held when the reflow was chosen, and what is taken beside the commit's own hold.
 pub fn rows_stand_still()
-    ensures { (reflow : Reflow) (done : ℕ) (holds : List Hold) (chosen : Reflow) → IsWidening reflow
+    ensures places { (reflow : Reflow) (done : ℕ) (holds : List Hold) (chosen : Reflow) → IsWidening reflow
         → IsFrontOf reflow done → IsCommitChoice reflow done holds chosen
         → (first row_end sector : ℕ) → first ≤ sector → sector < row_end → row_end ≤ sectors_of reflow
         → IsOutside (range_of_commit reflow chosen).0 (range_of_commit reflow chosen).1 first row_end
         → AsksSame reflow done chosen (front_behind reflow done chosen) row_end sector }
+    ensures before { (reflow : Reflow) (done : ℕ) (holds : List Hold) (chosen : Reflow) (hold : Hold)
+        → IsCommitChoice reflow done holds chosen → Contains holds hold → hold.kind ≡ Shared → HasSectors hold
+        → IsOutside (range_of_commit reflow chosen).0 (range_of_commit reflow chosen).1 hold.lo hold.hi }
+    ensures beside { (holds : List Hold) (own : Hold) (lo hi : ℕ) → Contains holds own → own.kind ≡ Exclusive
+        → IsClear holds lo hi Shared → IsOutside own.lo own.hi lo hi }
 {}

@@ -1,3 +1,4 @@
 pub mod CommitRows
 pub mod Advance
 pub mod Clear
+pub mod Still

@@ -1,5 +1,6 @@
 // Which reflow a commit records, and what it holds.
 ghost use Rattle.std.specs.Prelude.{◌≡◌, ◌≤◌, ◌↔◌, IsTrue};
+ghost use Rattle.reflow_mark.specs.Reflow.{Expands, IsRightReflow};
 ghost use Rattle.mark_choice.specs.CommitChoice.{IsCommitChoice, IsFilledOrDrained, IsNextMark, moved_to, range_of_commit};
 ghost use Rattle.reflow_band.specs.Band.{IsFrontOf, IsWidening, StaysIn, copied_of};
 ghost use Rattle.shadow_write.specs.Required.{front_after_stop};
@@ -56,7 +57,7 @@ fn moved_to(reflow: &Reflow, mark: u64) -> Reflow
 }
 
 /// The reflow that a commit records, where sectors below `done` were filled, drained or copied.
-#[tactic(auto, using(crate::proofs::Clear::choice_clear, crate::proofs::Advance::choice_asks_no_more, crate::proofs::Advance::choice_within))]
+#[tactic(auto, using(crate::proofs::Clear::choice_clear, crate::proofs::Advance::choice_asks_no_more, crate::proofs::Advance::choice_within, crate::proofs::Still::choice_still))]
 pub fn choose(reflow: &Reflow, done: u64, locks: &Locks) -> Reflow
     requires rows { reflow.now.rows ≤ 65536 }
     ensures choice { IsCommitChoice reflow.now done locks.now result }
@@ -68,6 +69,11 @@ pub fn choose(reflow: &Reflow, done: u64, locks: &Locks) -> Reflow
     ensures right { IsWidening reflow.now → IsFrontOf reflow.now done → AsksNoMore reflow.now done result }
     ensures within { IsWidening reflow.now → IsFrontOf reflow.now done
         → StaysIn reflow.now (copied_of reflow.now done) result (front_after_stop result) }
+
+    // It is the same reflow where no expansion runs, and where the front is that of an opening: nothing was filled,
+    // drained or copied that a stop would not leave.
+    ensures still { IsRightReflow reflow.now → (Expands reflow.now → done ≡ front_after_stop reflow.now)
+        → result ≡ reflow.now }
 {
     let state = match reflow.state {
         State::None => State::Valid,
@@ -86,9 +92,11 @@ pub fn choose(reflow: &Reflow, done: u64, locks: &Locks) -> Reflow
 
 /// The sectors whose standing changes with a choice, which the commit holds until its answer: from the first to
 /// before the second. Empty where it changes nothing.
+#[tactic(auto, using(crate::proofs::Still::nothing_held))]
 pub fn held_range(before: &Reflow, chosen: &Reflow) -> (u64, u64)
     requires rows { before.now.rows ≤ 65536 }
     ensures value { result ≡ range_of_commit before.now chosen.now }
+    ensures none { chosen.now ≡ before.now → result.0 ≡ result.1 }
 {
     match (before.state, chosen.state) {
         (State::None, State::Valid) | (State::Valid, State::Moved) => (0, before.scratch_end()),
