@@ -12,7 +12,7 @@ use Rattle.reflow_copier.specs.declared.job.CallKind.TheVariants.{Read, Write}
 use Rattle.reflow_copier.specs.Jobs.{chunk_end, job_begin, job_end, job_call_of, job_in, next_job_of, read_call, source_of, target_of, write_call}
 use Rattle.core_state.specs.JobTurns.{MayRun}
 use Rattle.reflow_band.specs.Band.{IsWidening, IsFrontOf}
-use Rattle.job_copy.specs.Progress.{CopiesSector, IsSource, IsTarget, calls_of, call_behind}
+use Rattle.job_copy.specs.Progress.{CopiesSector, IsSource, IsTarget, call_count, call_behind}
 use Rattle.job_copy.proofs.Fronts.{job_front}
 
 -- The job that is due may run.
@@ -51,18 +51,18 @@ due_front reflow done widening front = by (next_job_of reflow done) (due_may_run
 -- A call that is left is about a sector of the job,
 pub call_inside : (reflow : Reflow) (job : Job) (made : ℕ)
     → IfSome (call_behind reflow job made) (λ call. CopiesSector reflow job (job_begin job + made / 2))
-call_inside reflow job made = by (nat_lt made (calls_of reflow job)) refl
+call_inside reflow job made = by (nat_lt made (call_count reflow job)) refl
   where
-    by : (left : Bool) → nat_lt made (calls_of reflow job) ≡ left
+    by : (left : Bool) → nat_lt made (call_count reflow job) ≡ left
         → IfSome (if left then Some (job_call_of reflow job made) else Nothing) (λ call. CopiesSector reflow job (job_begin job + made / 2))
-    by true is = let below : made < calls_of reflow job = grind (arith, nat_tests, is) in (omega arith, omega (arith, below))
+    by true is = let below : made < call_count reflow job = grind (arith, nat_tests, is) in (omega arith, omega (arith, below))
     by false is = tt
 
 -- which a read reads where the job does, and a write writes there.
 pub call_places : (reflow : Reflow) (job : Job) (made : ℕ) → IfSome (call_behind reflow job made)
     (λ call. (call.kind ≡ Read → IsSource reflow job (job_begin job + made / 2) call.device call.device_sector)
     × (call.kind ≡ Write → IsTarget reflow job (job_begin job + made / 2) call.device call.device_sector))
-call_places reflow job made = by (nat_lt made (calls_of reflow job)) (made % 2 == 0)
+call_places reflow job made = by (nat_lt made (call_count reflow job)) (made % 2 == 0)
   where
     reads_no_write : Read ≡ Write → ⊥
     reads_no_write same = cc
@@ -77,11 +77,11 @@ call_places reflow job made = by (nat_lt made (calls_of reflow job)) (made % 2 =
 
 -- Where no call is left the job has come to its end.
 pub calls_end : (reflow : Reflow) (job : Job) (made : ℕ) → IfNone (call_behind reflow job made)
-    (job_begin job ≤ job_end reflow job → made ≤ calls_of reflow job → job_begin job + made / 2 ≡ job_end reflow job)
-calls_end reflow job made = by (nat_lt made (calls_of reflow job)) refl
+    (job_begin job ≤ job_end reflow job → made ≤ call_count reflow job → job_begin job + made / 2 ≡ job_end reflow job)
+calls_end reflow job made = by (nat_lt made (call_count reflow job)) refl
   where
-    by : (left : Bool) → nat_lt made (calls_of reflow job) ≡ left
+    by : (left : Bool) → nat_lt made (call_count reflow job) ≡ left
         → IfNone (if left then Some (job_call_of reflow job made) else Nothing)
-        (job_begin job ≤ job_end reflow job → made ≤ calls_of reflow job → job_begin job + made / 2 ≡ job_end reflow job)
+        (job_begin job ≤ job_end reflow job → made ≤ call_count reflow job → job_begin job + made / 2 ≡ job_end reflow job)
     by true is = tt
-    by false is = λ begun within. let above : calls_of reflow job ≤ made = grind (arith, nat_tests, is) in omega (arith, begun, within, above)
+    by false is = λ begun within. let above : call_count reflow job ≤ made = grind (arith, nat_tests, is) in omega (arith, begun, within, above)

@@ -52,10 +52,10 @@ pub record MovesMark (reflow : Reflow) (done : ℕ) (chosen : Reflow) : Type 0 w
   pub is : chosen ≡ record reflow { mark = mark }
 
 -- the device calls of a job: a read and a write for each sector
-abbrev pub calls_of : Reflow → Job → ℕ
-calls_of reflow job = 2 * (job_end reflow job - job_begin job)
+abbrev pub call_count : Reflow → Job → ℕ
+call_count reflow job = 2 * (job_end reflow job - job_begin job)
 
 -- the job's call behind so many that were made, if it has one left
 abbrev pub call_behind : Reflow → Job → ℕ → Option JobCall
 call_behind reflow job made =
-    if nat_lt made (calls_of reflow job) then Some (job_call_of reflow job made) else None
+    if nat_lt made (call_count reflow job) then Some (job_call_of reflow job made) else None

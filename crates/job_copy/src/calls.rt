@@ -4,7 +4,7 @@ ghost use Rattle.reflow_copier.specs.declared.job.CallKind.TheVariants as kind;
 ghost use Rattle.reflow_copier.specs.Jobs.{job_begin, job_end, next_job_of};
 ghost use Rattle.core_state.specs.JobTurns.{MayRun};
 ghost use Rattle.reflow_band.specs.Band.{IsFrontOf, IsWidening};
-ghost use Rattle.job_copy.specs.Progress.{CopiesSector, IsSource, IsTarget, call_behind, calls_of};
+ghost use Rattle.job_copy.specs.Progress.{CopiesSector, IsSource, IsTarget, call_behind, call_count};
 
 use reflow_copier::{Job, JobCall, next_job};
 use reflow_mark::Reflow;
@@ -54,7 +54,7 @@ pub fn next_call(job: &Job, reflow: &Reflow, made: u64) -> Option<JobCall>
     ensures write { IfSome result (λ call. call.kind ≡ kind.Write
         → IsTarget reflow.now job.now (job_begin job.now + made / 2) call.device call.device_sector) }
     ensures end { IfNone result (job_begin job.now ≤ job_end reflow.now job.now
-        → made ≤ calls_of reflow.now job.now → job_begin job.now + made / 2 ≡ job_end reflow.now job.now) }
+        → made ≤ call_count reflow.now job.now → job_begin job.now + made / 2 ≡ job_end reflow.now job.now) }
 {
     if made / 2 < job.end(reflow).saturating_sub(job.begin()) {
         Some(job.next(reflow, made))

@@ -11,7 +11,7 @@ use Rattle.core_open.specs.Finding.{IsFindCause, IsFoundIn}
 use Rattle.core_open.specs.Holds.{HoldsImage, shape_of}
 use Rattle.core_open.proofs.Failures.{none_failed}
 use Rattle.core_open.proofs.Unchanged.{holds_then, shape_then, then_rose}
-use Rattle.raidzx.specs.ForGood.{AreListedOut, ChooseNone, listed_by}
+use Rattle.raidzx.specs.ForGood.{AreListedOut, ChooseNone, out_of_group}
 
 module _ (old mid new : Disk) (same : Unchanged old mid) where
   failed_before : (devices : ℕ) → HaveFailed mid new devices → HaveFailed old new devices
@@ -21,7 +21,7 @@ module _ (old mid new : Disk) (same : Unchanged old mid) where
   -- What was found is what the devices that answered choose.
   pub found_before : (image : Image) (group : ℕ) (found : Found) (out : ℕ) → HoldsImage old image
       → ((held : Image) → HoldsImage mid held → IsFoundIn (shape_of mid) held found)
-      → HaveFailed mid new found.silent → out ≡ listed_by group found.uber → AreListedOut old new image group out
+      → HaveFailed mid new found.silent → out ≡ out_of_group group found.uber → AreListedOut old new image group out
   found_before image group found out holds chosen failed is = inl (
     record {
       silent = found.silent;

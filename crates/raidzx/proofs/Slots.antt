@@ -4,7 +4,7 @@ use Rattle.bank_trait.specs.Disk.{Disk, Unchanged}
 use Rattle.uberblock_ring.specs.Uberblock.{slot_of}
 use Rattle.core_open.proofs.Unchanged.{then_rose}
 use Rattle.raidzx.specs.declared.seen.Seen.{Seen}
-use Rattle.raidzx.specs.Rings.{IsNoneSeen, IsUnread, LacksNoneOut, ShowsNoneOut, ShowsNoPlace, ShowsPlace, SlotShowsNone}
+use Rattle.raidzx.specs.Rings.{IsNoneSeen, IsSlotUnread, LacksNoneOut, ShowsNoneOut, ShowsNoPlace, ShowsPlace, SlotShowsNone}
 
 -- what was read of a slot, where the bank tells it
 abbrev pub IsReadOf : Disk → ℕ → ℕ → List ℕ → Type 0
@@ -14,7 +14,7 @@ module _ (old mid : Disk) (same : Unchanged old mid) where
   pub read_before : (device slot : ℕ) (read : List ℕ) → IsReadOf mid device slot read → IsReadOf old device slot read
   read_before device slot read told = λ bytes is. told bytes (same.reads device slot ∙ is)
 
-  pub unread_before : (new : Disk) (device slot : ℕ) → IsUnread mid new device slot → IsUnread old new device slot
+  pub unread_before : (new : Disk) (device slot : ℕ) → IsSlotUnread mid new device slot → IsSlotUnread old new device slot
   unread_before new device slot (inl past) = inl (omega (arith, past, same.goes_on.later.sectors))
   unread_before new device slot (inr failed) = inr (then_rose new device same failed)
 
@@ -30,7 +30,7 @@ module _ (old mid : Disk) (same : Unchanged old mid) where
 
   pub stopped_before : (new : Disk) (device slot first end : ℕ)
       → ((earlier : ℕ) → earlier < slot → SlotShowsNone old device first end earlier)
-      → IsUnread mid new device slot → IsNoneSeen old new device first end
+      → IsSlotUnread mid new device slot → IsNoneSeen old new device first end
   stopped_before new device slot first end none (inl past) =
       inr (λ other in_ring on_device. none other (omega (arith, past, on_device, same.goes_on.later.sectors)))
   stopped_before new device slot first end none (inr failed) = inl (then_rose new device same failed)

@@ -23,8 +23,8 @@ abbrev pub AllShowNoneOut : Disk → ℕ → Type 0
 AllShowNoneOut disk group = (device : ℕ) → device < disk.devices → ShowsNoneOut disk group device
 
 -- the devices that an uberblock lists as out, where it is one of this group
-abbrev pub listed_by : ℕ → Uber → ℕ
-listed_by group uber = if uber.group == group then uber.out else 0
+abbrev pub out_of_group : ℕ → Uber → ℕ
+out_of_group group uber = if uber.group == group then uber.out else 0
 
 -- The devices that answered show nothing to open.
 pub record ChooseNone (old new : Disk) (image : Image) : Type 0 where
@@ -36,7 +36,7 @@ pub record ChooseNone (old new : Disk) (image : Image) : Type 0 where
 -- this one. Else they are those that the chosen uberblock lists.
 abbrev pub AreListedOut : Disk → Disk → Image → ℕ → ℕ → Type 0
 AreListedOut old new image group out =
-    ((shown : IsShownChoice old new image) × (out ≡ listed_by group shown.choice.uber))
+    ((shown : IsShownChoice old new image) × (out ≡ out_of_group group shown.choice.uber))
     ⊎ ((out ≡ 0) × (AllShowNoneOut old group ⊎ ChooseNone old new image))
 
 -- They are those that the last group of the journal lists as out, as each image has it that the bank holds; none where

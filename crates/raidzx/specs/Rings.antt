@@ -40,8 +40,8 @@ IsNoneSeen old new device first end = FaultCounted (old.faults device) (new.faul
     ⊎ ((slot : ℕ) → slot < ring_slots → slot < old.sectors → SlotShowsNone old device first end slot)
 
 -- A slot is not read where its device ends before it, or where the read failed.
-abbrev pub IsUnread : Disk → Disk → ℕ → ℕ → Type 0
-IsUnread old new device slot =
+abbrev pub IsSlotUnread : Disk → Disk → ℕ → ℕ → Type 0
+IsSlotUnread old new device slot =
     (old.sectors ≤ slot) ⊎ FaultCounted (old.faults device) (new.faults device)
 
 -- These bytes are a device's uberblock of this group, which lists no device as out.
@@ -59,6 +59,6 @@ pub record ShowsNoneOut (disk : Disk) (group device : ℕ) : Type 0 where
 
 -- It is not, or it was not read.
 abbrev pub LacksNoneOut : Disk → Disk → ℕ → ℕ → Type 0
-LacksNoneOut old new group device = IsUnread old new device (slot_of group)
+LacksNoneOut old new group device = IsSlotUnread old new device (slot_of group)
     ⊎ ((bytes : List ℕ) → old.reads device (slot_of group) ≡ Some bytes
     → ListsNone bytes device group → ⊥)

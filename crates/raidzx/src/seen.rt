@@ -3,8 +3,8 @@ ghost use Rattle.std.specs.Prelude.{◌≡◌, ◌≢◌, ◌⊎◌, ◌+◌, �
 ghost use Rattle.bank_trait.specs.Disk.{Image, Unchanged};
 ghost use Rattle.core_open.specs.declared.why.OpenWhy.TheVariants.{NoMemory};
 ghost use Rattle.core_open.specs.Holds.{HoldsImage};
-ghost use Rattle.raidzx.specs.ForGood.{AllShowNoneOut, AreListedOut, AreOutForGood, IsLastBefore, listed_by};
-ghost use Rattle.raidzx.specs.Rings.{IsFirstSeen, IsNoneSeen, IsUnread, LacksNoneOut, ListsNone, ShowsNoneOut, ShowsNoPlace, ShowsPlace};
+ghost use Rattle.raidzx.specs.ForGood.{AllShowNoneOut, AreListedOut, AreOutForGood, IsLastBefore, out_of_group};
+ghost use Rattle.raidzx.specs.Rings.{IsFirstSeen, IsNoneSeen, IsSlotUnread, LacksNoneOut, ListsNone, ShowsNoneOut, ShowsNoPlace, ShowsPlace};
 
 use bank_trait::Bank;
 use core_open::{OpenWhy, find};
@@ -42,7 +42,7 @@ fn read_slot<B: Bank>(bank: &mut B, device: u32, slot: u32) -> Option<[u8; 512]>
     ensures on_device { OnSome result (slot < (B.disk bank.old).sectors) }
     ensures bytes { IfSome result (λ read. (bytes : List ℕ)
         → (B.disk bank.old).reads device slot ≡ Some bytes → read ≡ bytes) }
-    ensures none { IfNone result (IsUnread (B.disk bank.old) (B.disk bank.new) device slot) }
+    ensures none { IfNone result (IsSlotUnread (B.disk bank.old) (B.disk bank.new) device slot) }
 {
     let sector = u64::from(slot);
     if sector >= bank.sectors() {
@@ -136,7 +136,7 @@ fn none_listed(why: OpenWhy) -> Result<DeviceSet, AllocError>
 
 /// The devices that an uberblock lists as out, where it is one of this group.
 fn listed_in(group: u64, uber: &Uber) -> DeviceSet
-    ensures { result ≡ listed_by group uber.now }
+    ensures { result ≡ out_of_group group uber.now }
 {
     if uber.group() == group {
         uber.out()
