@@ -22,13 +22,6 @@ for number in 0 1 2; do
   ) 9<"disk$number"
   unchanged 'no image is touched' made
 done
-fallocate -l 128K far
-(
-  flock -x 9
-  expect 'another program has image 65' 4 'too many failed 65' \
-    "${IMAGES[@]}" $(seq -f x%.0f 3 64) far -- run
-) 9<far
-unchanged 'no image is touched' made
 expect 'an image that is named twice' 4 'too many failed 2' disk0 disk1 disk0 -- run
 unchanged 'no image is touched' made
 expect 'words come before images' 1 usage disk0 disk1 disk0 -- sweep
