@@ -5,6 +5,7 @@ use Rattle.std.proofs.Math.Nat.{mul-le-mul_left}
 use Rattle.std.proofs.lemmas.Bool.{cases_lt}
 use Rattle.width_map.specs.Place.{first_data_sector}
 use Rattle.reflow_mark.specs.declared.reflow.Reflow.{Reflow}
+use Rattle.reflow_mark.specs.Reflow.{sectors_of}
 use Rattle.reflow_mark.specs.Standing.{NeedsOld}
 use Rattle.row_layout.specs.Layout.{Layout, sector_of, end_of}
 use Rattle.scratch_area.specs.Scratch.{old_place, new_place, scratch_place, first_scratch_sector}
@@ -28,7 +29,8 @@ use Rattle.core_client.specs.Pool.{IsInPool}
 use Rattle.core_client.specs.Writing.{IsPlaceOf, IsPlanOf}
 use Rattle.core_client.specs.BlockTurns.{BlockWrite}
 use Rattle.core_commit.specs.CommitTurns.{IsBeside}
-use Rattle.open_pool.proofs.Layouts.{blocks_apart, front_is_right}
+use Rattle.core_client.proofs.Places.{in_pool}
+use Rattle.open_pool.proofs.Layouts.{blocks_apart}
 
 -- the places that the writes of a block go to at a front
 abbrev pub IsWrittenTo : Layout → Reflow → ℕ → ℕ → ℕ → ℕ → Type 0
@@ -77,28 +79,34 @@ never_both reflow done front layout other out device device_sector cell given it
     (subst (λ (e : ℕ). IsRequiredPlace reflow front e other_sector device device_sector) cell_is.row_end
     (subst (λ (x : ℕ). IsRequiredPlace reflow front cell.row_end x device device_sector) cell_is.sector place))
 
--- The blocks of a group lie in the pool.
-pub record AreInPool (kept : Kept) (reflow : Reflow) : Type 0 where
-  pub widths : kept.uber.reflow ≡ reflow
+-- The blocks of a group lie in the pool, which asks at its front for all that the group asks for after a stop.
+pub record AreInPool (kept : Kept) (reflow : Reflow) (done : ℕ) : Type 0 where
+  pub asked : (row_end sector device device_sector : ℕ) → sector < sectors_of reflow
+      → IsRequiredPlace kept.uber.reflow (front_after_stop kept.uber.reflow) row_end sector device device_sector
+      → IsRequiredPlace reflow done row_end sector device device_sector
   pub each : (entry : IndexEntry) → Contains kept.entries entry
       → IsInPool (layout_of kept.uber.parity kept.uber.births entry) reflow
 
 -- No block of a group asks for a place that the writes of another block go to.
 pub never_asked : (kept : Kept) (reflow : Reflow) (done : ℕ) (layout : Layout) (out device device_sector : ℕ) (bytes : List ℕ)
-    → IsFrontOf reflow done → AreInPool kept reflow → IsInPool layout reflow
+    → IsFrontOf reflow done → AreInPool kept reflow done → IsInPool layout reflow
     → SparesAll kept.uber.parity kept.uber.births kept.entries (layout_run layout)
     → IsWrittenTo layout reflow done out device device_sector → Asks kept device device_sector bytes → ⊥
 never_asked kept reflow done layout out device device_sector bytes front inside pool spares written asks =
     let of = asks.cell_is in
-    never_both reflow done (front_after_stop reflow) layout (layout_of kept.uber.parity kept.uber.births of.entry) out
-    device device_sector asks.cell of.content front (front_is_right reflow pool.right) pool (inside.each of.entry of.listed) (spares of.entry of.listed) of.cell_is
-    (subst (λ (r : Reflow). IsRequiredPlace r (front_after_stop r) asks.cell.row_end asks.cell.sector device
-    device_sector) inside.widths asks.place)
+    let lies = inside.each of.entry of.listed in
+    never_both reflow done done layout (layout_of kept.uber.parity kept.uber.births of.entry) out device device_sector
+    asks.cell of.content front front pool lies (spares of.entry of.listed) of.cell_is
+    (inside.asked asks.cell.row_end asks.cell.sector device device_sector
+    (subst (λ (sector : ℕ). sector < sectors_of reflow) (sym of.cell_is.sector)
+    (in_pool (layout_of kept.uber.parity kept.uber.births of.entry) reflow of.cell_is.row of.cell_is.column lies
+    of.cell_is.there))
+    asks.place)
     written
 
 -- A put's writes go on beside a commit, of whose group and the one before none has a sector of the put.
 pub put_beside_commit : (setting : Setting) (first next : Kept) (reflow : Reflow) (done : ℕ) (layout : Layout) (out : ℕ)
-    → IsFrontOf reflow done → AreInPool first reflow → AreInPool next reflow → IsInPool layout reflow
+    → IsFrontOf reflow done → AreInPool first reflow done → AreInPool next reflow done → IsInPool layout reflow
     → SparesAll first.uber.parity first.uber.births first.entries (layout_run layout)
     → SparesAll next.uber.parity next.uber.births next.entries (layout_run layout)
     → IsBeside setting first next (IsWrittenTo layout reflow done out)

@@ -6,40 +6,54 @@ use Rattle.bank_trait.specs.Disk.{Disk, Lawful}
 use Rattle.bank_trait.specs.Regions.{TouchesOnly}
 use Rattle.bank_trait.proofs.Moments.{later_refl}
 use Rattle.bank_trait.proofs.Touches.{touches_none}
+use Rattle.range_locks.specs.declared.hold.Hold.{Hold}
+use Rattle.range_locks.specs.declared.hold.HoldKind.TheVariants.{Exclusive}
+use Rattle.range_locks.specs.Holds.{HasSectors, IsClear}
+use Rattle.range_locks.specs.Order.{exclusive_count}
 use Rattle.reflow_mark.specs.declared.reflow.Reflow.{Reflow}
 use Rattle.reflow_mark.specs.Reflow.{sectors_of}
-use Rattle.space_alloc.specs.Space.{after_group}
 use Rattle.block_record.specs.declared.entry.IndexEntry.{IndexEntry}
 use Rattle.block_record.specs.Page.{index_page}
+use Rattle.block_table.specs.Table.{IsTable}
 use Rattle.uberblock_ring.specs.Devices.{count_of, IsWithin}
-use Rattle.uberblock_ring.specs.Uberblock.{Uber}
+use Rattle.uberblock_ring.specs.Uberblock.{Uber, max_group}
 use Rattle.uberblock_ring.specs.Valid.{IsRightUber}
-use Rattle.uberblock_ring.proofs.Digest.{sha256_is_digest}
-use Rattle.reflow_band.specs.Band.{IsFrontOf}
 use Rattle.core_state.specs.declared.answer.Answer.{Answer}
 use Rattle.core_state.specs.declared.answer.Answer.TheVariants as answer
 use Rattle.core_state.specs.Committing.{Point, point_of}
-use Rattle.core_blocks.specs.Blocks.{Blocks, AreInStep}
+use Rattle.mark_choice.specs.CommitChoice.{IsCommitChoice, MayRecord, births_of_commit, range_of_commit}
+use Rattle.mark_choice.proofs.Clear.{choice_clear}
+use Rattle.mark_advance.specs.Behind.{FollowsOn, front_behind}
+use Rattle.mark_advance.proofs.Follows.{follows}
+use Rattle.core_blocks.specs.Blocks.{Blocks}
 use Rattle.core_client.specs.Outs.{OnlyFailedGoOut}
 use Rattle.core_client.proofs.Outs.{outs_none}
+use Rattle.commit_job.specs.Stages.{plan_of}
+use Rattle.core_commit.specs.declared.commit_run.Stage.TheVariants.{Lays}
 use Rattle.core_commit.specs.declared.commit_run.CommitStep.{CommitStep}
 use Rattle.core_commit.specs.declared.commit_run.CommitStep.TheVariants.{Called, Ended}
-use Rattle.core_commit.specs.CommitTurns.{CommitRun, IsMadeReady, HasEnded, CommitSteps}
+use Rattle.core_commit.specs.CommitTurns.{CommitRun, IsMadeReady, CommitSteps}
+use Rattle.core_commit.specs.Ran.{FitsBank}
 use Rattle.core_commit.specs.Spared.{IsOnInUse}
 use Rattle.core_commit.proofs.Stepping.{ready_keeps, steps_same, steps_went}
 use Rattle.core_commit.proofs.Touching.{touched_none, touched_more}
-use Rattle.open_pool.specs.Pool.{IsPool, HasBank}
-use Rattle.open_pool.specs.NextGroup.{next_uber}
-use Rattle.open_pool.proofs.Committing.{right_next}
+use Rattle.core_open.proofs.Renewing.{none_above_more}
+use Rattle.open_pool.specs.Answered.{IsNextGroup, answered_by, blocks_behind}
+use Rattle.open_pool.specs.NextGroup.{next_uber, uber_for}
+use Rattle.open_pool.specs.Pool.{Pool, IsPool, HasBank}
+use Rattle.open_pool.proofs.Answered.{answered_pool, answered_step, may_grow_now}
 use Rattle.open_pool.proofs.Banks.{bank_later}
-use Rattle.open_pool.proofs.NextGroup.{few_below}
+use Rattle.open_pool.proofs.Growing.{MayGrow}
+use Rattle.open_pool.proofs.NewBirth.{HasRowsOf, rows_of}
+use Rattle.open_pool.proofs.NextGroup.{IsReady, ready}
 use Rattle.core_turns.specs.declared.turn.Turn.{Turn}
 use Rattle.core_turns.specs.declared.turn.Turn.TheVariants.{More, Busy, Done}
-use Rattle.core_turns.specs.Core.{Core, CoreState, IsCore, groups_begun}
+use Rattle.core_turns.specs.Core.{Core, CoreState, IsCore, as_begun, groups_begun}
 use Rattle.core_turns.specs.Getting.{HasTooManyOut}
-use Rattle.core_turns.specs.Committing.{IsCommitOf, StepsCommit, commit_of, answered_by}
+use Rattle.core_turns.specs.Committing.{AnswersUber, BeginsCommitSo, DropsHold, IsHeldAlone, IsCommitOf, StepsCommit, TakesHold, commit_of, hold_for}
 use Rattle.core_turns.specs.UnderWay.{TurnGoesOn}
-use Rattle.core_turns.proofs.Cores.{core_out}
+use Rattle.core_turns.proofs.Cores.{core_out, core_with}
+use Rattle.core_turns.proofs.Holds.{alone_begins, alone_ends, clear_alone}
 
 -- Few devices are out.
 pub few_out : (core : Core) → (HasTooManyOut core → ⊥) → count_of core.pool.out ≤ core.pool.uber.parity
@@ -57,33 +71,41 @@ rests_pool core is none =
     subst (λ (group : ℕ). IsPool (record core.pool { uber = record core.pool.uber { group = group } }))
     (rests core is none) is.is
 
--- The next group's uberblock is right.
-pub begins_right : (core : Core) (entries : List IndexEntry) (next : Uber) → IsCore core → core.committing ≡ None
-    → (HasTooManyOut core → ⊥) → core.begun + 1 ≤ 2 ^ 62 → length entries ≤ 512
-    → next ≡ next_uber core.pool.uber (length entries) (sha256 (index_page entries)) core.pool.out
-    → IsRightUber next
-begins_right core entries next is none few limit listed same =
-    let rest = rests_pool core is none in
+-- What a commit may record at this core's front follows on.
+pub core_follows : (core : Core) (chosen : Reflow) → IsCore core
+    → MayRecord core.pool.uber.reflow core.pool.done chosen
+    → FollowsOn core.pool.uber.reflow core.pool.done chosen
+core_follows core chosen is choice = follows (as_begun core).uber core.pool.done chosen is.is.right is.is.front choice
+
+-- It has the devices and the data rows of the pool.
+pub core_rows : (core : Core) (chosen : Reflow) → IsCore core → MayRecord core.pool.uber.reflow core.pool.done chosen
+    → HasRowsOf core.pool.uber.reflow chosen
+core_rows core chosen is choice = rows_of core.pool.uber.reflow chosen (core_follows core chosen is choice).widths
+
+-- The next group may be written with the table as it is.
+pub begins_ready : (core : Core) (chosen : Reflow) → IsCore core → IsTable core.pool.blocks.table → core.committing ≡ None
+    → (HasTooManyOut core → ⊥) → core.begun + 1 ≤ 2 ^ 62 → MayRecord core.pool.uber.reflow core.pool.done chosen
+    → IsReady core.pool chosen
+begins_ready core chosen is table none few limit choice =
+    let on = core_follows core chosen is choice in
     let number = rests core is none in
-    subst IsRightUber (sym same)
-    (right_next core.pool.uber (length entries) (sha256 (index_page entries)) core.pool.out rest.right
-    (omega (arith, limit, number)) listed (sha256_is_digest (index_page entries))
-    (few_below core.pool.uber core.pool.out rest.right rest.below (few_out core few)))
+    ready core.pool chosen (rests_pool core is none) is.step table on.right on.widths (omega (arith, limit, number))
+    (few_out core few)
 
 -- A core at which the next group was begun is one.
-pub begun_core : (core : Core) (actor : ℕ) → IsCore core → core.committing ≡ None → core.begun + 1 ≤ 2 ^ 62
-    → IsCore (record core { begun = core.begun + 1; committing = Some actor })
-begun_core core actor is none limit =
+pub begun_core : (core : Core) (holds : List Hold) (actor : ℕ) → IsCore core → core.committing ≡ None
+    → core.begun + 1 ≤ 2 ^ 62
+    → IsCore (record core { holds = holds; begun = core.begun + 1; committing = Some actor })
+begun_core core holds actor is none limit =
     let uber = core.pool.uber in
     let right = (rests_pool core is none).right in
     let number = rests core is none in
     let one_more : uber.group + 1 ≡ core.begun + 1 = omega (arith, number) in
-    let next = right_next uber uber.count uber.digest uber.out right (omega (arith, limit, number)) right.count right.digest right.out in
     record {
       is = record {
         right = subst (λ (n : ℕ). IsRightUber (record uber { group = n })) one_more (record {
           pool = right.pool;
-          group = next.group;
+          group = (omega arith, omega (arith, limit, number));
           parity = right.parity;
           widths = right.widths;
           rows = right.rows;
@@ -92,7 +114,13 @@ begun_core core actor is none limit =
           out = right.out;
           count = right.count;
           digest = right.digest;
-          births = next.births;
+          births = record {
+            growing = right.births.growing;
+            few = right.births.few;
+            wide = right.births.wide;
+            last = right.births.last;
+            begun = none_above_more (uber.group + 2) (uber.group + 1 + 2) uber.births (omega arith) right.births.begun;
+          };
         });
         parity = is.is.parity;
         births = is.is.births;
@@ -105,18 +133,86 @@ begun_core core actor is none limit =
       begun = (let same = number in omega (arith, same));
       few = limit;
       step = is.step;
+      shared = λ rests. absurd (under_way rests);
     }
+  where
+    under_way : Some actor ≡ None → ⊥
+    under_way same = cc
 
 -- The commit that makes it is one of the core.
-pub begun_commit : (core : Core) (actor : ℕ) → IsCore core → core.committing ≡ None
-    → IsCommitOf (record core { begun = core.begun + 1; committing = Some actor }) (commit_of core.pool)
-begun_commit core actor is none = record {
+pub begun_commit : (core : Core) (holds : List Hold) (actor : ℕ) (chosen : Reflow) → IsCore core → core.committing ≡ None
+    → IsReady core.pool chosen → IsCommitChoice core.pool.uber.reflow core.pool.done core.holds chosen
+    → TakesHold core.holds holds (hold_for core.pool.uber.reflow chosen actor)
+    → IsCommitOf (record core { holds = holds; begun = core.begun + 1; committing = Some actor })
+    (commit_of core.pool chosen)
+begun_commit core holds actor chosen is none ready choice takes = record {
   actor = actor;
   under_way = refl;
   number = (let same = rests core is none in omega (arith, same));
-  uber_is = refl;
+  next = record {
+    right = ready.right;
+    number = refl;
+    pool_is = refl;
+    parity = refl;
+    choice = record { holds = core.holds; choice = choice };
+    births = refl;
+  };
+  holds = alone_begins core.holds holds (hold_for core.pool.uber.reflow chosen actor) refl (is.shared none)
+      (choice_clear core.pool.uber.reflow core.pool.done core.holds chosen choice) takes;
   lists = λ device has. has;
 }
+
+-- A commit begins: what that makes of the core, in its parts.
+module _ (core : Core) (actor : ℕ) (before chosen : Reflow) (is : IsCore core) (table : IsTable core.pool.blocks.table) (none : core.committing ≡ None)
+    (few : HasTooManyOut core → ⊥) (limit : core.begun + 1 < max_group) (before_is : before ≡ core.pool.uber.reflow)
+    (choice : IsCommitChoice before core.pool.done core.holds chosen) where
+  its_choice : IsCommitChoice core.pool.uber.reflow core.pool.done core.holds chosen
+  its_choice = subst (λ (r : Reflow). IsCommitChoice r core.pool.done core.holds chosen) before_is choice
+
+  pub begins_may : MayRecord core.pool.uber.reflow core.pool.done chosen
+  begins_may = record { holds = core.holds; choice = its_choice }
+
+  pub begins_ready_now : IsReady core.pool chosen
+  begins_ready_now = begins_ready core chosen is table none few (omega (arith, limit)) begins_may
+
+  -- The sectors whose standing changes are clear to be held alone.
+  pub begins_clear : HasSectors (hold_for before chosen actor)
+      → IsClear core.holds (hold_for before chosen actor).lo (hold_for before chosen actor).hi Exclusive
+  begins_clear = clear_alone core.holds (range_of_commit before chosen).0 (range_of_commit before chosen).1 (is.shared none)
+      (choice_clear before core.pool.done core.holds chosen choice)
+
+  module _ (entries : List IndexEntry) (next : Uber) (entries_are : entries ≡ core.pool.blocks.table.entries)
+      (next_is : next ≡ next_uber core.pool.uber chosen (length entries) (sha256 (index_page entries)) core.pool.out) where
+    next_for : next ≡ uber_for core.pool chosen
+    next_for = next_is ∙ (λ i. next_uber core.pool.uber chosen (length (entries_are i)) (sha256 (index_page (entries_are i)))
+        core.pool.out)
+
+    pub begins_right : IsRightUber next
+    begins_right = subst IsRightUber (sym next_for) begins_ready_now.right
+
+    pub begins_so : (holds : List Hold) (index : List IndexEntry) (run : CommitRun) → TakesHold core.holds holds (hold_for before chosen actor) → index ≡ entries
+        → run ≡ record { uber = next; entries = index; calls = plan_of next.reflow.to next.count; stage = Lays }
+        → BeginsCommitSo core (record core { holds = holds; begun = core.begun + 1; committing = Some actor }) actor run
+    begins_so holds index run takes index_is run_is =
+        let now = record core { holds = holds; begun = core.begun + 1; committing = Some actor } in
+        let its_takes = subst (λ (r : Reflow). TakesHold core.holds holds (hold_for r chosen actor)) before_is takes in
+        subst (BeginsCommitSo core now actor)
+        (sym (run_is ∙ (λ i. record {
+          uber = next_for i;
+          entries = (index_is ∙ entries_are) i;
+          calls = plan_of (next_for i).reflow.to (next_for i).count;
+          stage = Lays;
+        })))
+        (record {
+          few = few;
+          none = none;
+          limit = limit;
+          choice = its_choice;
+          run_is = refl;
+          holds = its_takes;
+          rest = refl;
+          of = begun_commit core holds actor chosen is none begins_ready_now its_choice its_takes;
+        })
 
 -- The devices that go out in a step failed.
 pub step_outs : (before after : Point) (run stepped : CommitRun) (result : CommitStep)
@@ -145,24 +241,67 @@ step_lists core run stepped out old new Called lists still did =
 step_lists core run stepped out old new Ended lists still did =
     λ device has. still device (listed_still core run stepped lists did.is_ready device has)
 
--- What the group of a commit has of the last one, but for what it lists as out.
-pub step_uber : (core : Core) (run stepped : CommitRun) → IsCommitOf core run
-    → stepped.uber ≡ record run.uber { out = stepped.uber.out }
-    → stepped.uber ≡ record core.pool.uber {
-      group = stepped.uber.group;
-      area = stepped.uber.area;
-      count = stepped.uber.count;
-      digest = stepped.uber.digest;
-      out = stepped.uber.out;
+-- The group of a commit is the pool's next one still, whatever it lists as out.
+pub step_next : (pool : Pool) (uber stepped : Uber) → stepped ≡ record uber { out = stepped.out } → IsRightUber stepped
+    → IsNextGroup pool uber → IsNextGroup pool stepped
+step_next pool uber stepped same right next = record {
+  right = right;
+  number = ap (λ (u : Uber). u.group) same ∙ next.number;
+  pool_is = ap (λ (u : Uber). u.pool) same ∙ next.pool_is;
+  parity = ap (λ (u : Uber). u.parity) same ∙ next.parity;
+  choice = subst (MayRecord pool.uber.reflow pool.done) (sym (ap (λ (u : Uber). u.reflow) same)) next.choice;
+  births = ap (λ (u : Uber). u.births) same ∙ next.births
+      ∙ (λ i. births_of_commit pool.uber.reflow (sym (ap (λ (u : Uber). u.reflow) same) i) pool.uber.births
+      (sym (ap (λ (u : Uber). u.group) same) i));
+}
+
+-- It is right after a step.
+step_right : (run stepped : CommitRun) (before after : Point) (result : CommitStep)
+    → CommitSteps run before stepped after result → IsRightUber stepped.uber
+step_right run stepped before after Called did = subst (λ (r : CommitRun). IsRightUber r.uber) (sym did.left) did.right
+step_right run stepped before after Ended did = did.right
+
+-- A commit stays one of the core over a step.
+pub commit_stays : (core : Core) (run stepped : CommitRun) (out : ℕ) (old new : Disk) (result : CommitStep)
+    → IsCommitOf core run → CommitSteps run (point_of core.pool.out old) stepped (point_of out new) result
+    → IsWithin core.pool.out out → IsCommitOf (record core { pool = record core.pool { out = out } }) stepped
+commit_stays core run stepped out old new result of did still =
+    let before = point_of core.pool.out old in
+    let after = point_of out new in
+    let same = (steps_same result run stepped before after did).0 in
+    let next = step_next core.pool run.uber stepped.uber same (step_right run stepped before after result did) of.next in
+    record {
+      actor = of.actor;
+      under_way = of.under_way;
+      number = ap (λ (u : Uber). u.group) same ∙ of.number;
+      next = record {
+        right = next.right;
+        number = next.number;
+        pool_is = next.pool_is;
+        parity = next.parity;
+        choice = next.choice;
+        births = next.births;
+      };
+      holds = subst (λ (r : Reflow). IsHeldAlone core.holds (hold_for core.pool.uber.reflow r of.actor))
+          (sym (ap (λ (u : Uber). u.reflow) same)) of.holds;
+      lists = step_lists core run stepped out old new result of.lists still did;
     }
-step_uber core run stepped of same = same ∙ ap (λ (u : Uber). record u { out = stepped.uber.out }) of.uber_is
-    ∙ (λ i. record core.pool.uber {
-      group = (ap (λ (u : Uber). u.group) (sym same)) i;
-      area = (ap (λ (u : Uber). u.area) (sym same)) i;
-      count = (ap (λ (u : Uber). u.count) (sym same)) i;
-      digest = (ap (λ (u : Uber). u.digest) (sym same)) i;
-      out = stepped.uber.out;
-    })
+
+-- The bank has what the commit's calls ask for.
+pub commit_fits : (core : Core) (run : CommitRun) (disk : Disk) → IsCore core → IsCommitOf core run
+    → length run.entries ≡ run.uber.count → HasBank core.pool.uber core.pool.out disk
+    → FitsBank run.uber run.entries core.pool.out disk
+commit_fits core run disk is of counted bank =
+    let rows = core_rows core run.uber.reflow is of.next.choice in
+    let right = of.next.right in
+    record {
+      devices = λ device below used. bank.devices device (let same = rows.to in omega (arith, below, same)) used;
+      few = right.widths.1;
+      sectors = (let room = bank.room in omega (arith, room));
+      area = right.area;
+      counted = counted;
+      count = right.count;
+    }
 
 -- The devices that are out stay those of the pool over a call.
 pub step_core : (core : Core) (run stepped : CommitRun) (old new : Disk) (out : ℕ) (result : CommitStep) → IsCore core
@@ -171,90 +310,92 @@ pub step_core : (core : Core) (run stepped : CommitRun) (old new : Disk) (out : 
     → IsCore (record core { pool = record core.pool { out = out } })
 step_core core run stepped old new out result is of did below =
     let same = (steps_same result run stepped (point_of core.pool.out old) (point_of out new) did).0 in
-    let widths = ap (λ (u : Uber). u.reflow) (step_uber core run stepped of same) in
-    core_out core out is (subst (λ (r : Reflow). out < 2 ^ r.to) widths below)
+    let widths = (core_rows core run.uber.reflow is of.next.choice).to in
+    core_out core out is
+    (subst (λ (to : ℕ). out < 2 ^ to) (ap (λ (u : Uber). u.reflow.to) same ∙ widths) below)
     (step_outs (point_of core.pool.out old) (point_of out new) run stepped result did).still
 
--- A commit stays one of the core over a call.
-pub commit_stays : (core : Core) (run stepped : CommitRun) (out : ℕ) (old new : Disk) → IsCommitOf core run
-    → CommitSteps run (point_of core.pool.out old) stepped (point_of out new) Called → IsWithin core.pool.out out
-    → IsCommitOf (record core { pool = record core.pool { out = out } }) stepped
-commit_stays core run stepped out old new of did still =
-    let same = (steps_same Called run stepped (point_of core.pool.out old) (point_of out new) did).0 in record {
-      actor = of.actor;
-      under_way = of.under_way;
-      number = ap (λ (u : Uber). u.group) same ∙ of.number;
-      uber_is = step_uber core run stepped of same;
-      lists = step_lists core run stepped out old new Called of.lists still did;
+-- ---- the group is answered
+
+-- The pool as it is when the group that is made will have been answered, but for its number.
+pub begun_pool : (core : Core) (run : CommitRun) → IsCore core → IsCommitOf core run
+    → IsPool (record core.pool { uber = record core.pool.uber { group = run.uber.group } })
+begun_pool core run is of =
+    subst (λ (group : ℕ). IsPool (record core.pool { uber = record core.pool.uber { group = group } })) (sym of.number) is.is
+
+pub answered_core : (core : Core) (run : CommitRun) (holds : List Hold) → IsCore core → IsCommitOf core run
+    → exclusive_count holds ≡ 0
+    → IsCore (record core { pool = answered_by run.uber core.pool; holds = holds; committing = None })
+answered_core core run holds is of none =
+    let on = core_follows core run.uber.reflow is of.next.choice in
+    let pool = begun_pool core run is of in
+    record {
+      is = subst (λ (group : ℕ). IsPool (record (answered_by run.uber core.pool) {
+        uber = record run.uber { group = group };
+      })) of.number (answered_pool core.pool run.uber pool is.step of.next on of.lists);
+      begun = (let same = of.number in omega (arith, same));
+      few = is.few;
+      step = answered_step core.pool run.uber pool is.step of.next on;
+      shared = λ rests. none;
     }
 
--- The group of a commit is answered.
-pub answered_core : (core : Core) (run ended : CommitRun) (old new : Disk) (out : ℕ) → IsCore core → IsCommitOf core run
-    → HasEnded run (point_of core.pool.out old) ended (point_of out new)
-    → AreInStep (answered_by ended.uber core.pool).blocks
-    → IsCore (record core { pool = answered_by ended.uber core.pool; committing = None })
-answered_core core run ended old new out is of did step = record {
-  is = record {
-    right = subst (λ (group : ℕ). IsRightUber (record ended.uber { group = group })) number did.right;
-    parity = is.is.parity ∙ sym (ap (λ (u : Uber). u.parity) uber_is);
-    births = is.is.births ∙ sym (ap (λ (u : Uber). u.births) uber_is);
-    capacity = subst (λ (r : Reflow). core.pool.blocks.space.capacity ≡ sectors_of r)
-        (sym (ap (λ (u : Uber). u.reflow) uber_is)) is.is.capacity;
-    born = is.is.born;
-    front = subst (λ (r : Reflow). IsFrontOf r core.pool.done) (sym (ap (λ (u : Uber). u.reflow) uber_is)) is.is.front;
-    below = subst (λ (r : Reflow). core.pool.out < 2 ^ r.to) (sym (ap (λ (u : Uber). u.reflow) uber_is)) is.is.below;
-    lists = listed_still core run ended of.lists did.is_ready;
-  };
-  begun = (let same = number in omega (arith, same));
-  few = is.few;
-  step = step;
-}
+-- What a commit held was its actor's.
+pub held_by_actor : (core : Core) (run : CommitRun) (actor : ℕ) → IsCommitOf core run → core.committing ≡ Some actor
+    → IsHeldAlone core.holds (hold_for core.pool.uber.reflow run.uber.reflow actor)
+held_by_actor core run actor of is = subst
+    (λ (by : ℕ). IsHeldAlone core.holds (hold_for core.pool.uber.reflow run.uber.reflow by))
+    (same (sym of.under_way ∙ is)) of.holds
   where
-    same : ended.uber ≡ record run.uber { out = ended.uber.out }
-    same = (steps_same Ended run ended (point_of core.pool.out old) (point_of out new) did).0
+    same : {one other : ℕ} → Some one ≡ Some other → one ≡ other
+    same is = cc
 
-    uber_is : ended.uber ≡ record core.pool.uber {
-      group = ended.uber.group;
-      area = ended.uber.area;
-      count = ended.uber.count;
-      digest = ended.uber.digest;
-      out = ended.uber.out;
-    }
-    uber_is = step_uber core run ended of same
+-- A group is answered: what that makes of the core, in its parts.
+module _ (core : Core) (run : CommitRun) (uber : Uber) (before chosen : Reflow) (blocks : Blocks) (done actor : ℕ)
+    (holds : List Hold) (is : IsCore core) (of : IsCommitOf core run) (uber_is : run.uber ≡ uber)
+    (under_way : core.committing ≡ Some actor) (before_is : before ≡ core.pool.uber.reflow)
+    (chosen_is : chosen ≡ uber.reflow) (drops : DropsHold core.holds holds (hold_for before chosen actor))
+    (blocks_are : blocks ≡ blocks_behind core.pool uber) (done_is : done ≡ front_behind before core.pool.done chosen) where
+  abbrev now : Core
+  now = core_with uber blocks core.pool.out done holds core.begun None
 
-    number : ended.uber.group ≡ core.begun
-    number = ap (λ (u : Uber). u.group) same ∙ of.number
+  its_drops : DropsHold core.holds holds (hold_for core.pool.uber.reflow uber.reflow actor)
+  its_drops = subst (λ (r : Reflow × Reflow). DropsHold core.holds holds (hold_for r.0 r.1 actor))
+      (λ i. (before_is i, chosen_is i)) drops
 
--- the core that the end leaves, in its parts
-pub answered_is : (core : Core) (ended uber : Uber) (blocks : Blocks) (out group : ℕ) → uber ≡ ended
-    → group ≡ ended.group
-    → blocks ≡ record core.pool.blocks { space = after_group core.pool.blocks.space group } → out ≡ core.pool.out
-    → record core { pool = record { uber = uber; blocks = blocks; out = out; done = core.pool.done }; committing = None }
-    ≡ record core { pool = answered_by ended core.pool; committing = None }
-answered_is core ended uber blocks out group uber_is group_is blocks_are out_is = λ i. record core {
-  pool = record {
-    uber = uber_is i;
-    blocks = (blocks_are
-        ∙ ap (λ (number : ℕ). record core.pool.blocks { space = after_group core.pool.blocks.space number })
-        group_is) i;
-    out = out_is i;
-    done = core.pool.done;
-  };
-  committing = None;
-}
+  now_is : now ≡ record core { pool = answered_by uber core.pool; holds = holds; committing = None }
+  now_is i = core_with uber (blocks_are i) core.pool.out
+      ((done_is ∙ (λ j. front_behind (before_is j) core.pool.done (chosen_is j))) i) holds core.begun None
+
+  pub answers_uber : AnswersUber core now uber
+  answers_uber = record { actor = actor; under_way = under_way; holds = its_drops; rest = now_is }
+
+  pub answers_core : IsCore now
+  answers_core = subst IsCore (sym now_is)
+      (subst (λ (u : Uber). IsCore (record core { pool = answered_by u core.pool; holds = holds; committing = None })) uber_is
+      (answered_core core run holds is of
+      (alone_ends core.holds holds (hold_for core.pool.uber.reflow uber.reflow actor) refl
+      (subst (λ (u : Uber). IsHeldAlone core.holds (hold_for core.pool.uber.reflow u.reflow actor)) uber_is
+      (held_by_actor core run actor of under_way)) its_drops)))
+
+-- What the answer asks of the blocks where it ends an expansion.
+pub answer_grows : (core : Core) (run : CommitRun) → IsCore core → IsCommitOf core run
+    → (run.uber.reflow.from ≡ core.pool.uber.reflow.from → ⊥)
+    → MayGrow core.pool.blocks run.uber.group (sectors_of run.uber.reflow)
+answer_grows core run is of ends = may_grow_now core.pool run.uber (begun_pool core run is of) is.step of.next
+    (core_follows core run.uber.reflow is of.next.choice) ends
 
 -- The devices that a step touches are in use.
-pub step_touches : (core : Core) (run stepped : CommitRun) (out : ℕ) (old new : Disk) (result : CommitStep) → Lawful old
-    → IsCommitOf core run → CommitSteps run (point_of core.pool.out old) stepped (point_of out new) result
+pub step_touches : (core : Core) (run stepped : CommitRun) (out : ℕ) (old new : Disk) (result : CommitStep)
+    → IsCore core → Lawful old → IsCommitOf core run → CommitSteps run (point_of core.pool.out old) stepped (point_of out new) result
     → TouchesOnly (IsOnInUse core.pool.uber.reflow.to core.pool.out) old new
-step_touches core run stepped out old new Called lawful of did =
-    let widths : did.ready.uber.reflow ≡ core.pool.uber.reflow =
-    ap (λ (u : Uber). u.reflow) (ready_keeps core.pool.out run did.ready did.is_ready).uber
-    ∙ ap (λ (u : Uber). u.reflow) of.uber_is in
-    subst (λ (r : Reflow). TouchesOnly (IsOnInUse r.to core.pool.out) old new) widths
+step_touches core run stepped out old new Called is lawful of did =
+    let widths : did.ready.uber.reflow.to ≡ core.pool.uber.reflow.to =
+    ap (λ (u : Uber). u.reflow.to) (ready_keeps core.pool.out run did.ready did.is_ready).uber
+    ∙ (core_rows core run.uber.reflow is of.next.choice).to in
+    subst (λ (to : ℕ). TouchesOnly (IsOnInUse to core.pool.out) old new) widths
     (touched_more did.ready.uber did.ready.entries did.call (point_of core.pool.out old) (point_of core.pool.out old)
     (point_of out new) lawful did.inside (touched_none did.ready.uber (point_of core.pool.out old)) did.made).only
-step_touches core run stepped out old new Ended lawful of did =
+step_touches core run stepped out old new Ended is lawful of did =
     subst (λ (d : Disk). TouchesOnly (IsOnInUse core.pool.uber.reflow.to core.pool.out) old d)
     (sym (ap (λ (p : Point). p.disk) did.same)) (touches_none (IsOnInUse core.pool.uber.reflow.to core.pool.out) old)
 
@@ -263,42 +404,38 @@ pub turn_nowhere : (state : CoreState) → TurnGoesOn state state
 turn_nowhere state = record {
   parity = refl;
   widths = refl;
-  births = refl;
+  rows = refl;
   later = later_refl state.disk;
   out = outs_none (point_of state.core.pool.out state.disk);
   only = touches_none (IsOnInUse state.core.pool.uber.reflow.to state.core.pool.out) state.disk;
 }
 
 -- What a turn of a commit does, whether its group is answered or not.
-pub turn_steps : (before after : CoreState) (run stepped : CommitRun) (result : CommitStep) → Lawful before.disk
-    → IsCommitOf before.core run
+pub turn_steps : (before after : CoreState) (run stepped : CommitRun) (result : CommitStep) → IsCore before.core
+    → Lawful before.disk → IsCommitOf before.core run
     → CommitSteps run (point_of before.core.pool.out before.disk) stepped (point_of after.core.pool.out after.disk) result
     → (after.core.pool.uber ≡ before.core.pool.uber) ⊎ (after.core.pool.uber ≡ stepped.uber)
     → TurnGoesOn before after
-turn_steps before after run stepped result lawful of did uber = record {
+turn_steps before after run stepped result is lawful of did uber = record {
   parity = ⊎_elim (λ same. ap (λ (u : Uber). u.parity) same)
-      (λ group. ap (λ (u : Uber). u.parity) group ∙ ap (λ (u : Uber). u.parity) made) uber;
-  widths = ⊎_elim (λ same. ap (λ (u : Uber). u.reflow) same)
-      (λ group. ap (λ (u : Uber). u.reflow) group ∙ ap (λ (u : Uber). u.reflow) made) uber;
-  births = ⊎_elim (λ same. ap (λ (u : Uber). u.births) same)
-      (λ group. ap (λ (u : Uber). u.births) group ∙ ap (λ (u : Uber). u.births) made) uber;
+      (λ group. ap (λ (u : Uber). u.parity) (group ∙ made) ∙ of.next.parity) uber;
+  widths = ⊎_elim (λ same. ap (λ (u : Uber). u.reflow.to) same)
+      (λ group. ap (λ (u : Uber). u.reflow.to) (group ∙ made) ∙ on.to) uber;
+  rows = ⊎_elim (λ same. ap (λ (u : Uber). u.reflow.rows) same)
+      (λ group. ap (λ (u : Uber). u.reflow.rows) (group ∙ made) ∙ on.rows) uber;
   later = (steps_went result run stepped (point_of before.core.pool.out before.disk)
       (point_of after.core.pool.out after.disk) did).spares.later;
   out = step_outs (point_of before.core.pool.out before.disk) (point_of after.core.pool.out after.disk)
       run stepped result did;
-  only = step_touches before.core run stepped after.core.pool.out before.disk after.disk result lawful of did;
+  only = step_touches before.core run stepped after.core.pool.out before.disk after.disk result is lawful of did;
 }
   where
-    made : stepped.uber ≡ record before.core.pool.uber {
-      group = stepped.uber.group;
-      area = stepped.uber.area;
-      count = stepped.uber.count;
-      digest = stepped.uber.digest;
-      out = stepped.uber.out;
-    }
-    made = step_uber before.core run stepped of
-        (steps_same result run stepped (point_of before.core.pool.out before.disk)
+    made : stepped.uber ≡ record run.uber { out = stepped.uber.out }
+    made = (steps_same result run stepped (point_of before.core.pool.out before.disk)
         (point_of after.core.pool.out after.disk) did).0
+
+    on : HasRowsOf before.core.pool.uber.reflow run.uber.reflow
+    on = core_rows before.core run.uber.reflow is of.next.choice
 
 -- A turn of a commit is nothing, or a step of it.
 pub record IsStepped (before : CoreState) (run : CommitRun) (after : CoreState) : Type 0 where
@@ -324,17 +461,17 @@ commit_turn before after run (Done given) steps = by given steps
       stepped = answers.ended;
       kind = Ended;
       did = answers.ends;
-      uber = inr (ap (λ (core : Core). core.pool.uber) answers.rest);
+      uber = inr (ap (λ (core : Core). core.pool.uber) answers.answers.rest);
     })
     by (answer.TooManyFailed out) many = inl many.2
     by other none = absurd none
 
 -- What it does to the bank and the devices.
-pub commit_goes : (before after : CoreState) (run : CommitRun) (result : Turn CommitRun) → Lawful before.disk
-    → IsCommitOf before.core run → StepsCommit before run after result → TurnGoesOn before after
-commit_goes before after run result lawful of steps = ⊎_elim
+pub commit_goes : (before after : CoreState) (run : CommitRun) (result : Turn CommitRun) → IsCore before.core
+    → Lawful before.disk → IsCommitOf before.core run → StepsCommit before run after result → TurnGoesOn before after
+commit_goes before after run result is lawful of steps = ⊎_elim
     (λ same. subst (TurnGoesOn before) (sym same) (turn_nowhere before))
-    (λ some. turn_steps before after run some.stepped some.kind lawful of some.did some.uber)
+    (λ some. turn_steps before after run some.stepped some.kind is lawful of some.did some.uber)
     (commit_turn before after run result steps)
 
 -- The bank goes on having what is in use over any turn.
@@ -344,7 +481,6 @@ pub turn_bank : (before after : CoreState) → TurnGoesOn before after
 turn_bank before after goes bank =
     let now = bank_later before.core.pool.uber before.disk after.disk before.core.pool.out after.core.pool.out
     goes.later goes.out.still bank in record {
-      room = subst (λ (r : Reflow). 192 + r.rows ≤ after.disk.sectors) (sym goes.widths) now.room;
-      devices = λ device inside used. now.devices device
-          (subst (λ (r : Reflow). device < r.to) goes.widths inside) used;
+      room = (let room = now.room in let rows = goes.rows in omega (arith, room, rows));
+      devices = λ device inside used. now.devices device (let widths = goes.widths in omega (arith, inside, widths)) used;
     }

@@ -3,6 +3,7 @@ use Rattle.std.proofs.Common.{List, ◌≡◌, ℕ, Option, ◌+◌, ◌^◌, �
 use Rattle.bank_trait.specs.Disk.{Disk}
 use Rattle.reflow_mark.specs.declared.reflow.Reflow.{Reflow}
 use Rattle.range_locks.specs.declared.hold.Hold.{Hold}
+use Rattle.range_locks.specs.Order.{exclusive_count}
 use Rattle.uberblock_ring.specs.Devices.{IsWithin}
 use Rattle.uberblock_ring.specs.Uberblock.{Uber}
 use Rattle.block_record.specs.declared.entry.IndexEntry.{IndexEntry}
@@ -41,6 +42,18 @@ core_out core out is below within = record {
   begun = is.begun;
   few = is.few;
   step = is.step;
+  shared = is.shared;
+}
+
+-- Shared holds come or go.
+pub core_held : (core : Core) (holds : List Hold) → IsCore core → exclusive_count holds ≡ exclusive_count core.holds
+    → IsCore (record core { holds = holds })
+core_held core holds is shared = record {
+  is = is.is;
+  begun = is.begun;
+  few = is.few;
+  step = is.step;
+  shared = λ rests. shared ∙ is.shared rests;
 }
 
 -- The bank of a pool has what a block's calls ask for.
@@ -52,12 +65,13 @@ bank_has uber reflow out disk same bank = subst (λ (r : Reflow). HasPool r out 
 })
 
 -- One whose blocks are others is a core still where they have the same widths and as many sectors, and no block is born
--- after the open group.
+-- after the open group. Holds that come or go are shared.
 pub core_blocks : (core : Core) (blocks : Blocks) (holds : List Hold) → IsCore core → blocks.parity ≡ core.pool.blocks.parity
     → blocks.births ≡ core.pool.blocks.births → blocks.space.capacity ≡ core.pool.blocks.space.capacity
     → ((entry : IndexEntry) → IsListed blocks.table.entries entry → entry.birth ≤ core.begun + 1) → AreInStep blocks
+    → exclusive_count holds ≡ exclusive_count core.holds
     → IsCore (record core { pool = record core.pool { blocks = blocks }; holds = holds })
-core_blocks core blocks holds is parity births capacity born step = record {
+core_blocks core blocks holds is parity births capacity born step shared = record {
   is = record {
     right = is.is.right;
     parity = parity ∙ is.is.parity;
@@ -71,4 +85,5 @@ core_blocks core blocks holds is parity births capacity born step = record {
   begun = is.begun;
   few = is.few;
   step = step;
+  shared = λ rests. shared ∙ is.shared rests;
 }

@@ -1,5 +1,5 @@
 -- What a turn leaves of the calls that are under way beside it, and of the map.
-use Rattle.std.proofs.Common.{◌≡◌, ◌≢◌, ⊎_elim, ℕ, ◌+◌, ◌≤◌, List, false, Option, Some, None, sym, ◌∙◌, ap, subst, arith}
+use Rattle.std.proofs.Common.{◌≡◌, ◌≢◌, ⊎_elim, ℕ, ◌+◌, ◌≤◌, List, false, Option, Some, None, refl, sym, ◌∙◌, ap, subst, arith}
 use Rattle.std.specs.Prelude.{Contains}
 use Rattle.bank_trait.specs.Disk.{Disk, Lawful, Later, Unchanged}
 use Rattle.bank_trait.specs.Regions.{TouchesOnly}
@@ -23,6 +23,7 @@ use Rattle.core_state.proofs.Frames.{Nowhere, none_lost, unchanged_frames}
 use Rattle.core_state.proofs.Knowing.{knows_frame}
 use Rattle.core_state.proofs.Since.{might_at}
 use Rattle.core_state.proofs.Places.{IsDataSector}
+use Rattle.mark_choice.specs.CommitChoice.{MayRecord, births_of_commit}
 use Rattle.core_blocks.specs.Blocks.{Blocks, AreUnderWay, IsListed, layout_run, put_run}
 use Rattle.core_blocks.specs.Kept.{NoneFree, SparesAll}
 use Rattle.core_blocks.specs.Puts.{layout_at}
@@ -45,10 +46,11 @@ use Rattle.core_turns.specs.declared.putting.PutRun.{PutRun}
 use Rattle.core_turns.specs.Core.{Core, CoreState, pool_at}
 use Rattle.core_turns.specs.Getting.{IsGetOf, HoldsGet}
 use Rattle.core_turns.specs.Putting.{AsksAlike, IsPutOf, HoldsPut}
-use Rattle.core_turns.specs.Committing.{IsCommitOf}
-use Rattle.core_turns.specs.UnderWay.{HoldingCall, Putting, Reading, actor_of, hold_of_call, layout_of_call, ranges_of, IsCallOfCore, HoldsCall, AreCallsOf, PutsSpare, GroupsStand, Stands}
+use Rattle.core_turns.specs.Committing.{IsHeldAlone, IsCommitOf, hold_for}
+use Rattle.core_turns.specs.UnderWay.{HoldingCall, Putting, Reading, actor_of, hold_of_call, layout_of_call, ranges_of, IsCallOfCore, HoldsCall, AreCallsOf, LiesInPool, PutsSpare, GroupsStand, Stands}
 use Rattle.core_turns.proofs.Beside.{IsWrittenTo, never_both, required_data, written_cell}
 use Rattle.core_turns.proofs.GetLaws.{get_stays}
+use Rattle.core_turns.proofs.Holds.{KeepsAlone, keeps_same}
 
 -- What a turn leaves: the pool's widths and its front stay, no device comes back, and on those in use each data sector that is
 -- none of these reads what it read.
@@ -247,6 +249,7 @@ pub get_of_stays : (old new : Core) (run : GetRun) → KeepsWidths old new → C
 get_of_stays old new run widths listed of = record {
   layout_is = of.layout_is ∙ (λ i. layout_of (sym widths.parity i) (sym widths.births i) run.entry);
   pool = subst (λ (r : Reflow). IsInPool run.read.layout r) (sym widths.reflow) of.pool;
+  born = (let born = of.born in let begun = widths.begun in omega (arith, born, begun));
   holds = listed;
   actor = of.actor;
   hold_is = of.hold_is ∙ (λ i. record {
@@ -327,21 +330,54 @@ map_stays P map before after leaves table off holds = record {
 
 -- ---- the groups
 
--- The commit under way is one of the core still, as devices go out.
-pub commit_still : {run : CommitRun} (old new : Core) → new.pool.uber ≡ old.pool.uber → new.begun ≡ old.begun
-    → new.committing ≡ old.committing → IsWithin old.pool.out new.pool.out → IsCommitOf old run → IsCommitOf new run
-commit_still {run} old new uber begun committing within of = record {
+-- What a turn leaves of the commit under way: the pool's uberblock and front, the group begun last and who makes it, and
+-- what it holds. Devices go out.
+pub record LeavesCommit (old new : Core) : Type 0 where
+  pub uber : new.pool.uber ≡ old.pool.uber
+  pub done : new.pool.done ≡ old.pool.done
+  pub begun : new.begun ≡ old.begun
+  pub committing : new.committing ≡ old.committing
+  pub within : IsWithin old.pool.out new.pool.out
+  pub holds : KeepsAlone old.holds new.holds
+
+-- So it is one of the core still.
+pub commit_still : {run : CommitRun} (old new : Core) → LeavesCommit old new → IsCommitOf old run → IsCommitOf new run
+commit_still {run} old new leaves of = record {
   actor = of.actor;
-  under_way = committing ∙ of.under_way;
-  number = of.number ∙ sym begun;
-  uber_is = subst (λ (u : Uber). run.uber ≡ record u {
-    group = run.uber.group;
-    area = run.uber.area;
-    count = run.uber.count;
-    digest = run.uber.digest;
-    out = run.uber.out;
-  }) (sym uber) of.uber_is;
-  lists = λ device has. within device (of.lists device has);
+  under_way = leaves.committing ∙ of.under_way;
+  number = of.number ∙ sym leaves.begun;
+  next = record {
+    right = of.next.right;
+    number = of.next.number ∙ (λ i. (sym leaves.uber i).group + 1);
+    pool_is = of.next.pool_is ∙ (λ i. (sym leaves.uber i).pool);
+    parity = of.next.parity ∙ (λ i. (sym leaves.uber i).parity);
+    choice = subst (λ (at : Uber × ℕ). MayRecord at.0.reflow at.1 run.uber.reflow)
+        (λ i. (sym leaves.uber i, sym leaves.done i)) of.next.choice;
+    births = of.next.births
+        ∙ (λ i. births_of_commit (sym leaves.uber i).reflow run.uber.reflow (sym leaves.uber i).births run.uber.group);
+  };
+  holds = subst (λ (u : Uber). IsHeldAlone new.holds (hold_for u.reflow run.uber.reflow of.actor)) (sym leaves.uber)
+      (leaves.holds (hold_for old.pool.uber.reflow run.uber.reflow of.actor) refl of.holds);
+  lists = λ device has. leaves.within device (of.lists device has);
+}
+
+-- Where only devices went out the commit is left.
+pub out_leaves : (old new : Core) → OnlyOut old new → IsWithin old.pool.out new.pool.out → LeavesCommit old new
+out_leaves old new core within = record {
+  uber = ap (λ (c : Core). c.pool.uber) core;
+  done = ap (λ (c : Core). c.pool.done) core;
+  begun = ap (λ (c : Core). c.begun) core;
+  committing = ap (λ (c : Core). c.committing) core;
+  within = within;
+  holds = keeps_same old.holds new.holds (ap (λ (c : Core). c.holds) core);
+}
+
+-- The group's blocks lie in the pool still.
+pub lies_still : {kept : Kept} (old new : Core) → LeavesCommit old new → LiesInPool old kept → LiesInPool new kept
+lies_still {kept} old new leaves lies = record {
+  born = λ entry listed. subst (λ (group : ℕ). entry.birth ≤ group) (sym leaves.begun) (lies.born entry listed);
+  inside = λ entry listed. subst (λ (u : Uber). IsInPool (layout_of u.parity u.births entry) u.reflow) (sym leaves.uber)
+      (lies.inside entry listed);
 }
 
 -- The laws of a disk held before where they hold after nothing was changed.
@@ -378,10 +414,10 @@ groups_read setting last begun calls None before after core same outs lawful gro
 groups_read setting last begun calls (Some run) before after core same outs lawful groups = record {
   next = groups.next;
   begun_is = groups.begun_is;
-  of = commit_still before.core after.core (ap (λ (c : Core). c.pool.uber) core) (ap (λ (c : Core). c.begun) core)
-      (ap (λ (c : Core). c.committing) core) outs.still groups.of;
+  of = commit_still before.core after.core (out_leaves before.core after.core core outs.still) groups.of;
   come = committing_unchanged setting last groups.next run (point_of before.core.pool.out before.disk)
       (point_of after.core.pool.out after.disk) same outs.still lawful groups.come;
+  lies = lies_still before.core after.core (out_leaves before.core after.core core outs.still) groups.lies;
   kept = subst (λ (c : Core). NoneFree c.pool.blocks c.begun groups.next.entries) (sym core) groups.kept;
   spared = λ run listed. subst (λ (c : Core). SparesAll c.pool.blocks.parity c.pool.blocks.births
       groups.next.entries (put_run run.range)) (sym core) (groups.spared run listed);

@@ -39,9 +39,10 @@ use Rattle.core_turns.specs.Freeing.{FreesBlock}
 use Rattle.core_turns.specs.Getting.{IsReadKind, IsGetOf, BeginsGet, HoldsGet, ReadsTurn, SolvesGet}
 use Rattle.core_turns.specs.UnderWay.{HoldingCall, Putting, Reading, SetsContent, actor_of, layout_of_call, ranges_of, HoldsCall, HaveNoneInCommon, AreCallsOf, PutsSpare, CommitStands, NoCommitStands, GroupsStand, Stands}
 use Rattle.core_turns.proofs.Calls.{range_listed, ranges_read, calls_gain, calls_lose, calls_swap}
-use Rattle.core_turns.proofs.Frames.{Leaves, commit_still, KeepsWidths, off_nowhere, leaves_read, call_stays, calls_keep, calls_stay, groups_read, stands_still, stands_anew}
+use Rattle.core_turns.proofs.Frames.{Leaves, LeavesCommit, commit_still, lies_still, KeepsWidths, off_nowhere, leaves_read, call_stays, calls_keep, calls_stay, groups_read, stands_still, stands_anew}
 use Rattle.core_turns.proofs.GetLaws.{get_finds, get_reads, get_solves}
-use Rattle.core_turns.proofs.GetTurns.{get_of_more, begins_holds, solved_of}
+use Rattle.core_turns.proofs.Holds.{KeepsAlone, keeps_ended, keeps_gained, keeps_same}
+use Rattle.core_turns.proofs.GetTurns.{get_of_more, begins_holds, get_shared, solved_of}
 
 -- ---- the calls
 
@@ -213,18 +214,28 @@ read_loses {left} {calls} {run} gains put listed = gains_old left calls (Reading
 
 -- The groups stand beside other calls where no put is added and only holds came or went.
 groups_held : (setting : Setting) (last : Kept) (begun : List Kept) (calls nexts : List HoldingCall)
-    (commit : Option CommitRun) (old new : Core) (disk : Disk) → OnlyHolds old new → AddsNoPut calls nexts
-    → GroupsStand setting last begun calls commit (at_disk old disk)
+    (commit : Option CommitRun) (old new : Core) (disk : Disk) → OnlyHolds old new → KeepsAlone old.holds new.holds
+    → AddsNoPut calls nexts → GroupsStand setting last begun calls commit (at_disk old disk)
     → GroupsStand setting last begun nexts commit (at_disk new disk)
-groups_held setting last begun calls nexts None old new disk core adds groups =
+groups_held setting last begun calls nexts None old new disk core alone adds groups =
     subst (λ (c : Core). NoCommitStands setting last begun (at_disk c disk)) (sym core)
     (record { knows = groups.knows; whole = groups.whole })
-groups_held setting last begun calls nexts (Some run) old new disk core adds groups =
+groups_held setting last begun calls nexts (Some run) old new disk core alone adds groups =
+    let held = record old { holds = new.holds } in
+    let leaves : LeavesCommit old held = record {
+      uber = refl;
+      done = refl;
+      begun = refl;
+      committing = refl;
+      within = λ device out. out;
+      holds = alone;
+    } in
     subst (λ (c : Core). CommitStands setting last begun nexts run (at_disk c disk)) (sym core) (record {
       next = groups.next;
       begun_is = groups.begun_is;
-      of = commit_still old (record old { holds = new.holds }) refl refl refl (λ device out. out) groups.of;
+      of = commit_still old held leaves groups.of;
       come = groups.come;
+      lies = lies_still old held leaves groups.lies;
       kept = groups.kept;
       spared = λ put listed. groups.spared put (adds put listed);
     })
@@ -233,12 +244,12 @@ module _ {setting : Setting} {last : Kept} {begun : List Kept} {map : Map} {cont
     {commit : Option CommitRun} where
   -- What stands, where only holds came or went and reads are told anew.
   stands_held : {nows : ℕ → List ℕ} {calls nexts : List HoldingCall} (old new : Core) (disk : Disk) → IsCore old
-      → OnlyHolds old new → AddsNoPut calls nexts
+      → OnlyHolds old new → KeepsAlone old.holds new.holds → AddsNoPut calls nexts
       → ((call : HoldingCall) → Contains nexts call → HoldsCall (at_disk new disk) (nows (actor_of call)) call
       ⊎ HoldsCall (at_disk old disk) (nows (actor_of call)) call)
       → Stands setting last begun map contents calls commit (at_disk old disk)
       → Stands setting last begun map nows nexts commit (at_disk new disk)
-  stands_held {nows} {calls} {nexts} old new disk is core adds each stands =
+  stands_held {nows} {calls} {nexts} old new disk is core alone adds each stands =
       let leaves : Leaves Nowhere (at_disk old disk) (at_disk new disk) = record {
         parity = ap (λ (c : Core). c.pool.uber.parity) core;
         births = ap (λ (c : Core). c.pool.uber.births) core;
@@ -251,7 +262,7 @@ module _ {setting : Setting} {last : Kept} {begun : List Kept} {map : Map} {cont
       stands_still Nowhere (at_disk old disk) (at_disk new disk) leaves
       (λ entry listed. off_nowhere old.pool.uber.reflow old.pool.done (layout_of old.pool.uber.parity old.pool.uber.births entry))
       (ap (λ (c : Core). c.pool.uber) core) (ap (λ (c : Core). c.pool.blocks) core) (later_refl disk)
-      (groups_held setting last begun calls nexts commit old new disk core adds stands.groups)
+      (groups_held setting last begun calls nexts commit old new disk core alone adds stands.groups)
       (λ put listed. subst (λ (c : Core). SparesAll c.pool.blocks.parity c.pool.blocks.births last.entries
       (put_run put.range)) (sym core) (stands.spared put (adds put listed)))
       (λ call listed. ⊎_elim (λ now. now)
@@ -272,7 +283,9 @@ module _ {setting : Setting} {last : Kept} {begun : List Kept} {map : Map} {cont
       let found = get_finds map old new disk actor id asked (More run) stands.holds begins in (
         found.0,
         found.1,
-        λ nows calls sets gains. stands_held old new disk is begins.6 (read_adds gains)
+        λ nows calls sets gains. stands_held old new disk is begins.6
+            (keeps_gained old.holds new.holds run.hold (ap (λ (h : Hold). h.kind) begins.4) begins.8 begins.9)
+            (read_adds gains)
             (λ call listed. ⊎_elim
             (λ (same : Reading run ≡ call). inl (subst (λ (c : HoldingCall). HoldsCall (at_disk new disk) (nows (actor_of c)) c) same
             (subst (λ (bytes : List ℕ). HoldsGet bytes (at_disk new disk) run)
@@ -299,7 +312,8 @@ module _ {setting : Setting} {last : Kept} {begun : List Kept} {map : Map} {cont
       (λ entry has. off_nowhere before.core.pool.uber.reflow before.core.pool.done
       (layout_of before.core.pool.uber.parity before.core.pool.uber.births entry))
       reads.2 unchanged.goes_on.later
-      (groups_held setting last begun calls nexts commit after.core after.core after.disk refl adds
+      (groups_held setting last begun calls nexts commit after.core after.core after.disk refl
+      (keeps_same after.core.holds after.core.holds refl) adds
       (groups_read setting last begun calls commit before after reads.2 unchanged outs lawful stands.groups))
       (λ put has. subst (λ (c : Core). SparesAll c.pool.blocks.parity c.pool.blocks.births last.entries
       (put_run put.range)) (sym reads.2) (stands.spared put (adds put has)))
@@ -325,7 +339,7 @@ module _ {setting : Setting} {last : Kept} {begun : List Kept} {map : Map} {cont
       → Stands setting last begun map contents nexts commit state
   get_solves_stands {state} {run} {next} {left} {calls} {nexts} is solves whole gains again are stands =
       let listed = gains_item left calls (Reading run) gains in
-      stands_held state.core state.core state.disk is refl (λ put has. read_loses gains put (read_adds again put has))
+      stands_held state.core state.core state.disk is refl (keeps_same state.core.holds state.core.holds refl) (λ put has. read_loses gains put (read_adds again put has))
       (λ call has. ⊎_elim
       (λ (same : Reading next ≡ call). inl (subst (λ (c : HoldingCall). HoldsCall state (contents (actor_of c)) c) same
       (subst (λ (actor : ℕ). HoldsGet (contents actor) state next) (sym (ap (λ (r : GetRun). r.hold.actor) solves.rest))
@@ -336,11 +350,15 @@ module _ {setting : Setting} {last : Kept} {begun : List Kept} {map : Map} {cont
       stands
 
   -- A read is gone, and its hold with it.
-  pub get_ends_stands : {old new : Core} {disk : Disk} {run : GetRun} {left calls : List HoldingCall} → IsCore old → OnlyHolds old new
-      → Gains left calls (Reading run) → Stands setting last begun map contents calls commit (at_disk old disk)
+  pub get_ends_stands : {old new : Core} {disk : Disk} {run : GetRun} {left calls : List HoldingCall} → IsCore old
+      → OnlyHolds old new → EndsHold old.holds new.holds run.hold → Gains left calls (Reading run) → AreCallsOf old calls
+      → Stands setting last begun map contents calls commit (at_disk old disk)
       → Stands setting last begun map contents left commit (at_disk new disk)
-  get_ends_stands {old} {new} {disk} {run} {left} {calls} is core gains stands =
-      stands_held old new disk is core (read_loses gains)
+  get_ends_stands {old} {new} {disk} {run} {left} {calls} is core ends gains are stands =
+      stands_held old new disk is core
+      (keeps_ended old.holds new.holds run.hold
+      (get_shared old run (are.each (Reading run) (gains_item left calls (Reading run) gains)).1) ends)
+      (read_loses gains)
       (λ call listed. inr (stands.each call (gains_old left calls (Reading run) call gains listed)))
       stands
 
@@ -365,18 +383,25 @@ frees_groups : (setting : Setting) (last : Kept) (begun : List Kept) (calls : Li
 frees_groups setting last begun calls None old new disk id given left kept groups =
     subst (λ (c : Core). NoCommitStands setting last begun (at_disk c disk)) (sym left.rest)
     (record { knows = groups.knows; whole = groups.whole })
-frees_groups setting last begun calls (Some run) old new disk id given left kept groups = record {
-  next = groups.next;
-  begun_is = groups.begun_is;
-  of = commit_still old new (ap (λ (c : Core). c.pool.uber) left.rest) (ap (λ (c : Core). c.begun) left.rest)
-      (ap (λ (c : Core). c.committing) left.rest)
-      (λ device out. subst (λ (c : Core). has_device c.pool.out device ≡ true) (sym left.rest) out) groups.of;
-  come = subst (λ (c : Core). IsCommitting setting last groups.next run (point_of c.pool.out disk)) (sym left.rest)
-      groups.come;
-  kept = subst (λ (n : ℕ). NoneFree new.pool.blocks n groups.next.entries) (sym (ap (λ (c : Core). c.begun) left.rest))
-      (kept old.begun groups.next.entries (omega arith) groups.kept);
-  spared = spared_still old new disk calls groups.next left.parity left.births groups.spared;
-}
+frees_groups setting last begun calls (Some run) old new disk id given left kept groups =
+    let leaves : LeavesCommit old new = record {
+      uber = ap (λ (c : Core). c.pool.uber) left.rest;
+      done = ap (λ (c : Core). c.pool.done) left.rest;
+      begun = ap (λ (c : Core). c.begun) left.rest;
+      committing = ap (λ (c : Core). c.committing) left.rest;
+      within = λ device out. subst (λ (c : Core). has_device c.pool.out device ≡ true) (sym left.rest) out;
+      holds = keeps_same old.holds new.holds (ap (λ (c : Core). c.holds) left.rest);
+    } in record {
+      next = groups.next;
+      begun_is = groups.begun_is;
+      of = commit_still old new leaves groups.of;
+      lies = lies_still old new leaves groups.lies;
+      come = subst (λ (c : Core). IsCommitting setting last groups.next run (point_of c.pool.out disk)) (sym left.rest)
+          groups.come;
+      kept = subst (λ (n : ℕ). NoneFree new.pool.blocks n groups.next.entries) (sym (ap (λ (c : Core). c.begun) left.rest))
+          (kept old.begun groups.next.entries (omega arith) groups.kept);
+      spared = spared_still old new disk calls groups.next left.parity left.births groups.spared;
+    }
 
 -- A free leaves what stands, and the map without its block.
 pub frees_stands : {setting : Setting} {last : Kept} {begun : List Kept} {map : Map} {contents : ℕ → List ℕ}

@@ -1,4 +1,6 @@
 pub mod Cores
+pub mod Holds
+pub mod Rows
 pub mod GetTurns
 pub mod GetLaws
 pub mod Beside
@@ -11,5 +13,6 @@ pub mod PutStands
 pub mod PutWrites
 pub mod Commits
 pub mod CommitStands
+pub mod CommitEnds
 pub mod Calls
 pub mod GetStands

@@ -6,6 +6,8 @@ use Rattle.bank_trait.specs.Disk.{Disk}
 use Rattle.bank_trait.proofs.Touches.{touches_none}
 use Rattle.width_map.specs.declared.birth.Birth.{Birth}
 use Rattle.range_locks.specs.declared.hold.Hold.{Hold}
+use Rattle.range_locks.specs.declared.hold.HoldKind.TheVariants.{Shared}
+use Rattle.range_locks.specs.Holds.{EndsHold, IsClear}
 use Rattle.space_alloc.specs.Space.{Gains}
 use Rattle.row_layout.specs.Layout.{Layout}
 use Rattle.block_record.specs.declared.entry.IndexEntry.{IndexEntry}
@@ -32,7 +34,8 @@ use Rattle.core_turns.specs.Putting.{BeginsPutSo, FillsPut, GivesUp, HoldsPut, I
 use Rattle.core_turns.specs.UnderWay.{HoldingCall, Putting, Reading, AreCallsOf, GroupsStand, HoldsCall, PutsSpare, SetsContent, Stands, actor_of}
 use Rattle.core_turns.proofs.Beside.{IsWrittenTo}
 use Rattle.core_turns.proofs.Calls.{range_listed}
-use Rattle.core_turns.proofs.Frames.{commit_still}
+use Rattle.core_turns.proofs.Frames.{LeavesCommit, commit_still, lies_still}
+use Rattle.core_turns.proofs.Holds.{KeepsAlone, keeps_ended, keeps_gained, keeps_same}
 use Rattle.core_turns.proofs.PutRanges.{same_put}
 use Rattle.core_turns.proofs.PutTurns.{plan_now}
 use Rattle.core_turns.proofs.PutCalls.{Rearranges, begins_rearranges, ends_rearranges, gives_up_rearranges, leaves_rearranges}
@@ -58,15 +61,33 @@ map_on map old new disk change entries held =
           (subst (λ (l : List IndexEntry). IsListed l entry) entries listed) has;
     })
 
+-- The hold of a put is shared.
+pub put_shared : (core : Core) (run : PutRun) → IsPutOf core run → run.hold.kind ≡ Shared
+put_shared core run of = ap (λ (h : Hold). h.kind) of.hold_is
+
+put_ends_alone : (old new : Core) (run : PutRun) → IsPutOf old run → EndsHold old.holds new.holds run.hold
+    → KeepsAlone old.holds new.holds
+put_ends_alone old new run of ends = keeps_ended old.holds new.holds run.hold (put_shared old run of) ends
+
 -- Blocks and holds are others, and no device was called.
 module _ (setting : Setting) (last : Kept) (begun : List Kept) (calls nexts : List HoldingCall) (old new : Core)
-    (disk : Disk) (change : Rearranges old new)
+    (disk : Disk) (change : Rearranges old new) (alone : KeepsAlone old.holds new.holds)
     (kept : (past : ℕ) (group : Kept) → IsKeptPast old past → PutsSpare (at_disk old disk) calls group
     → NoneFree old.pool.blocks past group.entries → NoneFree new.pool.blocks past group.entries)
     (spared : (past : ℕ) (group : Kept) → NoneFree old.pool.blocks past group.entries
     → PutsSpare (at_disk old disk) calls group → PutsSpare (at_disk old disk) nexts group) where
   abbrev on : Core
   on = record old { pool = record old.pool { blocks = new.pool.blocks }; holds = new.holds }
+
+  leaves : LeavesCommit old on
+  leaves = record {
+    uber = refl;
+    done = refl;
+    begun = refl;
+    committing = refl;
+    within = λ device out. out;
+    holds = alone;
+  }
 
   -- No put has a sector of a group's blocks,
   spares_on : (past : ℕ) (group : Kept) → NoneFree old.pool.blocks past group.entries
@@ -100,8 +121,9 @@ module _ (setting : Setting) (last : Kept) (begun : List Kept) (calls nexts : Li
   groups_on (Some run) groups = record {
     next = groups.next;
     begun_is = groups.begun_is;
-    of = commit_still old on refl refl refl (λ device out. out) groups.of;
+    of = commit_still old on leaves groups.of;
     come = groups.come;
+    lies = lies_still old on leaves groups.lies;
     kept = kept old.begun groups.next (inr refl) groups.spared groups.kept;
     spared = spares_on old.begun groups.next groups.kept groups.spared;
   }
@@ -142,6 +164,8 @@ module _ {setting : Setting} {last : Kept} {begun : List Kept} {map : Map} {cont
       sets gains stands =
       let change = begins_rearranges old new actor id len run begins in
       stands_on setting last begun left calls old new disk change
+      (keeps_gained old.holds new.holds run.hold (ap (λ (h : Hold). h.kind) begins.hold_is)
+      (subst (λ (h : Hold). IsClear old.holds h.lo h.hi Shared) (sym begins.hold_is) begins.begins.first.clear) begins.holds)
       (λ past group is spared none. begins.kept past group.entries none)
       (λ past group none spared one listed. ⊎_elim
       (λ same. subst
@@ -173,18 +197,20 @@ module _ {setting : Setting} {last : Kept} {begun : List Kept} {map : Map} {cont
   put_refused_stands {calls} {old} {new} {disk} leaves stands =
       let change = leaves_rearranges old new leaves in
       stands_on setting last begun calls calls old new disk change
+      (keeps_same old.holds new.holds (ap (λ (c : Core). c.holds) leaves.rest))
       (λ past group is spared none. leaves.kept past group.entries none)
       (λ past group none spared. spared)
       commit map map (map_on map old new disk change leaves.entries stands.holds) stands.each stands
 
   -- A put that is given up leaves the others.
   pub put_gives_up_stands : {left calls : List HoldingCall} {old new : Core} {disk : Disk} {run : PutRun}
-      → GivesUp old new run → Gains left calls (Putting run)
+      → GivesUp old new run → Gains left calls (Putting run) → AreCallsOf old calls
       → Stands setting last begun map contents calls commit (at_disk old disk)
       → Stands setting last begun map contents left commit (at_disk new disk)
-  put_gives_up_stands {left} {calls} {old} {new} {disk} {run} gives_up gains stands =
+  put_gives_up_stands {left} {calls} {old} {new} {disk} {run} gives_up gains are stands =
       let change = gives_up_rearranges old new run gives_up in
       stands_on setting last begun calls left old new disk change
+      (put_ends_alone old new run (are.each (Putting run) (gains_item left calls (Putting run) gains)) gives_up.ends)
       (λ past group is spared none. gives_up.kept past group.entries
       (spared run (gains_item left calls (Putting run) gains)) none)
       (λ past group none spared one listed.
@@ -213,7 +239,7 @@ pub put_ends_stands : {setting : Setting} {last : Kept} {begun : List Kept} {map
     (at_disk new disk)
 put_ends_stands {setting} {last} {begun} {map} {contents} {commit} {left} {calls} {old} {new} {disk} {run} is ends whole
     gains are stands =
-    stands_on setting last begun calls left old new disk (ends_rearranges old new run ends)
+    stands_on setting last begun calls left old new disk (ends_rearranges old new run ends) (put_ends_alone old new run of ends.ends)
     (λ past group kept spared none. ends.kept past group.entries (past_below old past is kept) none)
     (λ past group none spared one listed.
     spared one (gains_old left calls (Putting run) (Putting one) gains listed))
@@ -296,6 +322,7 @@ groups_with setting last begun calls nexts (Some commit) state spared groups = r
   begun_is = groups.begun_is;
   of = groups.of;
   come = groups.come;
+  lies = groups.lies;
   kept = groups.kept;
   spared = spared groups.next groups.spared;
 }

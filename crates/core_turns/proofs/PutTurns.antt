@@ -25,7 +25,7 @@ use Rattle.core_state.specs.Committing.{Point, point_of}
 use Rattle.core_blocks.specs.declared.range.PutRange.{PutRange}
 use Rattle.core_blocks.specs.declared.refused.PutRefused.{PutRefused}
 use Rattle.core_blocks.specs.declared.refused.PutRefused.TheVariants as refused
-use Rattle.core_blocks.specs.Blocks.{Blocks, AreInStep, AreUnderWay, IsUnderWay, put_run, range_of}
+use Rattle.core_blocks.specs.Blocks.{IsListed, Blocks, AreInStep, AreUnderWay, IsUnderWay, put_run, range_of}
 use Rattle.core_blocks.specs.Kept.{NoneFree, SparesAll}
 use Rattle.core_blocks.specs.Puts.{BeginsPut, HoldsBack, IsAsBefore, IsPutCause, IsRangeFor, layout_at, sectors_taken}
 use Rattle.core_blocks.proofs.Lists.{gains_item}
@@ -53,6 +53,7 @@ use Rattle.core_turns.specs.Getting.{HasTooManyOut}
 use Rattle.core_turns.specs.Putting.{AsksAlike, BeginsPutTurn, FillsPut, IsFilledWith, IsMorePut, IsPutOf, LeavesBlocks, StoresBlock, WritesOne, WritesTurn, filled_entry, hold_on, refused_turn}
 use Rattle.core_turns.specs.UnderWay.{TurnGoesOn}
 use Rattle.core_turns.proofs.Cores.{bank_has, core_blocks}
+use Rattle.core_turns.proofs.Holds.{shared_ended, shared_gained}
 use Rattle.core_turns.proofs.Frames.{put_of_stays, widths_out}
 use Rattle.core_turns.proofs.TakenBack.{was_there}
 
@@ -120,6 +121,15 @@ put_begins core actor id len begun range hold holds reflow is few some short of 
 
     clash : {filled : Filled} → None ≡ Some filled → ⊥
     clash is_filled = cc
+
+-- The core is one still.
+pub put_begins_core : (core : Core) (actor : ℕ) (range : PutRange) (begun : Blocks) (hold : Hold) (holds : List Hold)
+    → IsCore core → BeginsPut core.pool.blocks begun core.holds range → AreInStep begun → hold ≡ hold_on range actor
+    → Gains core.holds holds hold → IsCore (record core { pool = record core.pool { blocks = begun }; holds = holds })
+put_begins_core core actor range begun hold holds is begins step hold_is gains =
+    core_blocks core begun holds is begins.parity begins.births begins.taken.capacity
+    (λ entry listed. is.is.born entry (subst (λ (l : List IndexEntry). IsListed l entry) begins.entries listed)) step
+    (shared_gained core.holds holds hold (ap (λ (h : Hold). h.kind) hold_is) gains)
 
 -- The blocks of a core whose put was refused.
 leaves : (core : Core) (after : Blocks) → IsAsBefore core.pool.blocks after
@@ -397,8 +407,8 @@ put_goes_on before after run (More next) of writes =
     let only = touches_by_write here there writes.filled writes.write width below writes.made in
     record {
       parity = ap (λ (u : Uber). u.parity) uber;
-      widths = ap (λ (u : Uber). u.reflow) uber;
-      births = ap (λ (u : Uber). u.births) uber;
+      widths = ap (λ (u : Uber). u.reflow.to) uber;
+      rows = ap (λ (u : Uber). u.reflow.rows) uber;
       later = only.later;
       out = outs_by_write here there writes.filled writes.write writes.made;
       only = only;
@@ -410,7 +420,7 @@ put_goes_on before after run (Done given) of writes =
     (subst (λ (c : Core). TurnGoesOn before (at_disk c before.disk)) (sym stopped) (record {
       parity = refl;
       widths = refl;
-      births = refl;
+      rows = refl;
       later = later_refl before.disk;
       out = outs_none (point_of before.core.pool.out before.disk);
       only = touches_none (IsOnInUse before.core.pool.uber.reflow.to before.core.pool.out) before.disk;
@@ -505,8 +515,9 @@ pub put_end_core : (core : Core) (run : PutRun) (entry : IndexEntry) (after : Bl
     → ChangesOnly core.pool.blocks.table.entries after.table.entries entry.id (Some entry)
     → HoldsBack core.pool.blocks.parity core.pool.blocks.births core.pool.blocks.space after.space (core.begun + 1) gone
     → after.parity ≡ core.pool.blocks.parity → after.births ≡ core.pool.blocks.births → AreInStep after
+    → EndsHold core.holds holds run.hold
     → IsCore (record core { pool = record core.pool { blocks = after }; holds = holds })
-put_end_core core run entry after holds gone is of birth change held parity births step =
+put_end_core core run entry after holds gone is of birth change held parity births step ends =
     let adds = adds_held_back core.pool.blocks.parity core.pool.blocks.births core.pool.blocks.space after.space
     (core.begun + 1) gone held in
     core_blocks core after holds is parity births adds.capacity
@@ -516,4 +527,4 @@ put_end_core core run entry after holds gone is of birth change held parity birt
     omega (arith, born, birth, same_birth))
     (λ old. is.is.born other old.0)
     (put_cases core.pool.blocks.table.entries after.table.entries entry other change listed))
-    step
+    step (shared_ended core.holds holds run.hold (ap (λ (h : Hold). h.kind) of.hold_is) ends)

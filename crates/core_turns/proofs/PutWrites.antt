@@ -12,6 +12,8 @@ use Rattle.reflow_mark.specs.declared.reflow.Reflow.{Reflow}
 use Rattle.reflow_mark.specs.Reflow.{sectors_of}
 use Rattle.row_layout.specs.Layout.{Layout, sector_of, end_of}
 use Rattle.reflow_band.specs.Band.{IsFrontOf}
+use Rattle.reflow_band.proofs.Within.{stop_asks_no_more}
+use Rattle.shadow_write.specs.Required.{IsRequiredPlace, front_after_stop}
 use Rattle.shadow_write.specs.declared.write.Write.{Write}
 use Rattle.shadow_write.specs.Writes.{writes_of}
 use Rattle.shadow_write.proofs.Whole.{are_required}
@@ -35,6 +37,7 @@ use Rattle.core_state.proofs.Places.{IsDataSector, data_is_no_page, page_place}
 use Rattle.core_state.proofs.Touched.{touched_knows, touched_since}
 use Rattle.core_blocks.specs.Blocks.{AreInStep, IsUnderWay, layout_run, put_run}
 use Rattle.core_blocks.specs.Kept.{SparesAll}
+use Rattle.core_blocks.specs.Runs.{AreClear}
 use Rattle.core_blocks.proofs.Lists.{gains_item, gains_old, gains_cases, pairs_beside}
 use Rattle.core_client.specs.Outs.{OnlyFailedGoOut}
 use Rattle.core_client.specs.Pool.{IsInPool}
@@ -54,10 +57,11 @@ use Rattle.core_turns.specs.declared.putting.Filled.{Filled}
 use Rattle.core_turns.specs.declared.putting.PutRun.{PutRun}
 use Rattle.core_turns.specs.Core.{Core, CoreState, IsCore, as_begun, at_disk}
 use Rattle.core_turns.specs.Putting.{IsPutOf, HoldsPut, WritesOne}
-use Rattle.core_turns.specs.Committing.{IsCommitOf}
 use Rattle.core_turns.specs.UnderWay.{HoldingCall, Putting, Reading, AreBeside, AreCallsOf, CommitStands, GroupsStand, HoldsCall, IsCallOfCore, NoCommitStands, PutsSpare, Stands, actor_of, layout_of_call}
 use Rattle.core_turns.proofs.Beside.{IsWrittenTo, AreInPool, never_asked, put_beside_commit, required_data}
-use Rattle.core_turns.proofs.Frames.{AreOff, commit_still, IsOff, Leaves, call_stays, leaves_touched, off_written, stands_anew}
+use Rattle.core_turns.proofs.CommitEnds.{layout_same}
+use Rattle.core_turns.proofs.Commits.{core_follows}
+use Rattle.core_turns.proofs.Frames.{AreOff, commit_still, lies_still, out_leaves, IsOff, Leaves, call_stays, leaves_touched, off_written, stands_anew}
 use Rattle.core_turns.proofs.Calls.{beside_turn, range_listed}
 use Rattle.core_turns.proofs.PutStands.{groups_with, listed_clear, next_spares}
 use Rattle.core_turns.proofs.PutTurns.{outs_by_write}
@@ -74,10 +78,12 @@ written_data reflow done layout out device device_sector front (write, has, used
     write.device_sector front required.1)
 
 -- A group's blocks lie in the pool whose widths are the group's.
-sound_in_pool : (setting : Setting) (kept : Kept) (reflow : Reflow) → IsSound setting kept → reflow ≡ kept.uber.reflow
-    → AreInPool kept reflow
-sound_in_pool setting kept reflow sound same = record {
-  widths = sym same;
+sound_in_pool : (setting : Setting) (kept : Kept) (reflow : Reflow) (done : ℕ) → IsSound setting kept
+    → reflow ≡ kept.uber.reflow → IsFrontOf reflow done → AreInPool kept reflow done
+sound_in_pool setting kept reflow done sound same front = record {
+  asked = λ row_end sector device device_sector inside place.
+      stop_asks_no_more reflow done row_end sector device device_sector front
+      (subst (λ (r : Reflow). IsRequiredPlace r (front_after_stop r) row_end sector device device_sector) (sym same) place);
   each = λ entry listed.
       let right : IsRightEntry entry = All-contains IsRightEntry kept.entries entry sound.index.each listed in
       let below : block_end kept.uber.parity kept.uber.births entry ≤ sectors_of kept.uber.reflow =
@@ -91,14 +97,14 @@ sound_in_pool setting kept reflow sound same = record {
 }
 
 -- A put has no sector in common with a block of this group, whose blocks lie in the pool.
-record IsClearOf (layout : Layout) (reflow : Reflow) (kept : Kept) : Type 0 where
-  inside : AreInPool kept reflow
+record IsClearOf (layout : Layout) (reflow : Reflow) (done : ℕ) (kept : Kept) : Type 0 where
+  inside : AreInPool kept reflow done
   spares : SparesAll kept.uber.parity kept.uber.births kept.entries (layout_run layout)
 
 -- Where it writes is spare beside such groups.
 written_spare : (setting : Setting) (first : Kept) (later : List Kept) (reflow : Reflow) (done : ℕ) (layout : Layout) (out : ℕ)
     → IsFrontOf reflow done → IsSound setting first → IsInPool layout reflow
-    → ((kept : Kept) → Contains (first ∷ later) kept → IsClearOf layout reflow kept)
+    → ((kept : Kept) → Contains (first ∷ later) kept → IsClearOf layout reflow done kept)
     → (device device_sector : ℕ) → IsWrittenTo layout reflow done out device device_sector
     → IsSpare setting first later device device_sector
 written_spare setting first later reflow done layout out front sound pool clear device device_sector written =
@@ -123,16 +129,6 @@ one_touched rows writes write before after listed step = ⊎_elim
     (λ (made : IsMade rows write before after).
     wrote_touches (IsPlaceOf writes before.out) (write, listed, made.called.in_use, refl, refl) made.wrote)
     step
-
--- A commit's group has the widths of the pool.
-next_widths : (core : Core) (run : CommitRun) (next : Kept) → IsCommitOf core run → AreAlike run.uber next.uber
-    → (core.pool.uber.parity ≡ next.uber.parity) × (core.pool.uber.births ≡ next.uber.births)
-    × (core.pool.uber.reflow ≡ next.uber.reflow)
-next_widths core run next of alike = (
-  sym (ap (λ (u : Uber). u.parity) of.uber_is) ∙ ap (λ (u : Uber). u.parity) alike,
-  sym (ap (λ (u : Uber). u.births) of.uber_is) ∙ ap (λ (u : Uber). u.births) alike,
-  sym (ap (λ (u : Uber). u.reflow) of.uber_is) ∙ ap (λ (u : Uber). u.reflow) alike,
-)
 
 -- Groups that stand in a row do so without the one that images can't show yet.
 row_shown : (groups : List Kept) (last next : Kept) (stage : Stage) → IsRowOf groups last (next ∷ [])
@@ -243,31 +239,50 @@ module _ {left calls : List HoldingCall} {before after : CoreState} {run next : 
         same_filled filled same = cc
 
     module _ (setting : Setting) (last : Kept) (begun : List Kept) where
-      -- The put is clear of a group where it has no sector of its blocks:
-      clear_of : (group : Kept) → IsSound setting group
-          → (before.core.pool.uber.parity ≡ group.uber.parity) × (before.core.pool.uber.births ≡ group.uber.births)
-          × (reflow ≡ group.uber.reflow)
-          → PutsSpare before calls group → IsClearOf layout reflow group
-      clear_of group sound widths spared = record {
-        inside = sound_in_pool setting group reflow sound widths.2;
-        spares = subst (λ (p : ℕ). SparesAll p group.uber.births group.entries (put_run run.range))
-            (is.is.parity ∙ widths.0)
-            (subst (λ (b : List Birth). SparesAll before.core.pool.blocks.parity b group.entries (put_run run.range))
-            (is.is.births ∙ widths.1) (spared run (gains_item left calls (Putting run) gains)));
-      }
+      -- The put has no sector of a block of a group that it spares.
+      spares_now : (group : Kept) → PutsSpare before calls group
+          → SparesAll before.core.pool.uber.parity before.core.pool.uber.births group.entries (put_run run.range)
+      spares_now group spared = subst (λ (p : ℕ). SparesAll p before.core.pool.uber.births group.entries (put_run run.range))
+          is.is.parity
+          (subst (λ (b : List Birth). SparesAll before.core.pool.blocks.parity b group.entries (put_run run.range))
+          is.is.births (spared run (gains_item left calls (Putting run) gains)))
 
       module _ (alike : AreAlike before.core.pool.uber last.uber) (spared : PutsSpare before calls last) where
-        -- of the last one,
-        last_clear : IsSound setting last → IsClearOf layout reflow last
-        last_clear sound = clear_of last sound
-            (ap (λ (u : Uber). u.parity) alike, ap (λ (u : Uber). u.births) alike, ap (λ (u : Uber). u.reflow) alike)
-            spared
+        -- So it is clear of the last one,
+        last_clear : IsSound setting last → IsClearOf layout reflow done last
+        last_clear sound = record {
+          inside = sound_in_pool setting last reflow done sound (ap (λ (u : Uber). u.reflow) alike) is.is.front;
+          spares = subst (λ (u : Uber). SparesAll u.parity u.births last.entries (put_run run.range)) alike
+              (spares_now last spared);
+        }
 
-        -- and of the one that a commit makes.
+        -- A block of the one that a commit makes has the layout that it has in the pool,
+        next_layout : (commit : CommitRun) (groups : CommitStands setting last begun calls commit before) (entry : IndexEntry)
+            → Contains groups.next.entries entry
+            → layout_of groups.next.uber.parity groups.next.uber.births entry
+            ≡ layout_of before.core.pool.uber.parity before.core.pool.uber.births entry
+        next_layout commit groups entry listed =
+            subst (λ (u : Uber). layout_of u.parity u.births entry
+            ≡ layout_of before.core.pool.uber.parity before.core.pool.uber.births entry) groups.come.alike
+            (layout_same before.core commit is groups.of entry
+            (let born = groups.lies.born entry listed in omega (arith, born)))
+
+        -- so it is clear of that one.
         next_clear : (commit : CommitRun) (groups : CommitStands setting last begun calls commit before)
-            → IsClearOf layout reflow groups.next
-        next_clear commit groups = clear_of groups.next groups.come.sound
-            (next_widths before.core commit groups.next groups.of groups.come.alike) groups.spared
+            → IsClearOf layout reflow done groups.next
+        next_clear commit groups = record {
+          inside = record {
+            asked = λ row_end sector device device_sector inside place.
+                (core_follows before.core commit.uber.reflow is groups.of.next.choice).stop row_end sector device
+                device_sector inside
+                (subst (λ (u : Uber). IsRequiredPlace u.reflow (front_after_stop u.reflow) row_end sector device device_sector)
+                (sym groups.come.alike) place);
+            each = λ entry listed. subst (λ (l : Layout). IsInPool l reflow) (sym (next_layout commit groups entry listed))
+                (groups.lies.inside entry listed);
+          };
+          spares = λ entry listed. subst (λ (l : Layout). AreClear (put_run run.range) (layout_run l))
+              (sym (next_layout commit groups entry listed)) (spares_now groups.next groups.spared entry listed);
+        }
 
         -- So it writes to spare sectors without a commit
         spare_alone : NoCommitStands setting last begun before → (device device_sector : ℕ) → places device device_sector
@@ -276,7 +291,7 @@ module _ {left calls : List HoldingCall} {before after : CoreState} {run next : 
             subst (λ (later : List Kept). IsSpare setting last later device device_sector) (sym (groups.whole few).0)
             (written_spare setting last [] reflow done layout before.core.pool.out is.is.front groups.knows.sound of.pool
             (λ kept listed. ⊎_elim
-            (λ same. subst (IsClearOf layout reflow) (sym same) (last_clear groups.knows.sound))
+            (λ same. subst (IsClearOf layout reflow done) (sym same) (last_clear groups.knows.sound))
             (λ none. absurd (contains_none kept none))
             (contains_cases last [] kept listed))
             device device_sector place)
@@ -288,8 +303,8 @@ module _ {left calls : List HoldingCall} {before after : CoreState} {run next : 
         spare_beside commit groups = written_spare setting last (shown_by groups.next commit) reflow done layout
             before.core.pool.out is.is.front groups.come.sound_first of.pool
             (λ kept listed. ⊎_elim
-            (λ same. subst (IsClearOf layout reflow) (sym same) (last_clear groups.come.sound_first))
-            (λ later. subst (IsClearOf layout reflow) (sym (shown_next commit.stage kept later))
+            (λ same. subst (IsClearOf layout reflow done) (sym same) (last_clear groups.come.sound_first))
+            (λ later. subst (IsClearOf layout reflow done) (sym (shown_next commit.stage kept later))
             (next_clear commit groups))
             (contains_cases last (shown_by groups.next commit) kept listed))
           where
@@ -311,11 +326,12 @@ module _ {left calls : List HoldingCall} {before after : CoreState} {run next : 
             record {
               next = groups.next;
               begun_is = groups.begun_is;
-              of = commit_still before.core written.core refl refl refl outs.still groups.of;
+              of = commit_still before.core written.core (out_leaves before.core written.core refl outs.still) groups.of;
               come = committing_touched setting last groups.next places commit here there
                   (put_beside_commit setting last groups.next reflow done layout before.core.pool.out is.is.front first.inside
                   next.inside of.pool first.spares next.spares)
                   touched outs.still still_lawful groups.come;
+              lies = lies_still before.core written.core (out_leaves before.core written.core refl outs.still) groups.lies;
               kept = groups.kept;
               spared = groups.spared;
             }

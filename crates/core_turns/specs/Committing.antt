@@ -1,12 +1,15 @@
 -- Commits, turn by turn.
-use Rattle.std.specs.Prelude.{◌≡◌, ℕ, ◌+◌, ◌≤◌, ◌<◌, List, length, Some, None, ⊤}
-use Rattle.sha2.specs.Sha256.{sha256}
-use Rattle.space_alloc.specs.Space.{after_group}
-use Rattle.block_record.specs.declared.entry.IndexEntry.{IndexEntry}
-use Rattle.block_record.specs.Page.{index_page}
+use Rattle.std.specs.Prelude.{◌≡◌, ◌⊎◌, ℕ, ◌+◌, ◌≤◌, ◌<◌, List, length, Some, None, ⊤, Contains}
+use Rattle.range_locks.specs.declared.hold.Hold.{Hold}
+use Rattle.range_locks.specs.declared.hold.HoldKind.TheVariants.{Exclusive}
+use Rattle.range_locks.specs.Gaining.{Gains}
+use Rattle.range_locks.specs.Holds.{EndsHold, HasSectors}
+use Rattle.range_locks.specs.Order.{exclusive_count}
+use Rattle.reflow_mark.specs.declared.reflow.Reflow.{Reflow}
+use Rattle.mark_choice.specs.Clear.{HasNoShared}
+use Rattle.mark_choice.specs.CommitChoice.{IsCommitChoice, range_of_commit}
 use Rattle.block_table.specs.Table.{IsTable}
 use Rattle.uberblock_ring.specs.Devices.{IsWithin}
-use Rattle.uberblock_ring.specs.Uberblock.{Uber}
 use Rattle.commit_job.specs.Stages.{plan_of}
 use Rattle.core_state.specs.declared.answer.Answer.{Answer}
 use Rattle.core_state.specs.declared.answer.Answer.TheVariants as answer
@@ -14,39 +17,55 @@ use Rattle.core_state.specs.Committing.{point_of}
 use Rattle.core_commit.specs.declared.commit_run.Stage.TheVariants.{Lays}
 use Rattle.core_commit.specs.declared.commit_run.CommitStep.TheVariants.{Called}
 use Rattle.core_commit.specs.CommitTurns.{CommitRun, HasEnded, CommitSteps}
-use Rattle.uberblock_ring.specs.Uberblock.{max_group}
+use Rattle.uberblock_ring.specs.Uberblock.{Uber, max_group}
+use Rattle.open_pool.specs.Answered.{IsNextGroup, answered_by}
+use Rattle.open_pool.specs.NextGroup.{uber_for}
 use Rattle.open_pool.specs.Pool.{Pool}
-use Rattle.open_pool.specs.NextGroup.{next_uber}
 use Rattle.core_turns.specs.declared.turn.Turn.{Turn}
 use Rattle.core_turns.specs.declared.turn.Turn.TheVariants.{More, Busy, Done}
 use Rattle.core_turns.specs.Core.{Core, CoreState}
 use Rattle.core_turns.specs.Getting.{HasTooManyOut}
 
--- the uberblock of the next group with this index
-abbrev pub uber_for : Pool → List IndexEntry → Uber
-uber_for pool entries = next_uber pool.uber (length entries) (sha256 (index_page entries)) pool.out
-
--- a commit of the map as it is, of which no call was made
-abbrev pub commit_of : Pool → CommitRun
-commit_of pool = record {
-  uber = uber_for pool pool.blocks.table.entries;
+-- a commit of the map as it is, at a chosen reflow, of which no call was made
+abbrev pub commit_of : Pool → Reflow → CommitRun
+commit_of pool chosen = record {
+  uber = uber_for pool chosen;
   entries = pool.blocks.table.entries;
-  calls = plan_of pool.uber.reflow.to (length pool.blocks.table.entries);
+  calls = plan_of chosen.to (length pool.blocks.table.entries);
   stage = Lays;
 }
 
--- The commit under way is one of this core: it makes the group that was begun last, of the pool's devices.
+-- the hold of a commit on the sectors whose standing it changes
+abbrev pub hold_for : Reflow → Reflow → ℕ → Hold
+hold_for before chosen actor = record {
+  lo = (range_of_commit before chosen).0;
+  hi = (range_of_commit before chosen).1;
+  actor = actor;
+  kind = Exclusive;
+}
+
+-- The hold is the only one of sectors held alone, if it has any; none is where it has none. Nobody shares its sectors.
+pub record IsHeldAlone (holds : List Hold) (hold : Hold) : Type 0 where
+  pub held : (HasSectors hold × Contains holds hold × (exclusive_count holds ≡ 1))
+      ⊎ ((HasSectors hold → ⊥) × (exclusive_count holds ≡ 0))
+  pub clear : HasNoShared holds (hold.lo, hold.hi)
+
+-- A hold is taken where it has a sector.
+abbrev pub TakesHold : List Hold → List Hold → Hold → Type 0
+TakesHold old new hold = (HasSectors hold × Gains old new hold) ⊎ ((HasSectors hold → ⊥) × (new ≡ old))
+
+-- It has ended where it had one.
+abbrev pub DropsHold : List Hold → List Hold → Hold → Type 0
+DropsHold old new hold = (HasSectors hold × EndsHold old new hold) ⊎ ((HasSectors hold → ⊥) × (new ≡ old))
+
+-- The commit under way is one of this core: it makes the group that was begun last, of the pool's devices, at a reflow
+-- that may be recorded at the pool's front, and holds the sectors whose standing that changes.
 pub record IsCommitOf (core : Core) (run : CommitRun) : Type 0 where
   pub actor : ℕ
   pub under_way : core.committing ≡ Some actor
   pub number : run.uber.group ≡ core.begun
-  pub uber_is : run.uber ≡ record core.pool.uber {
-    group = run.uber.group;
-    area = run.uber.area;
-    count = run.uber.count;
-    digest = run.uber.digest;
-    out = run.uber.out;
-  }
+  pub next : IsNextGroup core.pool run.uber
+  pub holds : IsHeldAlone core.holds (hold_for core.pool.uber.reflow run.uber.reflow actor)
   pub lists : IsWithin run.uber.out core.pool.out
 
 -- Why a sync ends in its first turn.
@@ -58,11 +77,20 @@ IsSyncRefused core answer.NoMemory = (HasTooManyOut core → ⊥) × (core.commi
     × (core.begun + 1 < max_group)
 IsSyncRefused core other = ⊥
 
+-- A commit begins: it makes the group of the map as it is, and holds the sectors whose standing its choice changes.
+pub record BeginsCommitSo (old new : Core) (actor : ℕ) (run : CommitRun) : Type 0 where
+  pub few : HasTooManyOut old → ⊥
+  pub none : old.committing ≡ None
+  pub limit : old.begun + 1 < max_group
+  pub choice : IsCommitChoice old.pool.uber.reflow old.pool.done old.holds run.uber.reflow
+  pub run_is : run ≡ commit_of old.pool run.uber.reflow
+  pub holds : TakesHold old.holds new.holds (hold_for old.pool.uber.reflow run.uber.reflow actor)
+  pub rest : new ≡ record old { holds = new.holds; begun = old.begun + 1; committing = Some actor }
+  pub of : IsCommitOf new run
+
 -- what the first turn of a sync comes to
 abbrev pub BeginsCommit : Core → Core → ℕ → Turn CommitRun → Type 0
-BeginsCommit old new actor (More run) = (HasTooManyOut old → ⊥) × (old.committing ≡ None)
-    × (old.begun + 1 < max_group) × (run ≡ commit_of old.pool)
-    × (new ≡ record old { begun = old.begun + 1; committing = Some actor }) × IsCommitOf new run
+BeginsCommit old new actor (More run) = BeginsCommitSo old new actor run
 BeginsCommit old new actor (Busy by) = (HasTooManyOut old → ⊥) × (old.committing ≡ Some by) × (new ≡ old)
 BeginsCommit old new actor (Done given) = IsSyncRefused old given × (new ≡ old)
 
@@ -71,23 +99,20 @@ abbrev pub HasTable : Core → Turn CommitRun → Type 0
 HasTable core (More run) = IsTable core.pool.blocks.table
 HasTable core other = ⊤
 
--- a pool whose last answered group is this one: the sectors that were held back until it are free
-abbrev pub answered_by : Uber → Pool → Pool
-answered_by uber pool = record pool {
-  uber = uber;
-  blocks = record pool.blocks { space = after_group pool.blocks.space uber.group };
-}
+-- The group of this uberblock is the last answered one, and what its commit held is free.
+pub record AnswersUber (old new : Core) (uber : Uber) : Type 0 where
+  pub actor : ℕ
+  pub under_way : old.committing ≡ Some actor
+  pub holds : DropsHold old.holds new.holds (hold_for old.pool.uber.reflow uber.reflow actor)
+  pub rest : new ≡ record old { pool = answered_by uber old.pool; holds = new.holds; committing = None }
 
--- The group of a commit, of which no call is left, is the last answered one.
+-- The group of a commit, of which no call is left, is answered.
 pub record AnswersGroup (before : CoreState) (run : CommitRun) (after : CoreState) (group : ℕ) : Type 0 where
   pub few : HasTooManyOut before.core → ⊥
   pub ended : CommitRun
   pub ends : HasEnded run (point_of before.core.pool.out before.disk) ended
       (point_of after.core.pool.out after.disk)
-  pub rest : after.core ≡ record before.core {
-    pool = answered_by ended.uber before.core.pool;
-    committing = None;
-  }
+  pub answers : AnswersUber before.core after.core ended.uber
   pub group_is : group ≡ before.core.begun
 
 -- what a turn of a commit comes to

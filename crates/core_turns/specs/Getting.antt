@@ -59,6 +59,7 @@ hold_of uber entry actor = record {
 pub record IsGetOf (core : Core) (run : GetRun) : Type 0 where
   pub layout_is : run.read.layout ≡ layout_of core.pool.uber.parity core.pool.uber.births run.entry
   pub pool : IsInPool run.read.layout core.pool.uber.reflow
+  pub born : run.entry.birth ≤ core.begun + 1
   pub holds : Contains core.holds run.hold
   pub actor : ℕ
   pub hold_is : run.hold ≡ hold_of core.pool.uber run.entry actor

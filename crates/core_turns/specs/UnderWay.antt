@@ -5,9 +5,11 @@ use Rattle.bank_trait.specs.Disk.{Later}
 use Rattle.bank_trait.specs.Regions.{Tells, TouchesOnly}
 use Rattle.range_locks.specs.declared.hold.Hold.{Hold}
 use Rattle.row_layout.specs.Layout.{Layout}
+use Rattle.block_record.specs.declared.entry.IndexEntry.{IndexEntry}
 use Rattle.uberblock_ring.specs.Devices.{count_of}
 use Rattle.uberblock_ring.specs.Valid.{AreAlike}
 use Rattle.core_state.specs.Map.{Map}
+use Rattle.core_state.specs.Index.{layout_of}
 use Rattle.core_state.specs.Keeps.{Kept, Setting}
 use Rattle.core_state.specs.Certain.{Knows}
 use Rattle.core_blocks.specs.declared.range.PutRange.{PutRange}
@@ -15,6 +17,7 @@ use Rattle.core_blocks.specs.Blocks.{AreUnderWay, layout_run, put_run}
 use Rattle.core_blocks.specs.Kept.{NoneFree, SparesAll}
 use Rattle.core_blocks.specs.Runs.{AreClear}
 use Rattle.core_client.specs.Outs.{OnlyFailedGoOut}
+use Rattle.core_client.specs.Pool.{IsInPool}
 use Rattle.core_state.specs.Committing.{point_of}
 use Rattle.core_commit.specs.CommitTurns.{CommitRun, IsCommitting}
 use Rattle.core_commit.specs.Spared.{IsOnInUse}
@@ -90,6 +93,12 @@ abbrev pub PutsSpare : CoreState → List HoldingCall → Kept → Type 0
 PutsSpare state calls kept = (run : PutRun) → Contains calls (Putting run)
     → SparesAll state.core.pool.blocks.parity state.core.pool.blocks.births kept.entries (put_run run.range)
 
+-- The group's blocks were born by then, and lie in the pool as it is.
+pub record LiesInPool (core : Core) (kept : Kept) : Type 0 where
+  pub born : (entry : IndexEntry) → Contains kept.entries entry → entry.birth ≤ core.begun
+  pub inside : (entry : IndexEntry) → Contains kept.entries entry
+      → IsInPool (layout_of core.pool.uber.parity core.pool.uber.births entry) core.pool.uber.reflow
+
 -- The group after the last answered one is under way: it has come so far, and no sector of its blocks is free or
 -- a put's.
 pub record CommitStands (setting : Setting) (last : Kept) (begun : List Kept) (calls : List HoldingCall) (run : CommitRun)
@@ -98,6 +107,7 @@ pub record CommitStands (setting : Setting) (last : Kept) (begun : List Kept) (c
   pub begun_is : begun ≡ next ∷ []
   pub of : IsCommitOf state.core run
   pub come : IsCommitting setting last next run (point_of state.core.pool.out state.disk)
+  pub lies : LiesInPool state.core next
   pub kept : NoneFree state.core.pool.blocks state.core.begun next.entries
   pub spared : PutsSpare state calls next
 
@@ -129,11 +139,11 @@ pub record Stands (setting : Setting) (last : Kept) (begun : List Kept) (map : M
   pub each : (call : HoldingCall) → Contains calls call → HoldsCall state (contents (actor_of call)) call
 
 -- What each turn does: the bank goes on, devices go out where they failed, and none is touched but those of the
--- pool that were in use. The pool's widths stay.
+-- pool that were in use. The pool has as many devices and data rows as before.
 pub record TurnGoesOn (before after : CoreState) : Type 0 where
   pub parity : after.core.pool.uber.parity ≡ before.core.pool.uber.parity
-  pub widths : after.core.pool.uber.reflow ≡ before.core.pool.uber.reflow
-  pub births : after.core.pool.uber.births ≡ before.core.pool.uber.births
+  pub widths : after.core.pool.uber.reflow.to ≡ before.core.pool.uber.reflow.to
+  pub rows : after.core.pool.uber.reflow.rows ≡ before.core.pool.uber.reflow.rows
   pub later : Later before.disk after.disk
   pub out : OnlyFailedGoOut (point_of before.core.pool.out before.disk)
       (point_of after.core.pool.out after.disk)

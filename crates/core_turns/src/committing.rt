@@ -1,24 +1,96 @@
 // Commits, turn by turn.
-ghost use Rattle.std.specs.Prelude.{◌≡◌};
+ghost use Rattle.std.specs.Prelude.{◌≡◌, ◌≤◌, Contains, OnErr, OnOk, Some};
+ghost use Rattle.reflow_mark.specs.Reflow.{sectors_of};
+ghost use Rattle.range_locks.specs.Holds.{HasSectors, IsClear};
 ghost use Rattle.core_client.specs.Outs.{OnlyFailedGoOut};
 ghost use Rattle.core_state.specs.Committing.{point_of};
-ghost use Rattle.open_pool.specs.Pool.{HasBank};
-ghost use Rattle.core_turns.specs.Core.{at_disk};
-ghost use Rattle.core_turns.specs.Committing.{BeginsCommit, HasTable, IsCommitOf, StepsCommit};
+ghost use Rattle.uberblock_ring.specs.Valid.{IsRightUber};
+ghost use Rattle.open_pool.specs.Answered.{blocks_behind};
+ghost use Rattle.open_pool.specs.Pool.{HasBank, Pool as PoolOf};
+ghost use Rattle.open_pool.proofs.Growing.{MayGrow};
+ghost use Rattle.core_turns.specs.Core.{IsCore, at_disk};
+ghost use Rattle.core_commit.specs.CommitTurns.{CommitRun as RunOf};
+ghost use Rattle.core_turns.specs.Committing.{AnswersUber, BeginsCommit, DropsHold, HasTable, IsCommitOf, StepsCommit, TakesHold, hold_for};
 ghost use Rattle.core_turns.specs.UnderWay.{TurnGoesOn};
 
 use crate::turn::too_many;
-use crate::{Core, Turn};
+use crate::{Core, OutOfMemory, Turn};
 use bank_trait::Bank;
 use block_record::encode_index;
+use core_blocks::Blocks;
 use core_commit::{CommitRun, CommitStep};
 use core_state::Answer;
+use mark_advance::front_behind;
+use mark_choice::{choose, held_range};
 use open_pool::next_uber;
+use range_locks::{Hold, HoldKind, LockRefused, Locks};
+use reflow_mark::Reflow;
 use std::alloc::Global;
-use uberblock_ring::MAX_GROUP;
+use uberblock_ring::{MAX_GROUP, Uber};
+
+/// Holds the sectors whose standing a choice changes, if there are any.
+fn hold_change(
+    locks: &mut Locks,
+    before: &Reflow,
+    chosen: &Reflow,
+    actor: u8,
+) -> Result<(), OutOfMemory>
+    requires rows { before.now.rows ≤ 65536 }
+    requires clear { HasSectors (hold_for before.now chosen.now actor)
+        → IsClear locks.old (hold_for before.now chosen.now actor).lo
+        (hold_for before.now chosen.now actor).hi HoldKind.Exclusive }
+    ensures ok { OnOk result (TakesHold locks.old locks.new (hold_for before.now chosen.now actor)) }
+    ensures err { OnErr result (locks.new ≡ locks.old) }
+{
+    let (lo, hi) = held_range(before, chosen);
+    if hi <= lo {
+        return Ok(());
+    }
+    match locks.hold_exclusive(lo, hi, actor) {
+        Ok(_) => Ok(()),
+        Err(LockRefused::Busy { by: _ }) => unreachable!(),
+        Err(LockRefused::NoMemory) => Err(OutOfMemory),
+    }
+}
+
+/// Ends the hold of a commit on the sectors whose standing its choice changed.
+fn end_change(locks: &mut Locks, before: &Reflow, chosen: &Reflow, actor: u8)
+    requires rows { before.now.rows ≤ 65536 }
+    requires held { HasSectors (hold_for before.now chosen.now actor)
+        → Contains locks.old (hold_for before.now chosen.now actor) }
+    ensures { DropsHold locks.old locks.new (hold_for before.now chosen.now actor) }
+{
+    let (lo, hi) = held_range(before, chosen);
+    if lo < hi {
+        locks.end(Hold {
+            lo,
+            hi,
+            actor,
+            kind: HoldKind::Exclusive,
+        });
+    }
+}
+
+/// What the answer of a group makes of the blocks: where it ended an expansion the pool has grown, and what was held back
+/// until it is free.
+fn answer_blocks(blocks: &mut Blocks, before: &Reflow, uber: &Uber)
+    requires right { IsRightUber uber.now }
+    requires grows { (uber.now.reflow.from ≡ before.now.from → ⊥)
+        → MayGrow blocks.old uber.now.group (sectors_of uber.now.reflow) }
+    ensures { (pool : PoolOf) → pool.blocks ≡ blocks.old → pool.uber.reflow ≡ before.now
+        → blocks.new ≡ blocks_behind pool uber.now }
+{
+    let chosen = uber.reflow();
+    if chosen.from != before.from {
+        blocks.grow(uber.group(), chosen.sectors());
+    }
+    blocks.synced(uber.group());
+}
 
 impl Core {
-    /// The first turn of a sync: the map as it is becomes the open group's, and the next group is open.
+    /// The first turn of a sync: the map as it is becomes the open group's, and the next group is open. Where an
+    /// expansion runs, the group records how far sectors were copied, and the commit holds those whose standing that
+    /// changes.
     pub fn commit_begin(&mut self, alloc: Global, actor: u8) -> Turn<CommitRun>
         ensures begins { BeginsCommit self.old self.new actor result }
         ensures table { HasTable self.old result }
@@ -36,8 +108,13 @@ impl Core {
         let Ok(page) = encode_index(alloc, entries) else {
             return Turn::Done(Answer::NoMemory);
         };
-        let next = next_uber(&self.uber, entries, &page, self.out);
+        let before = self.uber.reflow();
+        let chosen = choose(&before, self.done, &self.locks);
+        let next = next_uber(&self.uber, &chosen, entries, &page, self.out);
         let Ok(index) = Vec::from_slice(alloc, entries) else {
+            return Turn::Done(Answer::NoMemory);
+        };
+        let Ok(()) = hold_change(&mut self.locks, &before, &chosen, actor) else {
             return Turn::Done(Answer::NoMemory);
         };
         self.begun += 1;
@@ -46,7 +123,7 @@ impl Core {
     }
 
     /// The next device call of a commit. Where none is left for the devices in use, its group is answered:
-    /// what was held back until it is free.
+    /// what was held back until it is free, and where it ended an expansion the pool has grown.
     pub fn commit_step<B: Bank>(&mut self, bank: &mut B, run: CommitRun) -> Turn<CommitRun>
         requires of { IsCommitOf self.old run }
         requires bank { HasBank self.old.pool.uber self.old.pool.out (B.disk bank.old) }
@@ -64,7 +141,8 @@ impl Core {
     fn step_commit<B: Bank>(&mut self, bank: &mut B, run: CommitRun) -> Turn<CommitRun>
         requires of { IsCommitOf self.old run }
         requires bank { HasBank self.old.pool.uber self.old.pool.out (B.disk bank.old) }
-        ensures { StepsCommit (at_disk self.old (B.disk bank.old)) run
+        ensures is { IsCore self.old }
+        ensures steps { StepsCommit (at_disk self.old (B.disk bank.old)) run
             (at_disk self.new (B.disk bank.new)) result }
     {
         let mut run = run;
@@ -75,11 +153,27 @@ impl Core {
             CommitStep::Called => Turn::More(run),
             CommitStep::Ended => {
                 let group = run.uber().group();
-                self.uber = *run.uber();
-                self.blocks.synced(group);
-                self.committing = None;
+                let Some(actor) = self.committing else {
+                    unreachable!();
+                };
+                self.answer_group(actor, run.uber());
                 Turn::Done(Answer::Synced { group })
             }
         }
+    }
+
+    /// The group of a commit is the last answered one, and what the commit held is free.
+    fn answer_group(&mut self, actor: u8, uber: &Uber)
+        requires of { (run : RunOf) × (run.uber ≡ uber.now) × IsCommitOf self.old run }
+        requires actor { self.old.committing ≡ Some actor }
+        ensures { AnswersUber self.old self.new uber.now }
+    {
+        let before = self.uber.reflow();
+        let chosen = uber.reflow();
+        end_change(&mut self.locks, &before, &chosen, actor);
+        answer_blocks(&mut self.blocks, &before, uber);
+        self.done = front_behind(&before, self.done, &chosen);
+        self.uber = *uber;
+        self.committing = None;
     }
 }

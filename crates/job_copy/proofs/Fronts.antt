@@ -1,8 +1,7 @@
 -- The front that a job leaves, the groups around it, and the range that a commit holds beside the job.
 use Rattle.std.proofs.Common.{◌≡◌, inr, ⊎_elim, ℕ, ◌*◌, ◌<◌, ◌≤◌, Bool, true, false, List, ◌∷◌, refl, sym, ◌∙◌, subst, arith}
-use Rattle.std.specs.Prelude.{Contains, All, max, ◌==◌, if◌then◌else◌}
+use Rattle.std.specs.Prelude.{Contains, ◌==◌, if◌then◌else◌}
 use Rattle.std.proofs.lemmas.Bool.Decides.{nat_tests}
-use Rattle.std.proofs.lemmas.List.Elements.{All-contains}
 use Rattle.reflow_mark.specs.declared.reflow.State.{State}
 use Rattle.reflow_mark.specs.declared.reflow.State.TheVariants.{None, Valid, Moved}
 use Rattle.reflow_mark.specs.declared.reflow.Reflow.{Reflow}
@@ -10,7 +9,7 @@ use Rattle.reflow_mark.specs.Reflow.{scratch_end}
 use Rattle.range_locks.specs.declared.hold.Hold.{Hold}
 use Rattle.range_locks.specs.declared.hold.HoldKind.{HoldKind}
 use Rattle.range_locks.specs.declared.hold.HoldKind.TheVariants.{Shared, Exclusive}
-use Rattle.range_locks.specs.Holds.{HasSectors, IsClear}
+use Rattle.range_locks.specs.Holds.{IsClear}
 use Rattle.shadow_write.specs.Required.{IsFrontIn}
 use Rattle.reflow_copier.specs.declared.job.Job.{Job}
 use Rattle.reflow_copier.specs.declared.job.Job.TheVariants.{Fill, Drain, Chunk}
@@ -102,25 +101,18 @@ job_spare setting first later reflow done (Chunk lo hi) sector device device_sec
     (subst (λ (s : State). sector < reach_in s reflow) (sym may.0) (omega (arith, may.3, inside.1))) at
 
 -- A range that nobody shares, below all exclusive holds, is clear to be held alone.
-pub range_clear : (holds : List Hold) (lo hi : ℕ) → All HasSectors holds → lo < hi
+pub range_clear : (holds : List Hold) (lo hi : ℕ) → lo < hi
     → ((hold : Hold) → Contains holds hold → hold.kind ≡ Exclusive → hi ≤ hold.lo)
     → HasNoShared holds (lo, hi)
     → IsClear holds lo hi Exclusive
-range_clear holds lo hi nonempty some apart unshared hold listed blocks = by hold.kind refl
+range_clear holds lo hi some apart unshared hold listed blocks = by hold.kind refl
   where
     begins : hold.lo < hi
     begins = blocks.overlaps.begins
 
-    ends : lo < hold.hi
-    ends = blocks.overlaps.ends
-
-    has : hold.lo < hold.hi
-    has = All-contains HasSectors holds hold nonempty listed
-
     by : (kind : HoldKind) → hold.kind ≡ kind → ⊥
     by Exclusive is = let far = apart hold listed is in omega (arith, far, begins)
-    by Shared is = unshared hold (max lo hold.lo) listed is
-        (omega arith, omega (arith, ends, has)) (omega arith, omega (arith, begins, some))
+    by Shared is = unshared hold listed is some blocks.overlaps
 
 module _ (from to rows mark done : ℕ) (holds : List Hold) where
   abbrev at : State → Reflow
@@ -158,12 +150,12 @@ range_below reflow done holds chosen front choice =
 
 -- so it is clear to be held alone, where no exclusive hold begins below the front.
 pub commit_clear : (reflow : Reflow) (done : ℕ) (holds : List Hold) (chosen : Reflow) → IsFrontOf reflow done
-    → All HasSectors holds → ((hold : Hold) → Contains holds hold → hold.kind ≡ Exclusive → done ≤ hold.lo)
+    → ((hold : Hold) → Contains holds hold → hold.kind ≡ Exclusive → done ≤ hold.lo)
     → IsCommitChoice reflow done holds chosen
     → (range_of_commit reflow chosen).0 < (range_of_commit reflow chosen).1
     → IsClear holds (range_of_commit reflow chosen).0 (range_of_commit reflow chosen).1 Exclusive
-commit_clear reflow done holds chosen front nonempty jobs choice some =
+commit_clear reflow done holds chosen front jobs choice some =
     let below = range_below reflow done holds chosen front choice in
-    range_clear holds (range_of_commit reflow chosen).0 (range_of_commit reflow chosen).1 nonempty some
+    range_clear holds (range_of_commit reflow chosen).0 (range_of_commit reflow chosen).1 some
     (λ hold listed kind. let far = jobs hold listed kind in omega (arith, below, far))
     (choice_clear reflow done holds chosen choice)

@@ -11,7 +11,7 @@
 //   `job_front`.
 // - No device leaves the out set (`IsWithin`): one that fails is put in, and stays.
 // No place is excepted in a pool that runs, and a device that is out is not called.
-ghost use Rattle.std.specs.Prelude.{◌≡◌, ◌≢◌, ◌⊎◌, ◌+◌, ◌≤◌, ◌<◌, ℕ, List, ◌∷◌, Some, Ok, Result, true, false, All, Contains, IsSome};
+ghost use Rattle.std.specs.Prelude.{◌≡◌, ◌≢◌, ◌⊎◌, ◌+◌, ◌≤◌, ◌<◌, ℕ, List, ◌∷◌, Some, Ok, Result, true, false, Contains, IsSome};
 ghost use Rattle.bank_trait.specs.declared.Failed.{Failed as Fault};
 ghost use Rattle.bank_trait.specs.Disk.{Disk, Known, Wrote};
 ghost use Rattle.reflow_mark.specs.declared.reflow.State.TheVariants as state;
@@ -19,7 +19,7 @@ ghost use Rattle.reflow_mark.specs.declared.reflow.Reflow.{Reflow};
 ghost use Rattle.reflow_mark.specs.Reflow.{Expands, scratch_end, sectors_of};
 ghost use Rattle.range_locks.specs.declared.hold.Hold.{Hold};
 ghost use Rattle.range_locks.specs.declared.hold.HoldKind.TheVariants.{Exclusive};
-ghost use Rattle.range_locks.specs.Holds.{HasSectors, IsClear};
+ghost use Rattle.range_locks.specs.Holds.{IsClear};
 ghost use Rattle.row_layout.specs.Layout.{IsLayout, Layout, total_of};
 ghost use Rattle.shadow_write.specs.declared.write.Write.{Write};
 ghost use Rattle.shadow_write.specs.Required.{IsRequiredPlace};
@@ -248,10 +248,9 @@ pub fn commit_leaves_job()
 
 /// The range that a commit's choice changes is clear to be held alone beside a job, where it has a sector. Exclusive
 /// holds begin at the front or above it: that of a job does (`begin` of `job_front`), and no other commit is under way.
-/// That holds have sectors is a clause of `Locks::as_slices`.
 pub fn commit_range_is_clear()
     ensures { (reflow : Reflow) (done : ℕ) (holds : List Hold) (chosen : Reflow)
-        → IsFrontOf reflow done → All HasSectors holds
+        → IsFrontOf reflow done
         → ((hold : Hold) → Contains holds hold → hold.kind ≡ Exclusive → done ≤ hold.lo)
         → IsCommitChoice reflow done holds chosen
         → (range_of_commit reflow chosen).0 < (range_of_commit reflow chosen).1

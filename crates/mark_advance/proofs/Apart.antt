@@ -1,41 +1,37 @@
 -- What a commit holds, and what others hold beside it, is apart.
-use Rattle.std.proofs.Common.{◌≡◌, inl, inr, ⊎_elim, ℕ, ◌<◌, ◌≤◌, List, arith}
+use Rattle.std.proofs.Common.{◌≡◌, inl, inr, ⊎_elim, ℕ, ◌<◌, ◌≤◌, List}
 use Rattle.std.specs.Prelude.{Contains}
 use Rattle.std.proofs.lemmas.Bool.{cases_lt}
 use Rattle.reflow_mark.specs.declared.reflow.Reflow.{Reflow}
 use Rattle.range_locks.specs.declared.hold.Hold.{Hold}
 use Rattle.range_locks.specs.declared.hold.HoldKind.TheVariants.{Shared, Exclusive}
-use Rattle.range_locks.specs.Holds.{HasSectors, IsClear}
-use Rattle.mark_choice.specs.Clear.{HasSector}
+use Rattle.range_locks.specs.Holds.{IsClear}
+use Rattle.mark_choice.specs.Clear.{HasNoShared}
 use Rattle.mark_choice.specs.CommitChoice.{IsCommitChoice, range_of_commit}
 use Rattle.mark_choice.proofs.Clear.{choice_clear}
 use Rattle.mark_advance.specs.Behind.{IsOutside}
 
--- Two ranges with no sector in common, of which one has a sector.
-apart : (lo hi first row_end : ℕ) → first < row_end
-    → ((sector : ℕ) → HasSector (first, row_end) sector → HasSector (lo, hi) sector → ⊥)
-    → IsOutside lo hi first row_end
-apart lo hi first row_end some none = ⊎_elim
-    (λ (low : lo < row_end). ⊎_elim
-    (λ (high : first < hi). ⊎_elim
-    (λ (inner : lo < first). absurd (none first (omega arith, some) (omega (arith, inner), high)))
-    (λ (inner : first ≤ lo). ⊎_elim
-    (λ (held : lo < hi). absurd (none lo (inner, low) (omega arith, held)))
+-- What is held beside a range that nobody shares is outside of it.
+pub held_outside : (holds : List Hold) (lo hi : ℕ) (hold : Hold) → HasNoShared holds (lo, hi) → Contains holds hold
+    → hold.kind ≡ Shared → IsOutside lo hi hold.lo hold.hi
+held_outside holds lo hi hold clear listed shared = ⊎_elim
+    (λ (some : lo < hi). ⊎_elim
+    (λ (begins : hold.lo < hi). ⊎_elim
+    (λ (ends : lo < hold.hi). absurd (clear hold listed shared some (record { begins = begins; ends = ends })))
+    (λ (before : hold.hi ≤ lo). inr (inl before))
+    (cases_lt lo hold.hi))
+    (λ (behind : hi ≤ hold.lo). inr (inr behind))
+    (cases_lt hold.lo hi))
     (λ (empty : hi ≤ lo). inl empty)
-    (cases_lt lo hi))
-    (cases_lt lo first))
-    (λ (behind : hi ≤ first). inr (inr behind))
-    (cases_lt first hi))
-    (λ (before : row_end ≤ lo). inr (inl before))
-    (cases_lt lo row_end)
+    (cases_lt lo hi)
 
 -- A shared hold that was there when the reflow was chosen.
 pub held_before : (reflow : Reflow) (done : ℕ) (holds : List Hold) (chosen : Reflow) (hold : Hold)
-    → IsCommitChoice reflow done holds chosen → Contains holds hold → hold.kind ≡ Shared → HasSectors hold
+    → IsCommitChoice reflow done holds chosen → Contains holds hold → hold.kind ≡ Shared
     → IsOutside (range_of_commit reflow chosen).0 (range_of_commit reflow chosen).1 hold.lo hold.hi
-held_before reflow done holds chosen hold choice listed shared some =
-    apart (range_of_commit reflow chosen).0 (range_of_commit reflow chosen).1 hold.lo hold.hi some
-    (λ sector held changed. choice_clear reflow done holds chosen choice hold sector listed shared held changed)
+held_before reflow done holds chosen hold choice =
+    held_outside holds (range_of_commit reflow chosen).0 (range_of_commit reflow chosen).1 hold
+    (choice_clear reflow done holds chosen choice)
 
 -- One that is taken while the commit holds its range.
 pub held_beside : (holds : List Hold) (own : Hold) (lo hi : ℕ) → Contains holds own → own.kind ≡ Exclusive

@@ -1,3 +1,4 @@
 pub mod Advance
 pub mod Ranges
 pub mod Apart
+pub mod Follows

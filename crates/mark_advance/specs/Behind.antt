@@ -3,9 +3,11 @@ use Rattle.std.specs.Prelude.{◌≡◌, ◌⊎◌, ℕ, ◌+◌, ◌<◌, ◌�
 use Rattle.reflow_mark.specs.declared.reflow.State.{State}
 use Rattle.reflow_mark.specs.declared.reflow.State.TheVariants.{None, Valid, Moved}
 use Rattle.reflow_mark.specs.declared.reflow.Reflow.{Reflow}
-use Rattle.reflow_mark.specs.Reflow.{sectors_of}
+use Rattle.reflow_mark.specs.Reflow.{Expands, IsRightReflow, at_rest, sectors_of}
 use Rattle.shadow_write.specs.Required.{IsRequiredPlace}
-use Rattle.reflow_band.specs.Band.{IsWidening, IsFrontOf}
+use Rattle.reflow_band.specs.Band.{AsksSame, IsWidening, IsFrontOf}
+use Rattle.mark_choice.specs.Advance.{AsksNoMore}
+use Rattle.mark_choice.specs.CommitChoice.{range_of_commit}
 
 -- the reflow of an expansion that has just begun, from this width to one more
 abbrev pub begun : ℕ → ℕ → Reflow
@@ -38,3 +40,26 @@ pub data GoesOnOrEnds (reflow : Reflow) (done : ℕ) (chosen : Reflow) : Type 0 
   HasEnded : (all : sectors_of reflow ≤ done)
       (is : chosen ≡ record { from = reflow.to; to = reflow.to; rows = reflow.rows; mark = 0; state = None })
       → GoesOnOrEnds reflow done chosen
+
+-- The widths and the rows stay, or an expansion has ended.
+abbrev pub KeepsOrEnds : Reflow → Reflow → Type 0
+KeepsOrEnds before chosen =
+    ((chosen.from ≡ before.from) × (chosen.to ≡ before.to) × (chosen.rows ≡ before.rows))
+    ⊎ (Expands before × (chosen ≡ at_rest before.to before.rows))
+
+-- Rows outside the range that a commit holds are asked for at the same places behind its answer.
+abbrev pub RowsStand : Reflow → ℕ → Reflow → Type 0
+RowsStand reflow done chosen = (first row_end sector : ℕ) → first ≤ sector → sector < row_end
+    → row_end ≤ sectors_of reflow
+    → IsOutside (range_of_commit reflow chosen).0 (range_of_commit reflow chosen).1 first row_end
+    → AsksSame reflow done chosen (front_behind reflow done chosen) row_end sector
+
+-- A reflow that a commit records is right, and its front behind the answer is where it may be. What it asks for, after a
+-- stop and behind the answer, is asked for already.
+pub record FollowsOn (reflow : Reflow) (done : ℕ) (chosen : Reflow) : Type 0 where
+  pub right : IsRightReflow chosen
+  pub widths : KeepsOrEnds reflow chosen
+  pub front : IsFrontOf chosen (front_behind reflow done chosen)
+  pub stop : AsksNoMore reflow done chosen
+  pub behind : AsksNoMoreAt reflow done chosen (front_behind reflow done chosen)
+  pub rows : RowsStand reflow done chosen

@@ -6,7 +6,7 @@ ghost use Rattle.reflow_mark.specs.declared.reflow.Reflow.{Reflow};
 ghost use Rattle.reflow_mark.specs.Reflow.{at_rest, scratch_end, sectors_of};
 ghost use Rattle.range_locks.specs.declared.hold.Hold.{Hold};
 ghost use Rattle.range_locks.specs.declared.hold.HoldKind.TheVariants.{Exclusive, Shared};
-ghost use Rattle.range_locks.specs.Holds.{HasSectors, IsClear};
+ghost use Rattle.range_locks.specs.Holds.{IsClear};
 ghost use Rattle.shadow_write.specs.Required.{front_after_stop};
 ghost use Rattle.block_record.specs.declared.entry.IndexEntry.{IndexEntry};
 ghost use Rattle.uberblock_ring.specs.Devices.{has_device};
@@ -14,10 +14,12 @@ ghost use Rattle.core_state.specs.Index.{IsIndexOf};
 ghost use Rattle.core_state.specs.Whole.{Cell, Excepted, IsCellOf, IsWhole, RightAt};
 ghost use Rattle.core_state.specs.Keeps.{Kept};
 ghost use Rattle.core_state.specs.Certain.{CellsOn};
-ghost use Rattle.mark_choice.specs.CommitChoice.{IsCommitChoice, births_of_commit, range_of_commit};
+ghost use Rattle.uberblock_ring.specs.Uberblock.{Uber};
+ghost use Rattle.uberblock_ring.specs.Valid.{IsRightUber};
+ghost use Rattle.mark_choice.specs.CommitChoice.{IsCommitChoice, MayRecord, births_of_commit, range_of_commit};
 ghost use Rattle.reflow_band.specs.Band.{AsksSame, IsFrontOf, IsWidening, copied_of};
 ghost use Rattle.spare_write.specs.Around.{IsCellIn, IsClose, StandAround};
-ghost use Rattle.mark_advance.specs.Behind.{GoesOnOrEnds, IsOutside, begun, front_behind};
+ghost use Rattle.mark_advance.specs.Behind.{FollowsOn, GoesOnOrEnds, IsOutside, begun, front_behind};
 
 /// Each cell that is right at the front is right as the chosen reflow asks for it: after a stop in the commit, and
 /// behind its answer.
@@ -90,8 +92,15 @@ pub fn rows_stand_still()
         → IsOutside (range_of_commit reflow chosen).0 (range_of_commit reflow chosen).1 first row_end
         → AsksSame reflow done chosen (front_behind reflow done chosen) row_end sector }
     ensures before { (reflow : Reflow) (done : ℕ) (holds : List Hold) (chosen : Reflow) (hold : Hold)
-        → IsCommitChoice reflow done holds chosen → Contains holds hold → hold.kind ≡ Shared → HasSectors hold
+        → IsCommitChoice reflow done holds chosen → Contains holds hold → hold.kind ≡ Shared
         → IsOutside (range_of_commit reflow chosen).0 (range_of_commit reflow chosen).1 hold.lo hold.hi }
     ensures beside { (holds : List Hold) (own : Hold) (lo hi : ℕ) → Contains holds own → own.kind ≡ Exclusive
         → IsClear holds lo hi Shared → IsOutside own.lo own.hi lo hi }
+{}
+
+/// All of this in one, of whatever pool: one that is not being widened records its reflow as it stands.
+pub fn commit_follows()
+    ensures { (uber : Uber) (done : ℕ) (chosen : Reflow) → IsRightUber uber
+        → IsFrontOf uber.reflow done → MayRecord uber.reflow done chosen
+        → FollowsOn uber.reflow done chosen }
 {}

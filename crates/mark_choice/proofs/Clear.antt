@@ -15,14 +15,12 @@ use Rattle.mark_choice.specs.Clear.{HasNoShared}
 
 -- An empty range has no sector.
 none_shared : (holds : List Hold) (at : ℕ) → HasNoShared holds (at, at)
-none_shared holds at hold sector listed shared held changed = omega (arith, changed.0, changed.1)
+none_shared holds at hold listed shared some overlaps = omega (arith, some)
 
 -- A range that is clear for a hold of its own has no shared one.
 clear_shared : (holds : List Hold) (lo hi : ℕ) → IsClear holds lo hi Exclusive → HasNoShared holds (lo, hi)
-clear_shared holds lo hi clear hold sector listed shared held changed = clear hold listed (record {
-  overlaps = record { begins = omega (arith, held.0, changed.1); ends = omega (arith, changed.0, held.1) };
-  exclusive = inr refl;
-})
+clear_shared holds lo hi clear hold listed shared some overlaps =
+    clear hold listed (record { overlaps = overlaps; exclusive = inr refl })
 
 -- No shared hold begins between the mark and the next one.
 none_between : (holds : List Hold) (mark done next : ℕ) (shared : Option ℕ) → IsFirstSharedFrom holds mark shared
@@ -36,19 +34,20 @@ none_between holds mark done next (Some shared) first is hold listed kind above 
 
 pub next_mark_clear : (holds : List Hold) (mark done next : ℕ) → IsNextMark holds mark done next
     → HasNoShared holds (mark, next)
-next_mark_clear holds mark done next is hold sector listed shared held changed = ⊎_elim
-    (λ stays. omega (arith, stays.1, changed.0, changed.1))
+next_mark_clear holds mark done next is hold listed shared some overlaps = ⊎_elim
+    (λ stays. omega (arith, stays.1, some))
     (λ goes. ⊎_elim
     (λ (below : hold.lo < mark). goes.0 (record {
       hold = hold;
       listed = listed;
       shared = shared;
       begins = below;
-      ends = omega (arith, changed.0, held.1);
+      ends = overlaps.ends;
     }))
     (λ (above : mark ≤ hold.lo).
     let far = none_between holds mark done next is.shared is.first goes.1 hold listed shared above in
-    omega (arith, far, held.0, changed.1))
+    let begins = overlaps.begins in
+    omega (arith, far, begins))
     (cases_lt hold.lo mark))
     is.next_is
 

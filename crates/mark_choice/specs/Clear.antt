@@ -1,13 +1,10 @@
 -- Ranges of sectors that nobody shares.
-use Rattle.std.specs.Prelude.{◌≡◌, ℕ, ◌<◌, ◌≤◌, List, Contains}
+use Rattle.std.specs.Prelude.{◌≡◌, ℕ, ◌<◌, List, Contains}
 use Rattle.range_locks.specs.declared.hold.Hold.{Hold}
 use Rattle.range_locks.specs.declared.hold.HoldKind.TheVariants.{Shared}
+use Rattle.range_locks.specs.Holds.{Overlaps}
 
--- The sector is one from the first to before the second.
-abbrev pub HasSector : ℕ × ℕ → ℕ → Type 0
-HasSector range sector = (range.0 ≤ sector) × (sector < range.1)
-
--- No shared hold has a sector of the range.
+-- No shared hold overlaps the range, if that has a sector.
 abbrev pub HasNoShared : List Hold → ℕ × ℕ → Type 0
-HasNoShared holds range = (hold : Hold) (sector : ℕ) → Contains holds hold → hold.kind ≡ Shared
-    → HasSector (hold.lo, hold.hi) sector → HasSector range sector → ⊥
+HasNoShared holds range = (hold : Hold) → Contains holds hold → hold.kind ≡ Shared → range.0 < range.1
+    → Overlaps hold range.0 range.1 → ⊥

@@ -1,55 +1,35 @@
 -- A sync may commit the open group, and what that keeps.
-use Rattle.std.proofs.Common.{◌≡◌, ◌≢◌, inl, ℕ, ◌+◌, ◌^◌, ◌<◌, ◌≤◌, List, ◌∷◌, ◌++◌, length, false, Some, refl, sym, ◌∙◌, ap, subst, arith, append_assoc, []}
+use Rattle.std.proofs.Common.{◌≡◌, ◌≢◌, inl, ℕ, ◌+◌, ◌<◌, ◌≤◌, List, ◌∷◌, ◌++◌, false, Some, refl, sym, ◌∙◌, ap, arith, append_assoc, []}
 use Rattle.std.specs.Prelude.{Contains}
 use Rattle.std.proofs.lemmas.List.Elements.{All-cons}
 use Rattle.std.proofs.lemmas.List.Kept.{AllPairs-cons}
-use Rattle.sha2.specs.Sha256.{sha256}
 use Rattle.bank_trait.specs.Disk.{Disk}
+use Rattle.reflow_mark.specs.declared.reflow.Reflow.{Reflow}
+use Rattle.reflow_mark.specs.Reflow.{sectors_of}
+use Rattle.row_layout.proofs.Laws.{inside}
 use Rattle.block_record.specs.declared.entry.IndexEntry.{IndexEntry}
-use Rattle.block_record.specs.Bytes.{IsDigest}
-use Rattle.block_record.specs.Page.{index_page, IsIndex}
-use Rattle.uberblock_ring.specs.Devices.{has_device, count_below}
+use Rattle.block_record.specs.Page.{IsIndex}
+use Rattle.uberblock_ring.specs.Devices.{has_device}
 use Rattle.uberblock_ring.specs.Uberblock.{Uber}
-use Rattle.uberblock_ring.specs.Valid.{IsRightUber}
-use Rattle.reflow_band.proofs.Within.{stop_asks_no_more}
 use Rattle.core_state.specs.Map.{Map}
-use Rattle.core_state.specs.Index.{IsFitting, IsIndexOf}
+use Rattle.core_state.specs.Index.{IsIndexOf, layout_of}
+use Rattle.core_state.specs.Whole.{Cell, IsCellOf, RightAt}
 use Rattle.core_state.specs.Keeps.{HasWidthIn, Kept, Setting, IsNextOf}
 use Rattle.core_state.specs.Certain.{CellsOn, IsSound, IsSuccession}
 use Rattle.core_state.specs.Moment.{KeepsSince}
+use Rattle.mark_advance.specs.Behind.{FollowsOn}
+use Rattle.mark_advance.proofs.Advance.{same_cells}
+use Rattle.core_blocks.specs.Blocks.{AreInStep}
 use Rattle.core_blocks.proofs.Listed.{among_listed, found_among, found_id}
 use Rattle.core_commit.specs.Commits.{Begun, MayCommit}
 use Rattle.core_state.specs.Committing.{point_of}
 use Rattle.core_state.proofs.Widths.{first_width, only_width, width_like}
-use Rattle.core_open.proofs.Renewing.{none_above_more}
 use Rattle.open_pool.specs.Pool.{IsPool, State, HasBank, IsTableOf, HoldsMap}
 use Rattle.open_pool.specs.HoldsGroup.{HoldsGroup}
-use Rattle.open_pool.specs.NextGroup.{next_uber}
-
--- The next group's uberblock is right.
-pub right_next : (uber : Uber) (count : ℕ) (digest : List ℕ) (out : ℕ) → IsRightUber uber
-    → uber.group + 1 ≤ 2 ^ 62 → count ≤ 512 → IsDigest digest
-    → (out < 2 ^ uber.reflow.to) × (count_below out uber.reflow.to ≤ uber.parity)
-    → IsRightUber (next_uber uber count digest out)
-right_next uber count digest out right limit few is_digest outs = record {
-  pool = right.pool;
-  group = (omega arith, limit);
-  parity = right.parity;
-  widths = right.widths;
-  rows = right.rows;
-  reflow = right.reflow;
-  area = omega arith;
-  out = outs;
-  count = few;
-  digest = is_digest;
-  births = record {
-    growing = right.births.growing;
-    few = right.births.few;
-    wide = right.births.wide;
-    last = right.births.last;
-    begun = none_above_more (uber.group + 2) (uber.group + 1 + 2) uber.births (omega arith) right.births.begun;
-  };
-}
+use Rattle.open_pool.specs.NextGroup.{uber_for}
+use Rattle.open_pool.proofs.Holding.{listed_in_pool}
+use Rattle.open_pool.proofs.NewBirth.{HasRowsOf, rows_of}
+use Rattle.open_pool.proofs.NextGroup.{IsReady}
 
 -- The table is the index of the map that it is the table of.
 pub table_indexes : (entries : List IndexEntry) (map : Map) → IsIndex entries → IsTableOf entries map
@@ -78,14 +58,14 @@ since_wider setting groups more time disk kept = record {
 
 module _ (setting : Setting) (last : Kept) (map : Map) (before : State) (is : IsPool before.pool)
     (bank : HasBank before.pool.uber before.pool.out before.disk)
-    (group : HoldsGroup setting last before) (holds : HoldsMap map before)
-    (entries : List IndexEntry) (entries_are : entries ≡ before.pool.blocks.table.entries)
-    (index : IsIndex entries) (count : ℕ) (digest : List ℕ) (counted : length entries ≡ count)
-    (digest_is : sha256 (index_page entries) ≡ digest)
-    (fitting : IsFitting (next_uber before.pool.uber count digest before.pool.out) entries)
-    (right : IsRightUber (next_uber before.pool.uber count digest before.pool.out)) where
+    (group : HoldsGroup setting last before) (holds : HoldsMap map before) (chosen : Reflow)
+    (follows : FollowsOn before.pool.uber.reflow before.pool.done chosen) (step : AreInStep before.pool.blocks)
+    (is_ready : IsReady before.pool chosen) where
   abbrev uber : Uber
-  uber = next_uber before.pool.uber count digest before.pool.out
+  uber = uber_for before.pool chosen
+
+  abbrev entries : List IndexEntry
+  entries = before.pool.blocks.table.entries
 
   abbrev next : Kept
   next = record { uber = uber; entries = entries; map = map }
@@ -101,27 +81,30 @@ module _ (setting : Setting) (last : Kept) (map : Map) (before : State) (is : Is
     map = map;
   }
 
+  -- What is chosen has the devices and the rows of the pool.
+  same : HasRowsOf before.pool.uber.reflow chosen
+  same = rows_of before.pool.uber.reflow chosen follows.widths
+
   group_is : before.pool.uber.group ≡ last.uber.group
   group_is = ap (λ (u : Uber). u.group) group.alike
 
   area_is : before.pool.uber.area ≡ last.uber.area
   area_is = ap (λ (u : Uber). u.area) group.alike
 
-  to_is : before.pool.uber.reflow.to ≡ last.uber.reflow.to
-  to_is = ap (λ (u : Uber). u.reflow.to) group.alike
+  to_is : chosen.to ≡ last.uber.reflow.to
+  to_is = same.to ∙ ap (λ (u : Uber). u.reflow.to) group.alike
 
-  rows_is : before.pool.uber.reflow.rows ≡ last.uber.reflow.rows
-  rows_is = ap (λ (u : Uber). u.reflow.rows) group.alike
+  rows_is : chosen.rows ≡ last.uber.reflow.rows
+  rows_is = same.rows ∙ ap (λ (u : Uber). u.reflow.rows) group.alike
 
   pool_is : before.pool.uber.pool ≡ setting.pool
   pool_is = ap (λ (u : Uber). u.pool) group.alike ∙ group.knows.sound.pool_is
 
   apart : last.uber.area ≢ uber.area
-  apart same = omega (arith, same, area_is)
+  apart equal = omega (arith, equal, area_is)
 
   table : IsIndexOf entries map
-  table = table_indexes entries map index
-      (subst (λ (l : List IndexEntry). IsTableOf l map) (sym entries_are) holds.table)
+  table = table_indexes entries map is_ready.index holds.table
 
   last_width : HasWidthIn setting last
   last_width = first_width setting last [] group.knows.row.widths
@@ -136,7 +119,7 @@ module _ (setting : Setting) (last : Kept) (map : Map) (before : State) (is : Is
         (λ i j d less within. absurd (omega (arith, less, within)));
     further = All-cons (IsNextOf last) next [] (inl (
       omega (arith, group_is),
-      (λ same. apart (sym same)),
+      (λ equal. apart (sym equal)),
       record { up = omega (arith, to_is); down = omega (arith, to_is) },
     ))
         (λ k d within. absurd (omega (arith, within)));
@@ -152,28 +135,42 @@ module _ (setting : Setting) (last : Kept) (map : Map) (before : State) (is : Is
   sound = record {
     uber = uber;
     alike = refl;
-    right = right;
+    right = is_ready.right;
     pool_is = pool_is;
     room = (let room = group.knows.sound.room in omega (arith, room, rows_is));
-    index = index;
-    counted = counted;
-    digest = digest_is;
-    fitting = fitting;
+    index = is_ready.index;
+    counted = refl;
+    digest = refl;
+    fitting = is_ready.fitting;
     indexes = table;
   }
 
-  cells : (device : ℕ) → device < uber.reflow.to → has_device before.pool.out device ≡ false
+  -- No block was born later than the group.
+  old : (entry : IndexEntry) → Contains entries entry → entry.birth ≤ before.pool.uber.group + 1
+  old entry listed = is.born entry (among_listed entries entry is_ready.index listed)
+
+  -- A cell of the pool's births is one of its sectors, and is read wherever the pool asks for it.
+  read_cell : (cell : Cell) → IsCellOf before.pool.uber.parity before.pool.uber.births entries map cell
+      → (cell.sector < sectors_of before.pool.uber.reflow)
+      × RightAt before.disk.reads before.pool.uber.reflow before.pool.done before.pool.out [] cell
+  read_cell cell of =
+      let listed = among_listed entries of.entry is_ready.index of.listed in
+      let pool = listed_in_pool before.pool of.entry is step listed in
+      let below = inside (layout_of before.pool.uber.parity before.pool.uber.births of.entry) of.cell_is.row of.cell_is.column
+      pool.within.is of.cell_is.there in
+      let end = pool.end in
+      let sector = of.cell_is.sector in
+      (omega (arith, sector, below, end), (holds.right of.entry of.content listed of.held).each cell of.cell_is)
+
+  cells : (device : ℕ) → device < chosen.to → has_device before.pool.out device ≡ false
       → CellsOn setting.excepted before.disk.reads next device
-  cells device inside used = record {
+  cells device within used = record {
     at = λ device_sector bytes asks excepted.
-        let of = asks.cell_is in
-        let listed = subst (λ (l : List IndexEntry). Contains l of.entry) entries_are of.listed in
-        let entry_listed = among_listed before.pool.blocks.table.entries of.entry
-        (subst IsIndex entries_are index) listed in
-        let read = ((holds.right of.entry of.content entry_listed of.held).each asks.cell of.cell_is).at
-        device device_sector (stop_asks_no_more uber.reflow before.pool.done asks.cell.row_end asks.cell.sector device
-        device_sector is.front asks.place) used (λ none. absurd (omega (arith, none.1))) in
-        read ∙ ap (λ (b : List ℕ). Some b) asks.bytes_are;
+        let read = read_cell asks.cell (same_cells before.pool.uber.parity before.pool.uber.reflow chosen before.pool.uber.births
+        (before.pool.uber.group + 1) entries map asks.cell old asks.cell_is) in
+        read.1.at device device_sector (follows.stop asks.cell.row_end asks.cell.sector device device_sector read.0 asks.place)
+        used (λ none. absurd (omega (arith, none.1)))
+        ∙ ap (λ (b : List ℕ). Some b) asks.bytes_are;
   }
 
   -- The open group may be committed.
@@ -188,7 +185,8 @@ module _ (setting : Setting) (last : Kept) (map : Map) (before : State) (is : Is
     parity_is = ap (λ (u : Uber). u.parity) group.alike;
     area = apart;
     near = inl (omega (arith, group_is));
-    told = λ device device_sector inside used low. group.tells device device_sector (bank.devices device inside used)
-        (let room = bank.room in omega (arith, room, low));
+    told = λ device device_sector within used low. group.tells device device_sector
+        (bank.devices device (let to = same.to in omega (arith, within, to)) used)
+        (let room = bank.room in let rows = same.rows in omega (arith, room, rows, low));
     cells = cells;
   }

@@ -4,7 +4,6 @@ use Rattle.std.proofs.Math.Nat.{mul-le-mul_left}
 use Rattle.width_map.specs.declared.birth.Birth.{Birth}
 use Rattle.width_map.specs.Births.{last_width}
 use Rattle.width_map.proofs.Growing.{has_room}
-use Rattle.reflow_mark.specs.Reflow.{sectors_of}
 use Rattle.block_record.specs.declared.entry.IndexEntry.{IndexEntry}
 use Rattle.uberblock_ring.specs.Valid.{IsRightUber}
 use Rattle.core_blocks.specs.Blocks.{Blocks, IsListed}

@@ -2,10 +2,12 @@ pub mod Layouts
 pub mod Holding
 pub mod Banks
 pub mod PutRanges
-pub mod Committing
+pub mod NewBirth
 pub mod NextGroup
+pub mod Committing
 pub mod Frees
 pub mod Begins
 pub mod Framing
 pub mod Reopened
 pub mod Growing
+pub mod Answered

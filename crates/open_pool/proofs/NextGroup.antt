@@ -1,10 +1,15 @@
--- The open group may be written with the index of the table.
-use Rattle.std.proofs.Common.{get_or, ◌≡◌, ℕ, ◌+◌, ◌^◌, ◌<◌, ◌≤◌, List, sym, subst, arith}
+-- The open group may be written with the index of the table, at a reflow that it may record.
+use Rattle.std.proofs.Common.{get_or, ◌≡◌, ⊎_elim, ℕ, ◌+◌, ◌*◌, ◌^◌, ◌<◌, ◌≤◌, List, refl, sym, ◌∙◌, ap, subst, arith}
 use Rattle.std.specs.Prelude.{length, All}
 use Rattle.std.proofs.lemmas.List.Elements.{Contains-get_or}
 use Rattle.sha2.specs.Sha256.{sha256}
-use Rattle.reflow_mark.specs.Reflow.{sectors_of}
+use Rattle.width_map.specs.declared.birth.Birth.{Birth}
+use Rattle.width_map.specs.Births.{births_after}
+use Rattle.reflow_mark.specs.declared.reflow.Reflow.{Reflow}
+use Rattle.reflow_mark.specs.Reflow.{Expands, IsRightReflow, at_rest, sectors_of}
+use Rattle.reflow_band.specs.Band.{IsWidening}
 use Rattle.block_record.specs.declared.entry.IndexEntry.{IndexEntry}
+use Rattle.block_record.specs.Bytes.{IsDigest}
 use Rattle.block_record.specs.Page.{index_page, IsIndex}
 use Rattle.block_table.specs.Table.{IsTable}
 use Rattle.block_table.proofs.Tables.{few_entries}
@@ -12,12 +17,44 @@ use Rattle.uberblock_ring.specs.Devices.{count_below, count_of}
 use Rattle.uberblock_ring.specs.Uberblock.{Uber}
 use Rattle.uberblock_ring.specs.Valid.{IsRightUber}
 use Rattle.uberblock_ring.proofs.Digest.{sha256_is_digest}
+use Rattle.mark_advance.specs.Behind.{KeepsOrEnds}
 use Rattle.core_state.specs.Index.{IsFitting}
+use Rattle.core_blocks.specs.Blocks.{AreInStep}
+use Rattle.core_blocks.specs.Growing.{grown_by}
+use Rattle.core_blocks.proofs.Fitting.{fits}
+use Rattle.core_blocks.proofs.Growing.{grown_step}
 use Rattle.core_blocks.proofs.Listed.{among_listed}
 use Rattle.core_open.proofs.Renewal.{count_within}
 use Rattle.open_pool.specs.Pool.{Pool, IsPool}
-use Rattle.open_pool.specs.NextGroup.{next_uber}
-use Rattle.open_pool.proofs.Committing.{right_next}
+use Rattle.open_pool.specs.NextGroup.{next_uber, uber_for}
+use Rattle.open_pool.proofs.Growing.{may_grow}
+use Rattle.open_pool.proofs.NewBirth.{HasRowsOf, births_added, births_kept, one_more, right_births, rows_of}
+
+-- The next group's uberblock is right.
+pub right_next : (uber : Uber) (chosen : Reflow) (count : ℕ) (digest : List ℕ) (out : ℕ) → IsRightUber uber
+    → IsRightReflow chosen → KeepsOrEnds uber.reflow chosen
+    → uber.group + 1 ≤ 2 ^ 62 → count ≤ 512 → IsDigest digest
+    → (out < 2 ^ uber.reflow.to) × (count_below out uber.reflow.to ≤ uber.parity)
+    → IsRightUber (next_uber uber chosen count digest out)
+right_next uber chosen count digest out right reflow widths limit few is_digest outs = record {
+  pool = right.pool;
+  group = (omega arith, limit);
+  parity = right.parity;
+  widths = (
+    (let wide = right.widths.0 in let from = same.from in omega (arith, wide, from)),
+    (let narrow = right.widths.1 in let to = same.to in omega (arith, narrow, to)),
+  );
+  rows = subst (λ (n : ℕ). (64 ≤ n) × (n ≤ 65536)) (sym same.rows) right.rows;
+  reflow = reflow;
+  area = omega arith;
+  out = subst (λ (n : ℕ). (out < 2 ^ n) × (count_below out n ≤ uber.parity)) (sym same.to) outs;
+  count = few;
+  digest = is_digest;
+  births = right_births uber chosen right widths;
+}
+  where
+    same : HasRowsOf uber.reflow chosen
+    same = rows_of uber.reflow chosen widths
 
 -- No more devices are out than there are parities, in either count.
 pub few_below : (uber : Uber) (out : ℕ) → IsRightUber uber → out < 2 ^ uber.reflow.to → count_of out ≤ uber.parity
@@ -27,38 +64,74 @@ few_below uber out right below few =
     let same = count_within out uber.reflow.to below (omega (arith, wide)) in
     (below, omega (arith, same, few))
 
--- The open group of a pool may be written with the index of its table.
-pub record IsReady (pool : Pool) (entries : List IndexEntry) : Type 0 where
-  pub index : IsIndex entries
-  pub few : length entries ≤ 512
-  pub right : IsRightUber (next_uber pool.uber (length entries) (sha256 (index_page entries)) pool.out)
-  pub fitting : IsFitting (next_uber pool.uber (length entries) (sha256 (index_page entries)) pool.out) entries
+-- An expansion of a right uberblock is by one device, of 15 at most.
+expansion : (uber : Uber) → IsRightUber uber → Expands uber.reflow → IsWidening uber.reflow
+expansion uber right grows = record {
+  expands = grows;
+  some = (let wide = right.widths.0 in omega (arith, wide));
+  narrow = (let narrow = right.widths.1 in omega (arith, narrow, grows));
+  mark = ⊎_elim (λ rests. absurd (let same = rests.0 in omega (arith, same, grows))) (λ expands. expands.1) right.reflow;
+}
 
-pub ready : (pool : Pool) (entries : List IndexEntry) → IsPool pool → entries ≡ pool.blocks.table.entries
-    → IsTable pool.blocks.table
-    → ((uber : Uber) → uber.parity ≡ pool.blocks.parity → uber.births ≡ pool.blocks.births
-    → sectors_of uber.reflow ≡ pool.blocks.space.capacity
-    → All (λ entry. entry.birth ≤ uber.group) pool.blocks.table.entries
-    → IsFitting uber pool.blocks.table.entries)
+-- The open group of a pool may be written with the index of its table, at a chosen reflow.
+pub record IsReady (pool : Pool) (chosen : Reflow) : Type 0 where
+  pub index : IsIndex pool.blocks.table.entries
+  pub few : length pool.blocks.table.entries ≤ 512
+  pub right : IsRightUber (uber_for pool chosen)
+  pub fitting : IsFitting (uber_for pool chosen) pool.blocks.table.entries
+
+module _ (pool : Pool) (chosen : Reflow) (is : IsPool pool) (step : AreInStep pool.blocks) (table : IsTable pool.blocks.table) where
+  -- No block was born later than the open group.
+  young : All (λ (entry : IndexEntry). entry.birth ≤ pool.uber.group + 1) pool.blocks.table.entries
+  young k d within = is.born (get_or pool.blocks.table.entries k d)
+      (among_listed pool.blocks.table.entries (get_or pool.blocks.table.entries k d) table.index
+      (Contains-get_or pool.blocks.table.entries k d within))
+
+  -- Where the widths stay the blocks fit as they stand.
+  kept_fitting : chosen.from ≡ pool.uber.reflow.from → chosen.rows ≡ pool.uber.reflow.rows
+      → IsFitting (uber_for pool chosen) pool.blocks.table.entries
+  kept_fitting from rows = fits pool.blocks step table.index (uber_for pool chosen) (sym is.parity)
+      (births_kept pool.uber.reflow chosen pool.uber.births (pool.uber.group + 1) from ∙ sym is.births)
+      (sectors ∙ sym is.capacity) young
+    where
+      sectors : sectors_of chosen ≡ sectors_of pool.uber.reflow
+      sectors = λ i. rows i * from i
+
+  -- Where an expansion has ended they fit as those of a pool with one device more.
+  ended_fitting : Expands pool.uber.reflow → chosen ≡ at_rest pool.uber.reflow.to pool.uber.reflow.rows
+      → IsFitting (uber_for pool chosen) pool.blocks.table.entries
+  ended_fitting grows ended = fits (grown_by pool.blocks (pool.uber.group + 1) (sectors_of chosen)) grown table.index
+      (uber_for pool chosen) (sym is.parity) births refl young
+    where
+      births : (uber_for pool chosen).births ≡ (grown_by pool.blocks (pool.uber.group + 1) (sectors_of chosen)).births
+      births = births_added pool.uber.reflow chosen pool.uber.births (pool.uber.group + 1)
+          (one_more pool.uber.reflow chosen grows (ap (λ (r : Reflow). r.from) ended))
+          ∙ ap (λ (b : List Birth). births_after b (pool.uber.group + 1)) (sym is.births)
+
+      grown : AreInStep (grown_by pool.blocks (pool.uber.group + 1) (sectors_of chosen))
+      grown =
+          let may = may_grow pool is (expansion pool.uber is.right grows) in
+          subst (λ (n : ℕ). AreInStep (grown_by pool.blocks (pool.uber.group + 1) n))
+          (sym (ap (λ (r : Reflow). sectors_of r) ended))
+          (grown_step pool.blocks (pool.uber.group + 1) (pool.uber.reflow.rows * pool.uber.reflow.to) may.born may.wide
+          may.narrow may.larger may.small step)
+
+-- It may, where it has a number and no more devices are out than there are parities.
+pub ready : (pool : Pool) (chosen : Reflow) → IsPool pool → AreInStep pool.blocks → IsTable pool.blocks.table
+    → IsRightReflow chosen → KeepsOrEnds pool.uber.reflow chosen
     → pool.uber.group + 1 ≤ 2 ^ 62 → count_of pool.out ≤ pool.uber.parity
-    → IsReady pool entries
-ready pool entries is same table fits limit few = record {
-  index = subst IsIndex (sym same) table.index;
+    → IsReady pool chosen
+ready pool chosen is step table reflow widths limit few = record {
+  index = table.index;
   few = listed;
-  right = right_next pool.uber (length entries) digest pool.out is.right limit listed (sha256_is_digest (index_page entries))
+  right = right_next pool.uber chosen (length pool.blocks.table.entries) (sha256 (index_page pool.blocks.table.entries)) pool.out
+      is.right reflow widths limit listed (sha256_is_digest (index_page pool.blocks.table.entries))
       (few_below pool.uber pool.out is.right is.below few);
-  fitting = subst (λ (l : List IndexEntry). IsFitting (next_uber pool.uber (length entries) digest pool.out) l) (sym same)
-      (fits (next_uber pool.uber (length entries) digest pool.out) (sym is.parity) (sym is.births) (sym is.capacity) young);
+  fitting = ⊎_elim
+      (λ keeps. kept_fitting pool chosen is step table keeps.0 keeps.2)
+      (λ ends. ended_fitting pool chosen is step table ends.0 ends.1)
+      widths;
 }
   where
-    digest : List ℕ
-    digest = sha256 (index_page entries)
-
-    listed : length entries ≤ 512
-    listed = subst (λ (l : List IndexEntry). length l ≤ 512) (sym same)
-        (few_entries pool.blocks.table.entries pool.blocks.table.reserved table)
-
-    young : All (λ (entry : IndexEntry). entry.birth ≤ pool.uber.group + 1) pool.blocks.table.entries
-    young k d within = is.born (get_or pool.blocks.table.entries k d)
-        (among_listed pool.blocks.table.entries (get_or pool.blocks.table.entries k d) table.index
-        (Contains-get_or pool.blocks.table.entries k d within))
+    listed : length pool.blocks.table.entries ≤ 512
+    listed = few_entries pool.blocks.table.entries pool.blocks.table.reserved table

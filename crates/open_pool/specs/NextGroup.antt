@@ -1,14 +1,26 @@
 -- The group after the last answered one.
-use Rattle.std.specs.Prelude.{ℕ, ◌+◌, ◌-◌, List}
+use Rattle.std.specs.Prelude.{ℕ, ◌+◌, ◌-◌, List, length}
+use Rattle.sha2.specs.Sha256.{sha256}
+use Rattle.reflow_mark.specs.declared.reflow.Reflow.{Reflow}
+use Rattle.block_record.specs.Page.{index_page}
 use Rattle.uberblock_ring.specs.Uberblock.{Uber}
+use Rattle.mark_choice.specs.CommitChoice.{births_of_commit}
+use Rattle.open_pool.specs.Pool.{Pool}
 
--- the uberblock of the group after this one: its page goes to the other area, and it lists these devices
--- as out
-abbrev pub next_uber : Uber → ℕ → List ℕ → ℕ → Uber
-next_uber uber count digest out = record uber {
+-- the uberblock of the group after this one, at a chosen reflow: its page goes to the other area, and it lists these
+-- devices as out
+abbrev pub next_uber : Uber → Reflow → ℕ → List ℕ → ℕ → Uber
+next_uber uber chosen count digest out = record uber {
   group = uber.group + 1;
+  reflow = chosen;
+  births = births_of_commit uber.reflow chosen uber.births (uber.group + 1);
   area = 1 - uber.area;
   count = count;
   digest = digest;
   out = out;
 }
+
+-- that of the pool's next group, with its table
+abbrev pub uber_for : Pool → Reflow → Uber
+uber_for pool chosen = next_uber pool.uber chosen (length pool.blocks.table.entries)
+    (sha256 (index_page pool.blocks.table.entries)) pool.out

@@ -14,7 +14,7 @@ use Rattle.core_state.specs.declared.answer.Kind.{Kind}
 use Rattle.core_state.specs.declared.answer.Kind.TheVariants as kind
 use Rattle.core_state.specs.Legal.{CallAt, IsAnswerOf}
 use Rattle.core_state.proofs.Knowing.{present}
-use Rattle.core_open.specs.Causes.{IsShownChoice, AreOutIn, AreTooMany}
+use Rattle.core_open.specs.Causes.{IsShownChoice, AreTooMany}
 use Rattle.core_open.specs.Failing.{HaveFailed}
 use Rattle.core_open.specs.Holds.{HoldsImage, shape_of}
 use Rattle.core_open.specs.declared.why.OpenWhy.TheVariants as reason

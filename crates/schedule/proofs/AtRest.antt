@@ -77,6 +77,7 @@ ready_at_rest script core disk items journal progress rest bank none same blank 
     (turns_of (at_disk core disk) listed (blank_clients script.clients)) journal.room) (sym same) (record {
       schedule = schedule_at_rest script core disk items script.clients rest bank none;
       shared = shared_at_rest core rest;
+      still = rest.still;
       counted = length-replicate script.clients blank_client;
       enough = room_at_first script script.clients journal.room room;
     }))

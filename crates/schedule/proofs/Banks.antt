@@ -46,7 +46,7 @@ gone_grows : (actor : ℕ) (call : ScriptCall) (before after : Station) (under :
 gone_grows actor call before after under (More does) leaves = let same = ap length leaves.0 in omega (arith, same)
 gone_grows actor call before after under (Busy by) leaves = absurd leaves
 gone_grows actor call before after under (Done given) leaves =
-    listed_grows before.state.core.pool.uber.reflow before.items after.items under.at
+    listed_grows after.state.core.pool.uber.reflow before.items after.items under.at
     (entry_for call actor before.client.begun under.at given) given leaves.0
 
 turned_grows : (calls : List ScriptCall) (actor : ℕ) (before after : Station) → Turned calls actor before after

@@ -28,7 +28,7 @@ use Rattle.core_turns.proofs.GetTurns.{reads_uber}
 use Rattle.core_turns.proofs.PutTurns.{fills_of}
 use Rattle.schedule.specs.declared.client.Work.{Work}
 use Rattle.schedule.specs.Turned.{AnswersAtOnce, Waits, BeginsWork, BeginsCall, IsFilledIn, PutGoesOn, ReadGoesOn, read_turn}
-use Rattle.schedule.proofs.LeavesPool.{LeavesPool, leaves_pool, pool_goes}
+use Rattle.schedule.proofs.LeavesPool.{pool_goes}
 
 -- ---- first turns
 
@@ -70,38 +70,38 @@ read_begins old new actor id call turn result is id_is same begins =
 
 -- ---- turns without a device call
 
-ends_leaves : (old new : Core) (run : PutRun) (given : Answer) → EndsPut old run new (Done given) → LeavesPool old new
-ends_leaves old new run answer.Stored ends = leaves_pool old new new.pool.blocks new.holds ends.rest
-ends_leaves old new run (answer.TooManyFailed out) ends =
-    leaves_pool old new new.pool.blocks new.holds ends.gives_up.rest
-ends_leaves old new run other ends = absurd ends
+ended_goes : (old new : Core) (disk : Disk) (run : PutRun) (given : Answer) → EndsPut old run new (Done given)
+    → TurnGoesOn (at_disk old disk) (at_disk new disk)
+ended_goes old new disk run answer.Stored ends = pool_goes old new new.pool.blocks new.holds disk ends.rest
+ended_goes old new disk run (answer.TooManyFailed out) ends =
+    pool_goes old new new.pool.blocks new.holds disk ends.gives_up.rest
+ended_goes old new disk run other ends = absurd ends
 
-gives_leaves : (old new : Core) (run : PutRun) (given : Answer) → GivesUpTurn old run new (Done given)
-    → LeavesPool old new
-gives_leaves old new run answer.NoMemory gives = leaves_pool old new new.pool.blocks new.holds gives.1.rest
-gives_leaves old new run (answer.TooManyFailed out) gives =
-    leaves_pool old new new.pool.blocks new.holds gives.gives_up.rest
-gives_leaves old new run other gives = absurd gives
+gave_up_goes : (old new : Core) (disk : Disk) (run : PutRun) (given : Answer) → GivesUpTurn old run new (Done given)
+    → TurnGoesOn (at_disk old disk) (at_disk new disk)
+gave_up_goes old new disk run answer.NoMemory gives = pool_goes old new new.pool.blocks new.holds disk gives.1.rest
+gave_up_goes old new disk run (answer.TooManyFailed out) gives =
+    pool_goes old new new.pool.blocks new.holds disk gives.gives_up.rest
+gave_up_goes old new disk run other gives = absurd gives
 
 -- The last turn of a put goes on,
 pub put_end_goes : (old new : Core) (disk : Disk) (run : PutRun) (turn : Turn PutRun) → EndsPut old run new turn
     → TurnGoesOn (at_disk old disk) (at_disk new disk)
-put_end_goes old new disk run (Done given) ends = pool_goes disk (ends_leaves old new run given ends)
+put_end_goes old new disk run (Done given) ends = ended_goes old new disk run given ends
 put_end_goes old new disk run (More next) ends = absurd ends
 put_end_goes old new disk run (Busy by) ends = absurd ends
 
 -- and so does one that gives up,
 pub put_gives_goes : (old new : Core) (disk : Disk) (run : PutRun) (turn : Turn PutRun) → GivesUpTurn old run new turn
     → TurnGoesOn (at_disk old disk) (at_disk new disk)
-put_gives_goes old new disk run (Done given) gives = pool_goes disk (gives_leaves old new run given gives)
+put_gives_goes old new disk run (Done given) gives = gave_up_goes old new disk run given gives
 put_gives_goes old new disk run (More next) gives = absurd gives
 put_gives_goes old new disk run (Busy by) gives = absurd gives
 
 -- and the last one of a read.
 pub read_end_goes : (old new : Core) (disk : Disk) (run : GetRun) (turn : Turn GetRun) → EndsGet old run new turn
     → TurnGoesOn (at_disk old disk) (at_disk new disk)
-read_end_goes old new disk run (Done given) ends =
-    pool_goes disk (leaves_pool old new old.pool.blocks new.holds ends.rest)
+read_end_goes old new disk run (Done given) ends = pool_goes old new old.pool.blocks new.holds disk ends.rest
 read_end_goes old new disk run (More next) ends = absurd ends
 read_end_goes old new disk run (Busy by) ends = absurd ends
 
@@ -148,8 +148,8 @@ pub read_goes_on : (before after : CoreState) (run : GetRun) (turn : Turn GetRun
 read_goes_on before after run turn reads unchanged out =
     let uber = reads_uber before after run turn reads in record {
       parity = ap (λ (u : Uber). u.parity) uber;
-      widths = ap (λ (u : Uber). u.reflow) uber;
-      births = ap (λ (u : Uber). u.births) uber;
+      widths = ap (λ (u : Uber). u.reflow.to) uber;
+      rows = ap (λ (u : Uber). u.reflow.rows) uber;
       later = unchanged.goes_on.later;
       out = out;
       only = read_touches (IsOnInUse before.core.pool.uber.reflow.to before.core.pool.out) unchanged;

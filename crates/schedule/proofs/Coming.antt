@@ -6,7 +6,6 @@ use Rattle.bank_trait.specs.Disk.{Disk}
 use Rattle.bank_trait.specs.Regions.{TouchesOnly}
 use Rattle.bank_trait.proofs.Moments.{later_refl, later_trans}
 use Rattle.bank_trait.proofs.Touches.{touches_none, touches_then}
-use Rattle.reflow_mark.specs.declared.reflow.Reflow.{Reflow}
 use Rattle.uberblock_ring.specs.Devices.{count_of, has_device, IsWithin}
 use Rattle.uberblock_ring.proofs.DeviceSets.{none_in}
 use Rattle.core_state.specs.declared.item.Item.{Item}
@@ -119,7 +118,7 @@ module _ (script : Script) (start middle now : Turns) (one two : List TurnTaken)
       (IsOnInUse start.state.core.pool.uber.reflow.to start.state.core.pool.out)
       (λ d x here. here)
       (λ d x here. (
-        subst (λ (r : Reflow). d < r.to) first.widths here.0,
+        subst (λ (to : ℕ). d < to) first.widths here.0,
         in_use_before (point_of start.state.core.pool.out start.state.disk)
             (point_of middle.state.core.pool.out middle.state.disk) d first.out.still here.1,
       ))

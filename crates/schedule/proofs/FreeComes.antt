@@ -25,16 +25,16 @@ use Rattle.schedule.specs.Comes.{TakesTurn, Comes}
 use Rattle.schedule.proofs.Fitting.{plain_no_limit}
 use Rattle.schedule.proofs.RightNext.{IsPlain, free_right}
 use Rattle.schedule.proofs.Theirs.{none_some}
-use Rattle.schedule.proofs.LeavesPool.{LeavesPool, leaves_pool}
+use Rattle.schedule.proofs.LeavesPool.{LeavesPool, holds_left}
 use Rattle.schedule.proofs.TurnComes.{first_entry, comes_at_once}
 use Rattle.schedule.proofs.Fulls.{put_alone}
 use Rattle.schedule.specs.Running.{calls_under_way}
 
 -- The pool stays,
 frees_pool : (old new : Core) (id : ℕ) (given : Answer) → FreesBlock old new id given → LeavesPool old new
-frees_pool old new id answer.Freed frees = leaves_pool old new new.pool.blocks old.holds frees.2.rest
-frees_pool old new id answer.Absent frees = leaves_pool old new new.pool.blocks old.holds frees.1.rest
-frees_pool old new id (answer.TooManyFailed out) frees = leaves_pool old new old.pool.blocks old.holds frees.2
+frees_pool old new id answer.Freed frees = holds_left old new new.pool.blocks frees.2.rest
+frees_pool old new id answer.Absent frees = holds_left old new new.pool.blocks frees.1.rest
+frees_pool old new id (answer.TooManyFailed out) frees = holds_left old new old.pool.blocks frees.2
 frees_pool old new id other frees = absurd frees
 
 -- the answer is one to a free,

@@ -13,6 +13,7 @@ pub mod Fulls
 pub mod RunsGoOn
 pub mod RunsEnd
 pub mod Using
+pub mod Copied
 pub mod UsingTurns
 pub mod UsingEnds
 pub mod Numbered

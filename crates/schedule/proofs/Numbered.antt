@@ -141,10 +141,10 @@ module _ (script : Script) (actor : ℕ) (before after : Station) (clients : Lis
       given (λ run does. ((going.each actor before.client under
       (record { there = was; under_way = goes.going })).sync run does).0) goes.did) [
         | inl plain ↦ lists_entry plain.1.group_is (entry_for goes.call actor before.client.begun under.at given)
-            (leaves.0 ∙ plain_listed old before.items under.at
+            (leaves.0 ∙ plain_listed new before.items under.at
             (entry_for goes.call actor before.client.begun under.at given) given plain.0)
-        | inr synced ↦ lists_group (group_for old under.at synced.0) synced.2.group_is synced.3
+        | inr synced ↦ lists_group (group_for new under.at synced.0) synced.2.group_is synced.3
             (entry_for goes.call actor before.client.begun under.at given)
-            (leaves.0 ∙ ap (listed_for old before.items under.at
+            (leaves.0 ∙ ap (listed_for new before.items under.at
             (entry_for goes.call actor before.client.begun under.at given)) synced.1)
       ]

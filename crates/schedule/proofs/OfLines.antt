@@ -362,10 +362,10 @@ module _ (script : Script) (before after : Station) (clients news : List Client)
       let has = its.under under going in
       let counted = counted_by (Some under) going in
       let some = has.1 in
-      subst Now (sym (leaves.0 ∙ ap (λ (n : ℕ). listed_for before.state.core before.items n
+      subst Now (sym (leaves.0 ∙ ap (λ (n : ℕ). listed_for after.state.core before.items n
       (entry_for call placed.actor before.client.begun n answer) answer) has.0))
       (answers_listed script before.items clients news given goes placed next after.client changes before.client was at
-      before.state.core call before.client.begun before.client.begun answer leaves.1
+      after.state.core call before.client.begun before.client.begun answer leaves.1
       (omega (arith, counted, some)))
 
   turn_by_lines : Turned (calls_of script placed.actor) placed.actor before after → Now after.items

@@ -3,6 +3,8 @@ use Rattle.std.proofs.Common.{◌≡◌, ◌≢◌, ℕ, List, length, Some, Non
 use Rattle.std.specs.Prelude.{Contains, slice_get}
 use Rattle.bank_trait.specs.Disk.{Disk}
 use Rattle.range_locks.specs.declared.hold.Hold.{Hold}
+use Rattle.range_locks.specs.declared.hold.HoldKind.TheVariants.{Shared}
+use Rattle.range_locks.specs.Holds.{IsClear}
 use Rattle.reconstruct.specs.Lost.{AreBytes}
 use Rattle.core_state.specs.declared.answer.Answer.{Answer}
 use Rattle.core_state.specs.declared.answer.Kind.{Kind}
@@ -19,7 +21,8 @@ use Rattle.core_turns.specs.declared.turn.Turn.TheVariants.{More, Busy, Done}
 use Rattle.core_turns.specs.Core.{Core, at_disk}
 use Rattle.core_turns.specs.Putting.{BeginsPutTurn, IsPutRefused, LeavesBlocks}
 use Rattle.core_turns.specs.UnderWay.{HoldingCall, Putting, Stands, actor_of}
-use Rattle.core_turns.proofs.PutCalls.{begins_rearranges, leaves_rearranges, put_begins_calls, put_refused_calls}
+use Rattle.core_turns.proofs.Holds.{keeps_gained}
+use Rattle.core_turns.proofs.PutCalls.{begins_rearranges, put_begins_calls, put_refused_calls}
 use Rattle.core_turns.proofs.PutStands.{put_begins_stands, put_refused_stands}
 use Rattle.schedule.specs.declared.client.Client.{Client}
 use Rattle.schedule.specs.declared.client.Work.TheVariants as work
@@ -33,7 +36,7 @@ use Rattle.schedule.proofs.Theirs.{calls_of_others}
 use Rattle.schedule.proofs.Fulls.{full_put}
 use Rattle.schedule.proofs.Running.{sets_content, with_content}
 use Rattle.schedule.proofs.TurnComes.{comes_at_once, comes_begun, comes_waiting, first_entry, held_gains}
-use Rattle.schedule.proofs.Puts.{Refuses, put_refused, unstored_plain, unstored_answers, unstored_map, rearranged_leaves}
+use Rattle.schedule.proofs.Puts.{Refuses, put_refused, unstored_plain, unstored_answers, unstored_map, rearranged_leaves, refused_leaves}
 use Rattle.schedule.proofs.LeavesPool.{LeavesPool}
 use Rattle.schedule.specs.Moments.{Past}
 
@@ -70,6 +73,9 @@ module _ {script : Script} {actor : ℕ} {before after : Station} {clients news 
     where
       change : LeavesPool old now
       change = rearranged_leaves old now (begins_rearranges old now actor id (length content) run begins)
+          (keeps_gained old.holds now.holds run.hold (ap (λ (h : Hold). h.kind) begins.hold_is)
+          (subst (λ (h : Hold). IsClear old.holds h.lo h.hi Shared) (sym begins.hold_is) begins.begins.first.clear)
+          begins.holds)
 
       others : (other : HoldingCall) → Contains (calls_under_way clients) other → actor_of other ≢ actor
       others = calls_of_others takes.was idle takes.schedule.going
@@ -88,7 +94,7 @@ module _ {script : Script} {actor : ℕ} {before after : Station} {clients news 
   pub put_waits : (by : ℕ) → BeginsPutTurn old now actor id (length content) (Busy by)
       → LeavesBegun actor call before after (Busy by) → Comes script actor before after clients news
   put_waits by waits leaves =
-      comes_waiting takes call idle (rearranged_leaves old now (leaves_rearranges old now waits.1)) disk leaves.1 leaves.0
+      comes_waiting takes call idle (refused_leaves old now waits.1) disk leaves.1 leaves.0
       (put_refused_calls (calls_under_way clients) old now waits.1 takes.schedule.going.are) (refused_stands waits.1)
 
   -- One is refused: too many devices are out, the table is full, no run of free sectors fits, or memory is wanting.
@@ -97,8 +103,7 @@ module _ {script : Script} {actor : ℕ} {before after : Station} {clients news 
   put_at_once given is leaves =
       let refuses : Refuses old now given = put_refused old now id (length content) given is in
       let entry : Entry = first_entry call actor before given in
-      comes_at_once takes call idle (rearranged_leaves old now (leaves_rearranges old now refuses.leaves)) disk given next
-      leaves
+      comes_at_once takes call idle (refused_leaves old now refuses.leaves) disk given next leaves
       (fits old call.kind given
       (subst (λ (k : Kind). IsAnswerOf k given) (sym asked) (unstored_answers given refuses.unstored)) refuses.tells
       (plain_no_limit given (unstored_plain given refuses.unstored)) (put_no_free call.kind asked))

@@ -2,7 +2,9 @@
 use Rattle.std.proofs.Common.{◌≡◌, ◌≢◌, ⊎_elim, ℕ, ◌-◌, List, [], ◌∷◌, ◌++◌, Option, Some, refl, sym, ◌∙◌, ap, subst}
 use Rattle.std.specs.Prelude.{option_map, slice_get, unwrap_or}
 use Rattle.bank_trait.specs.Disk.{Disk}
+use Rattle.range_locks.specs.Holds.{EndsHold}
 use Rattle.space_alloc.specs.Space.{Gains}
+use Rattle.core_blocks.proofs.Lists.{gains_item}
 use Rattle.core_state.specs.declared.answer.Answer.{Answer}
 use Rattle.core_state.specs.declared.answer.Answer.TheVariants as answer
 use Rattle.core_state.specs.declared.answer.Kind.{Kind}
@@ -18,10 +20,11 @@ use Rattle.client_script.specs.Script.{Script, calls_of, handed_by}
 use Rattle.core_turns.specs.declared.putting.PutRun.{PutRun}
 use Rattle.core_turns.specs.declared.turn.Turn.TheVariants.{More, Done}
 use Rattle.core_turns.specs.Core.{Core, at_disk}
-use Rattle.core_turns.specs.Putting.{StoresBlock, WritesOne}
+use Rattle.core_turns.specs.Putting.{IsPutOf, StoresBlock, WritesOne}
 use Rattle.core_turns.specs.UnderWay.{HoldingCall, Putting, AreCallsOf, Stands, TurnGoesOn}
+use Rattle.core_turns.proofs.Holds.{keeps_ended}
 use Rattle.core_turns.proofs.PutCalls.{Rearranges, ends_rearranges, gives_up_rearranges, put_ends_calls, put_gives_up_calls, put_writes_calls}
-use Rattle.core_turns.proofs.PutStands.{put_ends_stands, put_gives_up_stands}
+use Rattle.core_turns.proofs.PutStands.{put_ends_stands, put_gives_up_stands, put_shared}
 use Rattle.core_turns.proofs.PutWrites.{put_writes_stands, put_writes_since}
 use Rattle.schedule.specs.declared.client.Client.{Client}
 use Rattle.schedule.specs.declared.client.UnderWay.{UnderWay}
@@ -110,9 +113,12 @@ module _ {script : Script} {actor : ℕ} {before after : Station} {clients news 
     among = filled_among filled fills (calls_under_way news) (held_gone takes call under (work.Put run) does_is under_is is
         (Putting run) refl (λ sync. sync) goes given ended)
 
+    of_filled : IsPutOf old filled
+    of_filled = among.are.each (Putting filled) (gains_item (calls_under_way news) among.nexts (Putting filled) among.gains)
+
     -- It ends, and its entry alone is listed.
-    ends_with : after.items ≡ before.items ++ CallItem entry ∷ [] → Rearranges old now → IsPlain given
-        → IsAnswerOf kind.Put given → TellsOut old given → given ≢ answer.Full → AreCallsOf now (calls_under_way news)
+    ends_with : after.items ≡ before.items ++ CallItem entry ∷ [] → Rearranges old now
+        → EndsHold old.holds now.holds filled.hold → IsPlain given → IsAnswerOf kind.Put given → TellsOut old given → given ≢ answer.Full → AreCallsOf now (calls_under_way news)
         → ((world : World) (past : Past) → world.handed ≡ handed_by script
         → (runs : Runs world script past before.state before.items clients)
         → Stands world.setting runs.last runs.begun (map_of world.handed world.opening before.items) runs.contents among.nexts
@@ -121,8 +127,9 @@ module _ {script : Script} {actor : ℕ} {before after : Station} {clients news 
         (map_after_answer world.handed (map_of world.handed world.opening before.items) entry given) runs.contents
         (calls_under_way news) runs.commit (at_disk now before.state.disk))
         → Comes script actor before after clients news
-    ends_with listed change plain answers tells other are stands = comes_ended takes call under (work.Put run) does_is under_is
-        is (Putting run) refl (λ sync. sync) goes given ended listed (rearranged_leaves old now change) disk
+    ends_with listed change ends plain answers tells other are stands = comes_ended takes call under (work.Put run) does_is under_is
+        is (Putting run) refl (λ sync. sync) goes given ended listed (rearranged_leaves old now change
+        (keeps_ended old.holds now.holds filled.hold (put_shared old filled of_filled) ends)) disk
         (fits old call.kind given (subst (λ (k : Kind). IsAnswerOf k given) (sym asked_for.0) answers) tells
         (plain_no_limit given plain) (put_no_free call.kind asked_for.0))
         other are
@@ -138,9 +145,9 @@ module _ {script : Script} {actor : ℕ} {before after : Station} {clients news 
     put_stored : given ≡ answer.Stored → StoresBlock old now filled → IsWhole filled
         → Comes script actor before after clients news
     put_stored given_is stores whole = ends_with
-        (ended.0 ∙ subst (λ (a : Answer). listed_for old before.items under.at entry a ≡ before.items ++ CallItem entry ∷ [])
+        (ended.0 ∙ subst (λ (a : Answer). listed_for now before.items under.at entry a ≡ before.items ++ CallItem entry ∷ [])
         (sym given_is) refl)
-        (ends_rearranges old now filled stores) (subst IsPlain (sym given_is) tt)
+        (ends_rearranges old now filled stores) stores.ends (subst IsPlain (sym given_is) tt)
         (subst (IsAnswerOf kind.Put) (sym given_is) refl) (λ listed told. absurd (apart listed (sym given_is ∙ told)))
         (λ full. no_full (sym given_is ∙ full)) (put_ends_calls stores among.gains among.are)
         (λ world past handed runs stood.
@@ -176,15 +183,15 @@ module _ {script : Script} {actor : ℕ} {before after : Station} {clients news 
     -- It is given up: too many devices are out, or memory is wanting.
     put_given_up : IsGivenUp old now filled given → Comes script actor before after clients news
     put_given_up given_up = ends_with
-        (ended.0 ∙ unstored_listed old before.items under.at entry given given_up.unstored)
-        (gives_up_rearranges old now filled given_up.gives_up) (unstored_plain given given_up.unstored)
+        (ended.0 ∙ unstored_listed now before.items under.at entry given given_up.unstored)
+        (gives_up_rearranges old now filled given_up.gives_up) given_up.gives_up.ends (unstored_plain given given_up.unstored)
         (unstored_answers given given_up.unstored) given_up.tells given_up.other
         (put_gives_up_calls given_up.gives_up among.gains among.are)
         (λ world past handed runs stood.
         subst (λ (m : Map). Stands world.setting runs.last runs.begun m runs.contents (calls_under_way news) runs.commit
         (at_disk now before.state.disk))
         (sym (unstored_map world.handed (map_of world.handed world.opening before.items) entry given given_up.unstored))
-        (put_gives_up_stands given_up.gives_up among.gains stood))
+        (put_gives_up_stands given_up.gives_up among.gains among.are stood))
 
   -- It ends: its block is stored, or it is given up.
   pub put_ends : (given : Answer) → EndsPutting before.state after.state call run given

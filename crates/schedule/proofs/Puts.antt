@@ -10,24 +10,25 @@ use Rattle.core_state.specs.declared.item.Item.TheVariants.{Call as CallItem}
 use Rattle.core_state.specs.Map.{Map, PutBytes, map_after_answer}
 use Rattle.core_state.specs.Legal.{IsAnswerOf}
 use Rattle.core_blocks.proofs.Usage.{adds_none}
-use Rattle.core_turns.specs.declared.putting.PutRun.{PutRun}
 use Rattle.core_turns.specs.Core.{Core}
 use Rattle.core_turns.specs.Getting.{HasTooManyOut}
 use Rattle.core_turns.specs.Putting.{IsPutRefused, LeavesBlocks}
+use Rattle.core_turns.proofs.Holds.{KeepsAlone}
 use Rattle.core_turns.proofs.PutCalls.{Rearranges}
-use Rattle.schedule.specs.declared.client.Work.{Work}
-use Rattle.schedule.specs.declared.client.Work.TheVariants as work
-use Rattle.schedule.specs.Running.{IsSync}
 use Rattle.schedule.specs.Turned.{listed_for}
 use Rattle.schedule.proofs.Fitting.{TellsOut}
 use Rattle.schedule.proofs.RightNext.{IsPlain}
-use Rattle.schedule.proofs.LeavesPool.{LeavesPool, leaves_pool}
+use Rattle.schedule.proofs.LeavesPool.{LeavesPool, holds_left, leaves_pool}
 
 -- ---- turns that call no device
 
 -- Where only blocks and holds are others, all else of the core is left.
-pub rearranged_leaves : (old new : Core) → Rearranges old new → LeavesPool old new
+pub rearranged_leaves : (old new : Core) → Rearranges old new → KeepsAlone old.holds new.holds → LeavesPool old new
 rearranged_leaves old new change = leaves_pool old new new.pool.blocks new.holds change.rest
+
+-- So it is where the holds are left too.
+pub refused_leaves : (old new : Core) → LeavesBlocks old new → LeavesPool old new
+refused_leaves old new leaves = holds_left old new new.pool.blocks leaves.rest
 
 -- ---- answers
 

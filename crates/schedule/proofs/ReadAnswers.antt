@@ -3,6 +3,7 @@ use Rattle.std.proofs.Common.{◌≡◌, inl, inr, ⊎_elim, ℕ, ◌≤◌, Lis
 use Rattle.std.specs.Prelude.{option_and_then}
 use Rattle.std.proofs.lemmas.Bool.{cases_lt}
 use Rattle.bank_trait.specs.Disk.{Disk}
+use Rattle.range_locks.specs.Holds.{EndsHold}
 use Rattle.row_layout.specs.Layout.{rows_of}
 use Rattle.space_alloc.specs.Space.{Gains}
 use Rattle.uberblock_ring.specs.Devices.{count_of}
@@ -31,6 +32,8 @@ use Rattle.core_turns.specs.UnderWay.{HoldingCall, Reading, AreCallsOf, Stands}
 use Rattle.core_blocks.proofs.Lists.{gains_item}
 use Rattle.core_turns.proofs.GetLaws.{get_tells}
 use Rattle.core_turns.proofs.GetStands.{get_ends_calls, get_ends_stands, get_solves_calls, get_solves_stands}
+use Rattle.core_turns.proofs.GetTurns.{get_shared}
+use Rattle.core_turns.proofs.Holds.{keeps_ended}
 use Rattle.schedule.specs.Recorded.{IsRightNext, AllBelow}
 use Rattle.schedule.specs.Turned.{EndsReading, entry_for, listed_for}
 use Rattle.schedule.proofs.Fitting.{NoLimit}
@@ -139,19 +142,26 @@ pub record EndsRead (before after : CoreState) (run : GetRun) (given : Answer) (
         → Stands setting last begun map contents left commit after
         × IsReadRight (Some (contents run.hold.actor)) run.kind given
 
+-- The pool is left where only its hold has ended.
+read_leaves : {old new : Core} {run : GetRun} {left calls : List HoldingCall} → new ≡ record old { holds = new.holds }
+    → EndsHold old.holds new.holds run.hold → Gains left calls (Reading run) → AreCallsOf old calls → LeavesPool old new
+read_leaves {old} {new} {run} {left} {calls} rest ends gains are = leaves_pool old new old.pool.blocks new.holds rest
+    (keeps_ended old.holds new.holds run.hold
+    (get_shared old run (are.each (Reading run) (gains_item left calls (Reading run) gains)).1) ends)
+
 -- Too many devices are out,
 stopped_ends : {before after : CoreState} {run : GetRun} {given : Answer} {left calls : List HoldingCall}
     → IsCore before.core → ReadsTurn before run after (Done given) → Gains left calls (Reading run)
     → AreCallsOf before.core calls → EndsRead before after run given left calls
 stopped_ends {before} {after} {run} {given} {left} {calls} core stops gains are = record {
-  leaves = leaves_pool before.core after.core before.core.pool.blocks after.core.holds stops.0.rest;
+  leaves = read_leaves stops.0.rest stops.0.ends gains are;
   answer_is = subst (IsAnswerOf run.kind) (sym stops.0.given_is) tt;
   too_many = λ out tells. (stops.0.many, same_out (sym tells ∙ stops.0.given_is));
   no_limit = λ reached told. none_told reached (sym stops.0.given_is ∙ told);
   calls_are = get_ends_calls stops.0.rest stops.0.ends gains are;
   stands = λ setting last begun map contents commit stands. (
     subst (λ (d : Disk). Stands setting last begun map contents left commit (at_disk after.core d)) (sym stops.1)
-        (get_ends_stands core stops.0.rest gains stands),
+        (get_ends_stands core stops.0.rest stops.0.ends gains are stands),
     subst (IsReadRight (Some (contents run.hold.actor)) run.kind) (sym stops.0.given_is) tt,
   );
 }
@@ -165,7 +175,7 @@ answered_ends : {before after : CoreState} {run : GetRun} {given : Answer} {left
     → after.disk ≡ before.disk → Gains left calls (Reading run) → AreCallsOf before.core calls
     → EndsRead before after run given left calls
 answered_ends {before} {after} {run} {given} {left} {calls} core is ends disk gains are = record {
-  leaves = leaves_pool before.core after.core before.core.pool.blocks after.core.holds ends.rest;
+  leaves = read_leaves ends.rest ends.ends gains are;
   answer_is = ⊎_elim
       (λ many. subst (IsAnswerOf run.kind) (sym (ends.too_many many)) tt)
       (λ low. (solved_of run run.solved given is (ends.solved (few low))).0)
@@ -181,7 +191,7 @@ answered_ends {before} {after} {run} {given} {left} {calls} core is ends disk ga
   calls_are = get_ends_calls ends.rest ends.ends gains are;
   stands = λ setting last begun map contents commit stands. (
     subst (λ (d : Disk). Stands setting last begun map contents left commit (at_disk after.core d)) (sym disk)
-        (get_ends_stands core ends.rest gains stands),
+        (get_ends_stands core ends.rest ends.ends gains are stands),
     get_tells (contents run.hold.actor) before.core after.core before.disk run (Done given) is
         (stands.each (Reading run) (gains_item left calls (Reading run) gains)) ends,
   );

@@ -23,6 +23,7 @@ use Rattle.core_turns.specs.Getting.{IsReadKind, IsGetRefused, BeginsGet}
 use Rattle.core_turns.specs.UnderWay.{HoldingCall, Reading, AreCallsOf, Stands, TurnGoesOn, actor_of}
 use Rattle.core_turns.proofs.Frames.{since_read}
 use Rattle.core_turns.proofs.GetLaws.{get_finds}
+use Rattle.core_turns.proofs.Holds.{keeps_gained}
 use Rattle.core_turns.proofs.GetStands.{get_begins_calls, get_reads_calls, get_begins_stands, get_reads_stands}
 use Rattle.schedule.specs.declared.client.Client.{Client}
 use Rattle.schedule.specs.declared.client.UnderWay.{UnderWay}
@@ -36,7 +37,7 @@ use Rattle.schedule.proofs.Theirs.{calls_of_others}
 use Rattle.schedule.proofs.Fulls.{put_alone, read_no_put}
 use Rattle.schedule.proofs.Running.{sets_content, with_content}
 use Rattle.schedule.proofs.ReadAnswers.{EndsRead, listed_read, map_read, right_read, refused_of, refused_right, read_ends_so}
-use Rattle.schedule.proofs.LeavesPool.{LeavesPool, leaves_pool, out_keeps}
+use Rattle.schedule.proofs.LeavesPool.{LeavesPool, holds_left, leaves_pool, out_keeps}
 use Rattle.schedule.proofs.TurnComes.{comes_at_once, comes_begun, comes_ended, comes_going, comes_nowhere, first_entry, held_gains, held_gone, held_moves, its_asked, its_content, its_going, its_work}
 
 module _ {script : Script} {actor : ℕ} {before after : Station} {clients news : List Client}
@@ -79,6 +80,7 @@ module _ {script : Script} {actor : ℕ} {before after : Station} {clients news 
 
         leaves : LeavesPool old now
         leaves = leaves_pool old now old.pool.blocks now.holds begins.6
+            (keeps_gained old.holds now.holds run.hold (ap (λ (h : Hold). h.kind) begins.4) begins.8 begins.9)
 
         others : (other : HoldingCall) → Contains (calls_under_way clients) other → actor_of other ≢ actor
         others = calls_of_others takes.was idle takes.schedule.going
@@ -94,7 +96,7 @@ module _ {script : Script} {actor : ℕ} {before after : Station} {clients news 
         → LeavesBegun actor call before after (Done given) → ItComes
     read_at_once given begins left =
         let of = refused_of old id call.kind given is begins.1 in
-        comes_at_once takes call idle (leaves_pool old now old.pool.blocks old.holds begins.0) disk given next left
+        comes_at_once takes call idle (holds_left old now old.pool.blocks begins.0) disk given next left
         (fits old call.kind given of (λ out tells. subst (IsGetRefused old id) tells begins.1)
         (λ reached told. subst (IsGetRefused old id) told begins.1) (read_no_free call.kind is))
         (λ full. absurd (put_alone call.kind given (read_no_put call.kind is) of full))
@@ -158,7 +160,7 @@ module _ {script : Script} {actor : ℕ} {before after : Station} {clients news 
         → LeavesGoing actor call before after under (Done given) → ItComes
     read_ends given ending ended = comes_ended takes call under (work.Read run) does_is under_is is (Reading run) refl
         (λ sync. sync) goes given ended
-        (ended.0 ∙ listed_read old before.items under.at entry call.kind given call_read given_is) ends.leaves ending.disk
+        (ended.0 ∙ listed_read now before.items under.at entry call.kind given call_read given_is) ends.leaves ending.disk
         (fits old call.kind given given_is ends.too_many ends.no_limit (read_no_free call.kind call_read))
         (λ full. put_alone call.kind given (read_no_put call.kind call_read) given_is full) ends.calls_are
         (λ world past handed runs.

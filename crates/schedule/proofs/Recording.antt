@@ -1,7 +1,6 @@
 -- A journal goes on to tell what it did, turn by turn: the devices go on, a commit begins or ends, a call is answered.
-use Rattle.std.proofs.Common.{◌≡◌, inl, ⊎_elim, ℕ, ◌≤◌, List, [], ◌∷◌, ◌++◌, length, refl, sym, ◌∙◌, ap, subst, arith, append_assoc, length-append, ◌+◌}
+use Rattle.std.proofs.Common.{◌≡◌, inl, inr, ℕ, ◌≤◌, List, [], ◌∷◌, ◌++◌, length, refl, sym, ◌∙◌, ap, subst, arith, append_assoc, length-append, ◌+◌}
 use Rattle.std.proofs.lemmas.List.{append-nil}
-use Rattle.std.proofs.lemmas.List.Elements.{Contains-append_cases}
 use Rattle.std.specs.Prelude.{◌≢◌, Contains}
 use Rattle.bank_trait.specs.Disk.{Disk, Later}
 use Rattle.core_state.specs.declared.answer.Answer.TheVariants as answer
@@ -12,10 +11,10 @@ use Rattle.core_state.specs.declared.item.Item.{Item}
 use Rattle.core_state.specs.declared.item.Item.TheVariants.{Group, Call}
 use Rattle.core_state.specs.Map.{Map, PutBytes, map_after}
 use Rattle.core_state.specs.Legal.{IsGroupBefore, IsAnswerOf}
-use Rattle.core_state.specs.Journal.{Calls, Follows}
+use Rattle.core_state.specs.Journal.{Calls, Follows, IsWidthStep}
 use Rattle.core_state.specs.Keeps.{Kept, Setting}
 use Rattle.core_state.specs.Certain.{Knows}
-use Rattle.core_state.specs.Moment.{IsGroupOf, IsBegunAfter, Groups, IsRowOf, KeepsSince, KeepsThroughout}
+use Rattle.core_state.specs.Moment.{IsGroupOf, IsBegunAfter, Groups, IsRowOf, KeepsSince, KeepsThroughout, item_of}
 use Rattle.core_state.specs.World.{World}
 use Rattle.core_state.proofs.Keeping.{knows_keep}
 use Rattle.core_state.proofs.Listed.{contains_head, contains_none, contains_tail}
@@ -211,12 +210,18 @@ module _ {world : World} {past : Past} {items : List Item} {item : GroupItem} {l
     row_among row_now,
   )
 
+-- A step of widths for which no attach was answered is one where some may be.
+step_without : (attached : Type 0) (before next : GroupItem) → IsWidthStep ⊥ before next → IsWidthStep attached before next
+step_without attached before next (inl same) = inl same
+step_without attached before next (inr (inl ends)) = inr (inl ends)
+step_without attached before next (inr (inr attach)) = absurd attach.0
+
 -- A commit begins the next group.
 module _ {world : World} {past : Past} {items : List Item} {item : GroupItem} {last : Kept} {now : Disk}
     (so_far : Recorded world past items item last [] now) {after : ℕ} {next : Kept}
     (is : IsBegunAt world items item after next) where
   next_after : IsBegunAfter world.calls world.handed world.opening items item next
-  next_after = record { number = is.number; after = after; listed = is.listed; map = is.map; widths = inl is.widths }
+  next_after = record { number = is.number; after = after; listed = is.listed; map = is.map; widths = step_without _ item (item_of next after) is.widths }
 
   pub recorded_begins : next.uber.parity ≡ last.uber.parity → Recorded world past items item last (next ∷ []) now
   recorded_begins parity =
@@ -273,7 +278,12 @@ module _ {world : World} {past : Past} {items : List Item} {item : GroupItem} {l
     number = number ∙ is.number;
     later = (let low = is.listed.0 in omega (arith, low, after_is));
     listed = within;
-    widths = inl (from_is ∙ is.widths.0, group_to_is ∙ is.widths.1);
+    widths = step_without _ item group (subst (IsWidthStep ⊥ item) (λ i. record {
+      group = sym number i;
+      after = sym after_is i;
+      from = sym from_is i;
+      to = sym group_to_is i;
+    }) is.widths);
   }
 
   -- Its item is listed,

@@ -1,8 +1,9 @@
--- All holds stay shared, so that no call waits for one.
+-- All holds stay shared while nothing is copied, so that no call waits for one.
 use Rattle.std.proofs.Common.{◌≡◌, inl, inr, ⊎_elim, ℕ, ◌+◌, ◌<◌, ◌≤◌, List, length, Option, Some, None, sym, ◌∙◌, ap, subst, arith}
 use Rattle.range_locks.specs.declared.hold.Hold.{Hold}
 use Rattle.range_locks.specs.declared.hold.HoldKind.TheVariants.{Shared, Exclusive}
 use Rattle.range_locks.specs.Holds.{IsBusyBy}
+use Rattle.space_alloc.specs.Space.{Run}
 use Rattle.core_state.specs.declared.answer.Kind.{Kind}
 use Rattle.core_state.specs.declared.answer.Kind.TheVariants as kind
 use Rattle.client_script.specs.declared.call.ScriptCall.{ScriptCall}
@@ -12,34 +13,49 @@ use Rattle.core_turns.specs.Getting.{HasTooManyOut}
 use Rattle.schedule.specs.declared.client.Client.{Client}
 use Rattle.schedule.specs.declared.client.UnderWay.{UnderWay}
 use Rattle.schedule.specs.Replaying.{OnlyShared}
+use Rattle.schedule.specs.Using.{HasCopiedNone}
 use Rattle.client_script.specs.Script.{Script, calls_of}
 use Rattle.schedule.specs.Comes.{TakesTurn}
 use Rattle.schedule.proofs.Theirs.{none_some}
-use Rattle.schedule.proofs.UsingTurns.{answers_with, shared_still, waits_with, works_begin}
-use Rattle.schedule.proofs.UsingEnds.{works_end, works_go}
+use Rattle.schedule.proofs.Copied.{copied_none, stays_same}
+use Rattle.schedule.proofs.UsingTurns.{BeginsWith, answers_with, shared_still, waits_with, works_begin}
+use Rattle.schedule.proofs.UsingEnds.{GoesWith, works_end, works_go}
 use Rattle.schedule.specs.Turned.{Station, Turned, Nothing, Began, Went, Waits}
 
--- After a turn of a client all holds are shared still.
+-- All holds are shared, and nothing was copied.
+abbrev IsCalm : Core → Type 0
+IsCalm core = OnlyShared core.holds × HasCopiedNone core
+
+-- So it is after a first turn,
+calm_begun : {old new : Core} {more : List Run} → BeginsWith old new more → IsCalm old → IsCalm new
+calm_begun {old} {new} begins calm =
+    (begins.shared calm.1 calm.0, copied_none old new (stays_same old new begins.uber begins.done) calm.1)
+
+-- after a later one,
+calm_gone : {old new : Core} {group : ℕ} → GoesWith old new group → IsCalm old → IsCalm new
+calm_gone {old} {new} goes calm = (shared_still goes.uses calm.0, copied_none old new (goes.stays calm.1) calm.1)
+
+-- and after whatever turn of a client.
 pub turned_shared : {script : Script} {actor : ℕ} {before after : Station} {clients news : List Client}
     → TakesTurn script actor before after clients news → Turned (calls_of script actor) actor before after
-    → OnlyShared before.state.core.holds → OnlyShared after.state.core.holds
-turned_shared {before = before} takes (Nothing left) =
-    subst (λ (s : Station). OnlyShared before.state.core.holds → OnlyShared s.state.core.holds) (sym left.same) (λ shared. shared)
-turned_shared {actor = actor} {before} {after} takes (Began (More does) begins leaves) =
-    (works_begin before.state.core after.state.core takes.is actor begins.call begins.call.kind begins.call.id does begins.did).begins.shared
-turned_shared {actor = actor} {before} {after} takes (Began (Busy by) begins leaves) =
-    (waits_with before.state.core after.state.core takes.is actor begins.call begins.call.kind begins.call.id by begins.did).shared
-turned_shared {actor = actor} {before} {after} takes (Began (Done given) begins leaves) =
-    (answers_with before.state.core after.state.core takes.is actor begins.call begins.call.kind begins.call.id given begins.did).shared
-turned_shared {before = before} {after} takes (Went under (More does) goes leaves) =
-    shared_still (works_go before.state after.state takes.is goes.call under.work does goes.did).uses
-turned_shared takes (Went under (Busy by) goes leaves) = absurd leaves
-turned_shared {actor = actor} {before} {after} takes (Went under (Done given) goes leaves) = elim (works_end before.state
-    after.state takes.is goes.call under.work given
+    → OnlyShared before.state.core.holds × HasCopiedNone before.state.core
+    → OnlyShared after.state.core.holds × HasCopiedNone after.state.core
+turned_shared takes (Nothing left) calm = subst (λ (s : Station). IsCalm s.state.core) (sym left.same) calm
+turned_shared {actor = actor} {before} {after} takes (Began (More does) begins leaves) calm = calm_begun
+    (works_begin before.state.core after.state.core takes.is actor begins.call begins.call.kind begins.call.id does begins.did).begins calm
+turned_shared {actor = actor} {before} {after} takes (Began (Busy by) begins leaves) calm = calm_begun
+    (waits_with before.state.core after.state.core takes.is actor begins.call begins.call.kind begins.call.id by begins.did) calm
+turned_shared {actor = actor} {before} {after} takes (Began (Done given) begins leaves) calm = calm_begun
+    (answers_with before.state.core after.state.core takes.is actor begins.call begins.call.kind begins.call.id given begins.did) calm
+turned_shared {before = before} {after} takes (Went under (More does) goes leaves) calm =
+    calm_gone (works_go before.state after.state takes.is goes.call under.work does goes.did) calm
+turned_shared takes (Went under (Busy by) goes leaves) calm = absurd leaves
+turned_shared {actor = actor} {before} {after} takes (Went under (Done given) goes leaves) calm = elim (works_end
+    before.state after.state takes.is goes.call under.work given
     (λ run does. ((takes.schedule.going.each actor before.client under
     (record { there = takes.was; under_way = goes.going })).sync run does).0) goes.did) [
-      | inl plain ↦ shared_still plain.1.uses
-      | inr synced ↦ shared_still synced.2.uses
+      | inl plain ↦ calm_gone plain.1 calm
+      | inr synced ↦ calm_gone synced.2 calm
     ]
 
 -- ---- no call waits

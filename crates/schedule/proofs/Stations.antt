@@ -94,7 +94,7 @@ module _ (calls : List ScriptCall) (actor : ℕ) (before after : CoreState) (ite
   }) (refl, refl)
 
   pub went_done : (given : Answer) (widths : Reflow) (entry : Entry) (listed : List Item) (left : Option UnderWay)
-      → GoesOnBy before after call under.work (Done given) → widths ≡ before.core.pool.uber.reflow
+      → GoesOnBy before after call under.work (Done given) → widths ≡ after.core.pool.uber.reflow
       → entry ≡ entry_for call actor client.begun under.at given
       → listed ≡ listed_with widths items under.at entry entry.answer → left ≡ None
       → Turned calls actor (record { state = before; items = items; client = client }) (record {

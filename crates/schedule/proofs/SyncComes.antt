@@ -6,6 +6,7 @@ use Rattle.bank_trait.specs.Disk.{Disk}
 use Rattle.reflow_mark.specs.declared.reflow.Reflow.{Reflow}
 use Rattle.block_table.specs.Table.{IsTable}
 use Rattle.uberblock_ring.specs.Uberblock.{Uber}
+use Rattle.mark_advance.specs.Behind.{KeepsOrEnds}
 use Rattle.core_state.specs.declared.answer.Answer.{Answer}
 use Rattle.core_state.specs.declared.answer.Kind.TheVariants as kind
 use Rattle.core_state.specs.Map.{Map, map_of}
@@ -31,7 +32,7 @@ use Rattle.schedule.proofs.Begun.{begun_now}
 use Rattle.schedule.proofs.Going.{commits_on, run_of}
 use Rattle.schedule.proofs.RunsGoOn.{commit_begins}
 use Rattle.schedule.proofs.Fulls.{put_alone}
-use Rattle.schedule.proofs.LeavesPool.{leaves_pool, turn_still}
+use Rattle.schedule.proofs.LeavesPool.{holds_left, turn_still}
 use Rattle.schedule.proofs.TurnComes.{RunsOn, first_entry, comes_nowhere, comes_on, comes_at_once}
 use Rattle.schedule.proofs.Syncs.{no_commit, refused_tells, refused_map, refused_answers, refused_right}
 
@@ -51,15 +52,15 @@ module _ {script : Script} {actor : ℕ} {before after : Station} {clients news 
       → LeavesBegun actor call before after (More (work.Sync run)) → Comes script actor before after clients news
   sync_begins run table begins leaves =
       comes_on takes
-      (turn_still before.state after.state (ap (λ (c : Core). c.pool.uber) begins.4) (ap (λ (c : Core). c.pool.out) begins.4)
-      disk)
+      (turn_still before.state after.state (ap (λ (c : Core). c.pool.uber) begins.rest)
+      (ap (λ (c : Core). c.pool.out) begins.rest) disk)
       leaves.0 (ap answered leaves.1 ∙ number ∙ sym (answered_idle before.client idle))
       (let low = slice_get_within (calls_of script actor) before.client.begun call next in omega (arith, low, begun_is))
       (λ its_under is. omega (arith, begun_is))
       (commits_on takes.was takes.changes takes.schedule.going are under run call none_syncs under_is refl
       (ap (λ (c : Client). slice_get (calls_of script actor) (c.begun - 1)) leaves.1
       ∙ ap (slice_get (calls_of script actor)) number ∙ next)
-      (asked, no_id) begins.5 (ap (λ (c : Core). c.committing) begins.4))
+      (asked, no_id) begins.of (ap (λ (c : Core). c.committing) begins.rest))
       on
     where
       under : UnderWay
@@ -78,7 +79,7 @@ module _ {script : Script} {actor : ℕ} {before after : Station} {clients news 
       none_syncs : OnlyIt clients actor
       none_syncs other its its_under is sync =
           let its_run = run_of its_under.work sync in
-          absurd (none_some (sym begins.1
+          absurd (none_some (sym begins.none
           ∙ ((takes.schedule.going.each other its its_under is).sync its_run.0 its_run.1).1))
 
       same_calls : calls_under_way news ≡ calls_under_way clients
@@ -93,20 +94,18 @@ module _ {script : Script} {actor : ℕ} {before after : Station} {clients news 
           let map : Map = map_of world.handed world.opening before.items in
           let calls = calls_under_way clients in
           let none : runs.commit ≡ None =
-          no_commit world.setting runs.last runs.begun calls runs.commit before.state begins.1 runs.stands.groups in
+          no_commit world.setting runs.last runs.begun calls runs.commit before.state begins.none runs.stands.groups in
           let alone : Stands world.setting runs.last runs.begun map runs.contents calls None before.state =
           subst (λ (c : Option CommitRun). Stands world.setting runs.last runs.begun map runs.contents calls c before.state)
           none runs.stands in
-          let empty : runs.begun ≡ [] = (alone.groups.whole (few_out old begins.0)).0 in
+          let empty : runs.begun ≡ [] = (alone.groups.whole (few_out old begins.few)).0 in
           let made = commit_begins_stands takes.lawful takes.is table begins takes.schedule.going.are alone in
           let last : old.pool.uber.group ≡ runs.last.uber.group = ap (λ (u : Uber). u.group) runs.stands.alike in
-          let rest = rests old takes.is begins.1 in
-          let begun : now.begun ≡ old.begun + 1 = ap (λ (c : Core). c.begun) begins.4 in
-          let widths : made.0.uber.reflow ≡ runs.last.uber.reflow =
-          made.3 ∙ ap (λ (u : Uber). u.reflow) runs.stands.alike in
+          let rest = rests old takes.is begins.none in
+          let begun : now.begun ≡ old.begun + 1 = ap (λ (c : Core). c.begun) begins.rest in
           commit_begins after.state takes.was takes.changes runs run made.0 empty none disk leaves.1
           (begun_now runs.recorded (let number = made.2 in omega (arith, number, begun, rest, last))
-          (ap (λ (r : Reflow). r.from) widths, ap (λ (r : Reflow). r.to) widths)
+          (subst (λ (r : Reflow). KeepsOrEnds r made.0.uber.reflow) (ap (λ (u : Uber). u.reflow) runs.stands.alike) made.3)
           (λ id. ap (λ (m : Map). m id) made.1))
           (made.4 ∙ ap (λ (u : Uber). u.parity) runs.stands.alike)
           (subst (λ (l : List HoldingCall). Stands world.setting runs.last (made.0 ∷ []) map runs.contents l (Some run)
@@ -126,7 +125,7 @@ module _ {script : Script} {actor : ℕ} {before after : Station} {clients news 
       → LeavesBegun actor call before after (Done given) → Comes script actor before after clients news
   sync_at_once given refused leaves =
       let of = refused_answers call.kind old given refused.0 in
-      comes_at_once takes call idle (leaves_pool old now old.pool.blocks old.holds refused.1) disk given next leaves
+      comes_at_once takes call idle (holds_left old now old.pool.blocks refused.1) disk given next leaves
       (record {
         of_kind = of;
         tells = refused_tells old given refused.0;

@@ -1,7 +1,6 @@
 -- What a sync comes to that goes on or ends, among the other clients' calls.
 use Rattle.std.proofs.Common.{◌≡◌, inl, inr, ℕ, ◌+◌, ◌-◌, ◌≤◌, List, [], ◌∷◌, ◌++◌, Option, Some, None, refl, sym, ◌∙◌, ap, subst, arith, append_assoc}
 use Rattle.std.specs.Prelude.{slice_get}
-use Rattle.reflow_mark.specs.declared.reflow.Reflow.{Reflow}
 use Rattle.uberblock_ring.specs.Uberblock.{Uber}
 use Rattle.core_state.specs.declared.answer.Answer.{Answer}
 use Rattle.core_state.specs.declared.answer.Answer.TheVariants as answer
@@ -24,7 +23,8 @@ use Rattle.core_turns.specs.Core.{Core, CoreState}
 use Rattle.core_turns.specs.Committing.{IsCommitOf, StepsCommit, AnswersGroup}
 use Rattle.core_turns.specs.UnderWay.{Stands, TurnGoesOn, AreCallsOf, HoldingCall}
 use Rattle.core_turns.proofs.Commits.{few_out, turn_bank}
-use Rattle.core_turns.proofs.CommitStands.{commit_steps_calls, commit_steps_stands, commit_steps_since, commit_ends_calls, commit_ends_stands, commit_is_cut as cut_stands}
+use Rattle.core_turns.proofs.CommitEnds.{commit_ends_calls, commit_ends_stands}
+use Rattle.core_turns.proofs.CommitStands.{commit_steps_calls, commit_steps_stands, commit_steps_since, commit_is_cut as cut_stands}
 use Rattle.schedule.specs.declared.client.Client.{Client}
 use Rattle.schedule.specs.declared.client.UnderWay.{UnderWay}
 use Rattle.schedule.specs.declared.client.Work.TheVariants as work
@@ -151,10 +151,9 @@ module _ {script : Script} {actor : ℕ} {before after : Station} {clients news 
     schedule = record {
       going = commit_ends takes.was takes.changes takes.schedule.going
           (subst (AreCallsOf now) (sym (ended_calls (answer.Synced number) leaves))
-          (commit_ends_calls before.state after.state (calls_under_way clients) run number of_core.0 answers
-          takes.schedule.going.are))
+          (commit_ends_calls takes.is of_core.0 answers (calls_under_way clients) takes.schedule.going.are))
           (idle_now (answer.Synced number) leaves) only
-          (λ its is. absurd (none_some (sym (ap (λ (c : Core). c.committing) answers.rest) ∙ is)));
+          (λ its is. absurd (none_some (sym (ap (λ (c : Core). c.committing) answers.answers.rest) ∙ is)));
       answered = subst (ClientsAreAnswered script news) (sym leaves.0)
           (answered_end (answer.Synced number) leaves (before.items ++ Group group ∷ [])
           (answers_group script clients before.items group takes.schedule.answered));
@@ -166,7 +165,7 @@ module _ {script : Script} {actor : ℕ} {before after : Station} {clients news 
       entry = entry_for call actor before.client.begun under.at (answer.Synced number)
 
       group : GroupItem
-      group = group_for old under.at number
+      group = group_for now under.at number
 
       both : (before.items ++ Group group ∷ []) ++ CallItem entry ∷ [] ≡ before.items ++ Group group ∷ CallItem entry ∷ []
       both = append_assoc before.items (Group group ∷ []) (CallItem entry ∷ [])
@@ -208,14 +207,13 @@ module _ {script : Script} {actor : ℕ} {before after : Station} {clients news 
           let map : Map = map_of world.handed world.opening before.items in
           let stands = its_stands runs in
           let next : Kept = stands.groups.next in
-          let stood = commit_ends_stands takes.is answers (within (few_out old answers.few))
+          let stood = commit_ends_stands takes.is of_core.0 answers takes.schedule.going.are
+          (within (few_out old answers.few))
           (subst (λ (l : List Kept). Stands world.setting runs.last l map runs.contents (calls_under_way clients) (Some run)
           before.state) stands.groups.begun_is stands) in
           let number_is : number ≡ next.uber.group =
           answers.group_is ∙ sym stands.groups.of.number ∙ ap (λ (u : Uber). u.group) stands.groups.come.alike in
-          let reflow_is : old.pool.uber.reflow ≡ next.uber.reflow =
-          sym (ap (λ (u : Uber). u.reflow) stands.groups.of.uber_is)
-          ∙ ap (λ (u : Uber). u.reflow) stands.groups.come.alike in
+          let reflow_is : now.pool.uber.reflow ≡ next.uber.reflow = ap (λ (u : Uber). u.reflow) stood.alike in
           runs_ends after.state takes.was takes.changes runs under run next group entry refl
           (idle_now (answer.Synced number) leaves) under_is does_is stands.groups.begun_is only disk
           (λ i. record {

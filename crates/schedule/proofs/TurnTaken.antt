@@ -22,6 +22,7 @@ use Rattle.schedule.specs.Playing.{HasRoomForAnswers, IsReady}
 use Rattle.schedule.specs.Replaying.{AreIdle, HasTurn, OnlyShared, TakesOne}
 use Rattle.schedule.specs.Running.{AreGoing, IsGoing, IsWorkFor, IsWorkOf, calls_under_way, held_by}
 use Rattle.schedule.specs.Turned.{MayGoOn, Station, Turned}
+use Rattle.schedule.specs.Using.{HasCopiedNone}
 use Rattle.schedule.proofs.Coming.{came_nowhere}
 use Rattle.schedule.proofs.Shared.{turned_begins, turned_further, turned_shared, turned_still}
 use Rattle.schedule.proofs.Theirs.{none_some, some_is, is_among}
@@ -144,7 +145,7 @@ none_commits script core clients going idle few other is = ⊎_elim few
 module _ (script : Script) (actor : ℕ) (before after : Station) (clients news : List Client)
     (takes : TakesTurn script actor before after clients news)
     (allowed : All (λ placed. IsAllowed placed.call) script.calls) (shared : OnlyShared before.state.core.holds)
-    (turned : Turned (calls_of script actor) actor before after) where
+    (still : HasCopiedNone before.state.core) (turned : Turned (calls_of script actor) actor before after) where
   comes : Comes script actor before after clients news
   comes = turned_comes takes (allowed_of script actor allowed) turned
 
@@ -188,9 +189,10 @@ module _ (script : Script) (actor : ℕ) (before after : Station) (clients news 
   -- The next turn may be taken then.
   pub turn_ready : (left : ℕ) → length clients ≡ script.clients → length news ≡ length clients
       → HasRoomForAnswers script news left → IsReady script (turns_of after.state after.items news) left
-  turn_ready left counted same enough = record {
+  turn_ready left counted same enough = let calm = turned_shared takes turned (shared, still) in record {
     schedule = comes.schedule;
-    shared = turned_shared takes turned shared;
+    shared = calm.0;
+    still = calm.1;
     counted = same ∙ counted;
     enough = enough;
   }

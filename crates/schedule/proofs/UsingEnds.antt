@@ -1,10 +1,11 @@
 -- What the later turns of a call leave of the runs of sectors that were taken, and of the pool's group.
-use Rattle.std.proofs.Common.{◌≡◌, ◌⊎◌, inl, inr, ⊎_elim, ℕ, ◌+◌, ◌≤◌, List, [], ◌∷◌, ◌++◌, Option, refl, sym, ◌∙◌, ap, subst, arith}
-use Rattle.std.specs.Prelude.{Contains, nat_lt, ⊤}
+use Rattle.std.proofs.Common.{◌≡◌, ◌⊎◌, inl, inr, ⊎_elim, ℕ, ◌+◌, ◌==◌, if◌then◌else◌, Bool, true, false, List, [], ◌∷◌, ◌++◌, Option, refl, sym, ◌∙◌, ap, subst, arith}
+use Rattle.std.specs.Prelude.{Contains, filter, nat_lt, ⊤}
 use Rattle.std.proofs.lemmas.Bool.{cases_lt}
 use Rattle.range_locks.specs.declared.hold.Hold.{Hold}
 use Rattle.range_locks.specs.Holds.{EndsHold}
-use Rattle.space_alloc.specs.Space.{Run, HeldRun, Space}
+use Rattle.reflow_mark.specs.Reflow.{sectors_of}
+use Rattle.space_alloc.specs.Space.{Run, HeldRun, Space, after_group}
 use Rattle.block_record.specs.declared.entry.IndexEntry.{IndexEntry}
 use Rattle.uberblock_ring.specs.Devices.{count_of}
 use Rattle.uberblock_ring.specs.Uberblock.{Uber}
@@ -12,9 +13,13 @@ use Rattle.core_state.specs.declared.answer.Answer.{Answer}
 use Rattle.core_state.specs.declared.answer.Answer.TheVariants as answer
 use Rattle.core_state.specs.declared.answer.Kind.{Kind}
 use Rattle.core_state.specs.declared.answer.Kind.TheVariants as kind
+use Rattle.core_blocks.specs.Blocks.{Blocks}
+use Rattle.core_blocks.specs.Growing.{grown_by}
 use Rattle.core_blocks.proofs.Lists.{filter_was}
 use Rattle.core_commit.specs.CommitTurns.{CommitRun}
 use Rattle.core_commit.proofs.Stepping.{ready_keeps}
+use Rattle.open_pool.specs.Answered.{blocks_behind}
+use Rattle.open_pool.specs.Pool.{Pool}
 use Rattle.client_script.specs.declared.call.ScriptCall.{ScriptCall}
 use Rattle.core_turns.specs.declared.getting.GetRun.{GetRun}
 use Rattle.core_turns.specs.declared.putting.PutRun.{PutRun}
@@ -29,22 +34,25 @@ use Rattle.core_turns.specs.Committing.{AnswersGroup, IsCommitOf, StepsCommit}
 use Rattle.schedule.specs.declared.client.Work.{Work}
 use Rattle.schedule.specs.declared.client.Work.TheVariants as work
 use Rattle.schedule.specs.Turned.{EndsPutting, EndsReading, GoesOnBy, listed_for}
+use Rattle.schedule.specs.Using.{HasCopiedNone}
+use Rattle.schedule.proofs.Copied.{Stays, answers_stays, stays_same}
 use Rattle.schedule.proofs.UsingTurns.{UsesNoMore, given_up, one_less, same_core, same_parts, stored}
 use Rattle.core_state.specs.declared.item.Item.{Item}
 use Rattle.core_state.specs.declared.item.Item.TheVariants.{Call as CallItem}
 use Rattle.core_state.specs.declared.item.Entry.{Entry}
 
--- A turn goes on with no more runs; the group is this one then.
+-- A turn goes on with no more runs; the group is this one then. Where nothing was copied the pool stays.
 pub record GoesWith (old new : Core) (group : ℕ) : Type 0 where
   pub uses : UsesNoMore old new
   pub group_is : new.pool.uber.group ≡ group
-  pub rises : old.pool.uber.group ≤ group
+  pub stays : HasCopiedNone old → Stays old new
 
-goes_still : (old new : Core) → new.pool.uber ≡ old.pool.uber → UsesNoMore old new → GoesWith old new old.pool.uber.group
-goes_still old new uber uses = record {
+goes_still : (old new : Core) → new.pool.uber ≡ old.pool.uber → new.pool.done ≡ old.pool.done → UsesNoMore old new
+    → GoesWith old new old.pool.uber.group
+goes_still old new uber done uses = record {
   uses = uses;
   group_is = ap (λ (u : Uber). u.group) uber;
-  rises = omega arith;
+  stays = λ still. stays_same old new uber done;
 }
 
 -- An answer that neither ends a group nor tells of no space.
@@ -65,6 +73,25 @@ pub plain_listed : (core : Core) (items : List Item) (at : ℕ) (entry : Entry) 
 plain_listed core items at entry (answer.Synced number) plain = absurd plain
 plain_listed core items at entry other plain = refl
 
+module _ (blocks : Blocks) (group capacity : ℕ) where
+  abbrev grown_if : Bool → Blocks
+  grown_if same = if same then blocks else grown_by blocks group capacity
+
+  abbrev left_of : List HeldRun → List HeldRun
+  left_of held = filter (λ (held : HeldRun). nat_lt group held.group) held
+
+  -- A pool that grows has the same runs.
+  runs_grown : (same : Bool) → ((after_group (grown_if same).space group).taken ≡ blocks.space.taken)
+      × ((after_group (grown_if same).space group).held ≡ left_of blocks.space.held)
+  runs_grown true = (refl, refl)
+  runs_grown false = (refl, refl)
+
+-- Behind an answer the runs that are taken are the same, and those held back until it are left out.
+runs_behind : (pool : Pool) (uber : Uber) → ((blocks_behind pool uber).space.taken ≡ pool.blocks.space.taken)
+    × ((blocks_behind pool uber).space.held ≡ left_of pool.blocks uber.group (sectors_of uber.reflow) pool.blocks.space.held)
+runs_behind pool uber = runs_grown pool.blocks uber.group (sectors_of uber.reflow)
+    (uber.reflow.from == pool.uber.reflow.from)
+
 module _ (before after : CoreState) (is : IsCore before.core) where
   abbrev old : Core
   old = before.core
@@ -72,28 +99,38 @@ module _ (before after : CoreState) (is : IsCore before.core) where
   abbrev new : Core
   new = after.core
 
+  -- Only devices went out.
+  core_goes : (out : ℕ) → new ≡ record old { pool = record old.pool { out = out } } → GoesWith old new old.pool.uber.group
+  core_goes out rest = goes_still old new (ap (λ (c : Core). c.pool.uber) rest) (ap (λ (c : Core). c.pool.done) rest)
+      (same_parts old new (ap (λ (c : Core). c.pool.blocks.space) rest) (ap (λ (c : Core). c.holds) rest))
+
   stopped_goes : (run : PutRun) (given : Answer) → IsStoppedPut old new run given → GoesWith old new old.pool.uber.group
   stopped_goes run given stopped = goes_still old new (ap (λ (c : Core). c.pool.uber) stopped.gives_up.rest)
-      (given_up old new run stopped.gives_up)
+      (ap (λ (c : Core). c.pool.done) stopped.gives_up.rest) (given_up old new run stopped.gives_up)
 
   writes_goes : (run : PutRun) (turn : Turn PutRun) → WritesTurn before run after turn
       → GoesWith old new old.pool.uber.group
-  writes_goes run (More next) writes = goes_still old new (ap (λ (c : Core). c.pool.uber) writes.rest)
-      (same_parts old new (ap (λ (c : Core). c.pool.blocks.space) writes.rest) (ap (λ (c : Core). c.holds) writes.rest))
+  writes_goes run (More next) writes = core_goes new.pool.out writes.rest
   writes_goes run (Busy by) writes = absurd writes
   writes_goes run (Done given) writes = stopped_goes run given writes.0
 
   ended_put : (run : PutRun) (given : Answer) → EndsPut old run new (Done given)
       → IsPlainEnd given × GoesWith old new old.pool.uber.group
-  ended_put run answer.Stored ends =
-      (tt, goes_still old new (ap (λ (c : Core). c.pool.uber) ends.rest) (stored old new run ends))
+  ended_put run answer.Stored ends = (
+    tt,
+    goes_still old new (ap (λ (c : Core). c.pool.uber) ends.rest) (ap (λ (c : Core). c.pool.done) ends.rest)
+        (stored old new run ends),
+  )
   ended_put run (answer.TooManyFailed out) ends = (tt, stopped_goes run (answer.TooManyFailed out) ends)
   ended_put run other ends = absurd ends
 
   gave_up : (run : PutRun) (given : Answer) → GivesUpTurn old run new (Done given)
       → IsPlainEnd given × GoesWith old new old.pool.uber.group
-  gave_up run answer.NoMemory ends =
-      (tt, goes_still old new (ap (λ (c : Core). c.pool.uber) ends.1.rest) (given_up old new run ends.1))
+  gave_up run answer.NoMemory ends = (
+    tt,
+    goes_still old new (ap (λ (c : Core). c.pool.uber) ends.1.rest) (ap (λ (c : Core). c.pool.done) ends.1.rest)
+        (given_up old new run ends.1),
+  )
   gave_up run (answer.TooManyFailed out) ends = (tt, stopped_goes run (answer.TooManyFailed out) ends)
   gave_up run other ends = absurd ends
 
@@ -109,13 +146,14 @@ module _ (before after : CoreState) (is : IsCore before.core) where
 
   ended_hold : (hold : Hold) → new ≡ record old { holds = new.holds } → EndsHold old.holds new.holds hold
       → GoesWith old new old.pool.uber.group
-  ended_hold hold rest ends = goes_still old new (ap (λ (c : Core). c.pool.uber) rest) (record {
-    taken = λ run listed. subst (λ (s : Space). Contains s.taken run)
-        (ap (λ (c : Core). c.pool.blocks.space) rest) listed;
-    held = λ run listed. inl (subst (λ (s : Space). Contains s.held run)
-        (ap (λ (c : Core). c.pool.blocks.space) rest) listed);
-    holds = one_less old new hold ends;
-  })
+  ended_hold hold rest ends = goes_still old new (ap (λ (c : Core). c.pool.uber) rest)
+      (ap (λ (c : Core). c.pool.done) rest) (record {
+        taken = λ run listed. subst (λ (s : Space). Contains s.taken run)
+            (ap (λ (c : Core). c.pool.blocks.space) rest) listed;
+        held = λ run listed. inl (subst (λ (s : Space). Contains s.held run)
+            (ap (λ (c : Core). c.pool.blocks.space) rest) listed);
+        holds = one_less old new hold ends;
+      })
 
   -- What was solved is answered plainly.
   block_plain : (asked : Kind) (entry : IndexEntry) (bytes : List ℕ) → IsPlainEnd (answer_of asked entry bytes)
@@ -147,24 +185,28 @@ module _ (before after : CoreState) (is : IsCore before.core) where
   next_group run number of answers =
       answers.group_is ∙ is.begun ∙ ap (λ (c : Option ℕ). old.pool.uber.group + groups_begun c) of.under_way
 
-  -- A group is answered: what was held back until it is free.
+  -- A group is answered: what was held back until it is free, and what its commit held.
   group_ends : (run : CommitRun) (number : ℕ) → IsCommitOf old run → AnswersGroup before run after number
       → GoesWith old new number
   group_ends run number of answers = record {
     uses = record {
       taken = λ other listed. subst (λ (l : List Run). Contains l other)
-          (ap (λ (c : Core). c.pool.blocks.space.taken) answers.rest) listed;
+          (ap (λ (c : Core). c.pool.blocks.space.taken) answers.answers.rest
+          ∙ (runs_behind old.pool answers.ended.uber).0) listed;
       held = λ other listed. inl (filter_was (λ (held : HeldRun). nat_lt answers.ended.uber.group held.group)
           old.pool.blocks.space.held other
           (subst (λ (l : List HeldRun). Contains l other)
-          (ap (λ (c : Core). c.pool.blocks.space.held) answers.rest) listed));
-      holds = λ hold listed. subst (λ (l : List Hold). Contains l hold)
-          (ap (λ (c : Core). c.holds) answers.rest) listed;
+          (ap (λ (c : Core). c.pool.blocks.space.held) answers.answers.rest
+          ∙ (runs_behind old.pool answers.ended.uber).1) listed));
+      holds = λ hold listed. ⊎_elim
+          (λ dropped. one_less old new _ dropped.1 hold listed)
+          (λ none. subst (λ (l : List Hold). Contains l hold) none.1 listed)
+          answers.answers.holds;
     };
-    group_is = ap (λ (c : Core). c.pool.uber.group) answers.rest
+    group_is = ap (λ (c : Core). c.pool.uber.group) answers.answers.rest
         ∙ ap (λ (u : Uber). u.group) (ready_keeps old.pool.out run answers.ended answers.ends.is_ready).uber
         ∙ of.number ∙ sym answers.group_is;
-    rises = (let next = next_group run number of answers in omega (arith, next));
+    stays = answers_stays before after run number is of answers;
   }
 
   sync_ends : (run : CommitRun) (given : Answer) → IsCommitOf old run → StepsCommit before run after (Done given)
@@ -174,14 +216,9 @@ module _ (before after : CoreState) (is : IsCore before.core) where
       inl (
         tt,
         goes_still old new (ap (λ (s : CoreState). s.core.pool.uber) steps.2)
-            (same_core old new (ap (λ (s : CoreState). s.core) steps.2)),
+            (ap (λ (s : CoreState). s.core.pool.done) steps.2) (same_core old new (ap (λ (s : CoreState). s.core) steps.2)),
       )
   sync_ends run other of steps = absurd steps
-
-  core_goes : (state_out : ℕ) → new ≡ record old { pool = record old.pool { out = state_out } }
-      → GoesWith old new old.pool.uber.group
-  core_goes out rest = goes_still old new (ap (λ (c : Core). c.pool.uber) rest)
-      (same_parts old new (ap (λ (c : Core). c.pool.blocks.space) rest) (ap (λ (c : Core). c.holds) rest))
 
   -- A later turn: one after which the call goes on,
   pub works_go : (call : ScriptCall) (does next : Work) → GoesOnBy before after call does (More next)

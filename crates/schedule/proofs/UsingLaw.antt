@@ -24,7 +24,6 @@ use Rattle.client_script.specs.Script.{Placed, Script, calls_of, handed_by}
 use Rattle.core_turns.specs.declared.turn.Turn.TheVariants.{More, Busy, Done}
 use Rattle.core_turns.specs.Core.{Core, IsCore}
 use Rattle.core_turns.specs.Committing.{IsCommitOf}
-use Rattle.core_turns.specs.UnderWay.{TurnGoesOn}
 use Rattle.journal_law.specs.NoSpace.{length_put, FindsNoSpace, NoSpaceIsCaused}
 use Rattle.journal_law.proofs.NoSpace.{no_space_call, no_space_group}
 use Rattle.schedule.specs.declared.client.Client.{Client}
@@ -34,6 +33,7 @@ use Rattle.schedule.specs.Clients.{Changes}
 use Rattle.schedule.specs.Running.{AreGoing}
 use Rattle.schedule.specs.Turned.{AnswersAtOnce, Station, Turned, Nothing, Began, Went, entry_for, group_for, listed_for}
 use Rattle.schedule.specs.Using.{AreLeft, AreRunsOf, AreUsed, HasUsedRuns, IsOpenSince, sizes_of}
+use Rattle.schedule.proofs.Copied.{opened_stays, stays_same}
 use Rattle.schedule.proofs.Using.{full_by_runs, left_next, left_same, most_next, one_width}
 use Rattle.schedule.proofs.UsingTurns.{BeginsWith, FitsPut, answers_with, none_fits, runs_still, same_core, waits_with, works_begin}
 use Rattle.schedule.proofs.UsingEnds.{GoesWith, IsPlainEnd, works_end, works_go, plain_listed}
@@ -69,26 +69,11 @@ module _ (script : Script) (actor : ℕ) (before after : Station) (clients news 
 
   -- ---- what the pool was opened with
 
-  opened_same : new.pool.uber ≡ old.pool.uber → IsOpenSince uber new
-  opened_same same = record {
-    right = stood.opened.right;
-    born = stood.opened.born;
-    since = (let low = stood.opened.since in let group = ap (λ (u : Uber). u.group) same in omega (arith, low, group));
-    parity = ap (λ (u : Uber). u.parity) same ∙ stood.opened.parity;
-    births = ap (λ (u : Uber). u.births) same ∙ stood.opened.births;
-    reflow = ap (λ (u : Uber). u.reflow) same ∙ stood.opened.reflow;
-  }
+  opened_same : new.pool.uber ≡ old.pool.uber → new.pool.done ≡ old.pool.done → IsOpenSince uber new
+  opened_same same done = opened_stays uber old new (stays_same old new same done) stood.opened
 
-  opened_goes : (group : ℕ) → TurnGoesOn before.state after.state → GoesWith old new group → IsOpenSince uber new
-  opened_goes group goes with = record {
-    right = stood.opened.right;
-    born = stood.opened.born;
-    since = (let low = stood.opened.since in let rises = with.rises in let same = with.group_is in
-        omega (arith, low, rises, same));
-    parity = goes.parity ∙ stood.opened.parity;
-    births = goes.births ∙ stood.opened.births;
-    reflow = goes.widths ∙ stood.opened.reflow;
-  }
+  opened_goes : (group : ℕ) → GoesWith old new group → IsOpenSince uber new
+  opened_goes group with = opened_stays uber old new (with.stays stood.opened.still) stood.opened
 
   -- ---- what was used
 
@@ -119,7 +104,7 @@ module _ (script : Script) (actor : ℕ) (before after : Station) (clients news 
             left = left;
             are_left = are_left;
             runs = more ++ stood.used.runs;
-            are = begins.runs stood.used.runs stood.used.are;
+            are = begins.runs stood.opened.still stood.used.runs stood.used.are;
             most = most_next uber stood.used.runs more left stood.used.left placed (sizes_of uber entries script.calls)
                 gains its.few its.sectors stood.used.most;
           }
@@ -211,21 +196,21 @@ module _ (script : Script) (actor : ℕ) (before after : Station) (clients news 
       → HasUsedRuns script uber entries after.state.core after.items news
   turn_uses (Nothing nothing) =
       let core : new ≡ old = ap (λ (s : Station). s.state.core) nothing.same in
-      lists_none (opened_same (ap (λ (c : Core). c.pool.uber) core))
+      lists_none (opened_same (ap (λ (c : Core). c.pool.uber) core) (ap (λ (c : Core). c.pool.done) core))
       (used_still (runs_still old new (same_core old new core))
       (ap (λ (s : Station). s.client.begun) nothing.same))
       (ap (λ (s : Station). s.items) nothing.same)
   turn_uses (Began (More does) begins leaves) =
       let on = works_begin old new is actor begins.call begins.call.kind begins.call.id does begins.did in
-      lists_none (opened_same on.begins.uber)
+      lists_none (opened_same on.begins.uber on.begins.done)
       (used_next begins.call begins.next (ap (λ (c : Client). c.begun) leaves.1) on.more on.begins
       (on.fits uber stood.opened)) leaves.0
   turn_uses (Began (Busy by) begins leaves) =
       let with = waits_with old new is actor begins.call begins.call.kind begins.call.id by begins.did in
-      lists_none (opened_same with.uber) (used_still with.runs (ap (λ (c : Client). c.begun) leaves.1)) leaves.0
+      lists_none (opened_same with.uber with.done) (used_still (with.runs stood.opened.still) (ap (λ (c : Client). c.begun) leaves.1)) leaves.0
   turn_uses (Began (Done given) begins leaves) =
       let with = answers_with old new is actor begins.call begins.call.kind begins.call.id given begins.did in
-      lists_entry (opened_same with.uber)
+      lists_entry (opened_same with.uber with.done)
       (used_next begins.call begins.next (ap (λ (c : Client). c.begun) leaves.1) [] with
       (none_fits uber (length_put begins.call.kind (fill_bytes begins.call.fill))))
       (entry_for begins.call actor (before.client.begun + 1) (length before.items) given) leaves.0
@@ -235,22 +220,22 @@ module _ (script : Script) (actor : ℕ) (before after : Station) (clients news 
       finds begins.call given size begins.next why.0 why.1)
   turn_uses (Went under (More does) goes leaves) =
       let with = works_go before.state after.state is goes.call under.work does goes.did in
-      lists_none (opened_goes old.pool.uber.group goes.goes with)
+      lists_none (opened_goes old.pool.uber.group with)
       (used_still (runs_still old new with.uses) (ap (λ (c : Client). c.begun) leaves.1)) leaves.0
   turn_uses (Went under (Busy by) goes leaves) = absurd leaves
   turn_uses (Went under (Done given) goes leaves) = elim (works_end before.state after.state is goes.call under.work given
       (its_commit under goes.going) goes.did) [
-        | inl plain ↦ lists_entry (opened_goes old.pool.uber.group goes.goes plain.1)
+        | inl plain ↦ lists_entry (opened_goes old.pool.uber.group plain.1)
             (used_still (runs_still old new plain.1.uses) (ap (λ (c : Client). c.begun) leaves.1))
             (entry_for goes.call actor before.client.begun under.at given)
-            (leaves.0 ∙ plain_listed old before.items under.at
+            (leaves.0 ∙ plain_listed new before.items under.at
             (entry_for goes.call actor before.client.begun under.at given) given plain.0)
             (λ size told. absurd (plain_space given size plain.0 told))
-        | inr synced ↦ lists_group (opened_goes synced.0 goes.goes synced.2)
+        | inr synced ↦ lists_group (opened_goes synced.0 synced.2)
             (used_still (runs_still old new synced.2.uses) (ap (λ (c : Client). c.begun) leaves.1))
-            (group_for old under.at synced.0)
+            (group_for new under.at synced.0)
             (entry_for goes.call actor before.client.begun under.at given)
-            (leaves.0 ∙ ap (listed_for old before.items under.at
+            (leaves.0 ∙ ap (listed_for new before.items under.at
             (entry_for goes.call actor before.client.begun under.at given)) synced.1)
             (λ size told. absurd (apart (sym synced.1 ∙ told)))
       ]

@@ -5,6 +5,7 @@ use Rattle.std.proofs.lemmas.List.Sums.{sum_by-append}
 use Rattle.bank_trait.specs.Disk.{Disk}
 use Rattle.width_map.specs.Births.{NoneAbove}
 use Rattle.row_layout.specs.Layout.{allocated_of}
+use Rattle.shadow_write.specs.Required.{front_after_stop}
 use Rattle.space_alloc.specs.Space.{Run, HeldRun}
 use Rattle.block_record.specs.declared.entry.IndexEntry.{IndexEntry}
 use Rattle.uberblock_ring.specs.Uberblock.{Uber}
@@ -36,7 +37,7 @@ index_sizes uber [] = refl
 index_sizes uber (entry ∷ entries) = ap (λ (l : List ℕ). largest_size uber entry.len ∷ l) (index_sizes uber entries)
 
 module _ (script : Script) (pool : Pool) (disk : Disk) (right : IsRightUber pool.uber)
-    (born : NoneAbove pool.uber.group pool.uber.births)
+    (born : NoneAbove pool.uber.group pool.uber.births) (front : pool.done ≡ front_after_stop pool.uber.reflow)
     (loaded : AreLoaded pool.uber pool.blocks.table.entries pool.blocks) where
   abbrev entries : List IndexEntry
   entries = pool.blocks.table.entries
@@ -83,6 +84,7 @@ module _ (script : Script) (pool : Pool) (disk : Disk) (right : IsRightUber pool
       parity = refl;
       births = refl;
       reflow = refl;
+      still = λ expands. front;
     };
     used = record {
       left = script.calls;

@@ -35,7 +35,8 @@ use Rattle.schedule.specs.declared.client.Work.{Work}
 use Rattle.schedule.specs.declared.client.Work.TheVariants as work
 use Rattle.schedule.specs.Replaying.{OnlyShared}
 use Rattle.schedule.specs.Turned.{AnswersAtOnce, BeginsWork, Waits}
-use Rattle.schedule.specs.Using.{AreRunsOf, IsHeldIn, IsOpenSince}
+use Rattle.schedule.specs.Using.{AreRunsOf, HasCopiedNone, IsHeldIn, IsOpenSince}
+use Rattle.schedule.proofs.Copied.{begins_holds}
 
 -- ---- runs
 
@@ -133,11 +134,12 @@ module _ (old new : Core) where
 
 -- ---- first turns
 
--- A turn begins a call, with these runs more. A hold that comes is shared.
+-- A turn begins a call, with these runs more where nothing was copied. A hold that comes is shared then.
 pub record BeginsWith (old new : Core) (more : List Run) : Type 0 where
   pub uber : new.pool.uber ≡ old.pool.uber
-  pub runs : (runs : List Run) → AreRunsOf runs old → AreRunsOf (more ++ runs) new
-  pub shared : OnlyShared old.holds → OnlyShared new.holds
+  pub done : new.pool.done ≡ old.pool.done
+  pub runs : HasCopiedNone old → (runs : List Run) → AreRunsOf runs old → AreRunsOf (more ++ runs) new
+  pub shared : HasCopiedNone old → OnlyShared old.holds → OnlyShared new.holds
 
 pub shared_still : {old new : Core} → UsesNoMore old new → OnlyShared old.holds → OnlyShared new.holds
 shared_still uses shared = record { each = λ hold listed. shared.each hold (uses.holds hold listed) }
@@ -151,9 +153,14 @@ shared_more {old} {new} {hold} gains kind_is shared = record {
       (gains_cases old new hold other gains listed);
 }
 
-begins_still : (old new : Core) → new.pool.uber ≡ old.pool.uber → UsesNoMore old new → BeginsWith old new []
-begins_still old new uber uses =
-    record { uber = uber; runs = runs_still old new uses; shared = shared_still uses }
+begins_still : (old new : Core) → new.pool.uber ≡ old.pool.uber → new.pool.done ≡ old.pool.done
+    → (HasCopiedNone old → UsesNoMore old new) → BeginsWith old new []
+begins_still old new uber done uses = record {
+  uber = uber;
+  done = done;
+  runs = λ still. runs_still old new (uses still);
+  shared = λ still. shared_still (uses still);
+}
 
 -- The runs are no more than what is put, at the pool's first width.
 pub record FitsPut (uber : Uber) (more : List Run) (lengths : List ℕ) : Type 0 where
@@ -171,17 +178,20 @@ pub record BeginsOn (old new : Core) (lengths : List ℕ) : Type 0 where
 
 module _ (old new : Core) (is : IsCore old) where
   same_begins : new ≡ old → BeginsWith old new []
-  same_begins same = begins_still old new (ap (λ (c : Core). c.pool.uber) same) (same_core old new same)
+  same_begins same = begins_still old new (ap (λ (c : Core). c.pool.uber) same) (ap (λ (c : Core). c.pool.done) same)
+      (λ still. same_core old new same)
 
   left_begins : LeavesBlocks old new → BeginsWith old new []
-  left_begins leaves = begins_still old new (ap (λ (c : Core). c.pool.uber) leaves.rest) (left_blocks old new leaves)
+  left_begins leaves = begins_still old new (ap (λ (c : Core). c.pool.uber) leaves.rest)
+      (ap (λ (c : Core). c.pool.done) leaves.rest) (λ still. left_blocks old new leaves)
 
   -- A put takes one run, and holds it.
   put_takes : (actor id len : ℕ) (run : PutRun) → BeginsPutSo old new actor id len run
       → BeginsWith old new (put_run run.range ∷ [])
   put_takes actor id len run begins = record {
     uber = ap (λ (c : Core). c.pool.uber) begins.rest;
-    runs = λ runs are. record {
+    done = ap (λ (c : Core). c.pool.done) begins.rest;
+    runs = λ still runs are. record {
       taken = λ other listed. ⊎_elim
           (λ same. subst (Contains (put_run run.range ∷ runs)) same (first_listed (put_run run.range) runs))
           (λ was. rest_listed (put_run run.range) other runs (are.taken other was))
@@ -199,7 +209,7 @@ module _ (old new : Core) (is : IsCore old) where
           (λ was. held_further runs (put_run run.range) hold (are.holds hold was))
           (gains_cases old.holds new.holds run.hold hold begins.holds listed);
     };
-    shared = shared_more begins.holds (ap (λ (h : Hold). h.kind) begins.hold_is);
+    shared = λ still. shared_more begins.holds (ap (λ (h : Hold). h.kind) begins.hold_is);
   }
 
   -- That has no more sectors than at the pool's first width.
@@ -233,7 +243,8 @@ module _ (old new : Core) (is : IsCore old) where
       → BeginsWith old new []
   get_begins actor id asked run begins = record {
     uber = ap (λ (c : Core). c.pool.uber) begins.6;
-    runs = λ runs are. record {
+    done = ap (λ (c : Core). c.pool.done) begins.6;
+    runs = λ still runs are. record {
       taken = λ other listed. are.taken other
           (subst (λ (c : Core). Contains c.pool.blocks.space.taken other) begins.6 listed);
       held = λ other listed. are.held other
@@ -243,7 +254,7 @@ module _ (old new : Core) (is : IsCore old) where
           (λ was. are.holds hold was)
           (gains_cases old.holds new.holds run.hold hold begins.9 listed);
     };
-    shared = shared_more begins.9 (ap (λ (h : Hold). h.kind) begins.4);
+    shared = λ still. shared_more begins.9 (ap (λ (h : Hold). h.kind) begins.4);
   }
     where
       block : Run
@@ -273,9 +284,11 @@ module _ (old new : Core) (is : IsCore old) where
 
   free_begins : (id : ℕ) (given : Answer) → FreesBlock old new id given → BeginsWith old new []
   free_begins id answer.Freed frees =
-      begins_still old new (ap (λ (c : Core). c.pool.uber) frees.2.rest) (freed old new id answer.Freed frees)
+      begins_still old new (ap (λ (c : Core). c.pool.uber) frees.2.rest) (ap (λ (c : Core). c.pool.done) frees.2.rest)
+      (λ still. freed old new id answer.Freed frees)
   free_begins id answer.Absent frees =
-      begins_still old new (ap (λ (c : Core). c.pool.uber) frees.1.rest) (freed old new id answer.Absent frees)
+      begins_still old new (ap (λ (c : Core). c.pool.uber) frees.1.rest) (ap (λ (c : Core). c.pool.done) frees.1.rest)
+      (λ still. freed old new id answer.Absent frees)
   free_begins id (answer.TooManyFailed out) frees = same_begins frees.2
   free_begins id other frees = absurd frees
 
@@ -292,8 +305,10 @@ module _ (old new : Core) (is : IsCore old) where
   works_begin actor call kind.Sum (Some id) (work.Read run) begins =
       on_none [] (get_begins actor id kind.Sum run begins)
   works_begin actor call kind.Sync None (work.Sync run) begins =
-      on_none [] (begins_still old new (ap (λ (c : Core). c.pool.uber) begins.4)
-      (same_parts old new (ap (λ (c : Core). c.pool.blocks.space) begins.4) (ap (λ (c : Core). c.holds) begins.4)))
+      on_none [] (begins_still old new (ap (λ (c : Core). c.pool.uber) begins.rest)
+      (ap (λ (c : Core). c.pool.done) begins.rest)
+      (λ still. same_parts old new (ap (λ (c : Core). c.pool.blocks.space) begins.rest)
+      (begins_holds old new actor run is still begins)))
   works_begin actor call asked id does begins = absurd begins
 
   -- one that waits,

@@ -4,6 +4,7 @@ use Rattle.std.specs.Prelude.{Contains, All}
 use Rattle.bank_trait.specs.Disk.{Image, Disk, Later, Lawful}
 use Rattle.bank_trait.specs.Regions.{TouchesOnly}
 use Rattle.bank_trait.proofs.Touches.{touches_then}
+use Rattle.shadow_write.specs.Required.{front_after_stop}
 use Rattle.uberblock_ring.specs.Devices.{has_device, count_of, IsWithin}
 use Rattle.uberblock_ring.specs.Uberblock.{Uber}
 use Rattle.uberblock_ring.specs.Valid.{IsRightUber}
@@ -88,7 +89,7 @@ module _ (script : Script) (old mid : Disk) (pool : Pool) (silent : ℕ) (items 
     (writes : WritesInOrder old mid silent pool.uber)
     (outs : AreOutOf old mid silent pool.uber pool.out) (begun : IsBegunWith pool silent old mid)
     (rest : AreUnderWay pool.blocks []) (bank : HasBank pool.uber pool.out mid) (lawful : Lawful old)
-    (right : IsRightUber pool.uber) (loaded : AreLoaded pool.uber pool.blocks.table.entries pool.blocks)
+    (right : IsRightUber pool.uber) (front : pool.done ≡ front_after_stop pool.uber.reflow) (loaded : AreLoaded pool.uber pool.blocks.table.entries pool.blocks)
     (taken : HaveTaken script (first_turns script (at_disk (resting pool) mid) (first_item pool)) passed)
     (come : LeadTo script (first_turns script (at_disk (resting pool) mid) (first_item pool)) passed
     (turns_of final items clients))
@@ -166,7 +167,7 @@ module _ (script : Script) (old mid : Disk) (pool : Pool) (silent : ℕ) (items 
         (ap (λ (u : Uber). u.reflow) alike ∙ ap (λ (u : Uber). u.reflow) renews)
         (begins.opened.entries_are ∙ begins.opened.renews.entries)
         (come.space pool.uber pool.blocks.table.entries (uses_first script pool mid right
-        (opened_births setting first later old may pool silent mid lawful begun missed_in out_in) loaded)).caused
+        (opened_births setting first later old may pool silent mid lawful begun missed_in out_in) front loaded)).caused
 
     -- What the run keeps, where these devices may fail.
     pub run_keeps : RunKeeps script setting first later old final.disk items pool.uber.parity silent
@@ -196,7 +197,7 @@ module _ (script : Script) (old mid : Disk) (pool : Pool) (silent : ℕ) (items 
     opened = item;
     there = come.listed 0 (Group item) refl;
     start = at_disk (resting pool) mid;
-    rest = record { holds = refl; committing = refl; blocks = rest };
+    rest = record { holds = refl; committing = refl; blocks = rest; still = λ expands. front };
     opened_is = refl;
     bank = bank;
     later = opened_later;

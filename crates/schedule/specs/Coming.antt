@@ -35,16 +35,16 @@ KeepsUsing script start now = (uber : Uber) (entries : List IndexEntry)
     → HasUsedRuns script uber entries start.state.core start.items start.clients
     → HasUsedRuns script uber entries now.state.core now.items now.clients
 
--- These turns lead from one state to another. Devices went out where they failed, and none was touched but those of the
--- pool that were in use. What was answered fits its call, and groups are numbered. The devices whose failure has to be
--- borne were out when it began, or have failed, and are no more than there are parities; none where too many were out
--- then, since no device is called any more. Where these may fail, what stood stands, and answers that the table is full
--- have their cause.
+-- These turns lead from one state to another, in a pool of as many devices. Devices went out where they failed, and none was
+-- touched but those of the pool that were in use. What was answered fits its call, and groups are numbered. The devices
+-- whose failure has to be borne were out when it began, or have failed, and are no more than there are parities; none
+-- where too many were out then, since no device is called any more. Where these may fail, what stood stands, and answers
+-- that the table is full have their cause.
 pub record LeadTo (script : Script) (start : Turns) (passed : List TurnTaken) (now : Turns) : Type 0 where
   pub ends : last_left start passed ≡ now
   pub later : Later start.state.disk now.state.disk
   pub parity : now.state.core.pool.uber.parity ≡ start.state.core.pool.uber.parity
-  pub widths : now.state.core.pool.uber.reflow ≡ start.state.core.pool.uber.reflow
+  pub widths : now.state.core.pool.uber.reflow.to ≡ start.state.core.pool.uber.reflow.to
   pub only : TouchesOnly (IsOnInUse start.state.core.pool.uber.reflow.to start.state.core.pool.out)
       start.state.disk now.state.disk
   pub out : OnlyFailedGoOut (point_of start.state.core.pool.out start.state.disk)

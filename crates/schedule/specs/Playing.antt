@@ -11,6 +11,7 @@ use Rattle.schedule.specs.Coming.{LeadTo, IsSchedule}
 use Rattle.schedule.specs.InTurn.{Cursor, InOrder, InRest, HasGone, HaveTaken, Replay, replay_at}
 use Rattle.schedule.specs.Turns.{Turns, TurnTaken, most_turns, turns_of}
 use Rattle.schedule.specs.Replaying.{AreIdle, OnlyShared}
+use Rattle.schedule.specs.Using.{HasCopiedNone}
 
 -- ---- room for answers
 
@@ -43,6 +44,7 @@ pub record HasRoomForAnswers (script : Script) (clients : List Client) (room : �
 pub record IsReady (script : Script) (turns : Turns) (room : ℕ) : Type 0 where
   pub schedule : IsSchedule script turns
   pub shared : OnlyShared turns.state.core.holds
+  pub still : HasCopiedNone turns.state.core
   pub counted : length turns.clients ≡ script.clients
   pub enough : HasRoomForAnswers script turns.clients room
 

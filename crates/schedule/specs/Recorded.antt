@@ -8,9 +8,9 @@ use Rattle.core_state.specs.declared.item.Item.{Item}
 use Rattle.core_state.specs.declared.item.Item.TheVariants.{Call}
 use Rattle.core_state.specs.Map.{SameMap, map_after}
 use Rattle.core_state.specs.Legal.{CallAt, IsPrevious, IsGroupBefore, IsRightCall, AnswersAreRight}
-use Rattle.core_state.specs.Journal.{GroupsAreRight}
+use Rattle.core_state.specs.Journal.{GroupsAreRight, IsWidthStep}
 use Rattle.core_state.specs.Keeps.{Kept}
-use Rattle.core_state.specs.Moment.{IsGroupOf, Groups, KeepsSince}
+use Rattle.core_state.specs.Moment.{IsGroupOf, Groups, KeepsSince, item_of}
 use Rattle.core_state.specs.World.{World}
 use Rattle.journal_law.specs.Caused.{IsAtLastGroup}
 use Rattle.journal_law.specs.Parity.{HaveParityOf}
@@ -49,12 +49,13 @@ pub record IsRightNext (world : World) (items : List Item) (entry : Entry) : Typ
   pub sound : entry.answer ≢ answer.Damaged
   pub counted : (reached : ℕ) → entry.answer ≡ answer.Limit reached → IsAtLastGroup items (length items) reached
 
--- A commit of this group began after so many items, those of the last group or later ones.
+-- A commit of this group began after so many items, those of the last group or later ones. It has that group's widths,
+-- or ends its expansion.
 pub record IsBegunAt (world : World) (items : List Item) (item : GroupItem) (after : ℕ) (next : Kept) : Type 0 where
   pub number : next.uber.group ≡ item.group + 1
   pub listed : (item.after ≤ after) × (after ≤ length items)
   pub map : SameMap next.map (map_after world.handed world.opening items after)
-  pub widths : (next.uber.reflow.from ≡ item.from) × (next.uber.reflow.to ≡ item.to)
+  pub widths : IsWidthStep ⊥ item (item_of next after)
 
 -- All entries of this caller stand below this index.
 abbrev pub AllBelow : List Item → ℕ → ℕ → Type 0

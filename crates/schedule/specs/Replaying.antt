@@ -11,12 +11,14 @@ use Rattle.schedule.specs.declared.client.UnderWay.{UnderWay}
 use Rattle.schedule.specs.Coming.{LeadTo}
 use Rattle.schedule.specs.InTurn.{IsTurnOf, is_busy_at}
 use Rattle.schedule.specs.Turns.{Turns, most_turns, taken_by}
+use Rattle.schedule.specs.Using.{HasCopiedNone}
 
--- No call is under way.
+-- No call is under way, and nothing was copied.
 pub record IsAtRest (core : Core) : Type 0 where
   pub holds : core.holds ≡ []
   pub committing : core.committing ≡ None
   pub blocks : AreUnderWay core.pool.blocks []
+  pub still : HasCopiedNone core
 
 -- a client that has begun no call
 abbrev pub blank_client : Client

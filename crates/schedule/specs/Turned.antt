@@ -180,6 +180,7 @@ entry_for call actor number at given = record {
 abbrev pub group_with : Reflow → ℕ → ℕ → GroupItem
 group_with widths at number = record { group = number; after = at; from = widths.from; to = widths.to }
 
+-- of the widths that its answer left in the core
 abbrev pub group_for : Core → ℕ → ℕ → GroupItem
 group_for core at number = group_with core.pool.uber.reflow at number
 
@@ -247,7 +248,7 @@ LeavesGoing actor call before after under (More does) = (after.items ≡ before.
     })
 LeavesGoing actor call before after under (Busy by) = ⊥
 LeavesGoing actor call before after under (Done given) =
-    (after.items ≡ listed_for before.state.core before.items under.at
+    (after.items ≡ listed_for after.state.core before.items under.at
     (entry_for call actor before.client.begun under.at given) given)
     × (after.client ≡ record { begun = before.client.begun; under_way = None })
 

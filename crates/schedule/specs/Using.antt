@@ -1,7 +1,9 @@
 -- What calls that take turns have used of a pool's space since its opening, and why one found none.
 use Rattle.std.specs.Prelude.{◌≡◌, ℕ, ◌+◌, ◌≤◌, List, [], length, drop, map, flat_map, sum, Some, slice_get, Contains}
 use Rattle.width_map.specs.Births.{NoneAbove}
+use Rattle.reflow_mark.specs.Reflow.{Expands}
 use Rattle.range_locks.specs.declared.hold.Hold.{Hold}
+use Rattle.shadow_write.specs.Required.{front_after_stop}
 use Rattle.space_alloc.specs.Space.{Run, HeldRun}
 use Rattle.block_record.specs.declared.entry.IndexEntry.{IndexEntry}
 use Rattle.uberblock_ring.specs.Uberblock.{Uber}
@@ -62,7 +64,12 @@ pub record AreAtMost (runs : List Run) (left sizes : List ℕ) : Type 0 where
 
 -- ---- between two turns
 
--- A pool has parity, births and widths of its opening's uberblock, and is of no older group. No birth is above that.
+-- Nothing was copied since the opening: the front is where it was then.
+abbrev pub HasCopiedNone : Core → Type 0
+HasCopiedNone core = Expands core.pool.uber.reflow → core.pool.done ≡ front_after_stop core.pool.uber.reflow
+
+-- A pool has parity, births and widths of its opening's uberblock, and is of no older group. No birth is above that, and
+-- nothing was copied.
 pub record IsOpenSince (uber : Uber) (core : Core) : Type 0 where
   pub right : IsRightUber uber
   pub born : NoneAbove uber.group uber.births
@@ -70,6 +77,7 @@ pub record IsOpenSince (uber : Uber) (core : Core) : Type 0 where
   pub parity : core.pool.uber.parity ≡ uber.parity
   pub births : core.pool.uber.births ≡ uber.births
   pub reflow : core.pool.uber.reflow ≡ uber.reflow
+  pub still : HasCopiedNone core
 
 -- Of the space no more was used since the opening than the blocks of its index take, and those that calls put which
 -- were begun.

@@ -113,7 +113,8 @@ pub fn take_turn<B: Bank>(
     ensures lawful { Lawful (B.disk bank.old) × Lawful (B.disk bank.new) }
     ensures room { UsesRoom journal.old.room journal.new.room client.old client.new }
 {
-    let widths = core.reflow();
+    // That the core is one is known by a call of it.
+    let _ = core.reflow();
     let Some(under_way) = client.under_way.take() else {
         return begin_next(alloc, core, journal, calls, actor, client);
     };
@@ -124,6 +125,7 @@ pub fn take_turn<B: Bank>(
         Turn::Busy { by: _ } => unreachable!(),
         Turn::Done(answer) => {
             let entry = entry_for(call, actor, client.begun, at, answer);
+            let widths = core.reflow();
             list_answer(journal, &widths, at, entry);
         }
     }

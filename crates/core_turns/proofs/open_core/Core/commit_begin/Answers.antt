@@ -1,10 +1,12 @@
-use Rattle.std.proofs.Common.{◌≤◌, List, length, sym, ◌∙◌, subst, arith}
+use Rattle.std.proofs.Common.{◌+◌, ◌≤◌, List, Some, length, sym, ◌∙◌, subst, arith}
 use Rattle.std.proofs.lemmas.Bool.{true≢false}
 use Rattle.block_record.specs.declared.entry.IndexEntry.{IndexEntry}
 use Rattle.block_table.proofs.Tables.{few_entries}
 use Rattle.core_turns.specs.Core.{Core}
+use Rattle.core_turns.specs.Committing.{BeginsCommitSo}
 use Rattle.core_turns.specs.Getting.{HasTooManyOut}
-use Rattle.core_turns.proofs.Commits.{begins_right, begun_core}
+use Rattle.core_turns.proofs.Commits.{begins_clear, begins_right, begins_so, begun_core}
+use Rattle.core_turns.proofs.Cores.{core_with}
 use Rattle.core_turns.proofs.open_core.Core.commit_begin.Goals as goal
 
 pub encode_index-requires-clause-few : goal.encode_index-requires-clause-few
@@ -17,30 +19,42 @@ next_uber-next-requires-clause-few c =
     subst (λ (l : List IndexEntry). length l ≤ 512) (sym c.entries-entries.ensures.value)
     (few_entries c.self.inside.blocks.table.entries c.self.inside.blocks.table.reserved c.entries-entries.ensures.table)
 
+pub hold_change-requires-clause-clear : goal.hold_change-requires-clause-clear
+hold_change-requires-clause-clear c =
+    let at = c.self.inside in
+    begins_clear (core_with at.uber at.blocks at.out at.done at.locks at.begun at.committing) c.args.actor
+    c.reflow-before.result c.choose-chosen.result c.self.invariant c.entries-entries.ensures.table c.in_default.is
+    (subst (λ (core : Core). HasTooManyOut core → ⊥) (sym c.self.view_is)
+    (λ many. true≢false (sym (c.has_too_many_out.ensures.1 many) ∙ c.if-has_too_many_out.false)))
+    (let low = c.if-self.false in omega (arith, low)) c.reflow-before.ensures.value c.choose-chosen.ensures.choice
+
 pub new-requires-clause-right : goal.new-requires-clause-right
 new-requires-clause-right c =
-    let inside = c.self.inside in
-    let core : Core = record {
-      pool = record { uber = inside.uber; blocks = inside.blocks; out = inside.out; done = inside.done };
-      holds = inside.locks;
-      begun = inside.begun;
-      committing = inside.committing;
-    } in
-    let few : HasTooManyOut core → ⊥ = subst (λ (core : Core). HasTooManyOut core → ⊥) (sym c.self.view_is)
-    (λ many. true≢false (sym (c.has_too_many_out.ensures.1 many) ∙ c.if-has_too_many_out.false)) in
-    begins_right core c.entries-entries.result.now c.next_uber-next.result c.self.invariant c.in_default.is few
-    (let low = c.if-self.false in omega (arith, low))
-    (subst (λ (l : List IndexEntry). length l ≤ 512) (sym c.entries-entries.ensures.value)
-    (few_entries c.self.inside.blocks.table.entries c.self.inside.blocks.table.reserved
-    c.entries-entries.ensures.table))
-    c.next_uber-next.ensures
+    let at = c.self.inside in
+    begins_right (core_with at.uber at.blocks at.out at.done at.locks at.begun at.committing) c.args.actor
+    c.reflow-before.result c.choose-chosen.result c.self.invariant c.entries-entries.ensures.table c.in_default.is
+    (subst (λ (core : Core). HasTooManyOut core → ⊥) (sym c.self.view_is)
+    (λ many. true≢false (sym (c.has_too_many_out.ensures.1 many) ∙ c.if-has_too_many_out.false)))
+    (let low = c.if-self.false in omega (arith, low)) c.reflow-before.ensures.value c.choose-chosen.ensures.choice
+    c.entries-entries.result.now c.next_uber-next.result c.entries-entries.ensures.value c.next_uber-next.ensures
 
-pub invariant_of-self : goal.invariant_of-self
-invariant_of-self c =
-    let inside = c.self.inside in
-    begun_core (record {
-      pool = record { uber = inside.uber; blocks = inside.blocks; out = inside.out; done = inside.done };
-      holds = inside.locks;
-      begun = inside.begun;
-      committing = inside.committing;
-    }) c.args.actor c.self.invariant c.in_default.is (let low = c.if-self.false in omega (arith, low))
+pub invariant_of-self-2 : goal.invariant_of-self-2
+invariant_of-self-2 c =
+    let at = c.self.inside in
+    begun_core (core_with at.uber at.blocks at.out at.done at.locks at.begun at.committing) c.hold_change.new.locks
+    c.args.actor c.self.invariant c.in_default.is (let low = c.if-self.false in omega (arith, low))
+
+pub returns-clause-begins : goal.returns-clause-begins
+returns-clause-begins c =
+    let at = c.self.inside in
+    subst (λ (old : Core). BeginsCommitSo old
+    (core_with at.uber at.blocks at.out at.done c.hold_change.new.locks (at.begun + 1) (Some c.args.actor)) c.args.actor
+    c.new.result) c.self.view_is
+    (begins_so (core_with at.uber at.blocks at.out at.done at.locks at.begun at.committing) c.args.actor
+    c.reflow-before.result c.choose-chosen.result c.self.invariant c.entries-entries.ensures.table c.in_default.is
+    (subst (λ (core : Core). HasTooManyOut core → ⊥) (sym c.self.view_is)
+    (λ many. true≢false (sym (c.has_too_many_out.ensures.1 many) ∙ c.if-has_too_many_out.false)))
+    (let low = c.if-self.false in omega (arith, low)) c.reflow-before.ensures.value c.choose-chosen.ensures.choice
+    c.entries-entries.result.now c.next_uber-next.result c.entries-entries.ensures.value c.next_uber-next.ensures
+    c.hold_change.new.locks c.in-Ok-from_slice.index.items c.new.result c.in-Ok-hold_change.ensures.ok
+    c.in-Ok-from_slice.ensures.items c.new.ensures.value)

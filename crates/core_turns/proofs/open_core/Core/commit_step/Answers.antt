@@ -3,14 +3,14 @@ use Rattle.core_turns.proofs.open_core.Core.commit_step.Goals as goal
 
 pub returns-clause-goes_on : goal.returns-clause-goes_on
 returns-clause-goes_on g c = commit_goes _ _ c.args.run c.step_commit.result
-    (g.met.B.Bank.lawful c.args.bank.now) c.requires.of c.step_commit.ensures
+    c.step_commit.ensures.is (g.met.B.Bank.lawful c.args.bank.now) c.requires.of c.step_commit.ensures.steps
 
 pub returns-clause-out : goal.returns-clause-out
 returns-clause-out g c = (commit_goes _ _ c.args.run c.step_commit.result
-    (g.met.B.Bank.lawful c.args.bank.now) c.requires.of c.step_commit.ensures).out
+    c.step_commit.ensures.is (g.met.B.Bank.lawful c.args.bank.now) c.requires.of c.step_commit.ensures.steps).out
 
 pub returns-clause-bank : goal.returns-clause-bank
 returns-clause-bank g c = turn_bank _ _
-    (commit_goes _ _ c.args.run c.step_commit.result (g.met.B.Bank.lawful c.args.bank.now) c.requires.of
-    c.step_commit.ensures)
+    (commit_goes _ _ c.args.run c.step_commit.result c.step_commit.ensures.is (g.met.B.Bank.lawful c.args.bank.now)
+    c.requires.of c.step_commit.ensures.steps)
     c.requires.bank

@@ -32,7 +32,7 @@ returns-clause-under c = λ ranges under. c.remove.ensures.under ranges
 pub returns-clause-gets : goal.returns-clause-gets
 returns-clause-gets c = λ run of.
     let old = subst (λ (core : Core). IsGetOf core run) (sym c.self.view_is) of in
-    get_of _ _ run refl old.holds old
+    get_of _ _ run refl refl old.holds old
 
 pub returns-clause-bank : goal.returns-clause-bank
 returns-clause-bank c = λ disk bank.

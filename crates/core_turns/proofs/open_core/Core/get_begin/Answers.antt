@@ -1,6 +1,7 @@
 use Rattle.std.proofs.Common.{sym, ap, subst}
-use Rattle.open_pool.specs.Pool.{Pool, HasBank}
-use Rattle.core_turns.proofs.GetTurns.{get_of, begins_pool, begins_holds}
+use Rattle.open_pool.specs.Pool.{HasBank}
+use Rattle.core_turns.specs.Core.{Core}
+use Rattle.core_turns.proofs.GetTurns.{get_of, begins_rest, begins_holds}
 use Rattle.core_turns.proofs.GetLaws.{get_finds}
 use Rattle.core_turns.proofs.open_core.Core.get_begin.Goals as goal
 
@@ -10,11 +11,16 @@ returns-clause-finds c = λ map disk holds. get_finds map _ _ disk c.args.actor 
 
 pub returns-clause-others : goal.returns-clause-others
 returns-clause-others c = λ run of.
-    get_of c.args.self.now c.begin_get.new.self run
-    (ap (λ (p : Pool). p.uber) (begins_pool c.args.self.now c.begin_get.new.self c.args.actor c.args.id c.args.kind c.begin_get.result c.begin_get.ensures))
-    (begins_holds c.args.self.now c.begin_get.new.self c.args.actor c.args.id c.args.kind c.begin_get.result run.hold c.begin_get.ensures of.holds) of
+    let rest = begins_rest c.args.self.now c.begin_get.new.self c.args.actor c.args.id c.args.kind c.begin_get.result
+    c.begin_get.ensures in
+    get_of c.args.self.now c.begin_get.new.self run (ap (λ (core : Core). core.pool.uber) rest)
+    (ap (λ (core : Core). core.begun) rest)
+    (begins_holds c.args.self.now c.begin_get.new.self c.args.actor c.args.id c.args.kind c.begin_get.result run.hold
+    c.begin_get.ensures of.holds)
+    of
 
 pub returns-clause-bank : goal.returns-clause-bank
-returns-clause-bank c = λ disk bank.
-    subst (λ (p : Pool). HasBank p.uber p.out disk)
-    (sym (begins_pool c.args.self.now c.begin_get.new.self c.args.actor c.args.id c.args.kind c.begin_get.result c.begin_get.ensures)) bank
+returns-clause-bank c = λ disk bank. subst (λ (core : Core). HasBank core.pool.uber core.pool.out disk)
+    (sym (begins_rest c.args.self.now c.begin_get.new.self c.args.actor c.args.id c.args.kind c.begin_get.result
+    c.begin_get.ensures))
+    bank

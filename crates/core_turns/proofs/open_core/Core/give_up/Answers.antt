@@ -1,9 +1,11 @@
-use Rattle.std.proofs.Common.{List, refl, subst}
+use Rattle.std.proofs.Common.{List, refl, sym, subst}
 use Rattle.block_record.specs.declared.entry.IndexEntry.{IndexEntry}
 use Rattle.core_blocks.specs.Blocks.{IsListed}
 use Rattle.core_turns.specs.Core.{Core}
-use Rattle.core_turns.specs.Putting.{GivesUp}
+use Rattle.core_turns.specs.Putting.{GivesUp, IsPutOf}
 use Rattle.core_turns.proofs.Cores.{core_blocks, core_with}
+use Rattle.core_turns.proofs.Holds.{shared_ended}
+use Rattle.core_turns.proofs.PutStands.{put_shared}
 use Rattle.core_turns.proofs.open_core.Core.give_up.Goals as goal
 
 pub invariant_of-self : goal.invariant_of-self
@@ -13,6 +15,9 @@ invariant_of-self c =
     c.end.new.self c.self.invariant c.give_up.ensures.parity c.give_up.ensures.births c.give_up.ensures.dropped.capacity
     (λ entry listed. c.self.invariant.is.born entry
     (subst (λ (l : List IndexEntry). IsListed l entry) c.give_up.ensures.entries listed)) c.give_up.ensures.stays
+    (shared_ended at.locks c.end.new.self c.args.run.hold
+    (put_shared _ c.args.run (subst (λ (core : Core). IsPutOf core c.args.run) (sym c.self.view_is) c.requires.of))
+    c.end.ensures.ends)
 
 pub returns : goal.returns
 returns c =

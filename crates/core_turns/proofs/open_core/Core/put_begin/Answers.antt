@@ -6,7 +6,7 @@ use Rattle.core_turns.specs.Core.{Core}
 use Rattle.core_turns.specs.Getting.{HasTooManyOut}
 use Rattle.core_turns.specs.Putting.{BeginsPutTurn, LeavesBlocks}
 use Rattle.core_turns.proofs.Cores.{core_with}
-use Rattle.core_turns.proofs.PutTurns.{put_begins, put_dropped, put_refused}
+use Rattle.core_turns.proofs.PutTurns.{put_begins, put_begins_core, put_dropped, put_refused}
 use Rattle.core_turns.proofs.open_core.Core.put_begin.Goals as goal
 
 pub returns-in-Err : goal.returns-in-Err
@@ -39,6 +39,13 @@ returns-in_default c =
             c.give_up.ensures.under c.give_up.ensures.kept),
       );
     }
+
+pub invariant_of-self-2 : goal.invariant_of-self-2
+invariant_of-self-2 c =
+    let at = c.self.inside in
+    put_begins_core (core_with at.uber at.blocks at.out at.done at.locks at.begun at.committing) c.args.actor c.in-Ok.range
+    c.begin_put.new.self c.in-Some.hold c.hold_range.new.locks c.self.invariant c.in-Ok.ensures.begins
+    c.begin_put.ensures.stays c.in-Some.ensures.0 c.in-Some.ensures.1
 
 pub returns : goal.returns
 returns c =

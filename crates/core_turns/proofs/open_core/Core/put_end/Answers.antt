@@ -28,7 +28,7 @@ invariant_of-self c = put_end_core
     (subst (λ (core : Core). IsPutOf core c.args.run) (sym c.self.view_is) c.requires.of)
     (ap (λ (e : IndexEntry). e.birth) c.into_entry.ensures.value)
     c.end_put.ensures.change c.end_put.ensures.held c.end_put.ensures.parity c.end_put.ensures.births
-    c.end_put.ensures.stays
+    c.end_put.ensures.stays c.end.ensures.ends
 
 pub returns : goal.returns
 returns c =

@@ -2,13 +2,22 @@ use Rattle.std.proofs.Common.{◌≡◌, ◌^◌, ◌<◌, ℕ, sym, ap, subst}
 use Rattle.reflow_mark.specs.declared.reflow.Reflow.{Reflow}
 use Rattle.open_pool.specs.Pool.{HasBank}
 use Rattle.core_turns.specs.Core.{Core}
-use Rattle.core_turns.proofs.Cores.{bank_has, core_out}
+use Rattle.core_turns.specs.Getting.{IsGetOf}
+use Rattle.core_turns.proofs.Cores.{bank_has, core_out, core_with}
+use Rattle.core_turns.proofs.GetTurns.{read_ended}
 use Rattle.core_turns.proofs.open_core.Core.read_get.Goals as goal
 
 pub step-requires-clause-bank : goal.step-requires-clause-bank
 step-requires-clause-bank g c = bank_has c.self.inside.uber c.reflow-reflow.result c.self.inside.out (g.B.Bank.disk c.args.bank.now)
     c.reflow-reflow.ensures.value
     (subst (λ (core : Core). HasBank core.pool.uber core.pool.out (g.B.Bank.disk c.args.bank.now)) (sym c.self.view_is) c.requires.bank)
+
+pub invariant_of-self : goal.invariant_of-self
+invariant_of-self g c =
+    let at = c.self.inside in
+    read_ended (core_with at.uber at.blocks at.out at.done at.locks at.begun at.committing) c.args.run c.end.new.self
+    c.self.invariant (subst (λ (core : Core). IsGetOf core c.args.run) (sym c.self.view_is) c.requires.of)
+    c.end.ensures.ends
 
 pub invariant_of-self-2 : goal.invariant_of-self-2
 invariant_of-self-2 g c =
