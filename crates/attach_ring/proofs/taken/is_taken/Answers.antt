@@ -1,0 +1,10 @@
+use Rattle.std.proofs.Common.{Bool, sym, subst}
+use Rattle.std.specs.Prelude.{◌↔◌, IsTrue}
+use Rattle.attach_ring.specs.Ring.{IsTakenSlot}
+use Rattle.attach_ring.proofs.Told.{taken_by}
+use Rattle.attach_ring.proofs.taken.is_taken.Goals as goal
+
+pub returns : goal.returns
+returns c = subst (λ (found : Bool). IsTrue found ↔ IsTakenSlot c.args.slot c.args.bytes.now) (sym c.is_some.ensures)
+    (taken_by c.args.bytes.now c.args.slot c.u32_at.result c.decode.result c.u32_at.type_inv c.u32_at.ensures
+    c.decode.ensures.some c.decode.ensures.none)
