@@ -1,0 +1,2 @@
+pub mod JobRun
+pub mod Holding

@@ -1,0 +1,105 @@
+// A copy job that makes one device call a step, so that other calls may come between.
+ghost use Rattle.std.specs.Prelude.{◌≡◌, ◌^◌, ◌<◌, ◌≤◌, ◌↔◌, IsTrue, false};
+ghost use Rattle.core_state.specs.Committing.{point_of};
+ghost use Rattle.core_client.specs.Outs.{OnlyFailedGoOut};
+ghost use Rattle.core_client.specs.Pool.{HasPool};
+ghost use Rattle.job_copy.specs.Progress.{call_behind, call_count};
+ghost use Rattle.core_copy.specs.JobRun.{HoldsRead, JobMayBegin, JobSteps, begun_run};
+
+use crate::calling::make;
+use bank_trait::Bank;
+use job_copy::next_call;
+use reflow_copier::{Job, JobCall};
+use reflow_mark::Reflow;
+use std::marker::Model;
+use uberblock_ring::DeviceSet;
+
+/// A job under way: the device calls that it has made, and what it has read of its present sector.
+#[derive(Drop)]
+pub struct JobRun {
+    reflow: Reflow,
+    job: Job,
+    made: u64,
+    read: Option<[u8; 512]>,
+}
+
+impl Model for JobRun {
+    ghost use Rattle.core_copy.specs.JobRun.{IsJobRun, JobRun as JobRunOf};
+
+    ghost Value = { JobRunOf };
+
+    ghost view = { λ run. record {
+      reflow = run.reflow;
+      job = run.job;
+      made = run.made;
+      read = run.read;
+    } };
+
+    ghost invariant = { λ run. IsJobRun (record {
+      reflow = run.reflow;
+      job = run.job;
+      made = run.made;
+      read = run.read;
+    }) };
+}
+
+impl JobRun {
+    /// A job that has made no call.
+    pub fn new(reflow: &Reflow, job: Job) -> JobRun
+        requires may_begin { JobMayBegin reflow.now job }
+        ensures value { result ≡ begun_run reflow.now job }
+    {
+        JobRun {
+            reflow: *reflow,
+            job,
+            made: 0,
+            read: None,
+        }
+    }
+
+    /// The next call; none where all were made.
+    fn next(&self) -> Option<JobCall>
+        ensures value { result ≡ call_behind self.now.reflow self.now.job self.now.made }
+        ensures within { self.now.made ≤ call_count self.now.reflow self.now.job }
+    {
+        next_call(&self.job, &self.reflow, self.made)
+    }
+
+    /// Whether all calls were made.
+    pub fn is_done(&self) -> bool
+        ensures value { IsTrue result ↔ (self.now.made ≡ call_count self.now.reflow self.now.job) }
+        ensures left { result ≡ false → self.now.made < call_count self.now.reflow self.now.job }
+    {
+        self.next().is_none()
+    }
+
+    /// The job that the run makes the calls of.
+    pub fn job(&self) -> Job
+        ensures value { result ≡ self.now.job }
+    {
+        self.job
+    }
+
+    /// Makes the next call: reads the present sector, or writes what was read of it. A device whose call
+    /// fails is out from then on, and the job is to be given up.
+    pub fn step<B: Bank>(&mut self, bank: &mut B, out: &mut DeviceSet)
+        requires left { self.old.made < call_count self.old.reflow self.old.job }
+        requires whole { out.old ≡ 0 }
+        requires read { HoldsRead self.old }
+        requires bank { HasPool self.old.reflow out.old (B.disk bank.old) }
+        ensures steps { JobSteps self.old (point_of out.old (B.disk bank.old))
+            self.new (point_of out.new (B.disk bank.new)) }
+        ensures out { OnlyFailedGoOut (point_of out.old (B.disk bank.old))
+            (point_of out.new (B.disk bank.new)) }
+        ensures below { out.new < 2 ^ self.old.reflow.to }
+
+        // While no device is out, the read before each write has come off.
+        ensures read { out.new ≡ 0 → HoldsRead self.new }
+    {
+        let Some(call) = self.next() else {
+            return;
+        };
+        self.read = make(bank, call, self.read, out);
+        self.made += 1;
+    }
+}
