@@ -1,0 +1,251 @@
+// The steps on the table, which know what a seat knows.
+ghost use Rattle.std.specs.Prelude.{◌≡◌, ◌*◌, ◌%◌, ◌<◌, ◌≤◌, ◌^◌, ◌+◌, [], ◌∷◌, false, true, Some, None, IfOk, IfErr, length};
+ghost use Rattle.turn_lock.specs.Turn.{Took, Looked, Gave, KnowsHistory, StandsIf, StandsFor, IsLive, TookTurn, TookLast, EndedAll, FoundFull, kept_at_split, made_at_split, joined, entries, told, seen_of};
+
+use crate::rule::{Based, Both, Ends, Gives, Law, Looks, Parts, Stood, Takes, Told};
+use crate::view::View;
+use atomic_table::{Seat, Shared, Table};
+use std::alloc::Global;
+use std::marker::Brand;
+use std::sync::Wait;
+
+/// The word from which on no turn is had: 2^62 events.
+pub const FULL: u64 = 1 << 63;
+
+/// The history has become as long as it may.
+#[derive(Debug, Drop, PartialEq)]
+pub struct Spent;
+
+/// How long the history is; where it is full, the seat sees it.
+fn look<K, E: Drop, S: Stood<K, E>>(
+    shared: &Shared<Option<S>, View<E>, K, Law<S, K, E>>,
+    seat: &mut Seat<Option<S>, View<E>>,
+) -> u64
+    requires table { seat.old.table_id ≡ shared.now.table_id }
+    requires shape { (shared.now.table_id.words ≡ 1) × (shared.now.table_id.slots ≡ 1) }
+    requires free { seat.old.me.0.holds ≡ false }
+    ensures table { (seat.new.table_id ≡ seat.old.table_id) × (seat.new.id ≡ seat.old.id) }
+    ensures looked { Looked seat.old.me result seat.new.me }
+{
+    shared.load::<Looks>(seat, 0)
+}
+
+/// Tries to take the turn at an even number.
+fn try_take<K, E: Drop, S: Stood<K, E>, J: Based<K>>(
+    shared: &Shared<Option<S>, View<E>, K, Law<S, K, E>>,
+    seat: &mut Seat<Option<S>, View<E>>,
+    at: u64,
+) -> u64
+    requires table { seat.old.table_id ≡ shared.now.table_id }
+    requires shape { (shared.now.table_id.words ≡ 1) × (shared.now.table_id.slots ≡ 1) }
+    requires base { J.base ≡ Some shared.now.key }
+    requires live { IsLive seat.old.me.0 }
+    requires free { (seat.old.me.0.holds ≡ false) × (seat.old.me.1 ≡ []) }
+    requires even { at % 2 ≡ 0 }
+    requires room { at ≤ 2 ^ 63 }
+    ensures table { (seat.new.table_id ≡ seat.old.table_id) × (seat.new.id ≡ seat.old.id) }
+    ensures took { Took (StandsIf S.stands J.base) seat.old.me at result seat.new.me }
+{
+    shared.compare_exchange::<Takes<S, K, E, J>>(seat, 0, at, at + 1)
+}
+
+/// Waits for the turn, and says how many events were before it.
+pub(crate) fn wait_for_turn<K, E: Drop, S: Stood<K, E>, J: Based<K>, R: Wait>(
+    rt: &R,
+    shared: &Shared<Option<S>, View<E>, K, Law<S, K, E>>,
+    seat: &mut Seat<Option<S>, View<E>>,
+) -> Result<u64, Spent>
+    requires table { seat.old.table_id ≡ shared.now.table_id }
+    requires shape { (shared.now.table_id.words ≡ 1) × (shared.now.table_id.slots ≡ 1) }
+    requires base { J.base ≡ Some shared.now.key }
+    requires live { IsLive seat.old.me.0 }
+    requires free { (seat.old.me.0.holds ≡ false) × (seat.old.me.1 ≡ []) }
+    ensures table { (seat.new.table_id ≡ seat.old.table_id) × (seat.new.id ≡ seat.old.id) }
+    ensures took { IfOk result (λ events. TookTurn (StandsIf S.stands J.base) events seat.old.me seat.new.me) }
+    ensures full { IfErr result (λ _. FoundFull seat.old.me seat.new.me) }
+{
+    for _ in rt.forever() {
+        let found = look(shared, seat);
+        if found >= FULL {
+            // Another may sleep here, and has to find the same.
+            shared.wake_one(0);
+            return Err(Spent);
+        }
+        if found % 2 == 1 {
+            shared.park(rt, 0, (found % 4_294_967_296) as u32);
+        } else if try_take::<K, E, S, J>(shared, seat, found) == found {
+            return Ok(found / 2);
+        }
+    }
+    unreachable!()
+}
+
+/// Waits for the turn, at any number of events, and says what the word is then.
+pub(crate) fn wait_to_close<K, E: Drop, S: Stood<K, E>, J: Based<K>, R: Wait>(
+    rt: &R,
+    shared: &Shared<Option<S>, View<E>, K, Law<S, K, E>>,
+    seat: &mut Seat<Option<S>, View<E>>,
+) -> u64
+    requires table { seat.old.table_id ≡ shared.now.table_id }
+    requires shape { (shared.now.table_id.words ≡ 1) × (shared.now.table_id.slots ≡ 1) }
+    requires base { J.base ≡ Some shared.now.key }
+    requires live { IsLive seat.old.me.0 }
+    requires free { (seat.old.me.0.holds ≡ false) × (seat.old.me.1 ≡ []) }
+    ensures table { (seat.new.table_id ≡ seat.old.table_id) × (seat.new.id ≡ seat.old.id) }
+    ensures took { TookLast (StandsIf S.stands J.base) result seat.old.me seat.new.me }
+{
+    for _ in rt.forever() {
+        let found = shared.peek(0);
+        if found % 2 == 1 || found > FULL {
+            shared.park(rt, 0, (found % 4_294_967_296) as u32);
+        } else if try_take::<K, E, S, J>(shared, seat, found) == found {
+            return found + 1;
+        }
+    }
+    unreachable!()
+}
+
+/// Ends the turn with an entry.
+pub(crate) fn end_with<K, E: Drop, S: Stood<K, E>, J: Told<E>>(
+    shared: &Shared<Option<S>, View<E>, K, Law<S, K, E>>,
+    seat: &mut Seat<Option<S>, View<E>>,
+    next: u64,
+    entry: &E,
+)
+    requires table { seat.old.table_id ≡ shared.now.table_id }
+    requires shape { (shared.now.table_id.words ≡ 1) × (shared.now.table_id.slots ≡ 1) }
+    requires entry { J.entry ≡ Some entry.now }
+    requires live { IsLive seat.old.me.0 }
+    requires held { seat.old.me.0.holds ≡ true }
+    requires state { (y : S) × (seat.old.me.1 ≡ (0, Some y) ∷ [])
+        × S.stands shared.now.key (entries (told seat.old.me.0 (Some entry.now))) y }
+    requires room { length (told seat.old.me.0 (Some entry.now)) ≤ 2 ^ 62 }
+    requires next { next ≡ 2 * length (told seat.old.me.0 (Some entry.now)) }
+    ensures table { (seat.new.table_id ≡ seat.old.table_id) × (seat.new.id ≡ seat.old.id) }
+    ensures gave { Gave (Some entry.now) seat.old.me seat.new.me }
+{
+    shared.store::<Gives<E, J>>(seat, 0, next);
+    shared.wake_one(0);
+}
+
+/// Ends the turn with no entry.
+pub(crate) fn end_as_before<K, E: Drop, S: Stood<K, E>>(
+    shared: &Shared<Option<S>, View<E>, K, Law<S, K, E>>,
+    seat: &mut Seat<Option<S>, View<E>>,
+    next: u64,
+)
+    requires table { seat.old.table_id ≡ shared.now.table_id }
+    requires shape { (shared.now.table_id.words ≡ 1) × (shared.now.table_id.slots ≡ 1) }
+    requires live { IsLive seat.old.me.0 }
+    requires held { seat.old.me.0.holds ≡ true }
+    requires state { (y : S) × (seat.old.me.1 ≡ (0, Some y) ∷ [])
+        × S.stands shared.now.key (entries (told seat.old.me.0 None)) y }
+    requires room { length (told seat.old.me.0 None) ≤ 2 ^ 62 }
+    requires next { next ≡ 2 * length (told seat.old.me.0 None) }
+    ensures table { (seat.new.table_id ≡ seat.old.table_id) × (seat.new.id ≡ seat.old.id) }
+    ensures gave { Gave None seat.old.me seat.new.me }
+{
+    shared.store::<Gives<E, Brand>>(seat, 0, next);
+    shared.wake_one(0);
+}
+
+/// Splits a seat from another.
+pub(crate) fn split<K, E: Drop, S: Stood<K, E>>(
+    shared: &Shared<Option<S>, View<E>, K, Law<S, K, E>>,
+    seat: &mut Seat<Option<S>, View<E>>,
+) -> Seat<Option<S>, View<E>>
+    requires table { seat.old.table_id ≡ shared.now.table_id }
+    requires shape { (shared.now.table_id.words ≡ 1) × (shared.now.table_id.slots ≡ 1) }
+    requires live { IsLive seat.old.me.0 }
+    requires free { seat.old.me.0.holds ≡ false }
+    ensures tables { (seat.new.table_id ≡ seat.old.table_id) × (seat.new.id ≡ seat.old.id) × (result.table_id ≡ seat.old.table_id) }
+    ensures kept { seat.new.me ≡ (kept_at_split seat.old.me.0, seat.old.me.1) }
+    ensures made { result.me ≡ (made_at_split seat.old.me.0, []) }
+{
+    shared.split_seat::<Parts>(seat)
+}
+
+/// Joins a seat into another.
+pub(crate) fn join<K, E: Drop, S: Stood<K, E>>(
+    shared: &Shared<Option<S>, View<E>, K, Law<S, K, E>>,
+    seat: &mut Seat<Option<S>, View<E>>,
+    other: Seat<Option<S>, View<E>>,
+)
+    requires tables { (seat.old.table_id ≡ shared.now.table_id) × (other.table_id ≡ shared.now.table_id) }
+    requires shape { (shared.now.table_id.words ≡ 1) × (shared.now.table_id.slots ≡ 1) }
+    requires live { IsLive seat.old.me.0 }
+    requires free { (seat.old.me.0.holds ≡ false) × (other.me.0.holds ≡ false) × (other.me.1 ≡ []) }
+    ensures table { (seat.new.table_id ≡ seat.old.table_id) × (seat.new.id ≡ seat.old.id) }
+    ensures joined { seat.new.me ≡ (joined seat.old.me.0 other.me.0, seat.old.me.1) }
+{
+    shared.join_seat::<Both>(seat, other);
+}
+
+/// Lifts the state out of the slot.
+pub(crate) fn lift<K, E: Drop, S: Stood<K, E>>(
+    shared: &Shared<Option<S>, View<E>, K, Law<S, K, E>>,
+    seat: &mut Seat<Option<S>, View<E>>,
+) -> S
+    requires table { seat.old.table_id ≡ shared.now.table_id }
+    requires full { (y : S) × (seat.old.me.1 ≡ (0, Some y) ∷ []) }
+    ensures table { (seat.new.table_id ≡ seat.old.table_id) × (seat.new.id ≡ seat.old.id) }
+    ensures state { seat.old.me.1 ≡ (0, Some result) ∷ [] }
+    ensures empty { seat.new.me ≡ (seat.old.me.0, (0, None) ∷ []) }
+{
+    match shared.exchange(seat, 0, None) {
+        Some(state) => state,
+        None => unreachable!(),
+    }
+}
+
+/// Puts the state back into the slot.
+pub(crate) fn lay<K, E: Drop, S: Stood<K, E>>(
+    shared: &Shared<Option<S>, View<E>, K, Law<S, K, E>>,
+    seat: &mut Seat<Option<S>, View<E>>,
+    state: S,
+)
+    requires table { seat.old.table_id ≡ shared.now.table_id }
+    requires empty { seat.old.me.1 ≡ (0, None) ∷ [] }
+    ensures table { (seat.new.table_id ≡ seat.old.table_id) × (seat.new.id ≡ seat.old.id) }
+    ensures state { seat.new.me ≡ (seat.old.me.0, (0, Some state) ∷ []) }
+{
+    let before = shared.exchange(seat, 0, Some(state));
+    let None = before else { unreachable!() };
+}
+
+/// Ends all turns: the state lies in the slot, and the word stays as it is.
+pub(crate) fn end_all<K, E: Drop, S: Stood<K, E>>(
+    shared: &Shared<Option<S>, View<E>, K, Law<S, K, E>>,
+    seat: &mut Seat<Option<S>, View<E>>,
+    word: u64,
+)
+    requires table { seat.old.table_id ≡ shared.now.table_id }
+    requires shape { (shared.now.table_id.words ≡ 1) × (shared.now.table_id.slots ≡ 1) }
+    requires held { seat.old.me.0.holds ≡ true }
+    requires state { (y : S) × (seat.old.me.1 ≡ (0, Some y) ∷ [])
+        × S.stands shared.now.key (entries (seen_of seat.old.me.0.members)) y }
+    requires word { word ≡ 2 * length (seen_of seat.old.me.0.members) + 1 }
+    ensures table { (seat.new.table_id ≡ seat.old.table_id) × (seat.new.id ≡ seat.old.id) }
+    ensures ended { EndedAll seat.old.me seat.new.me }
+{
+    shared.store::<Ends>(seat, 0, word);
+}
+
+/// Takes the state out of a lock whose turns have ended.
+pub(crate) fn take_out<K, E: Drop, S: Stood<K, E>>(
+    table: Table<Option<S>, View<E>, K, Law<S, K, E>, Global>,
+    seat: Seat<Option<S>, View<E>>,
+) -> S
+    requires table { seat.table_id ≡ table.shared.table_id }
+    requires shape { (table.shared.table_id.words ≡ 1) × (table.shared.table_id.slots ≡ 1) }
+    requires ended { seat.me.0.ended ≡ true }
+    ensures stands { S.stands table.shared.key (entries (seen_of seat.me.0.members)) result }
+{
+    let mut closed = table.close_with(seat);
+    let last = closed.take(0);
+    closed.free();
+    match last {
+        Some(state) => state,
+        None => unreachable!(),
+    }
+}
