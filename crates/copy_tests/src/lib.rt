@@ -1,0 +1,14 @@
+//! What the job, its run, the mark's choice and the front come to together on a bank in memory: tests alone.
+//!
+//! `sectors` says where each sector of the pool stands and what its bytes are, and `rounds` carries jobs and
+//! choices out one by one. `part_tests` has the worked rows of single parts, `pool_tests` those of whole pools.
+#![tactic(auto)]
+
+#[cfg(test)]
+mod job_tests;
+#[cfg(test)]
+mod rounds;
+#[cfg(test)]
+mod sectors;
+#[cfg(test)]
+mod widening_tests;
