@@ -80,7 +80,7 @@ def definition(where, name):
         return f"{crate}, of the kit"
     path = f"{crate}/{folder}/{'/'.join(rest)}.antt"
     text = read("crates/" + path)
-    if re.search(rf"^(?:[a-z]+ )*pub (?:record |data )?{name}\b|^  {name} :", text, re.MULTILINE):
+    if re.search(rf"^ *(?:[a-z]+ )*pub (?:record |data )?{name}\b|^  {name} :", text, re.MULTILINE):
         return path
     for further, names in re.findall(r"^pub use Rattle\.([\w.]+)\.\{([^}]*)\}", text, re.MULTILINE):
         if name in re.split(r"[\s,]+", names):
@@ -297,7 +297,7 @@ def fields():
     for path in glob.glob("crates/*/specs/**/*.antt", recursive=True):
         name = None
         for line in read(path).split("\n"):
-            record = re.match(rf"pub record ({NAME})", line)
+            record = re.match(rf"\s*pub record ({NAME})", line)
             if record:
                 name = record.group(1)
             elif line and not line.startswith((" ", "--")):
