@@ -7,8 +7,8 @@
 //   behind a commit.
 // - A cell is close (`IsClose`) and within its row: `cells_are_close` of `job_copy`.
 // - A call is left, or all were made: `is_done` of the run.
-// - The uberblock that stands is right (`IsRightUber`), and a cell is right at the front (`RightAt`): what the core keeps
-//   of its pool.
+// - The uberblock that stands is right (`IsRightUber`), and a cell is right at the front (`RightAt`): what the core
+//   keeps of its pool.
 // - No device leaves the out set (`IsWithin`): one that fails is put in, and stays.
 // - The bank has the devices and rows of the pool (`HasPool`) and tells what it holds (`Tells`): the caller's, as for a
 //   block.
@@ -34,12 +34,13 @@ ghost use Rattle.reflow_band.specs.Band.{IsFrontOf, IsWidening};
 ghost use Rattle.spare_write.specs.Around.{IsClose};
 ghost use Rattle.core_client.specs.Pool.{HasPool};
 ghost use Rattle.job_copy.specs.Progress.{CopiesSector, IsPlaceSoFar, IsSource, IsTarget, MovesMark, call_count};
-ghost use Rattle.core_copy.specs.JobRun.{JobMayBegin, JobRun as RunOf, JobSteps, begun_run, present_sector, source_spot, target_spot};
+ghost use Rattle.core_copy.specs.JobRun.{JobMayBegin, JobRun as RunOf, JobSteps, begun_run};
+ghost use Rattle.core_copy.specs.JobRun.{present_sector, source_spot, target_spot};
 ghost use Rattle.core_copy.specs.Holding.{GoesOnIn, HoldsJob, IsTrusted};
 
 /// A job that may run in the pool of a right uberblock may begin. A run that begins goes on in its pool, and holds each
-/// cell that is right at the front. Of a cell outside the job's sectors no more is asked while it goes on, as of a block
-/// that is stored beside it.
+/// cell that is right at the front. Of a cell outside the job's sectors no more is asked while it goes on, as of a
+/// block that is stored beside it.
 pub fn job_run_begins()
     ensures may_begin { (uber : Uber) (done : ℕ) (job : Job) → IsRightUber uber
         → MayRun uber.reflow done job → JobMayBegin uber.reflow job }
@@ -97,8 +98,8 @@ pub fn job_run_ends()
 {}
 
 /// Other calls beside the run leave what it holds, where they leave what is read of the cell on devices that are still
-/// in use. So do devices that go out, and a put's write of another sector to where that is required: a put beside the run
-/// writes no sector of a block that the map has, and its rows are no wider than the pool.
+/// in use. So do devices that go out, and a put's write of another sector to where that is required: a put beside the
+/// run writes no sector of a block that the map has, and its rows are no wider than the pool.
 pub fn job_run_stays()
     ensures reads { (reflow : Reflow) (done : ℕ) (run : RunOf) (before after : Point) (excepted : Excepted)
         (cell : Cell) → IsWithin before.out after.out

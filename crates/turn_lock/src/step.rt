@@ -158,7 +158,8 @@ pub(crate) fn split<K, E: Drop, S: Stood<K, E>>(
     requires shape { (shared.now.table_id.words ≡ 1) × (shared.now.table_id.slots ≡ 1) }
     requires live { IsLive seat.old.me.0 }
     requires free { seat.old.me.0.holds ≡ false }
-    ensures tables { (seat.new.table_id ≡ seat.old.table_id) × (seat.new.id ≡ seat.old.id) × (result.table_id ≡ seat.old.table_id) }
+    ensures tables { (seat.new.table_id ≡ seat.old.table_id) × (seat.new.id ≡ seat.old.id)
+        × (result.table_id ≡ seat.old.table_id) }
     ensures kept { seat.new.me ≡ (kept_at_split seat.old.me.0, seat.old.me.1) }
     ensures made { result.me ≡ (made_at_split seat.old.me.0, []) }
 {
