@@ -36,6 +36,15 @@ use Rattle.open_pool.proofs.Layouts.{blocks_apart}
 abbrev pub IsWrittenTo : Layout → Reflow → ℕ → ℕ → ℕ → ℕ → Type 0
 IsWrittenTo layout reflow done out = IsPlaceOf (writes_of layout reflow done) out
 
+-- A sector that goes through the scratch area has its place in one of the scratch rows.
+pub row_below : (to sector : ℕ) → sector < 32 * to → sector / to < 32
+row_below to sector below = ⊎_elim (λ less. less)
+    (λ more.
+    let rows : to * 32 ≤ to * (sector / to) = mul-le-mul_left to more in
+    let split : to * (sector / to) + sector % to ≡ sector = omega arith in
+    absurd (omega (arith, rows, split, below)))
+    (cases_lt (sector / to) 32)
+
 -- A required place is in the scratch area or in the data rows.
 pub required_data : (reflow : Reflow) (done row_end sector device device_sector : ℕ) → IsFrontOf reflow done
     → IsRequiredPlace reflow done row_end sector device device_sector → IsDataSector device_sector
@@ -45,20 +54,12 @@ required_data reflow done row_end sector device device_sector front required = �
     (λ rest. ⊎_elim
     (λ (scratch : NeedsScratch reflow.state reflow done sector
     × IsAt (scratch_place reflow.to sector) first_scratch_sector device device_sector).
-    let low = row_below (scratch_within reflow.state reflow done sector front.front scratch.0) in
+    let low = row_below reflow.to sector (scratch_within reflow.state reflow done sector front.front scratch.0) in
     inl (omega (arith, scratch.1.sector_is), omega (arith, scratch.1.sector_is, low)))
     (λ (new : NeedsNew reflow.state done sector × IsAt (new_place reflow sector) first_data_sector device device_sector).
     inr (omega (arith, new.1.sector_is)))
     rest)
     required
-  where
-    row_below : sector < 32 * reflow.to → sector / reflow.to < 32
-    row_below below = ⊎_elim (λ less. less)
-        (λ more.
-        let rows : reflow.to * 32 ≤ reflow.to * (sector / reflow.to) = mul-le-mul_left reflow.to more in
-        let split : reflow.to * (sector / reflow.to) + sector % reflow.to ≡ sector = omega arith in
-        absurd (omega (arith, rows, split, below)))
-        (cases_lt (sector / reflow.to) 32)
 
 -- No place of a block is required, at whatever front, by one that has no sector in common with it.
 pub never_both : (reflow : Reflow) (done front : ℕ) (layout other : Layout) (out device device_sector : ℕ) (cell : Cell)

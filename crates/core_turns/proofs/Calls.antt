@@ -3,7 +3,7 @@ use Rattle.std.proofs.Common.{◌≡◌, ⊎_elim, List, [], ◌∷◌, sym, ◌
 use Rattle.std.specs.Prelude.{Contains}
 use Rattle.std.proofs.lemmas.List.Elements.{filter_map-append}
 use Rattle.range_locks.specs.declared.hold.Hold.{Hold}
-use Rattle.range_locks.specs.Holds.{EndsHold}
+use Rattle.range_locks.specs.Holds.{EndsHold, Overlaps}
 use Rattle.space_alloc.specs.Space.{Gains}
 use Rattle.core_state.proofs.Listed.{contains_head, contains_tail, contains_cases, contains_none}
 use Rattle.core_blocks.specs.Blocks.{AreUnderWay}
@@ -11,8 +11,12 @@ use Rattle.core_blocks.proofs.Lists.{gains_old, gains_cases, pairs_gain, pairs_l
 use Rattle.core_turns.specs.declared.getting.GetRun.{GetRun}
 use Rattle.core_turns.specs.declared.putting.PutRun.{PutRun}
 use Rattle.core_turns.specs.Core.{Core}
-use Rattle.core_turns.specs.UnderWay.{HoldingCall, Putting, Reading, hold_of_call, range_in, ranges_of, IsCallOfCore, HaveNoneInCommon, AreBeside, AreCallsOf}
-use Rattle.core_turns.proofs.Frames.{KeepsWidths, call_of_stays, hold_listed, ends_other}
+use Rattle.core_turns.specs.UnderWay.{HoldingCall, Putting, Reading, Copying, hold_of_call, range_in, ranges_of, IsCallOfCore, HaveNoneInCommon, AreBeside, AreCallsOf}
+use Rattle.core_turns.proofs.Frames.{KeepsCalls, call_of_stays, hold_listed, ends_other}
+
+-- A hold that overlaps another is overlapped by it.
+turned : (one other : Hold) → Overlaps one other.lo other.hi → Overlaps other one.lo one.hi
+turned one other overlaps = record { begins = overlaps.ends; ends = overlaps.begins }
 
 -- Beside each other are calls in either order.
 none_in_common_turn : (one other : HoldingCall) → HaveNoneInCommon one other → HaveNoneInCommon other one
@@ -20,6 +24,11 @@ none_in_common_turn (Putting run) (Putting other) clear = λ sector there here. 
 none_in_common_turn (Putting run) (Reading other) clear = λ sector there here. clear sector here there
 none_in_common_turn (Reading run) (Putting other) clear = λ sector there here. clear sector here there
 none_in_common_turn (Reading run) (Reading other) clear = clear
+none_in_common_turn (Copying run) (Copying other) clear = clear
+none_in_common_turn (Copying run) (Putting other) clear = λ overlaps. clear (turned other.hold run.hold overlaps)
+none_in_common_turn (Copying run) (Reading other) clear = λ overlaps. clear (turned other.hold run.hold overlaps)
+none_in_common_turn (Putting run) (Copying other) clear = λ overlaps. clear (turned other.hold run.hold overlaps)
+none_in_common_turn (Reading run) (Copying other) clear = λ overlaps. clear (turned other.hold run.hold overlaps)
 
 pub beside_turn : (one other : HoldingCall) → AreBeside one other → AreBeside other one
 beside_turn one other beside = record {
@@ -40,6 +49,7 @@ range_listed (call ∷ calls) run listed = ⊎_elim
     behind : (call : HoldingCall) → Contains (ranges_of calls) run.range → Contains (ranges_of (call ∷ calls)) run.range
     behind (Putting other) there = contains_tail other.range (ranges_of calls) run.range there
     behind (Reading other) there = there
+    behind (Copying other) there = there
 
 -- and a read has none.
 pub ranges_read : (left calls : List HoldingCall) (run : GetRun) → Gains left calls (Reading run)
@@ -49,27 +59,27 @@ ranges_read left calls run gains = ap ranges_of gains.is
     ∙ sym (filter_map-append range_in gains.before gains.after) ∙ ap ranges_of (sym gains.was)
 
 -- A call comes.
-pub calls_gain : (old new : Core) (left calls : List HoldingCall) (call : HoldingCall) → Gains left calls call → KeepsWidths old new
+pub calls_gain : (old new : Core) (left calls : List HoldingCall) (call : HoldingCall) → Gains left calls call → KeepsCalls old new
     → ((hold : Hold) → Contains old.holds hold → Contains new.holds hold)
     → AreUnderWay new.pool.blocks (ranges_of calls) → IsCallOfCore new call
     → ((other : HoldingCall) → Contains left other → AreBeside call other) → AreCallsOf old left → AreCallsOf new calls
-calls_gain old new left calls call gains widths kept under of beside are = record {
+calls_gain old new left calls call gains keeps kept under of beside are = record {
   each = λ other listed. ⊎_elim
       (λ (same : call ≡ other). subst (IsCallOfCore new) same of)
       (λ was. let old_of = are.each other was in
-      call_of_stays old new other widths (kept (hold_of_call other) (hold_listed old other old_of)) old_of)
+      call_of_stays old new other keeps (kept (hold_of_call other) (hold_listed old other old_of)) old_of)
       (gains_cases left calls call other gains listed);
   under = under;
   beside = pairs_gain AreBeside beside_turn left calls call gains beside are.beside;
 }
 
 -- A call ends, and its hold with it.
-pub calls_lose : (old new : Core) (left calls : List HoldingCall) (call : HoldingCall) → Gains left calls call → KeepsWidths old new
+pub calls_lose : (old new : Core) (left calls : List HoldingCall) (call : HoldingCall) → Gains left calls call → KeepsCalls old new
     → EndsHold old.holds new.holds (hold_of_call call) → AreUnderWay new.pool.blocks (ranges_of left)
     → AreCallsOf old calls → AreCallsOf new left
-calls_lose old new left calls call gains widths ends under are = record {
+calls_lose old new left calls call gains keeps ends under are = record {
   each = λ other listed. let of = are.each other (gains_old left calls call other gains listed) in
-      call_of_stays old new other widths
+      call_of_stays old new other keeps
       (ends_other old.holds new.holds (hold_of_call call) (hold_of_call other) ends (hold_listed old other of)
       (λ same. (pairs_beside AreBeside beside_turn calls left call other gains are.beside listed).actors (sym same)))
       of;

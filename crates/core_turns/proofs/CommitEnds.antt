@@ -28,20 +28,27 @@ use Rattle.core_client.specs.Got.{got_of}
 use Rattle.core_commit.specs.declared.commit_run.CommitStep.TheVariants.{Ended}
 use Rattle.core_commit.specs.CommitTurns.{CommitRun, HasEnded, IsCommitting}
 use Rattle.core_commit.proofs.CommitTurns.{committing_done, committing_steps}
+use Rattle.core_copy.specs.Holding.{GoesOnIn}
+use Rattle.job_copy.specs.Progress.{MovesMark}
+use Rattle.job_copy.proofs.Beside.{choice_moves}
 use Rattle.open_pool.specs.Answered.{answered_by}
 use Rattle.open_pool.specs.Pool.{IsPool}
 use Rattle.open_pool.proofs.NewBirth.{HasRowsOf}
 use Rattle.open_pool.proofs.Answered.{answered_block, answered_in_pool, answered_kept, answered_layout, answered_map, answered_range, answered_spares, answered_under}
+use Rattle.core_turns.specs.declared.copying.CopyRun.{CopyRun}
 use Rattle.core_turns.specs.declared.getting.GetRun.{GetRun}
 use Rattle.core_turns.specs.declared.putting.PutRun.{PutRun}
 use Rattle.core_turns.specs.Core.{Core, IsCore, CoreState, at_disk}
 use Rattle.core_turns.specs.Getting.{HoldsGet, IsGetOf}
 use Rattle.core_turns.specs.Putting.{AsksAlike, HoldsPut, IsPutOf}
 use Rattle.core_turns.specs.Committing.{AnswersGroup, DropsHold, IsCommitOf, hold_for}
-use Rattle.core_turns.specs.UnderWay.{HoldingCall, Putting, Reading, AreCallsOf, HoldsCall, IsCallOfCore, LiesInPool, PutsSpare, Stands, actor_of, ranges_of}
+use Rattle.core_turns.specs.Copying.{CopiesCells, IsJobOf, hold_for_job}
+use Rattle.core_turns.proofs.JobBeside.{cells_behind, goes_behind, job_holds_else}
+use Rattle.core_turns.specs.UnderWay.{HoldingCall, Putting, Reading, Copying, AreCallsOf, HoldsCall, IsCallOfCore, LiesInPool, PutsSpare, Stands, actor_of, ranges_of}
 use Rattle.core_turns.proofs.Commits.{begun_pool, commit_stays, core_follows, core_rows}
 use Rattle.core_turns.proofs.GetTurns.{get_shared}
-use Rattle.core_turns.proofs.Holds.{shared_stay}
+use Rattle.core_turns.proofs.Holds.{others_stay, shared_stay}
+use Rattle.core_turns.proofs.Moved.{put_holds_moves, put_moves}
 use Rattle.core_turns.proofs.PutStands.{put_shared}
 use Rattle.core_turns.proofs.Rows.{IsBlockOutside, block_alike, spot_stays}
 
@@ -92,20 +99,13 @@ module _ (core : Core) (run : CommitRun) (is : IsCore core) (of : IsCommitOf cor
       → AsksAlike put.range.layout reflow core.pool.done chosen behind
   put_alike put its = block_alike reflow core.pool.done chosen put.range.layout on.rows its.pool (put_outside put its)
 
-  plan_stays : (put : PutRun) (content : List ℕ) (rows : Rows) (writes : List Write) → IsPutOf core put
-      → IsPlanOf put.range.layout reflow core.pool.done content rows writes
-      → IsPlanOf put.range.layout chosen behind content rows writes
-  plan_stays put content rows writes its plan = record {
-    pool = answered_in_pool core.pool run.uber pool is.step of.next on put.range.layout its.pool;
-    front = on.front;
-    encoded = plan.encoded;
-    required = record {
-      only = λ write listed. let asked = plan.required.only write listed in
-          (asked.0, (put_alike put its write.row write.column asked.0 write.device write.device_sector).0 asked.1);
-      all = λ row column device device_sector there needed. plan.required.all row column device device_sector there
-          ((put_alike put its row column there device device_sector).1 needed);
-    };
-  }
+  -- A job goes on: at most the mark has moved.
+  job_moves : (job : CopyRun) → GoesOnIn reflow core.pool.done job.job → MovesMark reflow core.pool.done chosen
+  job_moves job goes = choice_moves reflow core.pool.done job.job.job of.next.choice.holds chosen goes.widening goes.front
+      goes.may_run of.next.choice.choice
+
+  job_goes : (job : CopyRun) → GoesOnIn reflow core.pool.done job.job → GoesOnIn chosen behind job.job
+  job_goes job goes = goes_behind reflow core.pool.done job.job of.next.choice.holds chosen of.next.choice.choice goes
 
   module _ (holds : List Hold) (drops : DropsHold core.holds holds (hold_for reflow chosen of.actor)) where
     -- the core that the end leaves
@@ -118,31 +118,11 @@ module _ (core : Core) (run : CommitRun) (is : IsCore core) (of : IsCommitOf cor
     -- ---- the calls
 
     put_answered : (put : PutRun) → IsPutOf core put → IsPutOf answered put
-    put_answered put its = record {
-      pool = answered_in_pool core.pool run.uber pool is.step of.next on put.range.layout its.pool;
-      front = on.front;
-      begun_pool = its.begun_pool;
-      begun_front = its.begun_front;
-      places = λ row column there device device_sector.
-          let before = its.places row column there device device_sector in
-          let now = put_alike put its row column there device device_sector in
-          (λ asked. now.0 (before.0 asked), λ asked. before.1 (now.1 asked));
-      range = answered_range core.pool run.uber pool is.step of.next on put.range.id put.len put.range.birth put.range
-          (let born = its.born.1 in let number = of.number in omega (arith, born, number)) its.range;
-      born = its.born;
-      len = its.len;
-      holds = still_held put.hold (put_shared core put its) its.holds;
-      hold_is = its.hold_is;
-      filled = λ filled is_filled. let was = its.filled filled is_filled in (
-        was.0,
-        record {
-          plan = plan_stays put was.0 filled.write.rows filled.write.writes its was.1.plan;
-          so_far = was.1.so_far;
-          len_is = was.1.len_is;
-          digest_is = was.1.digest_is;
-        },
-      );
-    }
+    put_answered put its = put_moves core answered put its (put_alike put its)
+        (answered_in_pool core.pool run.uber pool is.step of.next on put.range.layout its.pool) on.front
+        (answered_range core.pool run.uber pool is.step of.next on put.range.id put.len put.range.birth put.range
+        (let born = its.born.1 in let number = of.number in omega (arith, born, number)) its.range)
+        its.born.1 (still_held put.hold (put_shared core put its) its.holds)
 
     get_answered : (get : GetRun) → IsGetOf core get → IsGetOf answered get
     get_answered get its = record {
@@ -159,9 +139,21 @@ module _ (core : Core) (run : CommitRun) (is : IsCore core) (of : IsCommitOf cor
       });
     }
 
+    job_answered : (job : CopyRun) → IsJobOf core job → IsJobOf answered job
+    job_answered job its = record {
+      under_way = its.under_way;
+      goes = job_goes job its.goes;
+      holds = others_stay core.holds holds (hold_for reflow chosen of.actor) job.hold drops
+          (job_holds_else core chosen of.actor job is of.next.choice its) its.holds;
+      hold_is = its.hold_is
+          ∙ (λ i. hold_for_job (sym (job_moves job its.goes).is i) job.job.job job.hold.actor);
+      read = its.read;
+    }
+
     call_answered : (call : HoldingCall) → IsCallOfCore core call → IsCallOfCore answered call
     call_answered (Putting put) its = put_answered put its
     call_answered (Reading get) its = (its.0, get_answered get its.1)
+    call_answered (Copying job) its = job_answered job its
 
     pub answered_calls : (calls : List HoldingCall) → AreCallsOf core calls → AreCallsOf answered calls
     answered_calls calls are = record {
@@ -174,17 +166,8 @@ module _ (core : Core) (run : CommitRun) (is : IsCore core) (of : IsCommitOf cor
 
     put_holds : (disk : Disk) (content : List ℕ) (put : PutRun) → IsPutOf core put
         → HoldsPut content (at_disk core disk) put → HoldsPut content (at_disk answered disk) put
-    put_holds disk content put its held = record {
-      len_is = held.len_is;
-      are_bytes = held.are_bytes;
-      so_far = λ filled is_filled. let was = held.so_far filled is_filled in (
-        was.0,
-        record {
-          plan = plan_stays put content filled.write.rows filled.write.writes its was.1.plan;
-          held = was.1.held;
-        },
-      );
-    }
+    put_holds disk content put its = put_holds_moves core answered put its (put_alike put its)
+        (answered_in_pool core.pool run.uber pool is.step of.next on put.range.layout its.pool) on.front disk content refl
 
     -- A column that was read, or lost with its device, is so at the chosen reflow.
     column_stays : (layout : Layout) (content : List ℕ) (row column : ℕ) (given : Option (List ℕ))
@@ -212,10 +195,17 @@ module _ (core : Core) (run : CommitRun) (is : IsCore core) (of : IsCommitOf cor
       solved = λ few. held.solved (λ many. few (let parity = of.next.parity in omega (arith, many, parity)));
     }
 
+    job_holds : (disk : Disk) (job : CopyRun)
+        → CopiesCells reflow core.pool.done job.job (point_of core.pool.out disk)
+        → CopiesCells chosen behind job.job (point_of core.pool.out disk)
+    job_holds disk job held = cells_behind reflow core.pool.done job.job of.next.choice.holds chosen
+        (point_of core.pool.out disk) of.next.choice.choice held
+
     call_holds : (disk : Disk) (content : List ℕ) (call : HoldingCall) → IsCallOfCore core call
         → HoldsCall (at_disk core disk) content call → HoldsCall (at_disk answered disk) content call
     call_holds disk content (Putting put) its = put_holds disk content put its
     call_holds disk content (Reading get) its = get_holds disk content get its.1
+    call_holds disk content (Copying job) its = job_holds disk job
 
     -- ---- all that stands
 

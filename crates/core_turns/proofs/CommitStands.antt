@@ -36,10 +36,10 @@ use Rattle.core_turns.specs.declared.turn.Turn.TheVariants.{More}
 use Rattle.core_turns.specs.Core.{Core, IsCore, CoreState, as_begun, at_disk, pool_at}
 use Rattle.core_turns.specs.Getting.{HasTooManyOut}
 use Rattle.core_turns.specs.Committing.{BeginsCommit, BeginsCommitSo, StepsCommit, commit_of, hold_for}
-use Rattle.core_turns.specs.UnderWay.{HoldingCall, Putting, LiesInPool, actor_of, layout_of_call, Stands, AreCallsOf}
+use Rattle.core_turns.specs.UnderWay.{HoldingCall, Putting, LiesInPool, actor_of, Stands, AreCallsOf}
 use Rattle.core_turns.proofs.Calls.{range_listed}
 use Rattle.core_turns.proofs.Commits.{begins_ready, begun_commit, core_follows, few_out, rests, rests_pool}
-use Rattle.core_turns.proofs.Frames.{off_nowhere, leaves_spared, call_stays, calls_keep, calls_stay, stands_frame}
+use Rattle.core_turns.proofs.Frames.{call_off_nowhere, off_nowhere, leaves_spared, call_stays, calls_keep, calls_stay, stands_frame}
 use Rattle.core_turns.proofs.Holds.{taken_has}
 
 -- No put has a sector of a block that stands in the table.
@@ -60,6 +60,7 @@ pub commit_begins_calls : (old new : Core) (calls : List HoldingCall) (actor : �
     → BeginsCommit old new actor (More run) → AreCallsOf old calls → AreCallsOf new calls
 commit_begins_calls old new calls actor run begins are = subst (λ (core : Core). AreCallsOf core calls) (sym begins.rest)
     (calls_keep old (begun_by old new.holds actor) calls (record {
+      widths = record {
       parity = refl;
       births = refl;
       reflow = refl;
@@ -67,6 +68,9 @@ commit_begins_calls old new calls actor run begins are = subst (λ (core : Core)
       block_parity = refl;
       block_births = refl;
       begun = omega arith;
+      };
+      copying = refl;
+      within = λ device has. has;
     })
     (λ hold has. taken_has old.holds new.holds (hold_for old.pool.uber.reflow run.uber.reflow actor) hold begins.holds has)
     are.under are)
@@ -146,7 +150,7 @@ module _ (setting : Setting) (last : Kept) (map : Map) (contents : ℕ → List 
           front = is.is.front;
           within = λ device out. out;
           reads = λ device device_sector used in_data away. refl;
-        }) (off_nowhere old.pool.uber.reflow old.pool.done (layout_of_call call)) (stands.each call has);
+        }) (call_off_nowhere old.pool.uber.reflow old.pool.done call) (stands.each call has);
   }
 
 -- A commit begins: it makes the group of the map as it is.
@@ -188,7 +192,9 @@ commit_begins_stands {setting} {last} {begun} {map} {contents} {calls} {old} {ne
 
 pub commit_steps_calls : (before after : CoreState) (calls : List HoldingCall) (run next : CommitRun)
     → StepsCommit before run after (More next) → AreCallsOf before.core calls → AreCallsOf after.core calls
-commit_steps_calls before after calls run next steps are = calls_stay before.core after.core calls steps.2 are
+commit_steps_calls before after calls run next steps are = calls_stay before.core after.core calls steps.2
+    (steps_went Called run next (point_of before.core.pool.out before.disk) (point_of after.core.pool.out after.disk)
+    steps.1).stay are
 
 module _ {setting : Setting} {last : Kept} {begun : List Kept} {map : Map} {contents : ℕ → List ℕ}
     {calls : List HoldingCall} {before after : CoreState} {run next : CommitRun} (is : IsCore before.core)
@@ -202,7 +208,7 @@ module _ {setting : Setting} {last : Kept} {begun : List Kept} {map : Map} {cont
       let new = point_of after.core.pool.out after.disk in
       let went = steps_went Called run next old new steps.1 in
       stands_frame Nowhere before after (leaves_spared before after is.is.front steps.2 went.stay went.spares)
-      (λ call listed. off_nowhere before.core.pool.uber.reflow before.core.pool.done (layout_of_call call))
+      (λ call listed. call_off_nowhere before.core.pool.uber.reflow before.core.pool.done call)
       (λ entry listed. off_nowhere before.core.pool.uber.reflow before.core.pool.done
       (layout_of before.core.pool.uber.parity before.core.pool.uber.births entry))
       steps.2 went.spares.later

@@ -1,5 +1,6 @@
 -- Commits, turn by turn: that a pool stays one, and what each turn comes to.
-use Rattle.std.proofs.Common.{◌≡◌, ◌⊎◌, inl, inr, ⊎_elim, ℕ, ◌+◌, ◌^◌, ◌<◌, ◌≤◌, List, length, None, Some, Option, refl, sym, ◌∙◌, ap, subst, arith}
+use Rattle.std.specs.Prelude.{◌==◌, if◌then◌else◌}
+use Rattle.std.proofs.Common.{◌≡◌, ◌⊎◌, inl, inr, ⊎_elim, Bool, true, false, ℕ, ◌*◌, ◌+◌, ◌^◌, ◌<◌, ◌≤◌, List, length, None, Some, Option, refl, sym, ◌∙◌, ap, subst, arith}
 use Rattle.std.proofs.lemmas.Bool.{true≢false, cases_lt}
 use Rattle.sha2.specs.Sha256.{sha256}
 use Rattle.bank_trait.specs.Disk.{Disk, Lawful}
@@ -10,6 +11,9 @@ use Rattle.range_locks.specs.declared.hold.Hold.{Hold}
 use Rattle.range_locks.specs.declared.hold.HoldKind.TheVariants.{Exclusive}
 use Rattle.range_locks.specs.Holds.{HasSectors, IsClear}
 use Rattle.range_locks.specs.Order.{exclusive_count}
+use Rattle.job_copy.proofs.Fronts.{commit_clear, range_below}
+use Rattle.reflow_mark.specs.declared.reflow.State.{State}
+use Rattle.reflow_mark.specs.declared.reflow.State.TheVariants.{None as Unmoved, Valid, Moved}
 use Rattle.reflow_mark.specs.declared.reflow.Reflow.{Reflow}
 use Rattle.reflow_mark.specs.Reflow.{sectors_of}
 use Rattle.block_record.specs.declared.entry.IndexEntry.{IndexEntry}
@@ -21,9 +25,11 @@ use Rattle.uberblock_ring.specs.Valid.{IsRightUber}
 use Rattle.core_state.specs.declared.answer.Answer.{Answer}
 use Rattle.core_state.specs.declared.answer.Answer.TheVariants as answer
 use Rattle.core_state.specs.Committing.{Point, point_of}
-use Rattle.mark_choice.specs.CommitChoice.{IsCommitChoice, MayRecord, births_of_commit, range_of_commit}
+use Rattle.mark_choice.specs.CommitChoice.{IsChoiceIn, IsCommitChoice, MayRecord, births_of_commit, range_of_commit}
 use Rattle.mark_choice.proofs.Clear.{choice_clear}
-use Rattle.mark_advance.specs.Behind.{FollowsOn, front_behind}
+use Rattle.mark_advance.specs.Behind.{FollowsOn, front_behind, front_in}
+use Rattle.reflow_band.specs.Band.{IsFrontOf}
+use Rattle.shadow_write.specs.Required.{IsFrontIn}
 use Rattle.mark_advance.proofs.Follows.{follows}
 use Rattle.core_blocks.specs.Blocks.{Blocks}
 use Rattle.core_client.specs.Outs.{OnlyFailedGoOut}
@@ -48,12 +54,12 @@ use Rattle.open_pool.proofs.NewBirth.{HasRowsOf, rows_of}
 use Rattle.open_pool.proofs.NextGroup.{IsReady, ready}
 use Rattle.core_turns.specs.declared.turn.Turn.{Turn}
 use Rattle.core_turns.specs.declared.turn.Turn.TheVariants.{More, Busy, Done}
-use Rattle.core_turns.specs.Core.{Core, CoreState, IsCore, as_begun, groups_begun}
+use Rattle.core_turns.specs.Core.{Core, CoreState, IsCore, alone_below, as_begun, groups_begun, jobs_begun}
 use Rattle.core_turns.specs.Getting.{HasTooManyOut}
 use Rattle.core_turns.specs.Committing.{AnswersUber, BeginsCommitSo, DropsHold, IsHeldAlone, IsCommitOf, StepsCommit, TakesHold, commit_of, hold_for}
 use Rattle.core_turns.specs.UnderWay.{TurnGoesOn}
 use Rattle.core_turns.proofs.Cores.{core_out, core_with}
-use Rattle.core_turns.proofs.Holds.{alone_begins, alone_ends, clear_alone}
+use Rattle.core_turns.proofs.Holds.{alone_begins, alone_ends, below_lower, none_below, others_end, taken_count, below_all}
 
 -- Few devices are out.
 pub few_out : (core : Core) → (HasTooManyOut core → ⊥) → count_of core.pool.out ≤ core.pool.uber.parity
@@ -92,11 +98,18 @@ begins_ready core chosen is table none few limit choice =
     ready core.pool chosen (rests_pool core is none) is.step table on.right on.widths (omega (arith, limit, number))
     (few_out core few)
 
+-- The sectors whose standing a commit's choice changes begin below the front, if it changes any.
+pub change_below : (reflow : Reflow) (done : ℕ) (chosen : Reflow) (actor : ℕ) → IsFrontOf reflow done
+    → MayRecord reflow done chosen → HasSectors (hold_for reflow chosen actor) → (hold_for reflow chosen actor).lo < done
+change_below reflow done chosen actor front may some =
+    omega (arith, some, range_below reflow done may.holds chosen front may.choice)
+
 -- A core at which the next group was begun is one.
-pub begun_core : (core : Core) (holds : List Hold) (actor : ℕ) → IsCore core → core.committing ≡ None
-    → core.begun + 1 ≤ 2 ^ 62
+pub begun_core : (core : Core) (holds : List Hold) (actor : ℕ) (chosen : Reflow) → IsCore core → core.committing ≡ None
+    → core.begun + 1 ≤ 2 ^ 62 → MayRecord core.pool.uber.reflow core.pool.done chosen
+    → TakesHold core.holds holds (hold_for core.pool.uber.reflow chosen actor)
     → IsCore (record core { holds = holds; begun = core.begun + 1; committing = Some actor })
-begun_core core holds actor is none limit =
+begun_core core holds actor chosen is none limit may takes =
     let uber = core.pool.uber in
     let right = (rests_pool core is none).right in
     let number = rests core is none in
@@ -134,6 +147,9 @@ begun_core core holds actor is none limit =
       few = limit;
       step = is.step;
       shared = λ rests. absurd (under_way rests);
+      copies = taken_count core.pool.done (jobs_begun core.copying) core.holds holds
+          (hold_for core.pool.uber.reflow chosen actor) refl
+          (change_below core.pool.uber.reflow core.pool.done chosen actor is.is.front may) takes is.copies;
     }
   where
     under_way : Some actor ≡ None → ⊥
@@ -157,7 +173,9 @@ begun_commit core holds actor chosen is none ready choice takes = record {
     choice = record { holds = core.holds; choice = choice };
     births = refl;
   };
-  holds = alone_begins core.holds holds (hold_for core.pool.uber.reflow chosen actor) refl (is.shared none)
+  holds = alone_begins core.pool.done core.holds holds (hold_for core.pool.uber.reflow chosen actor) refl
+      (change_below core.pool.uber.reflow core.pool.done chosen actor is.is.front
+      (record { holds = core.holds; choice = choice })) (is.shared none)
       (choice_clear core.pool.uber.reflow core.pool.done core.holds chosen choice) takes;
   lists = λ device has. has;
 }
@@ -178,8 +196,9 @@ module _ (core : Core) (actor : ℕ) (before chosen : Reflow) (is : IsCore core)
   -- The sectors whose standing changes are clear to be held alone.
   pub begins_clear : HasSectors (hold_for before chosen actor)
       → IsClear core.holds (hold_for before chosen actor).lo (hold_for before chosen actor).hi Exclusive
-  begins_clear = clear_alone core.holds (range_of_commit before chosen).0 (range_of_commit before chosen).1 (is.shared none)
-      (choice_clear before core.pool.done core.holds chosen choice)
+  begins_clear some = commit_clear before core.pool.done core.holds chosen
+      (subst (λ (r : Reflow). IsFrontOf r core.pool.done) (sym before_is) is.is.front)
+      (none_below core.pool.done core.holds (is.shared none)) choice some
 
   module _ (entries : List IndexEntry) (next : Uber) (entries_are : entries ≡ core.pool.blocks.table.entries)
       (next_is : next ≡ next_uber core.pool.uber chosen (length entries) (sha256 (index_page entries)) core.pool.out) where
@@ -282,7 +301,7 @@ commit_stays core run stepped out old new result of did still =
         choice = next.choice;
         births = next.births;
       };
-      holds = subst (λ (r : Reflow). IsHeldAlone core.holds (hold_for core.pool.uber.reflow r of.actor))
+      holds = subst (λ (r : Reflow). IsHeldAlone core.pool.done core.holds (hold_for core.pool.uber.reflow r of.actor))
           (sym (ap (λ (u : Uber). u.reflow) same)) of.holds;
       lists = step_lists core run stepped out old new result of.lists still did;
     }
@@ -323,10 +342,41 @@ pub begun_pool : (core : Core) (run : CommitRun) → IsCore core → IsCommitOf 
 begun_pool core run is of =
     subst (λ (group : ℕ). IsPool (record core.pool { uber = record core.pool.uber { group = group } })) (sym of.number) is.is
 
+-- The front behind an answer is no higher than it was.
+front_no_higher : (reflow : Reflow) (done : ℕ) (chosen : Reflow) → IsFrontOf reflow done → MayRecord reflow done chosen
+    → front_behind reflow done chosen ≤ done
+front_no_higher reflow done chosen front may =
+    by reflow.from reflow.to reflow.rows reflow.mark done may.holds reflow.state chosen front.front may.choice
+  where
+    by : (from to rows mark done : ℕ) (holds : List Hold) (state : State) (chosen : Reflow)
+        → IsFrontIn state (record { from = from; to = to; rows = rows; mark = mark; state = state }) done
+        → IsChoiceIn state (record { from = from; to = to; rows = rows; mark = mark; state = state }) done holds chosen
+        → front_in state chosen.state done chosen.mark ≤ done
+    by from to rows mark done holds Unmoved chosen front choice = ⊎_elim
+        (λ ready. subst (λ (c : Reflow). front_in Unmoved c.state done c.mark ≤ done) (sym ready.1) (omega arith))
+        (λ stays. subst (λ (c : Reflow). front_in Unmoved c.state done c.mark ≤ done) (sym stays.1) (omega arith))
+        choice
+    by from to rows mark done holds Valid chosen front choice = ⊎_elim
+        (λ ready. subst (λ (c : Reflow). front_in Valid c.state done c.mark ≤ done) (sym ready.1)
+        (let all = ready.0.done_is in omega (arith, all)))
+        (λ stays. subst (λ (c : Reflow). front_in Valid c.state done c.mark ≤ done) (sym stays.1) (omega arith))
+        choice
+    by from to rows mark done holds Moved chosen front choice =
+        subst (λ (c : Reflow). front_in Moved c.state done c.mark ≤ done) (sym choice.2)
+        (either (record { from = to; to = to; rows = rows; mark = 0; state = Unmoved })
+        (record { from = from; to = to; rows = rows; mark = choice.0; state = Moved }) (choice.0 == rows * from)
+        (omega arith) (omega arith))
+      where
+        either : (one other : Reflow) (b : Bool) → front_in Moved one.state done one.mark ≤ done
+            → front_in Moved other.state done other.mark ≤ done
+            → (let r : Reflow = if b then one else other in front_in Moved r.state done r.mark ≤ done)
+        either one other true low high = low
+        either one other false low high = high
+
 pub answered_core : (core : Core) (run : CommitRun) (holds : List Hold) → IsCore core → IsCommitOf core run
-    → exclusive_count holds ≡ 0
+    → alone_below core.pool.done holds ≡ 0 → exclusive_count holds ≡ jobs_begun core.copying
     → IsCore (record core { pool = answered_by run.uber core.pool; holds = holds; committing = None })
-answered_core core run holds is of none =
+answered_core core run holds is of none jobs =
     let on = core_follows core run.uber.reflow is of.next.choice in
     let pool = begun_pool core run is of in
     record {
@@ -336,14 +386,21 @@ answered_core core run holds is of none =
       begun = (let same = of.number in omega (arith, same));
       few = is.few;
       step = answered_step core.pool run.uber pool is.step of.next on;
-      shared = λ rests. none;
+      shared = λ rests. none_behind;
+      copies = (let behind = none_behind in omega (arith, behind, jobs));
     }
+  where
+    none_behind : alone_below (front_behind core.pool.uber.reflow core.pool.done run.uber.reflow) holds ≡ 0
+    none_behind =
+        let low = front_no_higher core.pool.uber.reflow core.pool.done run.uber.reflow is.is.front of.next.choice in
+        let fewer = below_lower (front_behind core.pool.uber.reflow core.pool.done run.uber.reflow) core.pool.done holds low in
+        omega (arith, fewer, none)
 
 -- What a commit held was its actor's.
 pub held_by_actor : (core : Core) (run : CommitRun) (actor : ℕ) → IsCommitOf core run → core.committing ≡ Some actor
-    → IsHeldAlone core.holds (hold_for core.pool.uber.reflow run.uber.reflow actor)
+    → IsHeldAlone core.pool.done core.holds (hold_for core.pool.uber.reflow run.uber.reflow actor)
 held_by_actor core run actor of is = subst
-    (λ (by : ℕ). IsHeldAlone core.holds (hold_for core.pool.uber.reflow run.uber.reflow by))
+    (λ (by : ℕ). IsHeldAlone core.pool.done core.holds (hold_for core.pool.uber.reflow run.uber.reflow by))
     (same (sym of.under_way ∙ is)) of.holds
   where
     same : {one other : ℕ} → Some one ≡ Some other → one ≡ other
@@ -356,7 +413,7 @@ module _ (core : Core) (run : CommitRun) (uber : Uber) (before chosen : Reflow) 
     (chosen_is : chosen ≡ uber.reflow) (drops : DropsHold core.holds holds (hold_for before chosen actor))
     (blocks_are : blocks ≡ blocks_behind core.pool uber) (done_is : done ≡ front_behind before core.pool.done chosen) where
   abbrev now : Core
-  now = core_with uber blocks core.pool.out done holds core.begun None
+  now = core_with uber blocks core.pool.out done holds core.begun None core.copying
 
   its_drops : DropsHold core.holds holds (hold_for core.pool.uber.reflow uber.reflow actor)
   its_drops = subst (λ (r : Reflow × Reflow). DropsHold core.holds holds (hold_for r.0 r.1 actor))
@@ -364,7 +421,7 @@ module _ (core : Core) (run : CommitRun) (uber : Uber) (before chosen : Reflow) 
 
   now_is : now ≡ record core { pool = answered_by uber core.pool; holds = holds; committing = None }
   now_is i = core_with uber (blocks_are i) core.pool.out
-      ((done_is ∙ (λ j. front_behind (before_is j) core.pool.done (chosen_is j))) i) holds core.begun None
+      ((done_is ∙ (λ j. front_behind (before_is j) core.pool.done (chosen_is j))) i) holds core.begun None core.copying
 
   pub answers_uber : AnswersUber core now uber
   answers_uber = record { actor = actor; under_way = under_way; holds = its_drops; rest = now_is }
@@ -373,9 +430,13 @@ module _ (core : Core) (run : CommitRun) (uber : Uber) (before chosen : Reflow) 
   answers_core = subst IsCore (sym now_is)
       (subst (λ (u : Uber). IsCore (record core { pool = answered_by u core.pool; holds = holds; committing = None })) uber_is
       (answered_core core run holds is of
-      (alone_ends core.holds holds (hold_for core.pool.uber.reflow uber.reflow actor) refl
-      (subst (λ (u : Uber). IsHeldAlone core.holds (hold_for core.pool.uber.reflow u.reflow actor)) uber_is
-      (held_by_actor core run actor of under_way)) its_drops)))
+      (alone_ends core.pool.done core.holds holds (hold_for core.pool.uber.reflow uber.reflow actor) refl held its_drops)
+      (others_end core.pool.done (jobs_begun core.copying) core.holds holds
+      (hold_for core.pool.uber.reflow uber.reflow actor) refl held its_drops is.copies)))
+    where
+      held : IsHeldAlone core.pool.done core.holds (hold_for core.pool.uber.reflow uber.reflow actor)
+      held = subst (λ (u : Uber). IsHeldAlone core.pool.done core.holds (hold_for core.pool.uber.reflow u.reflow actor))
+          uber_is (held_by_actor core run actor of under_way)
 
 -- What the answer asks of the blocks where it ends an expansion.
 pub answer_grows : (core : Core) (run : CommitRun) → IsCore core → IsCommitOf core run

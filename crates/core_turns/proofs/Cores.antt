@@ -1,24 +1,25 @@
 -- A core of which devices went out, and its bank.
-use Rattle.std.proofs.Common.{List, ◌≡◌, ℕ, Option, ◌+◌, ◌^◌, ◌<◌, ◌≤◌, sym, ◌∙◌, subst}
+use Rattle.std.proofs.Common.{List, ◌≡◌, ℕ, Option, ◌+◌, ◌^◌, ◌<◌, ◌≤◌, sym, ◌∙◌, ap, subst}
 use Rattle.bank_trait.specs.Disk.{Disk}
 use Rattle.reflow_mark.specs.declared.reflow.Reflow.{Reflow}
 use Rattle.range_locks.specs.declared.hold.Hold.{Hold}
-use Rattle.range_locks.specs.Order.{exclusive_count}
 use Rattle.uberblock_ring.specs.Devices.{IsWithin}
 use Rattle.uberblock_ring.specs.Uberblock.{Uber}
 use Rattle.block_record.specs.declared.entry.IndexEntry.{IndexEntry}
 use Rattle.core_blocks.specs.Blocks.{Blocks, AreInStep, IsListed}
 use Rattle.core_client.specs.Pool.{HasPool}
 use Rattle.open_pool.specs.Pool.{Pool, IsPool, HasBank}
-use Rattle.core_turns.specs.Core.{Core, IsCore, as_begun}
+use Rattle.core_turns.specs.Core.{Core, IsCore, as_begun, jobs_begun}
+use Rattle.core_turns.proofs.Holds.{SameAlone}
 
 -- a core of these parts
-abbrev pub core_with : Uber → Blocks → ℕ → ℕ → List Hold → ℕ → Option ℕ → Core
-core_with uber blocks out done holds begun committing = record {
+abbrev pub core_with : Uber → Blocks → ℕ → ℕ → List Hold → ℕ → Option ℕ → Option ℕ → Core
+core_with uber blocks out done holds begun committing copying = record {
   pool = record { uber = uber; blocks = blocks; out = out; done = done };
   holds = holds;
   begun = begun;
   committing = committing;
+  copying = copying;
 }
 
 -- More devices may be out.
@@ -43,17 +44,20 @@ core_out core out is below within = record {
   few = is.few;
   step = is.step;
   shared = is.shared;
+  copies = is.copies;
 }
 
 -- Shared holds come or go.
-pub core_held : (core : Core) (holds : List Hold) → IsCore core → exclusive_count holds ≡ exclusive_count core.holds
+pub core_held : (core : Core) (holds : List Hold) → IsCore core → SameAlone core.holds holds
     → IsCore (record core { holds = holds })
-core_held core holds is shared = record {
+core_held core holds is same = record {
   is = is.is;
   begun = is.begun;
   few = is.few;
   step = is.step;
-  shared = λ rests. shared ∙ is.shared rests;
+  shared = λ rests. same.below core.pool.done ∙ is.shared rests;
+  copies = same.all ∙ is.copies
+      ∙ ap (λ (n : ℕ). n + jobs_begun core.copying) (sym (same.below core.pool.done));
 }
 
 -- The bank of a pool has what a block's calls ask for.
@@ -69,9 +73,9 @@ bank_has uber reflow out disk same bank = subst (λ (r : Reflow). HasPool r out 
 pub core_blocks : (core : Core) (blocks : Blocks) (holds : List Hold) → IsCore core → blocks.parity ≡ core.pool.blocks.parity
     → blocks.births ≡ core.pool.blocks.births → blocks.space.capacity ≡ core.pool.blocks.space.capacity
     → ((entry : IndexEntry) → IsListed blocks.table.entries entry → entry.birth ≤ core.begun + 1) → AreInStep blocks
-    → exclusive_count holds ≡ exclusive_count core.holds
+    → SameAlone core.holds holds
     → IsCore (record core { pool = record core.pool { blocks = blocks }; holds = holds })
-core_blocks core blocks holds is parity births capacity born step shared = record {
+core_blocks core blocks holds is parity births capacity born step same = record {
   is = record {
     right = is.is.right;
     parity = parity ∙ is.is.parity;
@@ -85,5 +89,7 @@ core_blocks core blocks holds is parity births capacity born step shared = recor
   begun = is.begun;
   few = is.few;
   step = step;
-  shared = λ rests. shared ∙ is.shared rests;
+  shared = λ rests. same.below core.pool.done ∙ is.shared rests;
+  copies = same.all ∙ is.copies
+      ∙ ap (λ (n : ℕ). n + jobs_begun core.copying) (sym (same.below core.pool.done));
 }

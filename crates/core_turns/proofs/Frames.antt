@@ -1,5 +1,5 @@
 -- What a turn leaves of the calls that are under way beside it, and of the map.
-use Rattle.std.proofs.Common.{◌≡◌, ◌≢◌, ⊎_elim, ℕ, ◌+◌, ◌≤◌, List, false, Option, Some, None, refl, sym, ◌∙◌, ap, subst, arith}
+use Rattle.std.proofs.Common.{◌≡◌, ◌≢◌, ⊎_elim, ℕ, ◌+◌, ◌≤◌, List, [], false, Option, Some, None, refl, sym, ◌∙◌, ap, subst, arith}
 use Rattle.std.specs.Prelude.{Contains}
 use Rattle.bank_trait.specs.Disk.{Disk, Lawful, Later, Unchanged}
 use Rattle.bank_trait.specs.Regions.{TouchesOnly}
@@ -36,21 +36,25 @@ use Rattle.core_client.specs.Writing.{IsPlanOf}
 use Rattle.core_client.specs.BlockTurns.{IsWrittenSoFar}
 use Rattle.core_client.proofs.BlockTurns.{written_stays}
 use Rattle.core_commit.specs.CommitTurns.{CommitRun}
+use Rattle.core_copy.specs.Holding.{GoesOnIn}
 use Rattle.core_commit.specs.Spared.{SparesData}
 use Rattle.core_commit.proofs.Beside.{committing_unchanged}
 use Rattle.open_pool.specs.Pool.{HasBank, HoldsMap, IsTableOf}
 use Rattle.open_pool.proofs.Banks.{bank_later, count_grows}
 use Rattle.open_pool.proofs.Holding.{block_stays}
+use Rattle.core_turns.specs.declared.copying.CopyRun.{CopyRun}
 use Rattle.core_turns.specs.declared.getting.GetRun.{GetRun}
 use Rattle.core_turns.specs.declared.putting.PutRun.{PutRun}
 use Rattle.core_turns.specs.Core.{Core, CoreState, pool_at}
 use Rattle.core_turns.specs.Getting.{IsGetOf, HoldsGet}
 use Rattle.core_turns.specs.Putting.{AsksAlike, IsPutOf, HoldsPut}
 use Rattle.core_turns.specs.Committing.{IsHeldAlone, IsCommitOf, hold_for}
-use Rattle.core_turns.specs.UnderWay.{HoldingCall, Putting, Reading, actor_of, hold_of_call, layout_of_call, ranges_of, IsCallOfCore, HoldsCall, AreCallsOf, LiesInPool, PutsSpare, GroupsStand, Stands}
+use Rattle.core_turns.specs.Copying.{CopiesCells, IsJobOf, hold_for_job}
+use Rattle.core_turns.specs.UnderWay.{HoldingCall, Putting, Reading, Copying, actor_of, hold_of_call, ranges_of, IsCallOfCore, HoldsCall, AreCallsOf, LiesInPool, PutsSpare, GroupsStand, Stands}
 use Rattle.core_turns.proofs.Beside.{IsWrittenTo, never_both, required_data, written_cell}
 use Rattle.core_turns.proofs.GetLaws.{get_stays}
 use Rattle.core_turns.proofs.Holds.{KeepsAlone, keeps_same}
+use Rattle.core_turns.proofs.JobLaws.{IsJobOff, job_leaves, none_before}
 
 -- What a turn leaves: the pool's widths and its front stay, no device comes back, and on those in use each data sector that is
 -- none of these reads what it read.
@@ -75,9 +79,21 @@ abbrev pub AreOff : (ℕ → ℕ → Type 0) → Core → Type 0
 AreOff P core = (entry : IndexEntry) → IsListed core.pool.blocks.table.entries entry
     → IsOff P core.pool.uber.reflow core.pool.done (layout_of core.pool.uber.parity core.pool.uber.births entry)
 
--- Where nothing is written, each block is off that;
+-- Nothing that a call under way relies on is at one of these places.
+abbrev pub IsCallOff : (ℕ → ℕ → Type 0) → Reflow → ℕ → HoldingCall → Type 0
+IsCallOff P reflow done (Putting run) = IsOff P reflow done run.range.layout
+IsCallOff P reflow done (Reading run) = IsOff P reflow done run.read.layout
+IsCallOff P reflow done (Copying run) = IsJobOff P reflow done run.job
+
+-- Where nothing is written, each block is off that, and so is a job;
 pub off_nowhere : (reflow : Reflow) (done : ℕ) (layout : Layout) → IsOff Nowhere reflow done layout
 off_nowhere reflow done layout = λ content cell device device_sector is place nowhere. nowhere
+
+pub call_off_nowhere : (reflow : Reflow) (done : ℕ) (call : HoldingCall) → IsCallOff Nowhere reflow done call
+call_off_nowhere reflow done (Putting run) = off_nowhere reflow done run.range.layout
+call_off_nowhere reflow done (Reading run) = off_nowhere reflow done run.read.layout
+call_off_nowhere reflow done (Copying run) =
+    record { places = λ cell device device_sector close inside place nowhere. nowhere }
 
 -- and off another's writes is each that has no sector in common with it.
 pub off_written : (reflow : Reflow) (done : ℕ) (layout other : Layout) (out : ℕ) → IsFrontOf reflow done
@@ -181,11 +197,22 @@ get_block_stays P content before after run leaves off holds = get_stays content 
     (off content cell device device_sector is place) ∙ read)
     holds
 
+-- A job has come as far.
+job_stays : (P : ℕ → ℕ → Type 0) (before after : CoreState) (run : CopyRun) → Leaves P before after
+    → IsJobOff P before.core.pool.uber.reflow before.core.pool.done run.job
+    → HoldsCall before [] (Copying run) → HoldsCall after [] (Copying run)
+job_stays P before after run leaves off holds =
+    subst (λ (at : Reflow × ℕ). CopiesCells at.0 at.1 run.job (point_of after.core.pool.out after.disk))
+    (λ i. (sym leaves.reflow i, sym leaves.done i))
+    (job_leaves P before.core.pool.uber.reflow before.core.pool.done run.job
+    (point_of before.core.pool.out before.disk) (point_of after.core.pool.out after.disk) leaves.within leaves.reads off holds)
+
 pub call_stays : (P : ℕ → ℕ → Type 0) (content : List ℕ) (before after : CoreState) (call : HoldingCall)
-    → Leaves P before after → IsOff P before.core.pool.uber.reflow before.core.pool.done (layout_of_call call)
+    → Leaves P before after → IsCallOff P before.core.pool.uber.reflow before.core.pool.done call
     → HoldsCall before content call → HoldsCall after content call
 call_stays P content before after (Putting run) = put_stays P content before after run
 call_stays P content before after (Reading run) = get_block_stays P content before after run
+call_stays P content before after (Copying run) = job_stays P before after run
 
 -- The widths of a core and of its blocks stay, and the group begun last is no earlier one.
 pub record KeepsWidths (old new : Core) : Type 0 where
@@ -196,6 +223,12 @@ pub record KeepsWidths (old new : Core) : Type 0 where
   pub block_parity : new.pool.blocks.parity ≡ old.pool.blocks.parity
   pub block_births : new.pool.blocks.births ≡ old.pool.blocks.births
   pub begun : old.begun ≤ new.begun
+
+-- So do these, and who copies sectors; no device comes back.
+pub record KeepsCalls (old new : Core) : Type 0 where
+  pub widths : KeepsWidths old new
+  pub copying : new.copying ≡ old.copying
+  pub within : IsWithin old.pool.out new.pool.out
 
 -- So they do where only devices went out.
 pub widths_out : (old new : Core) → OnlyOut old new → KeepsWidths old new
@@ -260,15 +293,29 @@ get_of_stays old new run widths listed of = record {
   });
 }
 
-pub call_of_stays : (old new : Core) (call : HoldingCall) → KeepsWidths old new → Contains new.holds (hold_of_call call)
+-- So is a job.
+pub job_of_stays : (old new : Core) (run : CopyRun) → KeepsCalls old new → Contains new.holds run.hold → IsJobOf old run
+    → IsJobOf new run
+job_of_stays old new run keeps listed of = record {
+  under_way = keeps.copying ∙ of.under_way;
+  goes = subst (λ (at : Reflow × ℕ). GoesOnIn at.0 at.1 run.job) (λ i. (sym keeps.widths.reflow i, sym keeps.widths.done i))
+      of.goes;
+  holds = listed;
+  hold_is = of.hold_is ∙ (λ i. hold_for_job (sym keeps.widths.reflow i) run.job.job run.hold.actor);
+  read = λ whole. of.read (none_before old.pool.out new.pool.out keeps.within whole);
+}
+
+pub call_of_stays : (old new : Core) (call : HoldingCall) → KeepsCalls old new → Contains new.holds (hold_of_call call)
     → IsCallOfCore old call → IsCallOfCore new call
-call_of_stays old new (Putting run) widths listed of = put_of_stays old new run widths listed of
-call_of_stays old new (Reading run) widths listed of = (of.0, get_of_stays old new run widths listed of.1)
+call_of_stays old new (Putting run) keeps listed of = put_of_stays old new run keeps.widths listed of
+call_of_stays old new (Reading run) keeps listed of = (of.0, get_of_stays old new run keeps.widths listed of.1)
+call_of_stays old new (Copying run) keeps listed of = job_of_stays old new run keeps listed of
 
 -- The hold of a call is there,
 pub hold_listed : (core : Core) (call : HoldingCall) → IsCallOfCore core call → Contains core.holds (hold_of_call call)
 hold_listed core (Putting run) of = of.holds
 hold_listed core (Reading run) of = of.1.holds
+hold_listed core (Copying run) of = of.holds
 
 -- also once that of another actor has ended.
 pub ends_other : (old new : List Hold) (gone hold : Hold) → EndsHold old new gone → Contains old hold
@@ -280,19 +327,21 @@ ends_other old new gone hold ends listed apart = ⊎_elim
     (record { before = ends.before; after = ends.after; was = ends.is; is = ends.was }) listed)
 
 -- The calls under way stay so while the widths, their holds and the puts' ranges do,
-pub calls_keep : (old new : Core) (calls : List HoldingCall) → KeepsWidths old new
+pub calls_keep : (old new : Core) (calls : List HoldingCall) → KeepsCalls old new
     → ((hold : Hold) → Contains old.holds hold → Contains new.holds hold)
     → AreUnderWay new.pool.blocks (ranges_of calls) → AreCallsOf old calls → AreCallsOf new calls
-calls_keep old new calls widths kept under are = record {
+calls_keep old new calls keeps kept under are = record {
   each = λ call listed. let of = are.each call listed in
-      call_of_stays old new call widths (kept (hold_of_call call) (hold_listed old call of)) of;
+      call_of_stays old new call keeps (kept (hold_of_call call) (hold_listed old call of)) of;
   under = under;
   beside = are.beside;
 }
 
 -- and so where only devices went out.
-pub calls_stay : (old new : Core) (calls : List HoldingCall) → OnlyOut old new → AreCallsOf old calls → AreCallsOf new calls
-calls_stay old new calls core are = calls_keep old new calls (widths_out old new core)
+pub calls_stay : (old new : Core) (calls : List HoldingCall) → OnlyOut old new → IsWithin old.pool.out new.pool.out
+    → AreCallsOf old calls → AreCallsOf new calls
+calls_stay old new calls core within are = calls_keep old new calls
+    (record { widths = widths_out old new core; copying = ap (λ (c : Core). c.copying) core; within = within })
     (λ hold listed. subst (λ (c : Core). Contains c.holds hold) (sym core) listed)
     (subst (λ (c : Core). AreUnderWay c.pool.blocks (ranges_of calls)) (sym core) are.under) are
 
@@ -338,7 +387,7 @@ pub record LeavesCommit (old new : Core) : Type 0 where
   pub begun : new.begun ≡ old.begun
   pub committing : new.committing ≡ old.committing
   pub within : IsWithin old.pool.out new.pool.out
-  pub holds : KeepsAlone old.holds new.holds
+  pub holds : KeepsAlone old.pool.done old.holds new.holds
 
 -- So it is one of the core still.
 pub commit_still : {run : CommitRun} (old new : Core) → LeavesCommit old new → IsCommitOf old run → IsCommitOf new run
@@ -356,7 +405,8 @@ commit_still {run} old new leaves of = record {
     births = of.next.births
         ∙ (λ i. births_of_commit (sym leaves.uber i).reflow run.uber.reflow (sym leaves.uber i).births run.uber.group);
   };
-  holds = subst (λ (u : Uber). IsHeldAlone new.holds (hold_for u.reflow run.uber.reflow of.actor)) (sym leaves.uber)
+  holds = subst (λ (at : Uber × ℕ). IsHeldAlone at.1 new.holds (hold_for at.0.reflow run.uber.reflow of.actor))
+      (λ i. (sym leaves.uber i, sym leaves.done i))
       (leaves.holds (hold_for old.pool.uber.reflow run.uber.reflow of.actor) refl of.holds);
   lists = λ device has. leaves.within device (of.lists device has);
 }
@@ -369,7 +419,7 @@ out_leaves old new core within = record {
   begun = ap (λ (c : Core). c.begun) core;
   committing = ap (λ (c : Core). c.committing) core;
   within = within;
-  holds = keeps_same old.holds new.holds (ap (λ (c : Core). c.holds) core);
+  holds = keeps_same old.pool.done old.holds new.holds (ap (λ (c : Core). c.holds) core);
 }
 
 -- The group's blocks lie in the pool still.
@@ -474,8 +524,8 @@ stands_anew P before after leaves off core = stands_still P before after leaves 
 pub stands_frame : {setting : Setting} {last : Kept} {begun : List Kept} {map : Map} {contents : ℕ → List ℕ}
     {calls : List HoldingCall} {commit next : Option CommitRun} (P : ℕ → ℕ → Type 0) (before after : CoreState)
     → Leaves P before after
-    → ((call : HoldingCall) → Contains calls call → IsOff P before.core.pool.uber.reflow before.core.pool.done
-    (layout_of_call call)) → AreOff P before.core → OnlyOut before.core after.core → Later before.disk after.disk
+    → ((call : HoldingCall) → Contains calls call → IsCallOff P before.core.pool.uber.reflow before.core.pool.done call)
+    → AreOff P before.core → OnlyOut before.core after.core → Later before.disk after.disk
     → GroupsStand setting last begun calls next after
     → Stands setting last begun map contents calls commit before → Stands setting last begun map contents calls next after
 stands_frame {last = last} {contents = contents} P before after leaves calls_off off core later groups stands =

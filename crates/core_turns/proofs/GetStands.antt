@@ -5,11 +5,12 @@ use Rattle.bank_trait.specs.Disk.{Disk, Lawful, Unchanged}
 use Rattle.bank_trait.proofs.Moments.{later_refl}
 use Rattle.width_map.specs.declared.birth.Birth.{Birth}
 use Rattle.range_locks.specs.declared.hold.Hold.{Hold}
-use Rattle.range_locks.specs.Holds.{EndsHold}
+use Rattle.reflow_mark.specs.declared.reflow.Reflow.{Reflow}
+use Rattle.range_locks.specs.Holds.{EndsHold, Overlaps}
 use Rattle.row_layout.specs.Layout.{Layout, rows_of}
 use Rattle.space_alloc.specs.Space.{Gains}
 use Rattle.block_record.specs.declared.entry.IndexEntry.{IndexEntry}
-use Rattle.uberblock_ring.specs.Devices.{has_device}
+use Rattle.uberblock_ring.specs.Devices.{has_device, IsWithin}
 use Rattle.uberblock_ring.specs.Uberblock.{Uber}
 use Rattle.core_state.specs.declared.answer.Answer.{Answer}
 use Rattle.core_state.specs.declared.answer.Answer.TheVariants as answer
@@ -25,8 +26,10 @@ use Rattle.core_blocks.specs.Runs.{AreClear}
 use Rattle.core_blocks.proofs.Listed.{found_listed}
 use Rattle.core_blocks.proofs.Lists.{gains_old, gains_item, gains_cases}
 use Rattle.core_client.specs.Outs.{OnlyFailedGoOut}
-use Rattle.core_state.specs.Committing.{point_of}
-use Rattle.core_client.specs.BlockTurns.{IsAtColumn}
+use Rattle.core_state.specs.Committing.{Point, point_of}
+use Rattle.core_client.specs.BlockTurns.{BlockRead, IsAtColumn, ReadsColumn}
+use Rattle.core_client.specs.Reading.{spot_of}
+use Rattle.core_client.proofs.Gotten.{outs_by_step}
 use Rattle.core_commit.specs.CommitTurns.{CommitRun, IsCommitting}
 use Rattle.core_turns.specs.Freeing.{map_after_free}
 use Rattle.open_pool.specs.Pool.{HasBank, HoldsMap}
@@ -37,9 +40,9 @@ use Rattle.core_turns.specs.declared.turn.Turn.TheVariants.{More}
 use Rattle.core_turns.specs.Core.{Core, IsCore, CoreState, at_disk, pool_at}
 use Rattle.core_turns.specs.Freeing.{FreesBlock}
 use Rattle.core_turns.specs.Getting.{IsReadKind, IsGetOf, BeginsGet, HoldsGet, ReadsTurn, SolvesGet}
-use Rattle.core_turns.specs.UnderWay.{HoldingCall, Putting, Reading, SetsContent, actor_of, layout_of_call, ranges_of, HoldsCall, HaveNoneInCommon, AreCallsOf, PutsSpare, CommitStands, NoCommitStands, GroupsStand, Stands}
+use Rattle.core_turns.specs.UnderWay.{HoldingCall, Putting, Reading, Copying, SetsContent, actor_of, ranges_of, HoldsCall, HaveNoneInCommon, AreCallsOf, PutsSpare, CommitStands, NoCommitStands, GroupsStand, Stands}
 use Rattle.core_turns.proofs.Calls.{range_listed, ranges_read, calls_gain, calls_lose, calls_swap}
-use Rattle.core_turns.proofs.Frames.{Leaves, LeavesCommit, commit_still, lies_still, KeepsWidths, off_nowhere, leaves_read, call_stays, calls_keep, calls_stay, groups_read, stands_still, stands_anew}
+use Rattle.core_turns.proofs.Frames.{Leaves, LeavesCommit, commit_still, lies_still, KeepsCalls, call_off_nowhere, off_nowhere, leaves_read, call_stays, calls_keep, calls_stay, groups_read, stands_still, stands_anew}
 use Rattle.core_turns.proofs.GetLaws.{get_finds, get_reads, get_solves}
 use Rattle.core_turns.proofs.Holds.{KeepsAlone, keeps_ended, keeps_gained, keeps_same}
 use Rattle.core_turns.proofs.GetTurns.{get_of_more, begins_holds, get_shared, solved_of}
@@ -50,8 +53,9 @@ use Rattle.core_turns.proofs.GetTurns.{get_of_more, begins_holds, get_shared, so
 abbrev OnlyHolds : Core → Core → Type 0
 OnlyHolds old new = new ≡ record old { holds = new.holds }
 
-widths_held : (old new : Core) → OnlyHolds old new → KeepsWidths old new
-widths_held old new core = record {
+calls_held : (old new : Core) → OnlyHolds old new → KeepsCalls old new
+calls_held old new core = record {
+  widths = record {
   parity = ap (λ (c : Core). c.pool.uber.parity) core;
   births = ap (λ (c : Core). c.pool.uber.births) core;
   reflow = ap (λ (c : Core). c.pool.uber.reflow) core;
@@ -59,6 +63,9 @@ widths_held old new core = record {
   block_parity = ap (λ (c : Core). c.pool.blocks.parity) core;
   block_births = ap (λ (c : Core). c.pool.blocks.births) core;
   begun = (let begun : new.begun ≡ old.begun = ap (λ (c : Core). c.begun) core in omega (arith, begun));
+  };
+  copying = ap (λ (c : Core). c.copying) core;
+  within = λ device has. subst (λ (c : Core). has_device c.pool.out device ≡ true) (sym core) has;
 }
 
 -- The ranges of the puts beside a read are those of all.
@@ -80,7 +87,7 @@ pub get_begins_calls : {old new : Core} {run : GetRun} {left calls : List Holdin
     → ((call : HoldingCall) → Contains left call → actor_of call ≢ actor) → Gains left calls (Reading run)
     → AreCallsOf old left → AreCallsOf new calls
 get_begins_calls {old} {new} {run} {left} {calls} actor id asked reads is begins apart gains are =
-    calls_gain old new left calls (Reading run) gains (widths_held old new begins.6)
+    calls_gain old new left calls (Reading run) gains (calls_held old new begins.6)
     (λ hold listed. begins_holds old new actor id asked (More run) hold begins listed)
     ((under_read old new (ap (λ (c : Core). c.pool.blocks) begins.6) gains).0 are.under)
     (subst IsReadKind (sym begins.2) reads, begins.7)
@@ -95,16 +102,22 @@ get_begins_calls {old} {new} {run} {left} {calls} actor id asked reads is begins
 
     none_in_common : (other : HoldingCall) → Contains left other → HaveNoneInCommon (Reading run) other
     none_in_common (Reading other) listed = tt
+    none_in_common (Copying other) listed = λ overlaps. begins.8 other.hold (are.each (Copying other) listed).holds (record {
+      overlaps = record { begins = overlaps.ends; ends = overlaps.begins };
+      exclusive = inl (ap (λ (h : Hold). h.kind) (are.each (Copying other) listed).hold_is);
+    })
     none_in_common (Putting put) listed =
         subst (λ (l : Layout). AreClear (layout_run l) (put_run put.range)) its_layout
         (λ sector here there. (are.under.each put.range (range_listed left put listed)).clear run.entry
         (found_listed old.pool.blocks.table.entries id run.entry begins.1) sector there here)
 
 -- One that goes on with its block has no more in common with others than before.
-read_apart : (run next : GetRun) (other : HoldingCall) → next.read.layout ≡ run.read.layout
+read_apart : (run next : GetRun) (other : HoldingCall) → next.read.layout ≡ run.read.layout → next.hold ≡ run.hold
     → HaveNoneInCommon (Reading run) other → HaveNoneInCommon (Reading next) other
-read_apart run next (Reading other) same apart = tt
-read_apart run next (Putting put) same apart =
+read_apart run next (Reading other) same hold apart = tt
+read_apart run next (Copying other) same hold apart =
+    λ overlaps. apart (subst (λ (h : Hold). Overlaps h other.hold.lo other.hold.hi) hold overlaps)
+read_apart run next (Putting put) same hold apart =
     subst (λ (l : Layout). AreClear (layout_run l) (layout_run put.range.layout)) (sym same) apart
 
 -- Its hold is the one that it had,
@@ -113,10 +126,16 @@ read_swaps : {core : Core} {run next : GetRun} {left calls nexts : List HoldingC
     → Gains left nexts (Reading next) → AreCallsOf core calls → AreCallsOf core nexts
 read_swaps {core} {run} {next} {left} {calls} {nexts} hold layout of gains again are =
     calls_swap core left calls nexts (Reading run) (Reading next) gains again hold
-    (λ other apart. read_apart run next other layout apart) of
+    (λ other apart. read_apart run next other layout hold apart) of
     ((under_read core core refl again).0 ((under_read core core refl gains).1 are.under)) are
 
--- when a column more is read,
+-- Devices that are out stay out over a column,
+column_outs : {reflow : Reflow} {old new : BlockRead} {here there : Point} → ReadsColumn reflow old here new there
+    → IsWithin here.out there.out
+column_outs {reflow} {old} {new} {here} {there} column =
+    (outs_by_step (spot_of old.layout reflow old.row old.column) column.given here there column.read).still
+
+-- when one more is read,
 pub get_reads_calls : {before after : CoreState} {run next : GetRun} {left calls nexts : List HoldingCall}
     → ReadsTurn before run after (More next) → Gains left calls (Reading run) → Gains left nexts (Reading next)
     → AreCallsOf before.core calls → AreCallsOf after.core nexts
@@ -124,7 +143,7 @@ get_reads_calls {before} {after} {run} {next} {left} {calls} reads gains again a
     let of = are.each (Reading run) (gains_item left calls (Reading run) gains) in
     read_swaps (ap (λ (r : GetRun). r.hold) reads.1) reads.3.on.layout_is
     (subst IsReadKind (sym (ap (λ (r : GetRun). r.kind) reads.1)) of.0, get_of_more before after run (More next) of.1 reads)
-    gains again (calls_stay before.core after.core calls reads.2 are)
+    gains again (calls_stay before.core after.core calls reads.2 (column_outs reads.3) are)
 
 -- and when the block is solved.
 pub get_solves_calls : {core : Core} {run next : GetRun} {left calls nexts : List HoldingCall} → SolvesGet run next
@@ -139,7 +158,7 @@ get_solves_calls {core} {run} {next} {left} {calls} solves gains again are =
 pub get_ends_calls : {old new : Core} {run : GetRun} {left calls : List HoldingCall} → OnlyHolds old new
     → EndsHold old.holds new.holds run.hold → Gains left calls (Reading run) → AreCallsOf old calls → AreCallsOf new left
 get_ends_calls {old} {new} {run} {left} {calls} core ends gains are =
-    calls_lose old new left calls (Reading run) gains (widths_held old new core) ends
+    calls_lose old new left calls (Reading run) gains (calls_held old new core) ends
     ((under_read old new (ap (λ (c : Core). c.pool.blocks) core) gains).1 are.under) are
 
 -- What a free leaves, whatever it comes to, and the map after it.
@@ -181,6 +200,7 @@ pub frees_calls : (old new : Core) (id : ℕ) (given : Answer) (calls : List Hol
 frees_calls old new id given calls frees under are =
     let left = freed old new id given frees in
     calls_keep old new calls (record {
+      widths = record {
       parity = ap (λ (c : Core). c.pool.uber.parity) left.rest;
       births = ap (λ (c : Core). c.pool.uber.births) left.rest;
       reflow = ap (λ (c : Core). c.pool.uber.reflow) left.rest;
@@ -188,14 +208,27 @@ frees_calls old new id given calls frees under are =
       block_parity = left.parity;
       block_births = left.births;
       begun = (let begun : new.begun ≡ old.begun = ap (λ (c : Core). c.begun) left.rest in omega (arith, begun));
+      };
+      copying = ap (λ (c : Core). c.copying) left.rest;
+      within = λ device has. subst (λ (c : Core). has_device c.pool.out device ≡ true) (sym left.rest) has;
     })
     (λ hold listed. subst (λ (c : Core). Contains c.holds hold) (sym left.rest) listed)
     (under (ranges_of calls) are.under) are
 
 -- ---- all that stands
 
+-- Only holds came or went, and who copies sectors.
+abbrev pub OnlyHeld : Core → Core → Type 0
+OnlyHeld old new = new ≡ record old { holds = new.holds; copying = new.copying }
+
+held_only : (old new : Core) → OnlyHolds old new → OnlyHeld old new
+held_only old new same = same ∙ (λ i. record old {
+  holds = new.holds;
+  copying = sym (ap (λ (c : Core). c.copying) same) i;
+})
+
 -- No put is among these calls that was not among those.
-abbrev AddsNoPut : List HoldingCall → List HoldingCall → Type 0
+abbrev pub AddsNoPut : List HoldingCall → List HoldingCall → Type 0
 AddsNoPut calls nexts = (run : PutRun) → Contains nexts (Putting run) → Contains calls (Putting run)
 
 reading_putting : {read : GetRun} {put : PutRun} → Reading read ≡ Putting put → ⊥
@@ -214,14 +247,15 @@ read_loses {left} {calls} {run} gains put listed = gains_old left calls (Reading
 
 -- The groups stand beside other calls where no put is added and only holds came or went.
 groups_held : (setting : Setting) (last : Kept) (begun : List Kept) (calls nexts : List HoldingCall)
-    (commit : Option CommitRun) (old new : Core) (disk : Disk) → OnlyHolds old new → KeepsAlone old.holds new.holds
+    (commit : Option CommitRun) (old new : Core) (disk : Disk) → OnlyHeld old new
+    → KeepsAlone old.pool.done old.holds new.holds
     → AddsNoPut calls nexts → GroupsStand setting last begun calls commit (at_disk old disk)
     → GroupsStand setting last begun nexts commit (at_disk new disk)
 groups_held setting last begun calls nexts None old new disk core alone adds groups =
     subst (λ (c : Core). NoCommitStands setting last begun (at_disk c disk)) (sym core)
     (record { knows = groups.knows; whole = groups.whole })
 groups_held setting last begun calls nexts (Some run) old new disk core alone adds groups =
-    let held = record old { holds = new.holds } in
+    let held = record old { holds = new.holds; copying = new.copying } in
     let leaves : LeavesCommit old held = record {
       uber = refl;
       done = refl;
@@ -243,8 +277,8 @@ groups_held setting last begun calls nexts (Some run) old new disk core alone ad
 module _ {setting : Setting} {last : Kept} {begun : List Kept} {map : Map} {contents : ℕ → List ℕ}
     {commit : Option CommitRun} where
   -- What stands, where only holds came or went and reads are told anew.
-  stands_held : {nows : ℕ → List ℕ} {calls nexts : List HoldingCall} (old new : Core) (disk : Disk) → IsCore old
-      → OnlyHolds old new → KeepsAlone old.holds new.holds → AddsNoPut calls nexts
+  pub stands_held : {nows : ℕ → List ℕ} {calls nexts : List HoldingCall} (old new : Core) (disk : Disk) → IsCore old
+      → OnlyHeld old new → KeepsAlone old.pool.done old.holds new.holds → AddsNoPut calls nexts
       → ((call : HoldingCall) → Contains nexts call → HoldsCall (at_disk new disk) (nows (actor_of call)) call
       ⊎ HoldsCall (at_disk old disk) (nows (actor_of call)) call)
       → Stands setting last begun map contents calls commit (at_disk old disk)
@@ -267,7 +301,7 @@ module _ {setting : Setting} {last : Kept} {begun : List Kept} {map : Map} {cont
       (put_run put.range)) (sym core) (stands.spared put (adds put listed)))
       (λ call listed. ⊎_elim (λ now. now)
       (λ was. call_stays Nowhere (nows (actor_of call)) (at_disk old disk) (at_disk new disk) call leaves
-      (off_nowhere old.pool.uber.reflow old.pool.done (layout_of_call call)) was)
+      (call_off_nowhere old.pool.uber.reflow old.pool.done call) was)
       (each call listed))
       stands
 
@@ -283,8 +317,8 @@ module _ {setting : Setting} {last : Kept} {begun : List Kept} {map : Map} {cont
       let found = get_finds map old new disk actor id asked (More run) stands.holds begins in (
         found.0,
         found.1,
-        λ nows calls sets gains. stands_held old new disk is begins.6
-            (keeps_gained old.holds new.holds run.hold (ap (λ (h : Hold). h.kind) begins.4) begins.8 begins.9)
+        λ nows calls sets gains. stands_held old new disk is (held_only old new begins.6)
+            (keeps_gained old.pool.done old.holds new.holds run.hold (ap (λ (h : Hold). h.kind) begins.4) begins.8 begins.9)
             (read_adds gains)
             (λ call listed. ⊎_elim
             (λ (same : Reading run ≡ call). inl (subst (λ (c : HoldingCall). HoldsCall (at_disk new disk) (nows (actor_of c)) c) same
@@ -313,7 +347,7 @@ module _ {setting : Setting} {last : Kept} {begun : List Kept} {map : Map} {cont
       (layout_of before.core.pool.uber.parity before.core.pool.uber.births entry))
       reads.2 unchanged.goes_on.later
       (groups_held setting last begun calls nexts commit after.core after.core after.disk refl
-      (keeps_same after.core.holds after.core.holds refl) adds
+      (keeps_same after.core.pool.done after.core.holds after.core.holds refl) adds
       (groups_read setting last begun calls commit before after reads.2 unchanged outs lawful stands.groups))
       (λ put has. subst (λ (c : Core). SparesAll c.pool.blocks.parity c.pool.blocks.births last.entries
       (put_run put.range)) (sym reads.2) (stands.spared put (adds put has)))
@@ -323,7 +357,7 @@ module _ {setting : Setting} {last : Kept} {begun : List Kept} {map : Map} {cont
       (get_reads (contents run.hold.actor) before after run (More next) is.is.front (are.each (Reading run) listed).1 place low
       unchanged outs (stands.each (Reading run) listed) reads)))
       (λ was. call_stays Nowhere (contents (actor_of call)) before after call leaves
-      (off_nowhere before.core.pool.uber.reflow before.core.pool.done (layout_of_call call))
+      (call_off_nowhere before.core.pool.uber.reflow before.core.pool.done call)
       (stands.each call (gains_old left calls (Reading run) call gains was)))
       (gains_cases left nexts (Reading next) call again has))
       stands
@@ -339,7 +373,8 @@ module _ {setting : Setting} {last : Kept} {begun : List Kept} {map : Map} {cont
       → Stands setting last begun map contents nexts commit state
   get_solves_stands {state} {run} {next} {left} {calls} {nexts} is solves whole gains again are stands =
       let listed = gains_item left calls (Reading run) gains in
-      stands_held state.core state.core state.disk is refl (keeps_same state.core.holds state.core.holds refl) (λ put has. read_loses gains put (read_adds again put has))
+      stands_held state.core state.core state.disk is refl
+      (keeps_same state.core.pool.done state.core.holds state.core.holds refl) (λ put has. read_loses gains put (read_adds again put has))
       (λ call has. ⊎_elim
       (λ (same : Reading next ≡ call). inl (subst (λ (c : HoldingCall). HoldsCall state (contents (actor_of c)) c) same
       (subst (λ (actor : ℕ). HoldsGet (contents actor) state next) (sym (ap (λ (r : GetRun). r.hold.actor) solves.rest))
@@ -355,8 +390,8 @@ module _ {setting : Setting} {last : Kept} {begun : List Kept} {map : Map} {cont
       → Stands setting last begun map contents calls commit (at_disk old disk)
       → Stands setting last begun map contents left commit (at_disk new disk)
   get_ends_stands {old} {new} {disk} {run} {left} {calls} is core ends gains are stands =
-      stands_held old new disk is core
-      (keeps_ended old.holds new.holds run.hold
+      stands_held old new disk is (held_only old new core)
+      (keeps_ended old.pool.done old.holds new.holds run.hold
       (get_shared old run (are.each (Reading run) (gains_item left calls (Reading run) gains)).1) ends)
       (read_loses gains)
       (λ call listed. inr (stands.each call (gains_old left calls (Reading run) call gains listed)))
@@ -390,7 +425,7 @@ frees_groups setting last begun calls (Some run) old new disk id given left kept
       begun = ap (λ (c : Core). c.begun) left.rest;
       committing = ap (λ (c : Core). c.committing) left.rest;
       within = λ device out. subst (λ (c : Core). has_device c.pool.out device ≡ true) (sym left.rest) out;
-      holds = keeps_same old.holds new.holds (ap (λ (c : Core). c.holds) left.rest);
+      holds = keeps_same old.pool.done old.holds new.holds (ap (λ (c : Core). c.holds) left.rest);
     } in record {
       next = groups.next;
       begun_is = groups.begun_is;
@@ -436,5 +471,5 @@ frees_stands {setting} {last} {begun} {map} {contents} {calls} {commit} {old} {n
             within = λ device has. subst (λ (n : ℕ). has_device n device ≡ true) (sym out) has;
             reads = λ device device_sector used in_data away. refl;
           })
-          (off_nowhere old.pool.uber.reflow old.pool.done (layout_of_call call)) (stands.each call listed);
+          (call_off_nowhere old.pool.uber.reflow old.pool.done call) (stands.each call listed);
     }

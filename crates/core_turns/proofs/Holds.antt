@@ -1,113 +1,211 @@
--- The holds of a core, of which at most one is held alone: that of its commit.
-use Rattle.std.proofs.Common.{◌≡◌, inl, inr, ⊎_elim, ℕ, ◌+◌, ◌<◌, List, [], ◌∷◌, ◌++◌, refl, sym, ◌∙◌, ap, subst, arith}
-use Rattle.std.specs.Prelude.{Contains, cond}
+-- The holds of a core, of which those held alone below the front are at most one, that of its commit, and those from it
+-- on at most one, that of its job.
+use Rattle.std.proofs.Common.{◌≡◌, inl, inr, ⊎_elim, ℕ, ◌+◌, ◌<◌, ◌≤◌, Bool, true, false, List, [], ◌∷◌, ◌++◌, refl, sym, ◌∙◌, ap, subst, arith}
+use Rattle.std.specs.Prelude.{Contains, cond, count_by, nat_lt, ◌&&◌}
+use Rattle.std.proofs.lemmas.Bool.{cases_lt}
+use Rattle.std.proofs.lemmas.Bool.Decides.{nat_tests}
 use Rattle.std.proofs.lemmas.List.Sums.{sum_by-append, sum_by-cons}
 use Rattle.range_locks.specs.declared.hold.Hold.{Hold}
 use Rattle.range_locks.specs.declared.hold.HoldKind.{HoldKind}
 use Rattle.range_locks.specs.declared.hold.HoldKind.TheVariants.{Exclusive, Shared}
 use Rattle.range_locks.specs.Gaining.{Gains}
-use Rattle.range_locks.specs.Holds.{EndsHold, IsClear}
+use Rattle.range_locks.specs.Holds.{EndsHold, HasSectors, IsClear}
 use Rattle.range_locks.specs.Order.{exclusive_count, is_exclusive}
 use Rattle.core_state.proofs.Listed.{contains_cases, contains_none}
 use Rattle.core_blocks.proofs.Lists.{gains_cases, gains_item, gains_old}
 use Rattle.mark_choice.specs.Clear.{HasNoShared}
+use Rattle.core_turns.specs.Core.{alone_below, is_alone_below}
 use Rattle.core_turns.specs.Committing.{DropsHold, IsHeldAlone, TakesHold}
 
--- ---- how many are held alone
+-- ---- how many pass a test
 
 -- what a hold adds to their number
-abbrev pub one_if_alone : Hold → ℕ
-one_if_alone hold = cond (is_exclusive hold.kind) 1 0
+abbrev pub one_if : (Hold → Bool) → Hold → ℕ
+one_if test hold = cond (test hold) 1 0
 
-alone_more : (hold : Hold) (holds : List Hold) → exclusive_count (hold ∷ holds) ≡ one_if_alone hold + exclusive_count holds
-alone_more hold holds = sum_by-cons one_if_alone hold holds
+count_more : (test : Hold → Bool) (hold : Hold) (holds : List Hold)
+    → count_by test (hold ∷ holds) ≡ one_if test hold + count_by test holds
+count_more test hold holds = sum_by-cons (one_if test) hold holds
 
-alone_both : (one two : List Hold) → exclusive_count (one ++ two) ≡ exclusive_count one + exclusive_count two
-alone_both one two = sum_by-append one_if_alone one two
+count_both : (test : Hold → Bool) (one two : List Hold)
+    → count_by test (one ++ two) ≡ count_by test one + count_by test two
+count_both test one two = sum_by-append (one_if test) one two
 
 -- One hold more,
-pub count_gained : (old new : List Hold) (hold : Hold) → Gains old new hold
-    → exclusive_count new ≡ exclusive_count old + one_if_alone hold
-count_gained old new hold gains =
-    let was = ap exclusive_count gains.was ∙ alone_both gains.before gains.after in
-    let is = ap exclusive_count gains.is ∙ alone_both gains.before (hold ∷ gains.after) in
-    let more = alone_more hold gains.after in
+pub count_gained : (test : Hold → Bool) (old new : List Hold) (hold : Hold) → Gains old new hold
+    → count_by test new ≡ count_by test old + one_if test hold
+count_gained test old new hold gains =
+    let was = ap (count_by test) gains.was ∙ count_both test gains.before gains.after in
+    let is = ap (count_by test) gains.is ∙ count_both test gains.before (hold ∷ gains.after) in
+    let more = count_more test hold gains.after in
     omega (arith, was, is, more)
 
 -- or one less.
 gains_ended : (old new : List Hold) (hold : Hold) → EndsHold old new hold → Gains new old hold
 gains_ended old new hold ends = record { before = ends.before; after = ends.after; was = ends.is; is = ends.was }
 
-pub count_ended : (old new : List Hold) (hold : Hold) → EndsHold old new hold
-    → exclusive_count old ≡ exclusive_count new + one_if_alone hold
-count_ended old new hold ends = count_gained new old hold (gains_ended old new hold ends)
+pub count_ended : (test : Hold → Bool) (old new : List Hold) (hold : Hold) → EndsHold old new hold
+    → count_by test old ≡ count_by test new + one_if test hold
+count_ended test old new hold ends = count_gained test new old hold (gains_ended old new hold ends)
 
--- A shared one does not count.
-adds_none : (hold : Hold) → hold.kind ≡ Shared → one_if_alone hold ≡ 0
+-- ---- how many are held alone
+
+-- The tests that only a hold passes that is held alone.
+abbrev alone : Hold → Bool
+alone hold = is_exclusive hold.kind
+
+adds_none : (hold : Hold) → hold.kind ≡ Shared → one_if alone hold ≡ 0
 adds_none hold shared = ap (λ (kind : HoldKind). cond (is_exclusive kind) 1 0) shared
 
-adds_one : (hold : Hold) → hold.kind ≡ Exclusive → one_if_alone hold ≡ 1
-adds_one hold alone = ap (λ (kind : HoldKind). cond (is_exclusive kind) 1 0) alone
+adds_none_below : (front : ℕ) (hold : Hold) → hold.kind ≡ Shared → one_if (is_alone_below front) hold ≡ 0
+adds_none_below front hold shared =
+    ap (λ (kind : HoldKind). cond (is_exclusive kind && nat_lt hold.lo front) 1 0) shared
 
-pub shared_gained : (old new : List Hold) (hold : Hold) → hold.kind ≡ Shared → Gains old new hold
-    → exclusive_count new ≡ exclusive_count old
-shared_gained old new hold shared gains =
-    let more = count_gained old new hold gains in let none = adds_none hold shared in omega (arith, more, none)
+adds_one : (hold : Hold) → hold.kind ≡ Exclusive → one_if alone hold ≡ 1
+adds_one hold exclusive = ap (λ (kind : HoldKind). cond (is_exclusive kind) 1 0) exclusive
 
-pub shared_ended : (old new : List Hold) (hold : Hold) → hold.kind ≡ Shared → EndsHold old new hold
-    → exclusive_count new ≡ exclusive_count old
+below_is : (front lo : ℕ) → lo < front → nat_lt lo front ≡ true
+below_is front lo low = grind (arith, nat_tests, low)
+
+above_is : (front lo : ℕ) → front ≤ lo → nat_lt lo front ≡ false
+above_is front lo high = grind (arith, nat_tests, high)
+
+adds_one_below : (front : ℕ) (hold : Hold) → hold.kind ≡ Exclusive → hold.lo < front
+    → one_if (is_alone_below front) hold ≡ 1
+adds_one_below front hold exclusive low =
+    ap (λ (kind : HoldKind). cond (is_exclusive kind && nat_lt hold.lo front) 1 0) exclusive
+    ∙ ap (λ (b : Bool). cond b 1 0) (below_is front hold.lo low)
+
+adds_none_above : (front : ℕ) (hold : Hold) → hold.kind ≡ Exclusive → front ≤ hold.lo
+    → one_if (is_alone_below front) hold ≡ 0
+adds_none_above front hold exclusive high =
+    ap (λ (kind : HoldKind). cond (is_exclusive kind && nat_lt hold.lo front) 1 0) exclusive
+    ∙ ap (λ (b : Bool). cond b 1 0) (above_is front hold.lo high)
+
+-- As many are held alone as before, below whatever front.
+pub record SameAlone (old new : List Hold) : Type 0 where
+  pub all : exclusive_count new ≡ exclusive_count old
+  pub below : (front : ℕ) → alone_below front new ≡ alone_below front old
+
+-- So it is where a shared hold comes,
+pub shared_gained : (old new : List Hold) (hold : Hold) → hold.kind ≡ Shared → Gains old new hold → SameAlone old new
+shared_gained old new hold shared gains = record {
+  all = (let more = count_gained alone old new hold gains in
+      let none = adds_none hold shared in
+      omega (arith, more, none));
+  below = λ front.
+      let more = count_gained (is_alone_below front) old new hold gains in
+      let none = adds_none_below front hold shared in
+      omega (arith, more, none);
+}
+
+-- or ends.
+pub shared_ended : (old new : List Hold) (hold : Hold) → hold.kind ≡ Shared → EndsHold old new hold → SameAlone old new
 shared_ended old new hold shared ends =
-    let less = count_ended old new hold ends in let none = adds_none hold shared in omega (arith, less, none)
+    let was = shared_gained new old hold shared (gains_ended old new hold ends) in
+    record { all = sym was.all; below = λ front. sym (was.below front) }
 
--- Where none is counted no hold is alone.
-pub none_alone : (holds : List Hold) → exclusive_count holds ≡ 0 → (hold : Hold) → Contains holds hold
-    → hold.kind ≡ Exclusive → ⊥
-none_alone [] none hold listed alone = contains_none hold listed
-none_alone (first ∷ holds) none hold listed alone =
-    let more = alone_more first holds in
+-- Where none is counted each hold that is alone begins at the front or above it.
+pub none_below : (front : ℕ) (holds : List Hold) → alone_below front holds ≡ 0 → (hold : Hold) → Contains holds hold
+    → hold.kind ≡ Exclusive → front ≤ hold.lo
+none_below front [] none hold listed exclusive = absurd (contains_none hold listed)
+none_below front (first ∷ holds) none hold listed exclusive =
+    let more = count_more (is_alone_below front) first holds in
     ⊎_elim
-    (λ (same : hold ≡ first). let one = adds_one first (ap (λ (h : Hold). h.kind) (sym same) ∙ alone) in
-    omega (arith, more, none, one))
-    (λ there. none_alone holds (omega (arith, more, none)) hold there alone)
+    (λ (same : hold ≡ first). high (nat_lt hold.lo front) refl
+    (let first_none : one_if (is_alone_below front) first ≡ 0 = omega (arith, more, none) in
+    ap (one_if (is_alone_below front)) same ∙ first_none))
+    (λ there. none_below front holds (omega (arith, more, none)) hold there exclusive)
     (contains_cases first holds hold listed)
+  where
+    high : (test : Bool) → nat_lt hold.lo front ≡ test → one_if (is_alone_below front) hold ≡ 0 → front ≤ hold.lo
+    high true is counted =
+        let low : hold.lo < front = grind (arith, nat_tests, is) in
+        let one = adds_one_below front hold exclusive low in
+        omega (arith, one, counted)
+    high false is counted = grind (arith, nat_tests, is)
+
+-- Fewer begin below a lower front, and never more than are alone.
+one_lower : (low front : ℕ) (hold : Hold) → low ≤ front → one_if (is_alone_below low) hold ≤ one_if (is_alone_below front) hold
+one_lower low front hold within = by hold.kind refl
+  where
+    by : (kind : HoldKind) → hold.kind ≡ kind → one_if (is_alone_below low) hold ≤ one_if (is_alone_below front) hold
+    by Shared is =
+        let one = adds_none_below low hold is in omega (arith, one)
+    by Exclusive is = ⊎_elim
+        (λ (below : hold.lo < low).
+        let one = adds_one_below low hold is below in
+        let other = adds_one_below front hold is (omega (arith, below, within)) in
+        omega (arith, one, other))
+        (λ above. let one = adds_none_above low hold is above in omega (arith, one))
+        (cases_lt hold.lo low)
+
+one_all : (front : ℕ) (hold : Hold) → one_if (is_alone_below front) hold ≤ one_if alone hold
+one_all front hold = by hold.kind refl
+  where
+    by : (kind : HoldKind) → hold.kind ≡ kind → one_if (is_alone_below front) hold ≤ one_if alone hold
+    by Shared is = let one = adds_none_below front hold is in omega (arith, one)
+    by Exclusive is = ⊎_elim
+        (λ (below : hold.lo < front).
+        let one = adds_one_below front hold is below in
+        let other = adds_one hold is in
+        omega (arith, one, other))
+        (λ above. let one = adds_none_above front hold is above in omega (arith, one))
+        (cases_lt hold.lo front)
+
+pub below_lower : (low front : ℕ) (holds : List Hold) → low ≤ front → alone_below low holds ≤ alone_below front holds
+below_lower low front [] within = omega arith
+below_lower low front (hold ∷ holds) within =
+    let one = one_lower low front hold within in
+    let rest = below_lower low front holds within in
+    let more = count_more (is_alone_below low) hold holds in
+    let other = count_more (is_alone_below front) hold holds in
+    omega (arith, one, rest, more, other)
+
+pub below_all : (front : ℕ) (holds : List Hold) → alone_below front holds ≤ exclusive_count holds
+below_all front [] = omega arith
+below_all front (hold ∷ holds) =
+    let one = one_all front hold in
+    let rest = below_all front holds in
+    let more = count_more (is_alone_below front) hold holds in
+    let other = count_more alone hold holds in
+    omega (arith, one, rest, more, other)
 
 -- ---- the hold of a commit
 
 differ : Shared ≡ Exclusive → ⊥
 differ same = cc
 
--- A range that nobody shares, where nobody holds sectors alone, may be held alone.
-pub clear_alone : (holds : List Hold) (lo hi : ℕ) → exclusive_count holds ≡ 0 → HasNoShared holds (lo, hi)
-    → lo < hi → IsClear holds lo hi Exclusive
-clear_alone holds lo hi none clear some hold listed conflict = by hold.kind refl
-  where
-    by : (kind : HoldKind) → hold.kind ≡ kind → ⊥
-    by Exclusive is = none_alone holds none hold listed is
-    by Shared is = clear hold listed is some conflict.overlaps
-
--- So it is held, if it has a sector.
-pub alone_begins : (old new : List Hold) (hold : Hold) → hold.kind ≡ Exclusive → exclusive_count old ≡ 0
-    → HasNoShared old (hold.lo, hold.hi) → TakesHold old new hold → IsHeldAlone new hold
-alone_begins old new hold alone none clear (inl taken) = record {
+-- A range below the front that nobody shares, where nobody holds sectors below it alone, is held so by a commit, if it has
+-- a sector.
+pub alone_begins : (front : ℕ) (old new : List Hold) (hold : Hold) → hold.kind ≡ Exclusive
+    → (HasSectors hold → hold.lo < front) → alone_below front old ≡ 0 → HasNoShared old (hold.lo, hold.hi)
+    → TakesHold old new hold → IsHeldAlone front new hold
+alone_begins front old new hold exclusive low none clear (inl taken) = record {
+  low = low;
   held = inl (
     taken.0,
     gains_item old new hold taken.1,
-    (let more = count_gained old new hold taken.1 in let one = adds_one hold alone in omega (arith, more, none, one)),
+    (let more = count_gained (is_alone_below front) old new hold taken.1 in
+        let one = adds_one_below front hold exclusive (low taken.0) in
+        omega (arith, more, none, one)),
   );
   clear = λ other listed shared some overlaps. ⊎_elim
-      (λ (same : hold ≡ other). absurd (differ (sym shared ∙ sym (ap (λ (h : Hold). h.kind) same) ∙ alone)))
+      (λ (same : hold ≡ other). absurd (differ (sym shared ∙ sym (ap (λ (h : Hold). h.kind) same) ∙ exclusive)))
       (λ was. clear other was shared some overlaps)
       (gains_cases old new hold other taken.1 listed);
 }
-alone_begins old new hold alone none clear (inr empty) = record {
-  held = inr (empty.0, ap exclusive_count empty.1 ∙ none);
+alone_begins front old new hold exclusive low none clear (inr empty) = record {
+  low = low;
+  held = inr (empty.0, ap (alone_below front) empty.1 ∙ none);
   clear = subst (λ (l : List Hold). HasNoShared l (hold.lo, hold.hi)) (sym empty.1) clear;
 }
 
 -- It is held still when another hold comes, which is shared and clear of it,
-pub alone_gains : (old new : List Hold) (item hold : Hold) → hold.kind ≡ Exclusive → item.kind ≡ Shared
-    → Gains old new item → IsClear old item.lo item.hi Shared → IsHeldAlone old hold → IsHeldAlone new hold
-alone_gains old new item hold alone shared gains clear holds = record {
+pub alone_gains : (front : ℕ) (old new : List Hold) (item hold : Hold) → hold.kind ≡ Exclusive → item.kind ≡ Shared
+    → Gains old new item → IsClear old item.lo item.hi Shared → IsHeldAlone front old hold → IsHeldAlone front new hold
+alone_gains front old new item hold exclusive shared gains clear holds = record {
+  low = holds.low;
   held = ⊎_elim
       (λ held. inl (held.0, gains_old old new item hold gains held.1, same ∙ held.2))
       (λ none. inr (none.0, same ∙ none.1))
@@ -119,7 +217,7 @@ alone_gains old new item hold alone shared gains clear holds = record {
           begins = subst (λ (h : Hold). hold.lo < h.hi) (sym is) overlaps.ends;
           ends = subst (λ (h : Hold). h.lo < hold.hi) (sym is) overlaps.begins;
         };
-        exclusive = inl alone;
+        exclusive = inl exclusive;
       }))
       (λ none. none.0 some)
       holds.held)
@@ -127,17 +225,18 @@ alone_gains old new item hold alone shared gains clear holds = record {
       (gains_cases old new item other gains listed);
 }
   where
-    same : exclusive_count new ≡ exclusive_count old
-    same = shared_gained old new item shared gains
+    same : alone_below front new ≡ alone_below front old
+    same = (shared_gained old new item shared gains).below front
 
 -- and when a shared one ends.
-pub alone_stays : (old new : List Hold) (gone hold : Hold) → hold.kind ≡ Exclusive → gone.kind ≡ Shared
-    → EndsHold old new gone → IsHeldAlone old hold → IsHeldAlone new hold
-alone_stays old new gone hold alone shared ends holds = record {
+pub alone_stays : (front : ℕ) (old new : List Hold) (gone hold : Hold) → hold.kind ≡ Exclusive → gone.kind ≡ Shared
+    → EndsHold old new gone → IsHeldAlone front old hold → IsHeldAlone front new hold
+alone_stays front old new gone hold exclusive shared ends holds = record {
+  low = holds.low;
   held = ⊎_elim
       (λ held. inl (
         held.0,
-        ⊎_elim (λ (is : gone ≡ hold). absurd (differ (sym shared ∙ ap (λ (h : Hold). h.kind) is ∙ alone)))
+        ⊎_elim (λ (is : gone ≡ hold). absurd (differ (sym shared ∙ ap (λ (h : Hold). h.kind) is ∙ exclusive)))
             (λ there. there)
             (gains_cases new old gone hold (gains_ended old new gone ends) held.1),
         same ∙ held.2,
@@ -147,34 +246,99 @@ alone_stays old new gone hold alone shared ends holds = record {
   clear = λ other listed. holds.clear other (gains_old new old gone other (gains_ended old new gone ends) listed);
 }
   where
-    same : exclusive_count new ≡ exclusive_count old
-    same = shared_ended old new gone shared ends
+    same : alone_below front new ≡ alone_below front old
+    same = (shared_ended old new gone shared ends).below front
 
--- Once it has ended nobody holds sectors alone,
-pub alone_ends : (old new : List Hold) (hold : Hold) → hold.kind ≡ Exclusive → IsHeldAlone old hold → DropsHold old new hold
-    → exclusive_count new ≡ 0
-alone_ends old new hold alone holds drops = ⊎_elim
+-- A hold from the front on that comes or ends leaves it too,
+pub alone_beside : (front : ℕ) (old new : List Hold) (item hold : Hold) → hold.kind ≡ Exclusive → item.kind ≡ Exclusive
+    → front ≤ item.lo → Gains old new item → IsHeldAlone front old hold → IsHeldAlone front new hold
+alone_beside front old new item hold exclusive alone high gains holds = record {
+  low = holds.low;
+  held = ⊎_elim
+      (λ held. inl (held.0, gains_old old new item hold gains held.1, same ∙ held.2))
+      (λ none. inr (none.0, same ∙ none.1))
+      holds.held;
+  clear = λ other listed kind some overlaps. ⊎_elim
+      (λ (is : item ≡ other). absurd (differ (sym kind ∙ sym (ap (λ (h : Hold). h.kind) is) ∙ alone)))
+      (λ was. holds.clear other was kind some overlaps)
+      (gains_cases old new item other gains listed);
+}
+  where
+    same : alone_below front new ≡ alone_below front old
+    same =
+        let more = count_gained (is_alone_below front) old new item gains in
+        let none = adds_none_above front item alone high in
+        omega (arith, more, none)
+
+-- and so does a front that goes on past the only such hold as it ends.
+pub alone_passes : (front next : ℕ) (old new : List Hold) (gone hold : Hold) → hold.kind ≡ Exclusive
+    → gone.kind ≡ Exclusive → front ≤ gone.lo → front ≤ next → alone_below next new ≡ alone_below front old
+    → EndsHold old new gone → IsHeldAlone front old hold → IsHeldAlone next new hold
+alone_passes front next old new gone hold exclusive alone high on same ends holds = record {
+  low = λ some. let low = holds.low some in omega (arith, low, on);
+  held = ⊎_elim
+      (λ held. inl (
+        held.0,
+        ⊎_elim (λ (is : gone ≡ hold).
+            let its = holds.low held.0 in
+            let begins : front ≤ hold.lo = subst (λ (h : Hold). front ≤ h.lo) is high in
+            absurd (omega (arith, its, begins)))
+            (λ there. there)
+            (gains_cases new old gone hold (gains_ended old new gone ends) held.1),
+        same ∙ held.2,
+      ))
+      (λ none. inr (none.0, same ∙ none.1))
+      holds.held;
+  clear = λ other listed. holds.clear other (gains_old new old gone other (gains_ended old new gone ends) listed);
+}
+
+-- Once it has ended nobody holds sectors below the front alone,
+pub alone_ends : (front : ℕ) (old new : List Hold) (hold : Hold) → hold.kind ≡ Exclusive
+    → IsHeldAlone front old hold → DropsHold old new hold → alone_below front new ≡ 0
+alone_ends front old new hold exclusive holds drops = ⊎_elim
     (λ dropped.
-    let less = count_ended old new hold dropped.1 in
-    let one = adds_one hold alone in
+    let less = count_ended (is_alone_below front) old new hold dropped.1 in
+    let one = adds_one_below front hold exclusive (holds.low dropped.0) in
     ⊎_elim
     (λ held. let is = held.2 in omega (arith, less, one, is))
     (λ none. absurd (none.0 dropped.0))
     holds.held)
-    (λ empty. ap exclusive_count empty.1
+    (λ empty. ap (alone_below front) empty.1
     ∙ ⊎_elim (λ held. absurd (empty.0 held.0)) (λ none. none.1) holds.held)
     drops
 
--- and the shared ones are there.
-pub shared_stay : (old new : List Hold) (hold other : Hold) → hold.kind ≡ Exclusive → DropsHold old new hold
-    → other.kind ≡ Shared → Contains old other → Contains new other
-shared_stay old new hold other alone drops shared listed = ⊎_elim
+-- as many hold sectors from it on,
+pub others_end : (front jobs : ℕ) (old new : List Hold) (hold : Hold) → hold.kind ≡ Exclusive
+    → IsHeldAlone front old hold → DropsHold old new hold
+    → exclusive_count old ≡ alone_below front old + jobs → exclusive_count new ≡ jobs
+others_end front jobs old new hold exclusive holds drops counted = ⊎_elim
+    (λ dropped.
+    let less = count_ended alone old new hold dropped.1 in
+    let one = adds_one hold exclusive in
+    ⊎_elim
+    (λ held. let is = held.2 in omega (arith, less, one, is, counted))
+    (λ none. absurd (none.0 dropped.0))
+    holds.held)
+    (λ empty.
+    let same = ap exclusive_count empty.1 in
+    ⊎_elim (λ held. absurd (empty.0 held.0)) (λ none. let is = none.1 in omega (arith, same, is, counted)) holds.held)
+    drops
+
+-- and the shared ones are there, and those from the front on.
+pub others_stay : (old new : List Hold) (hold other : Hold) → DropsHold old new hold → (hold ≡ other → ⊥)
+    → Contains old other → Contains new other
+others_stay old new hold other drops apart listed = ⊎_elim
     (λ dropped. ⊎_elim
-    (λ (is : hold ≡ other). absurd (differ (sym shared ∙ sym (ap (λ (h : Hold). h.kind) is) ∙ alone)))
+    (λ (is : hold ≡ other). absurd (apart is))
     (λ there. there)
     (gains_cases new old hold other (gains_ended old new hold dropped.1) listed))
     (λ empty. subst (λ (l : List Hold). Contains l other) (sym empty.1) listed)
     drops
+
+pub shared_stay : (old new : List Hold) (hold other : Hold) → hold.kind ≡ Exclusive → DropsHold old new hold
+    → other.kind ≡ Shared → Contains old other → Contains new other
+shared_stay old new hold other exclusive drops shared = others_stay old new hold other drops
+    (λ is. differ (sym shared ∙ sym (ap (λ (h : Hold). h.kind) is) ∙ exclusive))
 
 -- All are there when it is taken.
 pub taken_has : (old new : List Hold) (hold other : Hold) → TakesHold old new hold → Contains old other → Contains new other
@@ -183,18 +347,63 @@ taken_has old new hold other takes listed = ⊎_elim
     (λ empty. subst (λ (l : List Hold). Contains l other) (sym empty.1) listed)
     takes
 
+-- How many are alone when it is taken.
+pub taken_count : (front jobs : ℕ) (old new : List Hold) (hold : Hold) → hold.kind ≡ Exclusive
+    → (HasSectors hold → hold.lo < front) → TakesHold old new hold
+    → exclusive_count old ≡ alone_below front old + jobs → exclusive_count new ≡ alone_below front new + jobs
+taken_count front jobs old new hold exclusive low takes counted = ⊎_elim
+    (λ taken.
+    let all = count_gained alone old new hold taken.1 in
+    let below = count_gained (is_alone_below front) old new hold taken.1 in
+    let one = adds_one hold exclusive in
+    let other = adds_one_below front hold exclusive (low taken.0) in
+    omega (arith, all, below, one, other, counted))
+    (λ empty. subst (λ (l : List Hold). exclusive_count l ≡ alone_below front l + jobs) (sym empty.1) counted)
+    takes
+
+-- ---- the hold of a job
+
+-- One that begins at the front is one more,
+pub job_gained : (front : ℕ) (old new : List Hold) (hold : Hold) → hold.kind ≡ Exclusive → front ≤ hold.lo
+    → Gains old new hold
+    → (exclusive_count new ≡ exclusive_count old + 1) × (alone_below front new ≡ alone_below front old)
+job_gained front old new hold exclusive high gains = (
+  (let more = count_gained alone old new hold gains in
+      let one = adds_one hold exclusive in
+      omega (arith, more, one)),
+  (let more = count_gained (is_alone_below front) old new hold gains in
+      let none = adds_none_above front hold exclusive high in
+      omega (arith, more, none)),
+)
+
+-- and one less when it ends.
+pub job_ended : (front : ℕ) (old new : List Hold) (hold : Hold) → hold.kind ≡ Exclusive → front ≤ hold.lo
+    → EndsHold old new hold
+    → (exclusive_count old ≡ exclusive_count new + 1) × (alone_below front old ≡ alone_below front new)
+job_ended front old new hold exclusive high ends = job_gained front new old hold exclusive high (gains_ended old new hold ends)
+
+-- Where it was the only one from the front on, as many are alone below one behind it.
+pub front_passes : (front next : ℕ) (new : List Hold) → front ≤ next → exclusive_count new ≡ alone_below front new
+    → alone_below next new ≡ alone_below front new
+front_passes front next new on all =
+    let low = below_lower front next new on in
+    let high = below_all next new in
+    omega (arith, all, low, high)
+
 -- ---- what a turn leaves of it
 
--- What is held alone is held so still.
-abbrev pub KeepsAlone : List Hold → List Hold → Type 0
-KeepsAlone old new = (hold : Hold) → hold.kind ≡ Exclusive → IsHeldAlone old hold → IsHeldAlone new hold
+-- What is held alone below the front is held so still.
+abbrev pub KeepsAlone : ℕ → List Hold → List Hold → Type 0
+KeepsAlone front old new = (hold : Hold) → hold.kind ≡ Exclusive → IsHeldAlone front old hold → IsHeldAlone front new hold
 
-pub keeps_same : (old new : List Hold) → new ≡ old → KeepsAlone old new
-keeps_same old new same hold alone holds = subst (λ (l : List Hold). IsHeldAlone l hold) (sym same) holds
+pub keeps_same : (front : ℕ) (old new : List Hold) → new ≡ old → KeepsAlone front old new
+keeps_same front old new same hold exclusive holds = subst (λ (l : List Hold). IsHeldAlone front l hold) (sym same) holds
 
-pub keeps_gained : (old new : List Hold) (item : Hold) → item.kind ≡ Shared → IsClear old item.lo item.hi Shared
-    → Gains old new item → KeepsAlone old new
-keeps_gained old new item shared clear gains hold alone = alone_gains old new item hold alone shared gains clear
+pub keeps_gained : (front : ℕ) (old new : List Hold) (item : Hold) → item.kind ≡ Shared → IsClear old item.lo item.hi Shared
+    → Gains old new item → KeepsAlone front old new
+keeps_gained front old new item shared clear gains hold exclusive =
+    alone_gains front old new item hold exclusive shared gains clear
 
-pub keeps_ended : (old new : List Hold) (gone : Hold) → gone.kind ≡ Shared → EndsHold old new gone → KeepsAlone old new
-keeps_ended old new gone shared ends hold alone = alone_stays old new gone hold alone shared ends
+pub keeps_ended : (front : ℕ) (old new : List Hold) (gone : Hold) → gone.kind ≡ Shared → EndsHold old new gone
+    → KeepsAlone front old new
+keeps_ended front old new gone shared ends hold exclusive = alone_stays front old new gone hold exclusive shared ends

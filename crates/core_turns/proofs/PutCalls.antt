@@ -1,11 +1,12 @@
 -- Which calls are under way over each turn of a put.
-use Rattle.std.proofs.Common.{◌≡◌, ◌≢◌, ℕ, ◌+◌, List, [], ◌∷◌, ◌++◌, length, Option, Some, refl, sym, ◌∙◌, ap, subst, arith}
+use Rattle.std.proofs.Common.{◌≡◌, ◌≢◌, inl, true, ℕ, ◌+◌, List, [], ◌∷◌, ◌++◌, length, Option, Some, refl, sym, ◌∙◌, ap, subst, arith}
 use Rattle.std.specs.Prelude.{Contains}
 use Rattle.range_locks.specs.declared.hold.Hold.{Hold}
 use Rattle.range_locks.specs.declared.hold.HoldKind.TheVariants.{Shared}
 use Rattle.range_locks.specs.Holds.{Overlaps}
 use Rattle.space_alloc.specs.Space.{Gains, IsIn}
 use Rattle.row_layout.specs.Layout.{Layout, allocated_of}
+use Rattle.uberblock_ring.specs.Devices.{has_device}
 use Rattle.core_blocks.specs.Blocks.{AreUnderWay, put_run}
 use Rattle.core_blocks.proofs.Lists.{gains_item, gains_old}
 use Rattle.core_blocks.proofs.Runs.{free_of_taken}
@@ -13,11 +14,12 @@ use Rattle.core_turns.specs.declared.putting.Filled.{Filled}
 use Rattle.core_turns.specs.declared.putting.PutRun.{PutRun}
 use Rattle.core_turns.specs.Core.{Core, CoreState}
 use Rattle.core_turns.specs.Putting.{BeginsPutSo, FillsPut, GivesUp, IsPutOf, LeavesBlocks, StoresBlock, WritesOne}
-use Rattle.core_turns.specs.UnderWay.{HoldingCall, Putting, Reading, AreBeside, AreCallsOf, HaveNoneInCommon, IsCallOfCore, actor_of, ranges_of}
+use Rattle.core_turns.specs.UnderWay.{HoldingCall, Putting, Reading, Copying, AreBeside, AreCallsOf, HaveNoneInCommon, IsCallOfCore, actor_of, ranges_of}
 use Rattle.core_turns.proofs.Calls.{calls_gain, calls_lose, calls_swap, range_listed}
-use Rattle.core_turns.proofs.Frames.{KeepsWidths, calls_keep, calls_stay}
+use Rattle.core_turns.proofs.Frames.{KeepsCalls, calls_keep, calls_stay}
 use Rattle.core_turns.proofs.PutRanges.{at_end, ranges_gain, under_moved}
-use Rattle.core_turns.proofs.PutTurns.{fills_of, written, written_of}
+use Rattle.core_state.specs.Committing.{point_of}
+use Rattle.core_turns.proofs.PutTurns.{fills_of, outs_by_write, written, written_of}
 
 -- A turn that calls no device: blocks and holds are others, but not the widths, and all else is as it was.
 pub record Rearranges (old new : Core) : Type 0 where
@@ -26,8 +28,9 @@ pub record Rearranges (old new : Core) : Type 0 where
   pub births : new.pool.blocks.births ≡ old.pool.blocks.births
 
 -- So all widths stay.
-rearranged_widths : (old new : Core) → Rearranges old new → KeepsWidths old new
-rearranged_widths old new change = record {
+rearranged_keeps : (old new : Core) → Rearranges old new → KeepsCalls old new
+rearranged_keeps old new change = record {
+  widths = record {
   parity = ap (λ (core : Core). core.pool.uber.parity) change.rest;
   births = ap (λ (core : Core). core.pool.uber.births) change.rest;
   reflow = ap (λ (core : Core). core.pool.uber.reflow) change.rest;
@@ -35,6 +38,9 @@ rearranged_widths old new change = record {
   block_parity = change.parity;
   block_births = change.births;
   begun = (let begun : new.begun ≡ old.begun = ap (λ (core : Core). core.begun) change.rest in omega (arith, begun));
+  };
+  copying = ap (λ (core : Core). core.copying) change.rest;
+  within = λ device has. subst (λ (core : Core). has_device core.pool.out device ≡ true) (sym change.rest) has;
 }
 
 -- ---- a put begins
@@ -67,6 +73,15 @@ begins_beside {old} left begins under (Reading other) listed differs of = record
       (begins.begins.first.free sector in_put).not_shared (other.hold, of.1.holds, shared.0, shared.1);
 }
 
+begins_beside {old} {run = run} left begins under (Copying other) listed differs of = record {
+  actors = λ same. differs (sym same ∙ ap (λ (hold : Hold). hold.actor) begins.hold_is);
+  apart = λ overlaps. begins.begins.first.clear other.hold of.holds (record {
+    overlaps = subst (λ (h : Hold). Overlaps other.hold h.lo h.hi) begins.hold_is
+        (record { begins = overlaps.ends; ends = overlaps.begins });
+    exclusive = inl (ap (λ (h : Hold). h.kind) of.hold_is);
+  });
+}
+
 -- So it is under way beside them.
 pub put_begins_calls : {old new : Core} {actor id len : ℕ} {run : PutRun} {left calls : List HoldingCall}
     → BeginsPutSo old new actor id len run
@@ -74,7 +89,7 @@ pub put_begins_calls : {old new : Core} {actor id len : ℕ} {run : PutRun} {lef
     → AreCallsOf old left → AreCallsOf new calls
 put_begins_calls {old} {new} {actor} {id} {len} {run} {left} {calls} begins differs gains are =
     calls_gain old new left calls (Putting run) gains
-    (rearranged_widths old new (begins_rearranges old new actor id len run begins))
+    (rearranged_keeps old new (begins_rearranges old new actor id len run begins))
     (λ hold listed. gains_old old.holds new.holds run.hold hold begins.holds listed)
     (under_moved new.pool.blocks (ranges_of left) (ranges_of left ++ run.range ∷ []) (ranges_of calls) run.range
     (at_end (ranges_of left) run.range) (ranges_gain gains) (begins.under (ranges_of left) are.under))
@@ -97,7 +112,7 @@ leaves_rearranges old new leaves = record {
 pub put_refused_calls : (calls : List HoldingCall) (old new : Core) → LeavesBlocks old new → AreCallsOf old calls
     → AreCallsOf new calls
 put_refused_calls calls old new leaves are = calls_keep old new calls
-    (rearranged_widths old new (leaves_rearranges old new leaves))
+    (rearranged_keeps old new (leaves_rearranges old new leaves))
     (λ hold listed. subst (λ (holds : List Hold). Contains holds hold)
     (sym (ap (λ (core : Core). core.holds) leaves.rest)) listed)
     (leaves.under (ranges_of calls) are.under) are
@@ -113,7 +128,7 @@ pub put_ends_calls : {old new : Core} {run : PutRun} {left calls : List HoldingC
     → Gains left calls (Putting run) → AreCallsOf old calls → AreCallsOf new left
 put_ends_calls {old} {new} {run} {left} {calls} ends gains are =
     calls_lose old new left calls (Putting run) gains
-    (rearranged_widths old new (ends_rearranges old new run ends)) ends.ends
+    (rearranged_keeps old new (ends_rearranges old new run ends)) ends.ends
     (ends.under (ranges_of left) (ranges_of calls) (ranges_gain gains) are.under) are
 
 -- so does one that is given up.
@@ -125,7 +140,7 @@ pub put_gives_up_calls : {old new : Core} {run : PutRun} {left calls : List Hold
     → Gains left calls (Putting run) → AreCallsOf old calls → AreCallsOf new left
 put_gives_up_calls {old} {new} {run} {left} {calls} gives_up gains are =
     calls_lose old new left calls (Putting run) gains
-    (rearranged_widths old new (gives_up_rearranges old new run gives_up)) gives_up.ends
+    (rearranged_keeps old new (gives_up_rearranges old new run gives_up)) gives_up.ends
     (gives_up.under (ranges_of left) (ranges_of calls) (ranges_gain gains) are.under) are
 
 -- ---- a put goes on
@@ -144,6 +159,7 @@ next_calls {core} {run} {left} {calls} {nexts} filled of gains again are =
         → HaveNoneInCommon (Putting (record run { filled = filled })) other
     same_apart (Putting other) apart = apart
     same_apart (Reading other) apart = apart
+    same_apart (Copying other) apart = apart
 
 -- Bytes are filled in.
 pub put_fills_calls : {core : Core} {run next : PutRun} {bytes : List ℕ} {left calls nexts : List HoldingCall}
@@ -161,6 +177,8 @@ pub put_writes_calls : {before after : CoreState} {run next : PutRun} {left call
     → AreCallsOf before.core calls → AreCallsOf after.core nexts
 put_writes_calls {before} {after} {run} {next} {left} {calls} {nexts} writes gains again are =
     calls_stay before.core after.core nexts writes.rest
+    (outs_by_write (point_of before.core.pool.out before.disk) (point_of after.core.pool.out after.disk) writes.filled
+    writes.write writes.made).still
     (next_calls (Some (written writes.filled))
     (written_of before.core run writes.filled writes.write writes.filled_is writes.write_is
     (are.each (Putting run) (gains_item left calls (Putting run) gains)))

@@ -31,7 +31,7 @@ use Rattle.core_turns.specs.declared.putting.Filled.{Filled}
 use Rattle.core_turns.specs.declared.putting.PutRun.{PutRun}
 use Rattle.core_turns.specs.Core.{Core, CoreState, IsCore, as_begun, at_disk, pool_at}
 use Rattle.core_turns.specs.Putting.{BeginsPutSo, FillsPut, GivesUp, HoldsPut, IsPutOf, LeavesBlocks, StoresBlock, filled_entry}
-use Rattle.core_turns.specs.UnderWay.{HoldingCall, Putting, Reading, AreCallsOf, GroupsStand, HoldsCall, PutsSpare, SetsContent, Stands, actor_of}
+use Rattle.core_turns.specs.UnderWay.{HoldingCall, Putting, Reading, Copying, AreCallsOf, GroupsStand, HoldsCall, PutsSpare, SetsContent, Stands, actor_of}
 use Rattle.core_turns.proofs.Beside.{IsWrittenTo}
 use Rattle.core_turns.proofs.Calls.{range_listed}
 use Rattle.core_turns.proofs.Frames.{LeavesCommit, commit_still, lies_still}
@@ -66,12 +66,12 @@ pub put_shared : (core : Core) (run : PutRun) → IsPutOf core run → run.hold.
 put_shared core run of = ap (λ (h : Hold). h.kind) of.hold_is
 
 put_ends_alone : (old new : Core) (run : PutRun) → IsPutOf old run → EndsHold old.holds new.holds run.hold
-    → KeepsAlone old.holds new.holds
-put_ends_alone old new run of ends = keeps_ended old.holds new.holds run.hold (put_shared old run of) ends
+    → KeepsAlone old.pool.done old.holds new.holds
+put_ends_alone old new run of ends = keeps_ended old.pool.done old.holds new.holds run.hold (put_shared old run of) ends
 
 -- Blocks and holds are others, and no device was called.
 module _ (setting : Setting) (last : Kept) (begun : List Kept) (calls nexts : List HoldingCall) (old new : Core)
-    (disk : Disk) (change : Rearranges old new) (alone : KeepsAlone old.holds new.holds)
+    (disk : Disk) (change : Rearranges old new) (alone : KeepsAlone old.pool.done old.holds new.holds)
     (kept : (past : ℕ) (group : Kept) → IsKeptPast old past → PutsSpare (at_disk old disk) calls group
     → NoneFree old.pool.blocks past group.entries → NoneFree new.pool.blocks past group.entries)
     (spared : (past : ℕ) (group : Kept) → NoneFree old.pool.blocks past group.entries
@@ -113,6 +113,7 @@ module _ (setting : Setting) (last : Kept) (begun : List Kept) (calls nexts : Li
     so_far = held.so_far;
     solved = held.solved;
   }
+  holds_on content (Copying run) held = held
 
   -- the groups stand,
   groups_on : (commit : Option CommitRun) → GroupsStand setting last begun calls commit (at_disk old disk)
@@ -164,7 +165,7 @@ module _ {setting : Setting} {last : Kept} {begun : List Kept} {map : Map} {cont
       sets gains stands =
       let change = begins_rearranges old new actor id len run begins in
       stands_on setting last begun left calls old new disk change
-      (keeps_gained old.holds new.holds run.hold (ap (λ (h : Hold). h.kind) begins.hold_is)
+      (keeps_gained old.pool.done old.holds new.holds run.hold (ap (λ (h : Hold). h.kind) begins.hold_is)
       (subst (λ (h : Hold). IsClear old.holds h.lo h.hi Shared) (sym begins.hold_is) begins.begins.first.clear) begins.holds)
       (λ past group is spared none. begins.kept past group.entries none)
       (λ past group none spared one listed. ⊎_elim
@@ -197,7 +198,7 @@ module _ {setting : Setting} {last : Kept} {begun : List Kept} {map : Map} {cont
   put_refused_stands {calls} {old} {new} {disk} leaves stands =
       let change = leaves_rearranges old new leaves in
       stands_on setting last begun calls calls old new disk change
-      (keeps_same old.holds new.holds (ap (λ (c : Core). c.holds) leaves.rest))
+      (keeps_same old.pool.done old.holds new.holds (ap (λ (c : Core). c.holds) leaves.rest))
       (λ past group is spared none. leaves.kept past group.entries none)
       (λ past group none spared. spared)
       commit map map (map_on map old new disk change leaves.entries stands.holds) stands.each stands

@@ -57,14 +57,16 @@ use Rattle.core_turns.specs.declared.putting.Filled.{Filled}
 use Rattle.core_turns.specs.declared.putting.PutRun.{PutRun}
 use Rattle.core_turns.specs.Core.{Core, CoreState, IsCore, as_begun, at_disk}
 use Rattle.core_turns.specs.Putting.{IsPutOf, HoldsPut, WritesOne}
-use Rattle.core_turns.specs.UnderWay.{HoldingCall, Putting, Reading, AreBeside, AreCallsOf, CommitStands, GroupsStand, HoldsCall, IsCallOfCore, NoCommitStands, PutsSpare, Stands, actor_of, layout_of_call}
+use Rattle.core_turns.specs.UnderWay.{HoldingCall, Putting, Reading, Copying, AreBeside, AreCallsOf, CommitStands, GroupsStand, HoldsCall, IsCallOfCore, NoCommitStands, PutsSpare, Stands, actor_of}
 use Rattle.core_turns.proofs.Beside.{IsWrittenTo, AreInPool, never_asked, put_beside_commit, required_data}
 use Rattle.core_turns.proofs.CommitEnds.{layout_same}
 use Rattle.core_turns.proofs.Commits.{core_follows}
-use Rattle.core_turns.proofs.Frames.{AreOff, commit_still, lies_still, out_leaves, IsOff, Leaves, call_stays, leaves_touched, off_written, stands_anew}
+use Rattle.core_turns.proofs.Frames.{AreOff, IsCallOff, commit_still, lies_still, out_leaves, IsOff, Leaves, call_stays, leaves_touched, off_written, stands_anew}
 use Rattle.core_turns.proofs.Calls.{beside_turn, range_listed}
 use Rattle.core_turns.proofs.PutStands.{groups_with, listed_clear, next_spares}
+use Rattle.core_turns.proofs.JobBeside.{job_off_written}
 use Rattle.core_turns.proofs.PutTurns.{outs_by_write}
+use Rattle.core_turns.proofs.WritesBeside.{AreSpare, groups_written, since_written}
 
 -- ---- where a put writes
 
@@ -130,17 +132,6 @@ one_touched rows writes write before after listed step = ⊎_elim
     wrote_touches (IsPlaceOf writes before.out) (write, listed, made.called.in_use, refl, refl) made.wrote)
     step
 
--- Groups that stand in a row do so without the one that images can't show yet.
-row_shown : (groups : List Kept) (last next : Kept) (stage : Stage) → IsRowOf groups last (next ∷ [])
-    → IsRowOf groups last (shown_at next stage)
-row_shown groups last next Signs row = row
-row_shown groups last next Lays row = record {
-  before = row.before;
-  after = next ∷ row.after;
-  row = row.row ∙ append_assoc row.before (last ∷ next ∷ []) row.after
-      ∙ sym (append_assoc row.before (last ∷ []) (next ∷ row.after));
-}
-
 -- ---- one write
 
 module _ {left calls : List HoldingCall} {before after : CoreState} {run next : PutRun} (is : IsCore before.core)
@@ -199,11 +190,13 @@ module _ {left calls : List HoldingCall} {before after : CoreState} {run next : 
 
     -- Blocks that have no sector of the put are off it: those of other calls,
     calls_off : (call : HoldingCall) → AreBeside (Putting run) call → IsCallOfCore before.core call
-        → IsOff places reflow done (layout_of_call call)
+        → IsCallOff places reflow done call
     calls_off (Putting other) beside other_of =
         off_written reflow done layout other.range.layout before.core.pool.out is.is.front of.pool other_of.pool beside.apart
     calls_off (Reading other) beside other_of =
         off_written reflow done layout other.read.layout before.core.pool.out is.is.front of.pool other_of.1.pool beside.apart
+    calls_off (Copying other) beside other_of =
+        job_off_written before.core run other before.core.pool.out of other_of beside.apart
 
     -- and those of the table.
     table_off : AreInStep before.core.pool.blocks → IsUnderWay before.core.pool.blocks run.range
@@ -313,40 +306,17 @@ module _ {left calls : List HoldingCall} {before after : CoreState} {run next : 
             shown_next Signs kept listed = ⊎_elim (λ same. same) (λ none. absurd (contains_none kept none))
                 (contains_cases groups.next [] kept listed)
 
-        -- What is known of the groups stays,
-        groups_on : (commit : Option CommitRun) → Lawful after.disk → GroupsStand setting last begun calls commit before
-            → GroupsStand setting last begun calls commit written
-        groups_on None still_lawful groups = record {
-          knows = touched_knows places touched setting last begun lawful (spare_alone groups) groups.knows;
-          whole = λ few_after. groups.whole few;
+        -- So nobody asks for what it writes.
+        spare_now : AreSpare places setting last begun calls before
+        spare_now = record {
+          alone = spare_alone;
+          shown = spare_beside;
+          beside = λ commit groups.
+              let first = last_clear groups.come.sound_first in
+              let next = next_clear commit groups in
+              put_beside_commit setting last groups.next reflow done layout before.core.pool.out is.is.front first.inside
+              next.inside of.pool first.spares next.spares;
         }
-        groups_on (Some commit) still_lawful groups =
-            let first = last_clear groups.come.sound_first in
-            let next = next_clear commit groups in
-            record {
-              next = groups.next;
-              begun_is = groups.begun_is;
-              of = commit_still before.core written.core (out_leaves before.core written.core refl outs.still) groups.of;
-              come = committing_touched setting last groups.next places commit here there
-                  (put_beside_commit setting last groups.next reflow done layout before.core.pool.out is.is.front first.inside
-                  next.inside of.pool first.spares next.spares)
-                  touched outs.still still_lawful groups.come;
-              lies = lies_still before.core written.core (out_leaves before.core written.core refl outs.still) groups.lies;
-              kept = groups.kept;
-              spared = groups.spared;
-            }
-
-        -- and what each image keeps.
-        since_on : (commit : Option CommitRun) (groups : List Kept) (time : ℕ) → IsRowOf groups last begun
-            → GroupsStand setting last begun calls commit before → KeepsSince setting groups time before.disk
-            → KeepsSince setting groups time after.disk
-        since_on None groups time row stands kept =
-            touched_since places touched setting last begun lawful (spare_alone stands) stands.knows groups time row kept
-        since_on (Some commit) groups time row stands kept =
-            touched_since places touched setting last (shown_by stands.next commit) lawful (spare_beside commit stands)
-            (committing_knows setting last stands.next commit here stands.come) groups time
-            (row_shown groups last stands.next commit.stage
-            (subst (λ (later : List Kept). IsRowOf groups last later) stands.begun_is row)) kept
 
   module _ {setting : Setting} {last : Kept} {begun : List Kept} {map : Map} {contents : ℕ → List ℕ}
       {commit : Option CommitRun} (are : AreCallsOf before.core calls)
@@ -367,7 +337,8 @@ module _ {left calls : List HoldingCall} {before after : CoreState} {run next : 
         (table_off its_of is.step (are.under.each run.range (range_listed calls run its_calls)))
         refl (touched its_of).later
         (groups_with setting last begun calls nexts commit written spared
-        (groups_on its_of setting last begun stands.alike stands.spared commit still_lawful stands.groups))
+        (groups_written after.core.pool.out after.disk places (touched its_of) outs.still lawful few setting last begun calls
+        (spare_now its_of setting last begun stands.alike stands.spared) commit still_lawful stands.groups))
         (spared last stands.spared)
         (λ call listed. ⊎_elim
         (λ same. subst (λ (c : HoldingCall). HoldsCall written (contents (actor_of c)) c) same
@@ -391,4 +362,5 @@ module _ {left calls : List HoldingCall} {before after : CoreState} {run next : 
         → KeepsSince setting groups time before.disk
         → KeepsSince setting groups time after.disk
     put_writes_since groups time row kept =
-        since_on its_of setting last begun stands.alike stands.spared commit groups time row stands.groups kept
+        since_written after.core.pool.out after.disk places (touched its_of) outs.still lawful few setting last begun calls
+        (spare_now its_of setting last begun stands.alike stands.spared) commit groups time row stands.groups kept

@@ -37,7 +37,7 @@ abbrev pub IsBlockOutside : ℕ → ℕ → Layout → Type 0
 IsBlockOutside lo hi layout = IsOutside lo hi layout.start (layout.start + allocated_of layout)
 
 -- So is each of its rows.
-row_outside : (lo hi : ℕ) (layout : Layout) (row column : ℕ) → IsLayout layout → IsColumn layout row column
+pub row_outside : (lo hi : ℕ) (layout : Layout) (row column : ℕ) → IsLayout layout → IsColumn layout row column
     → IsBlockOutside lo hi layout → IsOutside lo hi layout.start (end_of layout row)
 row_outside lo hi layout row column is there (inl empty) = inl empty
 row_outside lo hi layout row column is there (inr (inl before)) =

@@ -4,7 +4,6 @@ use Rattle.range_locks.specs.declared.hold.Hold.{Hold}
 use Rattle.range_locks.specs.declared.hold.HoldKind.TheVariants.{Exclusive}
 use Rattle.range_locks.specs.Gaining.{Gains}
 use Rattle.range_locks.specs.Holds.{EndsHold, HasSectors}
-use Rattle.range_locks.specs.Order.{exclusive_count}
 use Rattle.reflow_mark.specs.declared.reflow.Reflow.{Reflow}
 use Rattle.mark_choice.specs.Clear.{HasNoShared}
 use Rattle.mark_choice.specs.CommitChoice.{IsCommitChoice, range_of_commit}
@@ -23,7 +22,7 @@ use Rattle.open_pool.specs.NextGroup.{uber_for}
 use Rattle.open_pool.specs.Pool.{Pool}
 use Rattle.core_turns.specs.declared.turn.Turn.{Turn}
 use Rattle.core_turns.specs.declared.turn.Turn.TheVariants.{More, Busy, Done}
-use Rattle.core_turns.specs.Core.{Core, CoreState}
+use Rattle.core_turns.specs.Core.{Core, CoreState, alone_below}
 use Rattle.core_turns.specs.Getting.{HasTooManyOut}
 
 -- a commit of the map as it is, at a chosen reflow, of which no call was made
@@ -44,10 +43,12 @@ hold_for before chosen actor = record {
   kind = Exclusive;
 }
 
--- The hold is the only one of sectors held alone, if it has any; none is where it has none. Nobody shares its sectors.
-pub record IsHeldAlone (holds : List Hold) (hold : Hold) : Type 0 where
-  pub held : (HasSectors hold × Contains holds hold × (exclusive_count holds ≡ 1))
-      ⊎ ((HasSectors hold → ⊥) × (exclusive_count holds ≡ 0))
+-- The hold begins below the front, if it has a sector, and is the only one there that is held alone; none is where it has
+-- none. Nobody shares its sectors.
+pub record IsHeldAlone (front : ℕ) (holds : List Hold) (hold : Hold) : Type 0 where
+  pub low : HasSectors hold → hold.lo < front
+  pub held : (HasSectors hold × Contains holds hold × (alone_below front holds ≡ 1))
+      ⊎ ((HasSectors hold → ⊥) × (alone_below front holds ≡ 0))
   pub clear : HasNoShared holds (hold.lo, hold.hi)
 
 -- A hold is taken where it has a sector.
@@ -65,7 +66,7 @@ pub record IsCommitOf (core : Core) (run : CommitRun) : Type 0 where
   pub under_way : core.committing ≡ Some actor
   pub number : run.uber.group ≡ core.begun
   pub next : IsNextGroup core.pool run.uber
-  pub holds : IsHeldAlone core.holds (hold_for core.pool.uber.reflow run.uber.reflow actor)
+  pub holds : IsHeldAlone core.pool.done core.holds (hold_for core.pool.uber.reflow run.uber.reflow actor)
   pub lists : IsWithin run.uber.out core.pool.out
 
 -- Why a sync ends in its first turn.

@@ -1,37 +1,53 @@
 -- An open pool while calls are under way, and the bank under it.
-use Rattle.std.specs.Prelude.{◌≡◌, ℕ, ◌+◌, ◌≤◌, List, Option, Some, None}
+use Rattle.std.specs.Prelude.{◌≡◌, ℕ, ◌+◌, ◌≤◌, List, Option, Some, None, Bool, ◌&&◌, count_by, nat_lt}
 use Rattle.bank_trait.specs.Disk.{Disk}
 use Rattle.range_locks.specs.declared.hold.Hold.{Hold}
-use Rattle.range_locks.specs.Order.{exclusive_count}
+use Rattle.range_locks.specs.Order.{exclusive_count, is_exclusive}
 use Rattle.core_blocks.specs.Blocks.{AreInStep}
 use Rattle.open_pool.specs.Pool.{Pool, State, IsPool}
 use Rattle.uberblock_ring.specs.Uberblock.{max_group}
 
--- the pool, the holds of the calls under way, the group that was begun last, and who makes it where it isn't
--- answered
+-- the pool, the holds of the calls under way, the group that was begun last, who makes it where it isn't answered, and
+-- who copies sectors where a job is under way
 pub record Core : Type 0 where
   pub pool : Pool
   pub holds : List Hold
   pub begun : ℕ
   pub committing : Option ℕ
+  pub copying : Option ℕ
 
 -- how many groups were begun and aren't answered
 abbrev pub groups_begun : Option ℕ → ℕ
 groups_begun None = 0
 groups_begun (Some actor) = 1
 
+-- how many jobs are under way
+abbrev pub jobs_begun : Option ℕ → ℕ
+jobs_begun None = 0
+jobs_begun (Some actor) = 1
+
+-- The hold is exclusive and begins below a front.
+abbrev pub is_alone_below : ℕ → Hold → Bool
+is_alone_below front hold = is_exclusive hold.kind && nat_lt hold.lo front
+
+-- how many of the holds are so
+abbrev pub alone_below : ℕ → List Hold → ℕ
+alone_below front holds = count_by (is_alone_below front) holds
+
 -- the pool as if the group that was begun last were the last answered one: blocks are born in the group after it
 abbrev pub as_begun : Core → Pool
 as_begun core = record core.pool { uber = record core.pool.uber { group = core.begun } }
 
 -- The pool is one, its table and its space are in step, and the last group begun is the last answered one, or the
--- one after it, which is under way. Nobody holds sectors alone but a commit.
+-- one after it, which is under way. Nobody holds sectors below the front alone but a commit, and none from it on but a
+-- job.
 pub record IsCore (core : Core) : Type 0 where
   pub is : IsPool (as_begun core)
   pub begun : core.begun ≡ core.pool.uber.group + groups_begun core.committing
   pub few : core.begun ≤ max_group
   pub step : AreInStep core.pool.blocks
-  pub shared : core.committing ≡ None → exclusive_count core.holds ≡ 0
+  pub shared : core.committing ≡ None → alone_below core.pool.done core.holds ≡ 0
+  pub copies : exclusive_count core.holds ≡ alone_below core.pool.done core.holds + jobs_begun core.copying
 
 -- an open pool while calls are under way, and what its devices hold
 pub record CoreState : Type 0 where

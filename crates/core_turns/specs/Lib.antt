@@ -3,4 +3,5 @@ pub mod Getting
 pub mod Freeing
 pub mod Putting
 pub mod Committing
+pub mod Copying
 pub mod UnderWay

@@ -4,7 +4,7 @@ use Rattle.std.specs.List.{filter_map}
 use Rattle.bank_trait.specs.Disk.{Later}
 use Rattle.bank_trait.specs.Regions.{Tells, TouchesOnly}
 use Rattle.range_locks.specs.declared.hold.Hold.{Hold}
-use Rattle.row_layout.specs.Layout.{Layout}
+use Rattle.range_locks.specs.Holds.{Overlaps}
 use Rattle.block_record.specs.declared.entry.IndexEntry.{IndexEntry}
 use Rattle.uberblock_ring.specs.Devices.{count_of}
 use Rattle.uberblock_ring.specs.Valid.{AreAlike}
@@ -23,25 +23,25 @@ use Rattle.core_commit.specs.CommitTurns.{CommitRun, IsCommitting}
 use Rattle.core_commit.specs.Spared.{IsOnInUse}
 use Rattle.core_open.specs.Holds.{shape_of}
 use Rattle.open_pool.specs.Pool.{HasBank, HoldsMap}
+use Rattle.core_turns.specs.declared.copying.CopyRun.{CopyRun}
 use Rattle.core_turns.specs.declared.getting.GetRun.{GetRun}
 use Rattle.core_turns.specs.declared.putting.PutRun.{PutRun}
 use Rattle.core_turns.specs.Core.{Core, CoreState, pool_at}
 use Rattle.core_turns.specs.Getting.{IsReadKind, IsGetOf, HoldsGet}
 use Rattle.core_turns.specs.Putting.{IsPutOf, HoldsPut}
 use Rattle.core_turns.specs.Committing.{IsCommitOf}
+use Rattle.core_turns.specs.Copying.{CopiesCells, IsJobOf}
 
 -- a call under way that holds sectors
 pub data HoldingCall : Type 0 where
   Putting : (run : PutRun) → HoldingCall
   Reading : (run : GetRun) → HoldingCall
+  Copying : (run : CopyRun) → HoldingCall
 
 abbrev pub hold_of_call : HoldingCall → Hold
 hold_of_call (Putting run) = run.hold
 hold_of_call (Reading run) = run.hold
-
-abbrev pub layout_of_call : HoldingCall → Layout
-layout_of_call (Putting run) = run.range.layout
-layout_of_call (Reading run) = run.read.layout
+hold_of_call (Copying run) = run.hold
 
 -- whose call it is
 abbrev pub actor_of : HoldingCall → ℕ
@@ -51,6 +51,7 @@ actor_of call = (hold_of_call call).actor
 abbrev pub range_in : HoldingCall → Option PutRange
 range_in (Putting run) = Some run.range
 range_in (Reading run) = None
+range_in (Copying run) = None
 
 abbrev pub ranges_of : List HoldingCall → List PutRange
 ranges_of calls = filter_map range_in calls
@@ -59,22 +60,36 @@ ranges_of calls = filter_map range_in calls
 abbrev pub IsCallOfCore : Core → HoldingCall → Type 0
 IsCallOfCore core (Putting run) = IsPutOf core run
 IsCallOfCore core (Reading run) = IsReadKind run.kind × IsGetOf core run
+IsCallOfCore core (Copying run) = IsJobOf core run
 
 -- What a call has written or read so far is its block's, of these bytes: those that a put is handed, those that a read is
--- to find.
+-- to find. A job has copied the cells that are right as far as it has come.
 abbrev pub HoldsCall : CoreState → List ℕ → HoldingCall → Type 0
 HoldsCall state content (Putting run) = HoldsPut content state run
 HoldsCall state content (Reading run) = HoldsGet content state run
+HoldsCall state content (Copying run) = CopiesCells state.core.pool.uber.reflow state.core.pool.done run.job
+    (point_of state.core.pool.out state.disk)
 
 -- The bytes of one actor's block are these now, and the others' are what they were.
 pub record SetsContent (old new : ℕ → List ℕ) (actor : ℕ) (content : List ℕ) : Type 0 where
   pub own : new actor ≡ content
   pub others : (other : ℕ) → other ≢ actor → new other ≡ old other
 
--- Two reads may be of one block; a put has no sector in common with another call.
+-- Neither hold has a sector of the other.
+abbrev pub ShareNoSector : Hold → Hold → Type 0
+ShareNoSector one other = Overlaps one other.lo other.hi → ⊥
+
+-- Two reads may be of one block; a put has no sector in common with another call, and a job none that another holds.
 abbrev pub HaveNoneInCommon : HoldingCall → HoldingCall → Type 0
+HaveNoneInCommon (Putting run) (Putting other) = AreClear (layout_run run.range.layout) (layout_run other.range.layout)
+HaveNoneInCommon (Putting run) (Reading other) = AreClear (layout_run run.range.layout) (layout_run other.read.layout)
+HaveNoneInCommon (Putting run) (Copying other) = ShareNoSector run.hold other.hold
+HaveNoneInCommon (Reading run) (Putting other) = AreClear (layout_run run.read.layout) (layout_run other.range.layout)
 HaveNoneInCommon (Reading run) (Reading other) = ⊤
-HaveNoneInCommon one other = AreClear (layout_run (layout_of_call one)) (layout_run (layout_of_call other))
+HaveNoneInCommon (Reading run) (Copying other) = ShareNoSector run.hold other.hold
+HaveNoneInCommon (Copying run) (Putting other) = ShareNoSector run.hold other.hold
+HaveNoneInCommon (Copying run) (Reading other) = ShareNoSector run.hold other.hold
+HaveNoneInCommon (Copying run) (Copying other) = ⊥
 
 -- Two calls are of two actors.
 pub record AreBeside (one other : HoldingCall) : Type 0 where

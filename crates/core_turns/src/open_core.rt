@@ -12,8 +12,9 @@ use std::marker::Model;
 use uberblock_ring::{DeviceSet, Uber};
 
 /// The last answered group's uberblock, the blocks with the sectors that they take, the devices that
-/// are out, the front, the holds of the calls under way, the group that was begun last, and who makes it where it
-/// isn't answered. A commit that is cut short stays there: too many devices are out then.
+/// are out, the front, the holds of the calls under way, the group that was begun last, who makes it where it isn't
+/// answered, and who copies sectors where a job is under way. A commit that is cut short stays there: too many devices
+/// are out then.
 #[derive(Drop)]
 pub struct Core {
     pub(crate) uber: Uber,
@@ -23,6 +24,7 @@ pub struct Core {
     pub(crate) locks: Locks,
     pub(crate) begun: u64,
     pub(crate) committing: Option<u8>,
+    pub(crate) copying: Option<u8>,
 }
 
 impl Model for Core {
@@ -35,6 +37,7 @@ impl Model for Core {
       holds = core.locks;
       begun = core.begun;
       committing = core.committing;
+      copying = core.copying;
     } };
 
     ghost invariant = { λ core. IsCore (record {
@@ -42,6 +45,7 @@ impl Model for Core {
       holds = core.locks;
       begun = core.begun;
       committing = core.committing;
+      copying = core.copying;
     }) };
 }
 
@@ -53,6 +57,7 @@ impl Core {
           holds = [];
           begun = pool.uber.group;
           committing = None;
+          copying = None;
         } }
     {
         let (uber, blocks, out, done) = pool.into_parts();
@@ -65,6 +70,7 @@ impl Core {
             locks: Locks::new(alloc),
             begun,
             committing: None,
+            copying: None,
         }
     }
 

@@ -143,7 +143,7 @@ module _ (from to rows mark done : ℕ) (holds : List Hold) where
       (moved_below choice.0 (choice.0 == rows * from) refl (next_mark_between holds mark done choice.0 choice.1 front.0).1)
 
 -- What a commit's choice changes is below the front,
-range_below : (reflow : Reflow) (done : ℕ) (holds : List Hold) (chosen : Reflow) → IsFrontOf reflow done
+pub range_below : (reflow : Reflow) (done : ℕ) (holds : List Hold) (chosen : Reflow) → IsFrontOf reflow done
     → IsCommitChoice reflow done holds chosen → (range_of_commit reflow chosen).1 ≤ done
 range_below reflow done holds chosen front choice =
     below_in reflow.from reflow.to reflow.rows reflow.mark done holds reflow.state chosen front.front choice

@@ -29,7 +29,7 @@ use Rattle.journal_law.proofs.ManyIds.{call_puts, held_or_put, one_too_many}
 use Rattle.core_turns.specs.declared.putting.PutRun.{PutRun}
 use Rattle.core_turns.specs.Core.{Core}
 use Rattle.core_turns.specs.Getting.{IsReadKind}
-use Rattle.core_turns.specs.UnderWay.{HoldingCall, Putting, Reading, ranges_of}
+use Rattle.core_turns.specs.UnderWay.{HoldingCall, Putting, Reading, Copying, ranges_of}
 use Rattle.schedule.specs.declared.client.Client.{Client}
 use Rattle.schedule.specs.declared.client.Work.{Work}
 use Rattle.schedule.specs.declared.client.Work.TheVariants as work
@@ -64,6 +64,9 @@ put_counted [] id some = absurd (omega (arith, some))
 put_counted (Reading read ∷ calls) id some =
     let found = put_counted calls id some in
     (found.0, rest_listed (Reading read) (Putting found.0) calls found.1, found.2)
+put_counted (Copying job ∷ calls) id some =
+    let found = put_counted calls id some in
+    (found.0, rest_listed (Copying job) (Putting found.0) calls found.1, found.2)
 put_counted (Putting run ∷ calls) id some =
     by (id == run.range.id) (λ same. eqb-true id run.range.id same)
     (sum_by-cons (λ range. cond (id == range.id) 1 0) run.range (ranges_of calls)) (put_counted calls id)

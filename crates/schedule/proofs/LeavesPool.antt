@@ -26,7 +26,7 @@ pub record LeavesPool (old new : Core) : Type 0 where
 
 -- So it is where only blocks and holds changed, and what a commit holds is held still.
 pub leaves_pool : (old new : Core) (blocks : Blocks) (holds : List Hold)
-    → new ≡ record old { pool = record old.pool { blocks = blocks }; holds = holds } → KeepsAlone old.holds new.holds
+    → new ≡ record old { pool = record old.pool { blocks = blocks }; holds = holds } → KeepsAlone old.pool.done old.holds new.holds
     → LeavesPool old new
 leaves_pool old new blocks holds core alone = record {
   out = out;
@@ -47,7 +47,7 @@ leaves_pool old new blocks holds core alone = record {
 pub holds_left : (old new : Core) (blocks : Blocks) → new ≡ record old { pool = record old.pool { blocks = blocks } }
     → LeavesPool old new
 holds_left old new blocks core =
-    leaves_pool old new blocks old.holds core (keeps_same old.holds new.holds (ap (λ (c : Core). c.holds) core))
+    leaves_pool old new blocks old.holds core (keeps_same old.pool.done old.holds new.holds (ap (λ (c : Core). c.holds) core))
 
 -- What a turn leaves of the commit that is under way.
 pub record KeepsCommit (old new : Core) : Type 0 where

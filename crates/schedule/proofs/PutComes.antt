@@ -73,7 +73,7 @@ module _ {script : Script} {actor : ℕ} {before after : Station} {clients news 
     where
       change : LeavesPool old now
       change = rearranged_leaves old now (begins_rearranges old now actor id (length content) run begins)
-          (keeps_gained old.holds now.holds run.hold (ap (λ (h : Hold). h.kind) begins.hold_is)
+          (keeps_gained old.pool.done old.holds now.holds run.hold (ap (λ (h : Hold). h.kind) begins.hold_is)
           (subst (λ (h : Hold). IsClear old.holds h.lo h.hi Shared) (sym begins.hold_is) begins.begins.first.clear)
           begins.holds)
 

@@ -129,7 +129,7 @@ module _ {script : Script} {actor : ℕ} {before after : Station} {clients news 
         → Comes script actor before after clients news
     ends_with listed change ends plain answers tells other are stands = comes_ended takes call under (work.Put run) does_is under_is
         is (Putting run) refl (λ sync. sync) goes given ended listed (rearranged_leaves old now change
-        (keeps_ended old.holds now.holds filled.hold (put_shared old filled of_filled) ends)) disk
+        (keeps_ended old.pool.done old.holds now.holds filled.hold (put_shared old filled of_filled) ends)) disk
         (fits old call.kind given (subst (λ (k : Kind). IsAnswerOf k given) (sym asked_for.0) answers) tells
         (plain_no_limit given plain) (put_no_free call.kind asked_for.0))
         other are

@@ -23,7 +23,7 @@ use Rattle.schedule.proofs.LeavesPool.{LeavesPool, holds_left, leaves_pool}
 -- ---- turns that call no device
 
 -- Where only blocks and holds are others, all else of the core is left.
-pub rearranged_leaves : (old new : Core) → Rearranges old new → KeepsAlone old.holds new.holds → LeavesPool old new
+pub rearranged_leaves : (old new : Core) → Rearranges old new → KeepsAlone old.pool.done old.holds new.holds → LeavesPool old new
 rearranged_leaves old new change = leaves_pool old new new.pool.blocks new.holds change.rest
 
 -- So it is where the holds are left too.

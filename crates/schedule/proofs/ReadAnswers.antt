@@ -146,7 +146,7 @@ pub record EndsRead (before after : CoreState) (run : GetRun) (given : Answer) (
 read_leaves : {old new : Core} {run : GetRun} {left calls : List HoldingCall} → new ≡ record old { holds = new.holds }
     → EndsHold old.holds new.holds run.hold → Gains left calls (Reading run) → AreCallsOf old calls → LeavesPool old new
 read_leaves {old} {new} {run} {left} {calls} rest ends gains are = leaves_pool old new old.pool.blocks new.holds rest
-    (keeps_ended old.holds new.holds run.hold
+    (keeps_ended old.pool.done old.holds new.holds run.hold
     (get_shared old run (are.each (Reading run) (gains_item left calls (Reading run) gains)).1) ends)
 
 -- Too many devices are out,

@@ -80,7 +80,7 @@ module _ {script : Script} {actor : ℕ} {before after : Station} {clients news 
 
         leaves : LeavesPool old now
         leaves = leaves_pool old now old.pool.blocks now.holds begins.6
-            (keeps_gained old.holds now.holds run.hold (ap (λ (h : Hold). h.kind) begins.4) begins.8 begins.9)
+            (keeps_gained old.pool.done old.holds now.holds run.hold (ap (λ (h : Hold). h.kind) begins.4) begins.8 begins.9)
 
         others : (other : HoldingCall) → Contains (calls_under_way clients) other → actor_of other ≢ actor
         others = calls_of_others takes.was idle takes.schedule.going

@@ -16,6 +16,7 @@ returns c =
       holds = inside.locks;
       begun = inside.begun;
       committing = inside.committing;
+      copying = inside.copying;
     } in
     let entry = c.in-Some.entry.now in
     let run : GetRun = record {

@@ -15,7 +15,7 @@ step-requires-clause-bank g c = bank_has c.self.inside.uber c.reflow-reflow.resu
 pub invariant_of-self : goal.invariant_of-self
 invariant_of-self g c =
     let at = c.self.inside in
-    read_ended (core_with at.uber at.blocks at.out at.done at.locks at.begun at.committing) c.args.run c.end.new.self
+    read_ended (core_with at.uber at.blocks at.out at.done at.locks at.begun at.committing at.copying) c.args.run c.end.new.self
     c.self.invariant (subst (λ (core : Core). IsGetOf core c.args.run) (sym c.self.view_is) c.requires.of)
     c.end.ensures.ends
 

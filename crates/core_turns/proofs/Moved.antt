@@ -1,0 +1,104 @@
+-- A put goes on in a pool whose reflow or front has moved, where that asks for its block at the places at which it did.
+use Rattle.std.proofs.Common.{◌≡◌, ℕ, ◌+◌, ◌≤◌, List, Some, sym, subst}
+use Rattle.std.specs.Prelude.{Contains}
+use Rattle.sha2.specs.Sha256.{sha256}
+use Rattle.bank_trait.specs.Disk.{Disk}
+use Rattle.reflow_mark.specs.declared.reflow.Reflow.{Reflow}
+use Rattle.row_layout.specs.Layout.{Layout}
+use Rattle.shadow_write.specs.declared.write.Write.{Write}
+use Rattle.shadow_write.specs.Required.{IsRequiredPlace}
+use Rattle.reconstruct.specs.Rows.{Rows}
+use Rattle.core_state.specs.Whole.{Cell, IsCell}
+use Rattle.reflow_band.specs.Band.{IsFrontOf}
+use Rattle.core_blocks.specs.Puts.{IsRangeFor}
+use Rattle.core_client.specs.Pool.{IsInPool, IsRightBlock}
+use Rattle.core_client.specs.Writing.{IsPlanOf}
+use Rattle.core_client.specs.BlockTurns.{IsWrittenSoFar}
+use Rattle.core_turns.specs.declared.putting.PutRun.{PutRun}
+use Rattle.core_turns.specs.Core.{Core, at_disk}
+use Rattle.core_turns.specs.Putting.{AsksAlike, HoldsPut, IsPutOf}
+
+-- A plan is one at the places at which the block is asked for now.
+pub plan_moves : (layout : Layout) (reflow : Reflow) (done : ℕ) (other : Reflow) (front : ℕ) (content : List ℕ) (rows : Rows)
+    (writes : List Write) → AsksAlike layout reflow done other front → IsInPool layout other → IsFrontOf other front
+    → IsPlanOf layout reflow done content rows writes → IsPlanOf layout other front content rows writes
+plan_moves layout reflow done other front content rows writes alike pool front_is plan = record {
+  pool = pool;
+  front = front_is;
+  encoded = plan.encoded;
+  required = record {
+    only = λ write listed. let asked = plan.required.only write listed in
+        (asked.0, (alike write.row write.column asked.0 write.device write.device_sector).0 asked.1);
+    all = λ row column device device_sector there needed. plan.required.all row column device device_sector there
+        ((alike row column there device device_sector).1 needed);
+  };
+}
+
+-- A block is right at the places at which it is asked for now.
+pub block_moves : (layout : Layout) (reflow : Reflow) (done : ℕ) (other : Reflow) (front : ℕ) (content : List ℕ) (disk : Disk)
+    (out : ℕ) → AsksAlike layout reflow done other front → IsRightBlock layout content reflow done disk.reads out
+    → IsRightBlock layout content other front disk.reads out
+block_moves layout reflow done other front content disk out alike right = record {
+  each = λ cell is. record {
+    at = λ device device_sector place. (right.each cell is).at device device_sector (back cell is device device_sector place);
+  };
+}
+  where
+    back : (cell : Cell) (is : IsCell layout content cell) (device device_sector : ℕ)
+        → IsRequiredPlace other front cell.row_end cell.sector device device_sector
+        → IsRequiredPlace reflow done cell.row_end cell.sector device device_sector
+    back cell is device device_sector place =
+        subst (λ (at : ℕ × ℕ). IsRequiredPlace reflow done at.0 at.1 device device_sector)
+        (λ i. (sym is.row_end i, sym is.sector i))
+        ((alike is.row is.column is.there device device_sector).1
+        (subst (λ (at : ℕ × ℕ). IsRequiredPlace other front at.0 at.1 device device_sector)
+        (λ i. (is.row_end i, is.sector i)) place))
+
+module _ (core new : Core) (put : PutRun) (its : IsPutOf core put) (alike : AsksAlike put.range.layout core.pool.uber.reflow
+    core.pool.done new.pool.uber.reflow new.pool.done) (pool : IsInPool put.range.layout new.pool.uber.reflow)
+    (front : IsFrontOf new.pool.uber.reflow new.pool.done) where
+  -- The put is one of the pool still,
+  pub put_moves : IsRangeFor new.pool.blocks put.range.id put.len put.range.birth put.range
+      → put.range.birth ≤ new.begun + 1 → Contains new.holds put.hold → IsPutOf new put
+  put_moves range born held = record {
+    pool = pool;
+    front = front;
+    begun_pool = its.begun_pool;
+    begun_front = its.begun_front;
+    places = λ row column there device device_sector.
+        let before = its.places row column there device device_sector in
+        let now = alike row column there device device_sector in
+        (λ asked. now.0 (before.0 asked), λ asked. before.1 (now.1 asked));
+    range = range;
+    born = (its.born.0, born);
+    len = its.len;
+    holds = held;
+    hold_is = its.hold_is;
+    filled = λ filled is_filled. let was = its.filled filled is_filled in (
+      was.0,
+      record {
+        plan = plan_moves put.range.layout core.pool.uber.reflow core.pool.done new.pool.uber.reflow new.pool.done was.0
+            filled.write.rows filled.write.writes alike pool front was.1.plan;
+        so_far = was.1.so_far;
+        len_is = was.1.len_is;
+        digest_is = was.1.digest_is;
+      },
+    );
+  }
+
+  -- and what it has written stands.
+  pub put_holds_moves : (disk : Disk) (content : List ℕ) → new.pool.out ≡ core.pool.out
+      → HoldsPut content (at_disk core disk) put → HoldsPut content (at_disk new disk) put
+  put_holds_moves disk content out held = record {
+    len_is = held.len_is;
+    are_bytes = held.are_bytes;
+    so_far = λ filled is_filled. let was = held.so_far filled is_filled in (
+      was.0,
+      subst (λ (n : ℕ). IsWrittenSoFar put.range.layout content new.pool.uber.reflow new.pool.done disk.reads n
+          filled.write) (sym out) (record {
+            plan = plan_moves put.range.layout core.pool.uber.reflow core.pool.done new.pool.uber.reflow new.pool.done
+                content filled.write.rows filled.write.writes alike pool front was.1.plan;
+            held = was.1.held;
+          }),
+    );
+  }

@@ -1,0 +1,77 @@
+-- A write to sectors that no group asks for leaves the groups, and what images keep of them.
+use Rattle.std.proofs.Common.{◌≡◌, ℕ, ◌+◌, ◌≤◌, List, [], ◌∷◌, Option, Some, None, refl, sym, ◌∙◌, subst, append_assoc}
+use Rattle.bank_trait.specs.Disk.{Disk, Lawful}
+use Rattle.bank_trait.specs.Regions.{TouchesOnly}
+use Rattle.uberblock_ring.specs.Devices.{IsWithin, count_of}
+use Rattle.core_state.specs.Keeps.{Kept, Setting}
+use Rattle.core_state.specs.Committing.{point_of}
+use Rattle.core_state.specs.Free.{IsSpare}
+use Rattle.core_state.specs.Moment.{IsRowOf, KeepsSince}
+use Rattle.core_state.proofs.Touched.{touched_knows, touched_since}
+use Rattle.core_commit.specs.declared.commit_run.Stage.{Stage}
+use Rattle.core_commit.specs.declared.commit_run.Stage.TheVariants.{Lays, Signs}
+use Rattle.core_commit.specs.CommitTurns.{CommitRun, IsBeside, shown_at, shown_by}
+use Rattle.core_commit.proofs.Beside.{committing_knows, committing_touched}
+use Rattle.core_turns.specs.Core.{CoreState, at_disk}
+use Rattle.core_turns.specs.UnderWay.{HoldingCall, CommitStands, GroupsStand, NoCommitStands}
+use Rattle.core_turns.proofs.Frames.{commit_still, lies_still, out_leaves}
+
+-- Groups that stand in a row do so without the one that images can't show yet.
+row_shown : (groups : List Kept) (last next : Kept) (stage : Stage) → IsRowOf groups last (next ∷ [])
+    → IsRowOf groups last (shown_at next stage)
+row_shown groups last next Signs row = row
+row_shown groups last next Lays row = record {
+  before = row.before;
+  after = next ∷ row.after;
+  row = row.row ∙ append_assoc row.before (last ∷ next ∷ []) row.after
+      ∙ sym (append_assoc row.before (last ∷ []) (next ∷ row.after));
+}
+
+-- These sectors are asked for by no group that stands, and a write there may come between the steps of a commit.
+pub record AreSpare (P : ℕ → ℕ → Type 0) (setting : Setting) (last : Kept) (begun : List Kept) (calls : List HoldingCall)
+    (state : CoreState) : Type 0 where
+  pub alone : NoCommitStands setting last begun state → (device device_sector : ℕ) → P device device_sector
+      → IsSpare setting last begun device device_sector
+  pub shown : (commit : CommitRun) (groups : CommitStands setting last begun calls commit state)
+      → (device device_sector : ℕ) → P device device_sector
+      → IsSpare setting last (shown_by groups.next commit) device device_sector
+  pub beside : (commit : CommitRun) (groups : CommitStands setting last begun calls commit state)
+      → IsBeside setting last groups.next P
+
+module _ {before : CoreState} (out : ℕ) (disk : Disk) (P : ℕ → ℕ → Type 0) (touched : TouchesOnly P before.disk disk)
+    (within : IsWithin before.core.pool.out out) (lawful : Lawful before.disk)
+    (few : count_of before.core.pool.out ≤ before.core.pool.uber.parity) (setting : Setting) (last : Kept)
+    (begun : List Kept) (calls : List HoldingCall) (spare : AreSpare P setting last begun calls before) where
+  -- the state after the write
+  abbrev written : CoreState
+  written = at_disk (record before.core { pool = record before.core.pool { out = out } }) disk
+
+  -- What is known of the groups stays,
+  pub groups_written : (commit : Option CommitRun) → Lawful disk → GroupsStand setting last begun calls commit before
+      → GroupsStand setting last begun calls commit written
+  groups_written None still_lawful groups = record {
+    knows = touched_knows P touched setting last begun lawful (spare.alone groups) groups.knows;
+    whole = λ few_after. groups.whole few;
+  }
+  groups_written (Some commit) still_lawful groups = record {
+    next = groups.next;
+    begun_is = groups.begun_is;
+    of = commit_still before.core written.core (out_leaves before.core written.core refl within) groups.of;
+    come = committing_touched setting last groups.next P commit (point_of before.core.pool.out before.disk)
+        (point_of out disk) (spare.beside commit groups) touched within still_lawful groups.come;
+    lies = lies_still before.core written.core (out_leaves before.core written.core refl within) groups.lies;
+    kept = groups.kept;
+    spared = groups.spared;
+  }
+
+  -- and what each image keeps.
+  pub since_written : (commit : Option CommitRun) (groups : List Kept) (time : ℕ) → IsRowOf groups last begun
+      → GroupsStand setting last begun calls commit before → KeepsSince setting groups time before.disk
+      → KeepsSince setting groups time disk
+  since_written None groups time row stands kept =
+      touched_since P touched setting last begun lawful (spare.alone stands) stands.knows groups time row kept
+  since_written (Some commit) groups time row stands kept =
+      touched_since P touched setting last (shown_by stands.next commit) lawful (spare.shown commit stands)
+      (committing_knows setting last stands.next commit (point_of before.core.pool.out before.disk) stands.come) groups time
+      (row_shown groups last stands.next commit.stage
+      (subst (λ (later : List Kept). IsRowOf groups last later) stands.begun_is row)) kept

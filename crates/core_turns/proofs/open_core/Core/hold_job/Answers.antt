@@ -1,0 +1,33 @@
+use Rattle.std.proofs.Common.{◌≡◌, Some, sym, ◌∙◌, ap, subst}
+use Rattle.range_locks.specs.declared.hold.Hold.{Hold}
+use Rattle.range_locks.specs.declared.hold.HoldKind.TheVariants.{Exclusive}
+use Rattle.range_locks.specs.Holds.{IsClear}
+use Rattle.reflow_mark.specs.declared.reflow.Reflow.{Reflow}
+use Rattle.reflow_copier.specs.Jobs.{job_end}
+use Rattle.core_copy.specs.JobRun.{JobRun, begun_run}
+use Rattle.core_turns.specs.Core.{Core}
+use Rattle.core_turns.specs.Copying.{BeginsJobSo, IsDue, hold_for_job}
+use Rattle.core_turns.proofs.Cores.{core_with}
+use Rattle.core_turns.proofs.JobTurns.{job_begins}
+use Rattle.core_turns.proofs.open_core.Core.hold_job.Goals as goal
+
+pub returns-in-Ok : goal.returns-in-Ok
+returns-in-Ok c =
+    let at = c.self.inside in
+    let core = core_with at.uber at.blocks at.out at.done at.locks at.begun at.committing at.copying in
+    let new = record core { holds = c.hold_exclusive.new.self; copying = Some c.args.actor } in
+    let reflow : c.args.reflow.now ≡ at.uber.reflow =
+    subst (λ (core : Core). c.args.reflow.now ≡ core.pool.uber.reflow) (sym c.self.view_is) c.requires.reflow in
+    let hold_is : c.in-Ok.hold ≡ hold_for_job at.uber.reflow c.args.job c.args.actor = c.in-Ok.ensures.hold ∙ (λ i. record {
+      lo = c.begin.ensures.value i;
+      hi = (c.end.ensures.value ∙ ap (λ (r : Reflow). job_end r c.args.job) reflow) i;
+      actor = c.args.actor;
+      kind = Exclusive;
+    }) in
+    subst (λ (old : Core). BeginsJobSo old new c.args.actor (record { hold = c.in-Ok.hold; job = c.new.result }))
+    c.self.view_is
+    (subst (λ (run : JobRun). BeginsJobSo core new c.args.actor (record { hold = c.in-Ok.hold; job = run }))
+    (sym (c.new.ensures.value ∙ ap (λ (r : Reflow). begun_run r c.args.job) reflow))
+    (job_begins core c.args.job c.args.actor c.in-Ok.hold c.hold_exclusive.new.self c.self.invariant
+    (subst (λ (core : Core). IsDue core c.args.job) (sym c.self.view_is) c.requires.due) hold_is c.in-Ok.ensures.ok
+    (subst (λ (h : Hold). IsClear at.locks h.lo h.hi Exclusive) (sym c.in-Ok.ensures.hold) c.in-Ok.ensures.clear)))

@@ -1,0 +1,5 @@
+use Rattle.core_turns.proofs.JobTurns.{job_turn}
+use Rattle.core_turns.proofs.open_core.Core.job_step.Goals as goal
+
+pub returns-clause-goes_on : goal.returns-clause-goes_on
+returns-clause-goes_on g c = job_turn _ _ c.args.run c.step_job.result c.requires.of c.requires.left c.step_job.ensures.steps

@@ -1,0 +1,161 @@
+// Copy jobs, turn by turn.
+ghost use Rattle.std.specs.Prelude.{◌≡◌, ◌<◌, ◌↔◌, IsTrue, false};
+ghost use Rattle.core_client.specs.Outs.{OnlyFailedGoOut};
+ghost use Rattle.core_state.specs.Committing.{point_of};
+ghost use Rattle.job_copy.specs.Progress.{call_count};
+ghost use Rattle.open_pool.specs.Pool.{HasBank};
+ghost use Rattle.core_turns.specs.Core.{IsCore, at_disk};
+ghost use Rattle.core_turns.specs.Copying.{BeginsJob, DropsJob, EndsJob, IsDue, IsGivenUpFor, IsJobOf, StepsJob};
+ghost use Rattle.core_turns.specs.UnderWay.{TurnGoesOn};
+
+use crate::Core;
+use crate::turn::too_many;
+use bank_trait::Bank;
+use core_copy::JobRun;
+use core_state::Answer;
+use job_copy::due_job;
+use range_locks::{Hold, LockRefused};
+use reflow_copier::Job;
+use reflow_mark::Reflow;
+
+/// A copy job under way. It holds the sectors that it copies alone.
+#[derive(Drop)]
+pub struct CopyRun {
+    hold: Hold,
+    job: JobRun,
+}
+
+/// What the first turn of a round of a copy comes to: a job begins, finds another's hold in its way, is not due before a
+/// commit, or there is nothing to copy. Where a commit is due it is no turn.
+#[derive(Drop)]
+pub enum JobBegin {
+    More(CopyRun),
+    Busy { by: u8 },
+    CommitDue,
+    Done(Answer),
+}
+
+impl CopyRun {
+    /// Whether all sectors were copied. The job is ended then.
+    pub fn is_done(&self) -> bool
+        ensures value { IsTrue result ↔ (self.now.job.made ≡ call_count self.now.job.reflow self.now.job.job) }
+        ensures left { result ≡ false → self.now.job.made < call_count self.now.job.reflow self.now.job.job }
+    {
+        self.job.is_done()
+    }
+
+    /// The sectors that are copied.
+    pub fn job(&self) -> Job
+        ensures { result ≡ self.now.job.job }
+    {
+        self.job.job()
+    }
+}
+
+impl Core {
+    /// The first turn of a round of a copy: begins the job that is due, if one is, and holds its sectors alone. None is
+    /// begun while a device is out.
+    pub fn job_begin(&mut self, actor: u8) -> JobBegin
+        ensures { BeginsJob self.old self.new actor result }
+    {
+        if self.has_too_many_out() {
+            return JobBegin::Done(too_many(self.out));
+        }
+        let reflow = self.uber.reflow();
+        if reflow.from == reflow.to {
+            return JobBegin::Done(Answer::Completed { width: reflow.to });
+        }
+        if let Some(device) = self.out.lowest() {
+            return JobBegin::Done(Answer::Paused { device });
+        }
+        if let Some(by) = self.copying {
+            return JobBegin::Busy { by };
+        }
+        let Some(job) = due_job(&reflow, self.done) else {
+            return JobBegin::CommitDue;
+        };
+        self.hold_job(&reflow, job, actor)
+    }
+
+    /// The next device call of a job: reads a sector, or writes it. A device whose call fails is out from then on, and
+    /// the job is given up with its next turn.
+    pub fn job_step<B: Bank>(&mut self, bank: &mut B, run: CopyRun) -> CopyRun
+        requires of { IsJobOf self.old run }
+        requires whole { self.old.pool.out ≡ 0 }
+        requires left { run.job.made < call_count run.job.reflow run.job.job }
+        requires bank { HasBank self.old.pool.uber self.old.pool.out (B.disk bank.old) }
+        ensures steps { StepsJob (at_disk self.old (B.disk bank.old)) run
+            (at_disk self.new (B.disk bank.new)) result }
+        ensures of { IsJobOf self.new result }
+        ensures goes_on { TurnGoesOn (at_disk self.old (B.disk bank.old))
+            (at_disk self.new (B.disk bank.new)) }
+        ensures bank { HasBank self.new.pool.uber self.new.pool.out (B.disk bank.new) }
+        ensures out { OnlyFailedGoOut (point_of self.old.pool.out (B.disk bank.old))
+            (point_of self.new.pool.out (B.disk bank.new)) }
+    {
+        self.step_job(bank, run)
+    }
+
+    /// The last turn of a job that has copied all its sectors: the front is behind them.
+    pub fn job_end(&mut self, run: CopyRun)
+        requires of { IsJobOf self.old run }
+        requires whole { self.old.pool.out ≡ 0 }
+        requires all { run.job.made ≡ call_count run.job.reflow run.job.job }
+        ensures { EndsJob self.old self.new run }
+    {
+        let reflow = self.uber.reflow();
+        self.done = run.job.job().end(&reflow);
+        self.locks.end(run.hold);
+        self.copying = None;
+    }
+
+    /// The last turn of a job while a device is out: the front stays where it is. Tells which devices are out where they
+    /// are too many.
+    pub fn job_give_up(&mut self, run: CopyRun) -> Option<Answer>
+        requires of { IsJobOf self.old run }
+        ensures drops { DropsJob self.old self.new run }
+        ensures tells { IsGivenUpFor self.old result }
+    {
+        self.locks.end(run.hold);
+        self.copying = None;
+        if self.has_too_many_out() {
+            return Some(too_many(self.out));
+        }
+        None
+    }
+
+    fn hold_job(&mut self, reflow: &Reflow, job: Job, actor: u8) -> JobBegin
+        requires reflow { reflow.now ≡ self.old.pool.uber.reflow }
+        requires due { IsDue self.old job }
+        ensures { BeginsJob self.old self.new actor result }
+    {
+        match self
+            .locks
+            .hold_exclusive(job.begin(), job.end(reflow), actor)
+        {
+            Ok(hold) => {
+                self.copying = Some(actor);
+                JobBegin::More(CopyRun {
+                    hold,
+                    job: JobRun::new(reflow, job),
+                })
+            }
+            Err(LockRefused::Busy { by }) => JobBegin::Busy { by },
+            Err(LockRefused::NoMemory) => JobBegin::Done(Answer::NoMemory),
+        }
+    }
+
+    fn step_job<B: Bank>(&mut self, bank: &mut B, run: CopyRun) -> CopyRun
+        requires of { IsJobOf self.old run }
+        requires whole { self.old.pool.out ≡ 0 }
+        requires left { run.job.made < call_count run.job.reflow run.job.job }
+        requires bank { HasBank self.old.pool.uber self.old.pool.out (B.disk bank.old) }
+        ensures steps { StepsJob (at_disk self.old (B.disk bank.old)) run
+            (at_disk self.new (B.disk bank.new)) result }
+        ensures of { IsJobOf self.new result }
+    {
+        let mut run = run;
+        run.job.step(bank, &mut self.out);
+        run
+    }
+}
