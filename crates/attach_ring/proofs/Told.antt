@@ -9,6 +9,7 @@ use Rattle.block_record.specs.Bytes.{be32, be64}
 use Rattle.block_record.proofs.Spelling.{be32_number, length-be32}
 use Rattle.uberblock_ring.specs.Uberblock.{Uber, birth_bytes, encoded, head_bytes, magic, version}
 use Rattle.uberblock_ring.specs.Valid.{IsValidIn}
+use Rattle.attach_ring.specs.declared.taken.SlotCopy.{SlotCopy}
 use Rattle.attach_ring.specs.Ring.{IsTakenSlot}
 
 -- pieces behind each other, from the first one on
@@ -54,15 +55,19 @@ number_told uber number told fits told_fits read = be32_number number told fits 
     ∙ take_at (be32 number) (joined (behind uber number)) 4 (length-be32 number))
     ∙ read)
 
--- So the copy that the bytes tell is the one to look for.
-pub taken_by : (bytes : List ℕ) (slot told : ℕ) (found : Option Uber) → told < 2 ^ 32
-    → take 4 (drop 12 bytes) ≡ be32 told → IfSome found (λ uber. IsValidIn uber told slot bytes)
-    → IfNone found ((uber : Uber) → IsValidIn uber told slot bytes → ⊥) → IsTrue (is_some found) ↔ IsTakenSlot slot bytes
-taken_by bytes slot told (Some uber) fits read some none =
-    ((λ is. record { uber = uber; number = told; fits = fits; valid = some }), (λ taken. refl))
-taken_by bytes slot told None fits read some none = (
-  (λ is. absurd (false≢true is)),
-  (λ taken. absurd (none taken.uber (subst (λ (number : ℕ). IsValidIn taken.uber number slot bytes)
-      (number_told taken.uber taken.number told taken.fits fits
-      (subst (λ (given : List ℕ). take 4 (drop 12 given) ≡ be32 told) taken.valid.copy read)) taken.valid))),
-)
+-- So the copy that the bytes tell is the one to look for:
+-- bytes that are none for the number that they tell are none for any,
+pub free_by : (bytes : List ℕ) (slot told : ℕ) → told < 2 ^ 32 → take 4 (drop 12 bytes) ≡ be32 told
+    → ((uber : Uber) → IsValidIn uber told slot bytes → ⊥) → IsTakenSlot slot bytes
+    → ⊥
+free_by bytes slot told fits read none taken = none taken.uber (subst (λ (number : ℕ). IsValidIn taken.uber number slot bytes)
+    (number_told taken.uber taken.number told taken.fits fits
+    (subst (λ (given : List ℕ). take 4 (drop 12 given) ≡ be32 told) taken.valid.copy read)) taken.valid)
+
+-- and a slot is taken where there is a copy.
+pub taken_by : (bytes : List ℕ) (slot : ℕ) (found : Option SlotCopy) → IfSome found (λ copy. copy.number < 2 ^ 32)
+    → IfSome found (λ copy. IsValidIn copy.uber copy.number slot bytes) → IfNone found (IsTakenSlot slot bytes → ⊥)
+    → IsTrue (is_some found) ↔ IsTakenSlot slot bytes
+taken_by bytes slot (Some copy) number some none =
+    ((λ is. record { uber = copy.uber; number = copy.number; fits = number; valid = some }), (λ taken. refl))
+taken_by bytes slot None number some none = ((λ is. absurd (false≢true is)), (λ taken. absurd (none taken)))

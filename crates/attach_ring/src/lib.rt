@@ -10,3 +10,4 @@ mod taken;
 
 pub use laws::{free_ring_shows_none, ring_read_holds};
 pub use ring_read::RingRead;
+pub use taken::{SlotCopy, copy_in_slot};

@@ -13,7 +13,7 @@ use Rattle.core_state.specs.Shown.{Shape, Shows, IsCandidate, read_devices}
 use Rattle.core_state.specs.Choosing.{IsBlank, IsChosen, IsChosenPool, IsListedOut, IsOutAtOpening}
 use Rattle.core_open.specs.declared.uber_copy.UberCopy.{UberCopy}
 use Rattle.core_open.specs.Candidates.{AreNewest}
-use Rattle.core_open.specs.Copies.{AreShown}
+use Rattle.core_open.specs.Copies.{AreShown, AreTaken}
 use Rattle.core_open.specs.Finding.{ShowsTwin}
 use Rattle.core_open.specs.Sets.{IsNewDevice, IsOutBy, ShowPool, StandOn}
 use Rattle.core_open.proofs.Newest.{of_one_group}
@@ -87,10 +87,11 @@ module _ (shape : Shape) (silent : ℕ) (image : Image) (all candidates : List U
   any_of P list copy (k, low, there) has = (k, copy, low, there, has)
 
   -- What is out by the lists is out at the opening,
-  out_by : (device : ℕ) → IsOutBy shape.devices silent all candidates first.uber device
+  out_by : (taken : ℕ) → AreTaken shape silent image (read_devices shape) taken → (device : ℕ)
+      → IsOutBy shape.devices silent taken all candidates first.uber device
       → IsListedOut shape silent image first.uber device ⊎ ((has_device silent device ≡ true)
       ⊎ ((shape.devices ≤ device) ⊎ IsBlank shape image first.uber device))
-  out_by device (inl (k, copy, low, there, out)) =
+  out_by taken marks device (inl (k, copy, low, there, out)) =
       let listed : Contains candidates copy = (k, low, there) in
       let good = sound copy listed in inl (record {
         other = copy.device;
@@ -101,43 +102,48 @@ module _ (shape : Shape) (silent : ℕ) (image : Image) (all candidates : List U
         group = sym (after_first copy listed).0;
         out = out;
       })
-  out_by device (inr (inl quiet)) = inr (inl quiet)
-  out_by device (inr (inr (inl none))) = inr (inr (inl none))
-  out_by device (inr (inr (inr (nothing, old)))) = ⊎_elim
+  out_by taken marks device (inr (inl quiet)) = inr (inl quiet)
+  out_by taken marks device (inr (inr (inl none))) = inr (inr (inl none))
+  out_by taken marks device (inr (inr (inr (nothing, old)))) = ⊎_elim
       (λ quiet. inr (inl quiet))
       (λ works. inr (inr (inr (record {
         none = λ other shows of_pool. nothing (any_of
             (λ (copy : UberCopy). (copy.device ≡ device) × (copy.uber.pool ≡ first.uber.pool)) all (copy_on device other)
             (shown.every device other shows.device_in works shows) (refl, of_pool));
-        not_new = λ none same. old (none, same);
+        taken_if_new = λ none same. marks.each device (old (none, same));
       }))))
       (cases_Bool (has_device silent device))
 
   -- and what is out then is out by the lists.
-  by_out : (device : ℕ) → IsListedOut shape silent image first.uber device ⊎ ((has_device silent device ≡ true)
+  by_out : (taken : ℕ) → AreTaken shape silent image (read_devices shape) taken → (device : ℕ)
+      → IsListedOut shape silent image first.uber device ⊎ ((has_device silent device ≡ true)
       ⊎ ((shape.devices ≤ device) ⊎ IsBlank shape image first.uber device))
-      → IsOutBy shape.devices silent all candidates first.uber device
-  by_out device (inl listed) = inl (any_of (λ (copy : UberCopy). has_device copy.uber.out device ≡ true) candidates
+      → IsOutBy shape.devices silent taken all candidates first.uber device
+  by_out taken marks device (inl listed) = inl (any_of (λ (copy : UberCopy). has_device copy.uber.out device ≡ true) candidates
       (copy_on listed.other listed.twin)
       (of_group listed.other listed.twin listed.entries listed.reads listed.candidate listed.group) listed.out)
-  by_out device (inr (inl quiet)) = inr (inl quiet)
-  by_out device (inr (inr (inl none))) = inr (inr (inl none))
-  by_out device (inr (inr (inr blank))) = inr (inr (inr (
-    (λ (any : ShowPool all first.uber.pool device).
-        let copy = any.1 in
-        let shows : Shows shape image copy.device copy.uber =
-        All-contains (λ (c : UberCopy). Shows shape image c.device c.uber) all copy shown.each (any.0, any.2, any.3) in
-        blank.none copy.uber (subst (λ d. Shows shape image d copy.uber) any.4.0 shows) any.4.1),
-    (λ (new : IsNewDevice first.uber.reflow device). blank.not_new new.0 new.1),
-  )))
+  by_out taken marks device (inr (inl quiet)) = inr (inl quiet)
+  by_out taken marks device (inr (inr (inl none))) = inr (inr (inl none))
+  by_out taken marks device (inr (inr (inr blank))) = ⊎_elim
+      (λ quiet. inr (inl quiet))
+      (λ works. inr (inr (inr (
+        (λ (any : ShowPool all first.uber.pool device).
+            let copy = any.1 in
+            let shows : Shows shape image copy.device copy.uber =
+            All-contains (λ (c : UberCopy). Shows shape image c.device c.uber) all copy shown.each (any.0, any.2, any.3) in
+            blank.none copy.uber (subst (λ d. Shows shape image d copy.uber) any.4.0 shows) any.4.1),
+        (λ (new : IsNewDevice first.uber.reflow device).
+            let is = blank.taken_if_new new.0 new.1 in marks.every device is.device_in works is),
+      ))))
+      (cases_Bool (has_device silent device))
 
-  pub out_is : (out : ℕ)
+  pub out_is : (taken : ℕ) → AreTaken shape silent image (read_devices shape) taken → (out : ℕ)
       → ((device : ℕ) → has_device out device ≡ true
-      ↔ ((device < first.uber.reflow.to) × IsOutBy shape.devices silent all candidates first.uber device))
+      ↔ ((device < first.uber.reflow.to) × IsOutBy shape.devices silent taken all candidates first.uber device))
       → (device : ℕ) → has_device out device ≡ true ↔ IsOutAtOpening shape silent image first.uber device
-  out_is out each device = (
-    (λ has. let by = (each device).0 has in (by.0, out_by device by.1)),
-    (λ at. (each device).1 (at.0, by_out device at.1)),
+  out_is taken marks out each device = (
+    (λ has. let by = (each device).0 has in (by.0, out_by taken marks device by.1)),
+    (λ at. (each device).1 (at.0, by_out taken marks device at.1)),
   )
 
   -- Of the devices in use those lack the uberblock on which no candidate stands.

@@ -18,6 +18,7 @@ pub mod Renewing
 pub mod Settled
 pub mod Sorting
 pub mod SpanOrder
+pub mod Taken
 pub mod Unchanged
 pub mod Others
 pub mod Voters

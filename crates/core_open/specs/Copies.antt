@@ -1,10 +1,13 @@
 -- Copies of uberblocks, as the rings of the devices show them.
-use Rattle.std.specs.Prelude.{◌≡◌, ◌≢◌, ◌⊎◌, ℕ, ◌<◌, ◌≤◌, List, Option, Some, None, All, AllPairs, Contains, false}
+use Rattle.std.specs.Prelude.{◌≡◌, ◌≢◌, ◌⊎◌, ℕ, ◌<◌, ◌≤◌, ◌^◌, List, [], ◌∷◌, ◌++◌, Option, Some, None, All, AllPairs, Contains, true, false}
 use Rattle.bank_trait.specs.Disk.{Image}
 use Rattle.uberblock_ring.specs.Devices.{has_device}
 use Rattle.uberblock_ring.specs.Uberblock.{Uber, slot_of}
-use Rattle.uberblock_ring.specs.Valid.{IsRightUber}
+use Rattle.uberblock_ring.specs.Valid.{IsRightUber, IsValidIn}
+use Rattle.attach_ring.specs.declared.taken.SlotCopy.{SlotCopy}
+use Rattle.attach_ring.specs.Ring.{IsTakenSlot}
 use Rattle.core_state.specs.Shown.{Shape, Shows}
+use Rattle.core_state.specs.Choosing.{IsTakenDevice}
 use Rattle.core_open.specs.declared.uber_copy.UberCopy.{UberCopy}
 
 -- The device shows this uberblock in the slot, or none there.
@@ -13,6 +16,25 @@ ShowsIn shape image device slot (Some uber) =
     Shows shape image device uber × (slot_of uber.group ≡ slot)
 ShowsIn shape image device slot None =
     (uber : Uber) → Shows shape image device uber → slot_of uber.group ≢ slot
+
+-- The slot of the device has this copy, for whichever device, or none.
+abbrev pub HasCopy : Image → ℕ → ℕ → Option SlotCopy → Type 0
+HasCopy image device slot (Some copy) = (copy.number < 2 ^ 32)
+    × IsValidIn copy.uber copy.number slot (image device slot)
+HasCopy image device slot None = IsTakenSlot slot (image device slot) → ⊥
+
+-- A copy that is for the device itself was listed, at the end; one for another was not.
+abbrev pub IsListedFor : ℕ → SlotCopy → List UberCopy → List UberCopy → Type 0
+IsListedFor device copy before after = ((copy.number ≡ device)
+    × (after ≡ before ++ record { device = device; uber = copy.uber } ∷ []))
+    ⊎ ((copy.number ≢ device) × (after ≡ before))
+
+-- Each device of the set shows an uberblock, of whatever pool and for whatever device number; and each
+-- device below this one that does is in the set, if it isn't silent.
+pub record AreTaken (shape : Shape) (silent : ℕ) (image : Image) (devices taken : ℕ) : Type 0 where
+  pub each : (device : ℕ) → has_device taken device ≡ true → IsTakenDevice shape image device
+  pub every : (device : ℕ) → device < devices → has_device silent device ≡ false
+      → IsTakenDevice shape image device → has_device taken device ≡ true
 
 -- Each copy is shown, and each uberblock is listed that a device below this one shows, if it isn't
 -- silent.

@@ -24,8 +24,13 @@ ShowPool copies pool device =
 abbrev pub IsNewDevice : Reflow → ℕ → Type 0
 IsNewDevice reflow device = (reflow.state ≡ None) × (device ≡ reflow.from)
 
+-- Nothing of the pool is shown on the device; and if it is the new one, something else is.
+abbrev pub IsBlankBy : ℕ → List UberCopy → Uber → ℕ → Type 0
+IsBlankBy taken copies uber device = (ShowPool copies uber.pool device → ⊥)
+    × (IsNewDevice uber.reflow device → has_device taken device ≡ true)
+
 -- Of so many devices of the bank, with these copies and candidates, the device is out.
-abbrev pub IsOutBy : ℕ → ℕ → List UberCopy → List UberCopy → Uber → ℕ → Type 0
-IsOutBy devices silent copies candidates uber device =
+abbrev pub IsOutBy : ℕ → ℕ → ℕ → List UberCopy → List UberCopy → Uber → ℕ → Type 0
+IsOutBy devices silent taken copies candidates uber device =
     ListOut candidates device ⊎ ((has_device silent device ≡ true) ⊎ ((devices ≤ device)
-    ⊎ ((ShowPool copies uber.pool device → ⊥) × (IsNewDevice uber.reflow device → ⊥))))
+    ⊎ IsBlankBy taken copies uber device))

@@ -5,7 +5,7 @@ ghost use Rattle.uberblock_ring.specs.Devices.{IsWithin};
 ghost use Rattle.uberblock_ring.specs.Valid.{IsRightUber};
 ghost use Rattle.core_state.specs.Shown.{Shape, read_devices};
 ghost use Rattle.core_open.specs.Candidates.{AreChosen, FirstFits, FirstHasRoom, FirstIsGiven, IsIndexFor};
-ghost use Rattle.core_open.specs.Copies.{AreByGroup, AreRight, AreShown};
+ghost use Rattle.core_open.specs.Copies.{AreByGroup, AreRight, AreShown, AreTaken};
 ghost use Rattle.core_open.specs.Failing.{HaveFailed, HaveFailedSince};
 ghost use Rattle.core_open.specs.Finding.{FitsOpening, IsFindCause, IsFoundIn, IsNothingFound};
 ghost use Rattle.core_open.specs.Holds.{HoldsImage, shape_of};
@@ -80,6 +80,7 @@ fn choose_anew<B: Bank>(
     requires right { AreRight 16 rings.old.copies.items }
     requires order { AreByGroup rings.old.copies.items }
     ensures copies { rings.new.copies.items ≡ rings.old.copies.items }
+    ensures taken { rings.new.taken ≡ rings.old.taken }
     ensures within { IsWithin rings.old.silent rings.new.silent }
     ensures silent { HaveFailedSince (B.disk bank.old) (B.disk bank.new)
         rings.old.silent rings.new.silent }
@@ -117,6 +118,7 @@ fn conclude(devices: u32, rings: &Rings, candidates: Candidates) -> Result<Found
     ensures found { IfOk result (λ found. (shape : Shape) (image : Image)
         → shape.devices ≡ devices
         → AreShown shape rings.now.silent image (read_devices shape) rings.now.copies.items
+        → AreTaken shape rings.now.silent image (read_devices shape) rings.now.taken
         → AreChosen shape rings.now.silent image
         candidates.copies.items candidates.entries.items
         → IsFoundIn shape image found) }

@@ -1,7 +1,7 @@
 // Which devices of a pool are out when it is opened, and which lack its uberblock.
 ghost use Rattle.std.specs.Prelude.{◌≡◌, ◌^◌, ◌<◌, ◌≤◌, ◌↔◌, ℕ, true, false, IsTrue};
 ghost use Rattle.uberblock_ring.specs.Devices.{has_device};
-ghost use Rattle.core_open.specs.Sets.{IsNewDevice, IsOutBy, ListOut, ShowPool, StandOn};
+ghost use Rattle.core_open.specs.Sets.{IsBlankBy, IsNewDevice, IsOutBy, ListOut, ShowPool, StandOn};
 
 use crate::reading::Rings;
 use crate::uber_copy::UberCopy;
@@ -13,7 +13,7 @@ pub fn devices_out(devices: u32, rings: &Rings, candidates: &[UberCopy], uber: &
     requires narrow { uber.now.reflow.to ≤ 16 }
     ensures below { result < 2 ^ uber.now.reflow.to }
     ensures each { (device : ℕ) → has_device result device ≡ true
-        ↔ ((device < uber.now.reflow.to) × IsOutBy devices rings.now.silent
+        ↔ ((device < uber.now.reflow.to) × IsOutBy devices rings.now.silent rings.now.taken
         rings.now.copies.items candidates.now uber.now device) }
 {
     let mut out = DeviceSet::empty();
@@ -49,21 +49,23 @@ fn is_lacking(candidates: &[UberCopy], out: DeviceSet, device: u32) -> bool
 }
 
 fn is_out(devices: u32, rings: &Rings, candidates: &[UberCopy], uber: &Uber, device: u32) -> bool
-    ensures { IsTrue result ↔ IsOutBy devices rings.now.silent rings.now.copies.items
-        candidates.now uber.now device }
+    ensures { IsTrue result ↔ IsOutBy devices rings.now.silent rings.now.taken
+        rings.now.copies.items candidates.now uber.now device }
 {
     list_out(candidates, device)
         || rings.silent.has(device)
         || device >= devices
-        || is_blank(&rings.copies, uber, device)
+        || is_blank(rings, uber, device)
 }
 
-/// Whether nothing of the pool stands on a device that ought to have it.
-fn is_blank(copies: &[UberCopy], uber: &Uber, device: u32) -> bool
-    ensures { IsTrue result ↔ ((ShowPool copies.now uber.now.pool device → ⊥)
-        × (IsNewDevice uber.now.reflow device → ⊥)) }
+/// Whether nothing of the pool stands on a device that ought to have it. The new device of an attach need
+/// not have it yet, but another pool's disk in its place isn't taken for it.
+fn is_blank(rings: &Rings, uber: &Uber, device: u32) -> bool
+    ensures { IsTrue result
+        ↔ IsBlankBy rings.now.taken rings.now.copies.items uber.now device }
 {
-    !show_pool(copies, uber.pool(), device) && !is_new_device(&uber.reflow(), device)
+    !show_pool(&rings.copies, uber.pool(), device)
+        && (!is_new_device(&uber.reflow(), device) || rings.taken.has(device))
 }
 
 /// An attach has a pool without a copied sector on its last device.

@@ -3,17 +3,19 @@ ghost use Rattle.std.specs.Prelude.{◌≡◌, ◌<◌, ◌≤◌, ◌+◌, OnOk
 ghost use Rattle.std.specs.List.Sorted.{IsPermutation};
 ghost use Rattle.bank_trait.specs.Causes.{FaultCounted};
 ghost use Rattle.bank_trait.specs.Disk.{Image, Unchanged};
+ghost use Rattle.uberblock_ring.specs.Devices.{with_device};
 ghost use Rattle.uberblock_ring.specs.Valid.{IsRightUber};
 ghost use Rattle.core_state.specs.Shown.{read_devices};
-ghost use Rattle.core_open.specs.Copies.{AreByDevice, AreByGroup, AreRight, AreShown, ShowsIn};
+ghost use Rattle.core_open.specs.Copies.{AreByDevice, AreByGroup, AreRight, AreShown, AreTaken, HasCopy, IsListedFor};
 ghost use Rattle.core_open.specs.Failing.{HaveFailed, MayLose};
 ghost use Rattle.core_open.specs.Holds.{HoldsImage, shape_of};
 
 use crate::uber_copy::UberCopy;
+use attach_ring::{SlotCopy, copy_in_slot};
 use bank_trait::{Bank, Failed};
 use std::alloc::{AllocError, Global};
 use std::cmp::Reverse;
-use uberblock_ring::{DeviceSet, RING_SLOTS, Uber};
+use uberblock_ring::{DeviceSet, RING_SLOTS};
 
 /// Devices from this number on are never read.
 pub const READ_DEVICES: u32 = 16;
@@ -24,6 +26,8 @@ pub const READ_DEVICES: u32 = 16;
 pub struct Rings {
     pub copies: Vec<UberCopy>,
     pub silent: DeviceSet,
+    /// Devices that show an uberblock, of whatever pool and for whatever device number.
+    pub taken: DeviceSet,
 }
 
 /// Reads the ring of each device that may be read. The copies stand by group from the greatest
@@ -38,10 +42,14 @@ pub fn read_rings<B: Bank>(alloc: Global, bank: &mut B) -> Result<Rings, AllocEr
     ensures shown { IfOk result (λ rings. (image : Image) → HoldsImage (B.disk bank.old) image
         → AreShown (shape_of (B.disk bank.old)) rings.silent image
         (read_devices (shape_of (B.disk bank.old))) rings.copies.items) }
+    ensures taken { IfOk result (λ rings. (image : Image) → HoldsImage (B.disk bank.old) image
+        → AreTaken (shape_of (B.disk bank.old)) rings.silent image
+        (read_devices (shape_of (B.disk bank.old))) rings.taken) }
 {
     let mut rings = Rings {
         copies: Vec::new(alloc),
         silent: DeviceSet::empty(),
+        taken: DeviceSet::empty(),
     };
     for device in 0..bank.devices().min(READ_DEVICES) {
         read_ring(bank, device, &mut rings)?;
@@ -73,32 +81,54 @@ fn read_ring<B: Bank>(bank: &mut B, device: u32, rings: &mut Rings) -> Result<()
         → AreShown (shape_of (B.disk bank.old)) rings.old.silent image device rings.old.copies.items
         → AreShown (shape_of (B.disk bank.old)) rings.new.silent image (device + 1)
         rings.new.copies.items) }
+    ensures taken { OnOk result ((image : Image) → HoldsImage (B.disk bank.old) image
+        → AreTaken (shape_of (B.disk bank.old)) rings.old.silent image device rings.old.taken
+        → AreTaken (shape_of (B.disk bank.old)) rings.new.silent image (device + 1)
+        rings.new.taken) }
 {
     for slot in 0..bank.sectors().min(u64::from(RING_SLOTS)) as u32 {
         let Ok(found) = read_slot(bank, device, slot) else {
             rings.silent.insert(device);
             return Ok(());
         };
-        if let Some(uber) = found {
-            rings.copies.push(UberCopy { device, uber })?;
+        if let Some(copy) = found {
+            note(rings, device, &copy)?;
         }
     }
     Ok(())
 }
 
-/// The uberblock in a slot, if there is a valid one.
-fn read_slot<B: Bank>(bank: &mut B, device: u32, slot: u32) -> Result<Option<Uber>, Failed>
+/// Notes an uberblock that stands in the ring of a device. One for another device isn't listed.
+fn note(rings: &mut Rings, device: u32, copy: &SlotCopy) -> Result<(), AllocError>
+    requires device { device < 64 }
+    ensures silent { rings.new.silent ≡ rings.old.silent }
+    ensures taken { rings.new.taken ≡ with_device rings.old.taken device }
+    ensures listed { OnOk result (IsListedFor device copy.now
+        rings.old.copies.items rings.new.copies.items) }
+{
+    rings.taken.insert(device);
+    if copy.number == device {
+        rings.copies.push(UberCopy {
+            device,
+            uber: copy.uber,
+        })?;
+    }
+    Ok(())
+}
+
+/// The uberblock in a slot, if there is a valid one, for whichever device.
+fn read_slot<B: Bank>(bank: &mut B, device: u32, slot: u32) -> Result<Option<SlotCopy>, Failed>
     requires device { device < read_devices (shape_of (B.disk bank.old)) }
     requires slot { slot < (B.disk bank.old).sectors }
     requires ring { slot < 32 }
     ensures unchanged { Unchanged (B.disk bank.old) (B.disk bank.new) }
     ensures failed { OnErr result
         (FaultCounted ((B.disk bank.old).faults device) ((B.disk bank.new).faults device)) }
-    ensures right { IfOk result (λ found. IfSome found IsRightUber) }
-    ensures shown { IfOk result (λ found. (image : Image) → HoldsImage (B.disk bank.old) image
-        → ShowsIn (shape_of (B.disk bank.old)) image device slot found) }
+    ensures right { IfOk result (λ found. IfSome found (λ copy. IsRightUber copy.uber)) }
+    ensures has { IfOk result (λ found. (image : Image) → HoldsImage (B.disk bank.old) image
+        → HasCopy image device slot found) }
 {
     let mut sector = [0; 512];
     bank.read(device, u64::from(slot), &mut sector)?;
-    Ok(Uber::decode(&sector, device, slot))
+    Ok(copy_in_slot(&sector, slot))
 }

@@ -6,5 +6,5 @@ use Rattle.attach_ring.proofs.taken.is_taken.Goals as goal
 
 pub returns : goal.returns
 returns c = subst (λ (found : Bool). IsTrue found ↔ IsTakenSlot c.args.slot c.args.bytes.now) (sym c.is_some.ensures)
-    (taken_by c.args.bytes.now c.args.slot c.u32_at.result c.decode.result c.u32_at.type_inv c.u32_at.ensures
-    c.decode.ensures.some c.decode.ensures.none)
+    (taken_by c.args.bytes.now c.args.slot c.copy_in_slot.result c.copy_in_slot.ensures.number c.copy_in_slot.ensures.some
+    c.copy_in_slot.ensures.none)

@@ -35,6 +35,7 @@ loop-candidates-preserved g c =
     record {
       unchanged = unchanged_then c.loop-candidates.invariant.unchanged c.choose.ensures.unchanged;
       copies = c.loop-candidates.invariant.copies;
+      taken = c.loop-candidates.invariant.taken;
       within = subst (λ (set : ℕ). IsWithin before set) (sym c.insert.ensures.value)
           (λ other has. within_with silent device other (c.loop-candidates.invariant.within other has));
       since = subst (λ (set : ℕ). HaveFailedSince old new before set) (sym c.insert.ensures.value)

@@ -10,7 +10,7 @@ use Rattle.core_open.proofs.Concluded.{first_chosen, first_of, lacks_is, out_is,
 use Rattle.core_open.proofs.finding.conclude.Goals as goal
 
 pub returns-clause-found : goal.returns-clause-found
-returns-clause-found c = λ shape image same shown chosen.
+returns-clause-found c = λ shape image same shown taken chosen.
     let silent = c.args.rings.now.silent in
     let all = c.args.rings.now.copies.items in
     let candidates = c.args.candidates.copies.items in
@@ -19,11 +19,11 @@ returns-clause-found c = λ shape image same shown chosen.
     let there : slice_get candidates 0 ≡ Some first =
     subst (λ (list : List UberCopy). slice_get list 0 ≡ Some first) c.deref.ensures.value (sym c.in-Some.ensures.value) in
     let parts = chosen.some first there in
-    let outs = out_is shape silent image all candidates entries first there shown parts.1 c.devices_out-out.result
+    let outs = out_is shape silent image all candidates entries first there shown parts.1 c.args.rings.now.taken taken c.devices_out-out.result
     (subst (λ (devices : ℕ). (device : ℕ) → has_device c.devices_out-out.result device ≡ true
-    ↔ ((device < first.uber.reflow.to) × IsOutBy devices silent all candidates first.uber device)) (sym same)
+    ↔ ((device < first.uber.reflow.to) × IsOutBy devices silent c.args.rings.now.taken all candidates first.uber device)) (sym same)
     (subst (λ (list : List UberCopy). (device : ℕ) → has_device c.devices_out-out.result device ≡ true
-    ↔ ((device < first.uber.reflow.to) × IsOutBy c.args.devices silent all list first.uber device)) c.deref-2.ensures.value
+    ↔ ((device < first.uber.reflow.to) × IsOutBy c.args.devices silent c.args.rings.now.taken all list first.uber device)) c.deref-2.ensures.value
     c.devices_out-out.ensures.each)) in
     let lacks =
     subst (λ (reflow : Reflow). (device : ℕ) → has_device c.devices_lacking-lacks_uber.result device ≡ true

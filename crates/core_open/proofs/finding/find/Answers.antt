@@ -1,14 +1,17 @@
-use Rattle.std.proofs.Common.{◌≡◌, [], List, Result, Ok, Err, sym, subst, arith}
+use Rattle.std.proofs.Common.{◌≡◌, [], ℕ, List, Result, Ok, Err, sym, subst, arith}
 use Rattle.std.specs.Prelude.{All, Contains, IfErr, OnErr}
 use Rattle.std.proofs.lemmas.Result.{IfOk-weaker}
+use Rattle.core_state.specs.Shown.{read_devices}
 use Rattle.core_open.specs.declared.finding.Found.{Found}
 use Rattle.core_open.specs.declared.uber_copy.UberCopy.{UberCopy}
 use Rattle.core_open.specs.declared.why.OpenWhy.{OpenWhy}
+use Rattle.core_open.specs.Copies.{AreTaken}
 use Rattle.core_open.specs.Finding.{IsFindCause, IsNothingFound}
 use Rattle.core_open.specs.Holds.{shape_of}
 use Rattle.core_open.proofs.Failures.{failed_since}
 use Rattle.core_open.proofs.Givers.{first_given_before}
 use Rattle.core_open.proofs.Settled.{chosen_after, find_cause, shown_after}
+use Rattle.core_open.proofs.Taken.{taken_within}
 use Rattle.core_open.proofs.Unchanged.{room_then}
 use Rattle.core_open.proofs.finding.find.Goals as goal
 
@@ -28,6 +31,10 @@ returns-clause-found g c =
     (omega (arith, c.devices.ensures, rings.unchanged.goes_on.later.devices, choice.unchanged.goes_on.later.devices))
     (shown_after old mid rings.unchanged c.in_ok-rings.rings.silent c.choose_anew.new.rings.silent choice.within
     c.in_ok-rings.rings.copies.items rings.shown c.choose_anew.new.rings.copies.items choice.copies image holds)
+    (subst (λ (taken : ℕ). AreTaken (shape_of old) c.choose_anew.new.rings.silent image (read_devices (shape_of old)) taken)
+    (sym choice.taken)
+    (taken_within (shape_of old) c.in_ok-rings.rings.silent c.choose_anew.new.rings.silent image (read_devices (shape_of old))
+    (read_devices (shape_of old)) c.in_ok-rings.rings.taken choice.within (omega arith) (rings.taken image holds)))
     (chosen_after old mid rings.unchanged c.in_ok-rings.rings.silent c.choose_anew.new.rings.silent choice.within
     c.in_ok-rings.rings.copies.items rings.shown c.in_ok-candidates.candidates.copies.items c.in_ok-candidates.candidates.entries.items
     choice.chosen image holds))

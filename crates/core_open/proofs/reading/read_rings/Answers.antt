@@ -3,10 +3,11 @@ use Rattle.std.proofs.lemmas.List.Sorted.{All-permutation}
 use Rattle.uberblock_ring.specs.Valid.{IsRightUber}
 use Rattle.core_state.specs.Shown.{Shape, read_devices}
 use Rattle.core_open.specs.declared.uber_copy.UberCopy.{UberCopy}
-use Rattle.core_open.specs.Copies.{AreShown}
+use Rattle.core_open.specs.Copies.{AreShown, AreTaken}
 use Rattle.core_open.specs.Holds.{shape_of}
 use Rattle.core_open.proofs.Failures.{failed_more}
 use Rattle.core_open.proofs.ReadTo.{right_wider, shown_sorted}
+use Rattle.core_open.proofs.Taken.{taken_within}
 use Rattle.core_open.proofs.Unchanged.{holds_then, shape_then, unchanged_then}
 use Rattle.core_open.proofs.reading.read_rings.Goals as goal
 
@@ -30,6 +31,12 @@ loop-device-preserved g c =
           (ring.shown image (holds_then so_far.unchanged holds)
           (subst (λ (shape : Shape). AreShown shape c.loop-device.rings.silent image device c.loop-device.rings.copies.items)
           (sym (shape_then so_far.unchanged)) (so_far.shown image holds)));
+      taken = λ image holds.
+          subst (λ (shape : Shape). AreTaken shape c.read_ring.new.rings.silent image (device + 1) c.read_ring.new.rings.taken)
+          (shape_then so_far.unchanged)
+          (ring.taken image (holds_then so_far.unchanged holds)
+          (subst (λ (shape : Shape). AreTaken shape c.loop-device.rings.silent image device c.loop-device.rings.taken)
+          (sym (shape_then so_far.unchanged)) (so_far.taken image holds)));
     }
 
 pub returns-clause-right : goal.returns-clause-right
@@ -47,3 +54,11 @@ returns-clause-shown g c = λ image holds.
     shown_sorted shape c.loop-device.rings.silent image c.loop-device.device
     c.loop-device.rings.copies.items c.sort_by_group.new.copies.items c.in_ok-sort_by_group.ensures.same whole
     (c.loop-device.invariant.shown image holds)
+
+pub returns-clause-taken : goal.returns-clause-taken
+returns-clause-taken g c = λ image holds.
+    let shape = shape_of (g.B.Bank.disk c.args.bank.now) in
+    let whole : read_devices shape ≤ c.loop-device.device = omega arith in
+    let silent = c.loop-device.rings.silent in
+    taken_within shape silent silent image c.loop-device.device (read_devices shape) c.loop-device.rings.taken (λ device has. has)
+    whole (c.loop-device.invariant.taken image holds)

@@ -1,5 +1,5 @@
 use Rattle.bank_trait.specs.Disk.{Image, Unchanged}
-use Rattle.core_open.specs.Copies.{AreByDevice, AreRight, AreShown}
+use Rattle.core_open.specs.Copies.{AreByDevice, AreRight, AreShown, AreTaken}
 use Rattle.core_open.specs.Failing.{HaveFailed}
 use Rattle.core_open.specs.Holds.{HoldsImage, shape_of}
 use Rattle.core_open.proofs.reading.read_rings.Given as goal
@@ -12,4 +12,6 @@ invariant-loop-device g l = record {
   order : AreByDevice l.rings.copies.items;
   shown : (image : Image) → HoldsImage (g.B.Bank.disk l.fn.bank) image
       → AreShown (shape_of (g.B.Bank.disk l.fn.bank)) l.rings.silent image l.device l.rings.copies.items;
+  taken : (image : Image) → HoldsImage (g.B.Bank.disk l.fn.bank) image
+      → AreTaken (shape_of (g.B.Bank.disk l.fn.bank)) l.rings.silent image l.device l.rings.taken;
 }
