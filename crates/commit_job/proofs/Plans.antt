@@ -1,8 +1,8 @@
 -- Which call stands at which place of the whole plan.
-use Rattle.std.proofs.Common.{◌≡◌, ℕ, zero, suc, ◌+◌, ◌-◌, ◌*◌, ◌/◌, ◌%◌, ◌<◌, ◌≤◌, List, [], ◌∷◌, ◌++◌, length, get_or, map, refl, sym, ◌∙◌, ap, subst, arith, ⊎_elim, length-append, Some}
+use Rattle.std.proofs.Common.{◌≡◌, ℕ, zero, suc, ◌+◌, ◌-◌, ◌*◌, ◌/◌, ◌%◌, ◌<◌, ◌≤◌, List, [], ◌∷◌, ◌++◌, length, drop, get_or, map, refl, sym, ◌∙◌, ap, subst, arith, ⊎_elim, length-append, append_assoc, Some}
 use Rattle.std.specs.Prelude.{flat_map, slice_get}
 use Rattle.std.proofs.lemmas.Bool.{cases_lt}
-use Rattle.std.proofs.lemmas.List.{append-nil, get_or_append_left, get_or-append_right, length_push, length-map, map-append}
+use Rattle.std.proofs.lemmas.List.{append-nil, drop_at, get_or_append_left, get_or-append_right, length_push, length-map, map-append}
 use Rattle.std.proofs.lemmas.List.Concat.{flat_map-append}
 use Rattle.std.proofs.Math.Nat.{div-add-mod', mod-lt}
 use Rattle.std.proofs.lemmas.Nat.{div_below, div-mul-add, mod-mul-add}
@@ -10,7 +10,7 @@ use Rattle.std.proofs.lemmas.Option.{slice_get-get_or}
 use Rattle.block_record.specs.Page.{page_sectors}
 use Rattle.commit_job.specs.declared.call.CommitCall.{CommitCall}
 use Rattle.commit_job.specs.declared.call.CommitCall.TheVariants.{IndexWrite, BaseSync, UberWrite, UberSync}
-use Rattle.commit_job.specs.Stages.{index_writes, numbers_below, plan_of}
+use Rattle.commit_job.specs.Stages.{index_writes, numbers_below, plan_of, signing_of}
 
 -- A call stands at a place of a list.
 record IsAt (calls : List CommitCall) (place : ℕ) (call : CommitCall) : Type 0 where
@@ -245,3 +245,20 @@ end_there devices count sectors place is above inside not_first not_second =
   where
     two : (n : ℕ) → n < 3 → (n ≡ 0 → ⊥) → (n ≡ 1 → ⊥) → n ≡ 2
     two n low first second = omega (arith, low, first, second)
+
+-- Of an empty index there is nothing to write, so the second half comes behind a sync of each device.
+pub signing_left : (devices : ℕ) → drop devices (plan_of devices 0) ≡ signing_of devices
+signing_left devices =
+    let front = flat_map (index_writes 0) (numbers_below devices) ++ bases devices in
+    let wide : length front ≡ devices =
+    omega (
+      arith,
+      length-append (flat_map (index_writes 0) (numbers_below devices)) (bases devices),
+      length-writes 0 devices,
+      length-stage (λ d. BaseSync d) devices,
+    ) in
+    ap (λ (calls : List CommitCall). drop devices calls) (append_assoc front (ubers devices) (ends devices))
+    ∙ drop_at front (ubers devices ++ ends devices) devices wide
+
+pub length-signing : (devices : ℕ) → devices ≤ length (plan_of devices 0)
+length-signing devices = omega (arith, length-plan devices 0)

@@ -22,6 +22,11 @@ plan_of devices count = flat_map (index_writes count) (numbers_below devices)
     ++ map (λ device. UberWrite device) (numbers_below devices)
     ++ map (λ device. UberSync device) (numbers_below devices)
 
+-- the second half over so many devices: an uberblock to each, then a sync of each
+abbrev pub signing_of : ℕ → List CommitCall
+signing_of devices = map (λ device. UberWrite device) (numbers_below devices)
+    ++ map (λ device. UberSync device) (numbers_below devices)
+
 abbrev pub device_of : CommitCall → ℕ
 device_of (IndexWrite device part) = device
 device_of (BaseSync device) = device

@@ -1,7 +1,7 @@
 // A commit on its way.
 ghost use Rattle.std.specs.Prelude.{◌≡◌, ◌<◌, ◌≤◌, drop, length, slice_get};
 ghost use Rattle.commit_job.specs.Plan.{left_from, whole_of, IsDueAt, IsSmall};
-ghost use Rattle.commit_job.specs.Stages.{after_next, calls_left, copies_of, plan_of};
+ghost use Rattle.commit_job.specs.Stages.{after_next, calls_left, copies_of, plan_of, signing_of};
 
 use crate::CommitCall;
 use crate::plan::{Meant, Plan};
@@ -59,6 +59,23 @@ impl Commit {
                 meant: Meant::Copies { page, uber },
             },
             place: 0,
+        }
+    }
+
+    /// The second half alone, over so many devices: an uberblock to each, then a sync of each.
+    pub fn signing(devices: u32) -> Commit
+        requires devices { devices ≤ 64 }
+        ensures value { result ≡ signing_of devices }
+    {
+        // The whole plan of an empty index begins with a sync of each device, and the second half follows.
+        let plan = Plan {
+            devices,
+            count: 0,
+            meant: Meant::All,
+        };
+        Commit {
+            plan,
+            place: u64::from(devices),
         }
     }
 

@@ -13,3 +13,5 @@ pub mod Writing
 pub mod Stepping
 pub mod Beside
 pub mod CommitTurns
+pub mod Widening
+pub mod Outside

@@ -7,8 +7,9 @@ use Rattle.std.proofs.lemmas.Grind.{flat_map-append}
 use Rattle.block_record.specs.Page.{page_sectors}
 use Rattle.commit_job.specs.declared.call.CommitCall.{CommitCall}
 use Rattle.commit_job.specs.declared.call.CommitCall.TheVariants.{IndexWrite, BaseSync, UberWrite, UberSync}
-use Rattle.commit_job.specs.Stages.{numbers_below, index_writes, plan_of, device_of}
+use Rattle.commit_job.specs.Stages.{numbers_below, index_writes, plan_of, signing_of, device_of}
 use Rattle.core_state.specs.Committing.{Among}
+use Rattle.core_commit.specs.Ran.{IsSigning}
 use Rattle.core_commit.specs.Ordered.{Due, Ordered}
 
 -- Each element of a list has this.
@@ -290,3 +291,21 @@ module _ (devices count : ℕ) where
         (among_back (pages ++ bases) ubers (UberWrite device) (among_each (λ d. UberWrite d) devices device below)),
     among_back (pages ++ bases ++ ubers) ends (UberSync device) (among_each (λ d. UberSync d) devices device below),
   )
+
+  -- The second half alone is in order, has each uberblock and its sync, and nothing else.
+  pub signing_ordered : Ordered devices parts (signing_of devices)
+  signing_ordered = ordered_stage devices parts 2 ubers ends ubers_of due_uber
+      (subst (Ordered devices parts) (append-nil ends)
+      (ordered_stage devices parts 3 ends [] ends_of due_end tt))
+
+  pub signing_signs : (device : ℕ) → device < devices
+      → Among (signing_of devices) (UberWrite device) × Among (signing_of devices) (UberSync device)
+  signing_signs device below = (
+    among_front ubers ends (UberWrite device) (among_each (λ d. UberWrite d) devices device below),
+    among_back ubers ends (UberSync device) (among_each (λ d. UberSync d) devices device below),
+  )
+
+  pub signing_only : (call : CommitCall) → Among (signing_of devices) call → IsSigning call
+  signing_only call among = every_among IsSigning (signing_of devices) call
+      (every_append IsSigning ubers ends (every_each (λ d. UberWrite d) IsSigning devices (λ device below. tt))
+      (every_each (λ d. UberSync d) IsSigning devices (λ device below. tt))) among

@@ -5,3 +5,4 @@ pub mod Spared
 pub mod Writing
 pub mod Ordered
 pub mod CommitTurns
+pub mod Widening

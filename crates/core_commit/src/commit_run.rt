@@ -1,22 +1,26 @@
 // A commit that makes one device call a step, so that other calls may come between.
-ghost use Rattle.std.specs.Prelude.{◌≡◌, ◌^◌, ◌<◌, ◌≤◌, Some, IsTrue, length, slice_get};
-ghost use Rattle.block_record.specs.Page.{index_page, IsIndex};
+ghost use Rattle.std.specs.Prelude.{◌≡◌, ◌+◌, ◌^◌, ◌<◌, ◌≤◌, Some, IsTrue, length, slice_get};
+ghost use Rattle.bank_trait.specs.Disk.{Wrote};
+ghost use Rattle.block_record.specs.Page.{index_page, page_sectors, IsIndex};
 ghost use Rattle.uberblock_ring.specs.Devices.{count_of};
+ghost use Rattle.uberblock_ring.specs.Uberblock.{area_sector};
 ghost use Rattle.uberblock_ring.specs.Valid.{IsRightUber};
 ghost use Rattle.commit_job.specs.declared.call.CommitCall.{CommitCall as CallOf};
 ghost use Rattle.commit_job.specs.Stages.{calls_left, plan_of};
 ghost use Rattle.core_commit.specs.declared.commit_run.Stage.TheVariants.{Lays};
 ghost use Rattle.core_commit.specs.CommitTurns.{IsMadeReady, CommitSteps};
-ghost use Rattle.core_commit.specs.Ran.{FitsBank, IsLaying, IsSigning};
+ghost use Rattle.core_commit.specs.Widening.{widened_run};
+ghost use Rattle.core_commit.specs.Ran.{FitsBank, IsLaying, IsSigning, index_part};
 ghost use Rattle.core_state.specs.Committing.{point_of};
 ghost use Rattle.core_commit.specs.Spared.{HaveGoneOut, SparesData};
 
-use crate::committing::{is_signing, make};
-use bank_trait::Bank;
+use crate::committing::{is_signing, make, page_sector};
+use bank_trait::{Bank, Failed};
 use block_record::IndexEntry;
 use commit_job::{Commit, CommitCall};
+use reflow_mark::Reflow;
 use std::marker::Model;
-use uberblock_ring::{DeviceSet, Uber};
+use uberblock_ring::{DeviceSet, Uber, area_sector};
 
 /// The half of a commit that comes next: the index page and its syncs, or the uberblock and its own.
 #[derive(Clone, Copy, Debug, PartialEq, Eq)]
@@ -112,6 +116,54 @@ impl CommitRun {
         ensures value { result.now ≡ self.now.entries }
     {
         &self.entries
+    }
+
+    /// The next call, where these devices are out.
+    pub fn next_call(&self, out: DeviceSet) -> Option<CommitCall>
+        ensures value { result ≡ slice_get (calls_left out self.now.calls) 0 }
+    {
+        self.calls.next(out)
+    }
+
+    /// Writes a sector of the index page, from 0, to a device that the group does not have.
+    pub fn lay_on<B: Bank>(&self, bank: &mut B, device: u32, part: u64) -> Result<(), Failed>
+        requires part { part < page_sectors self.now.uber.count }
+        requires device { device < (B.disk bank.old).devices }
+        requires sectors { 192 ≤ (B.disk bank.old).sectors }
+        ensures value { Wrote (B.disk bank.old) (B.disk bank.new) device
+            (area_sector self.now.uber.area + part) (index_part self.now.entries part) result }
+    {
+        let sector = page_sector(&self.entries, Some(&self.page), part);
+        bank.write(device, area_sector(self.uber.area()) + part, &sector)
+    }
+
+    /// The second half of the same group with one device more, to which nothing is moved yet. A device joins only
+    /// where none is out.
+    pub fn widened(self, out: DeviceSet) -> CommitRun
+        requires rest { self.uber.reflow.to ≡ self.uber.reflow.from }
+        requires room { self.uber.reflow.to < 16 }
+        requires whole { out ≡ 0 }
+        ensures value { result ≡ widened_run self }
+    {
+        let CommitRun {
+            mut uber,
+            entries,
+            page,
+            calls: _,
+            stage: _,
+        } = self;
+        let reflow = uber.reflow();
+        let to = reflow.to + 1;
+        let births = *uber.births();
+        uber.set_widths(Reflow { to, ..reflow }, births);
+        uber.set_out(out);
+        CommitRun {
+            uber,
+            entries,
+            page,
+            calls: Commit::signing(to),
+            stage: Stage::Signs,
+        }
     }
 
     /// The next call. Where the first half is done by now, the second one begins, and the uberblock

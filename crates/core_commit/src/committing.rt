@@ -17,7 +17,7 @@ use commit_job::{Commit, CommitCall};
 use uberblock_ring::{DeviceSet, Uber, area_sector, slot};
 
 /// A sector of the index page, from the page where that stands encoded.
-fn page_sector(entries: &[IndexEntry], page: Option<&[u8]>, part: u64) -> [u8; 512]
+pub(crate) fn page_sector(entries: &[IndexEntry], page: Option<&[u8]>, part: u64) -> [u8; 512]
     requires index { IsIndex entries.now }
     requires few { length entries.now ≤ 512 }
     requires part { part < page_sectors (length entries.now) }

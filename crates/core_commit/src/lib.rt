@@ -9,6 +9,8 @@
 
 mod commit_run;
 mod committing;
+mod laws;
 
 pub use commit_run::{CommitRun, CommitStep};
 pub use committing::{TooManyOut, copy};
+pub use laws::{commit_stays_beside_others, commit_widens};

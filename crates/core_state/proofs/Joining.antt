@@ -5,6 +5,7 @@ use Rattle.std.specs.Prelude.{Contains}
 use Rattle.std.proofs.lemmas.Bool.{cases_lt}
 use Rattle.bank_trait.specs.Disk.{Image, Disk}
 use Rattle.uberblock_ring.specs.Uberblock.{Uber, encoded, slot_of}
+use Rattle.uberblock_ring.specs.Valid.{IsRightUber}
 use Rattle.core_state.specs.Shown.{read_devices}
 use Rattle.core_state.specs.Keeps.{Kept, Setting, IsNotOutvoted}
 use Rattle.core_state.specs.Collision.{MightStand}
@@ -18,7 +19,8 @@ pub record IsRingSettled (disk : Disk) (device : ℕ) : Type 0 where
 
 -- No slot of the device reads as a valid uberblock.
 pub record ReadsNoUber (disk : Disk) (device : ℕ) : Type 0 where
-  pub none : (uber : Uber) → disk.reads device (slot_of uber.group) ≡ Some (encoded uber device) → ⊥
+  pub none : (uber : Uber) → IsRightUber uber → disk.reads device (slot_of uber.group) ≡ Some (encoded uber device)
+      → ⊥
 
 -- What is certain does not depend on how many devices the pool has at least and at most, but for the row, the
 -- devices' own pool and the votes.
@@ -82,7 +84,7 @@ reach_more setting first later disk settled blank there knows =
     })
     (λ device uber is below. ⊎_elim (λ (old : device < setting.reach). knows.own device uber is old)
     (λ (new : setting.reach ≤ device). let same : device ≡ setting.reach = omega (arith, below, new) in
-    absurd (blank.none uber (settled.only (slot_of uber.group) (encoded uber setting.reach) (omega arith)
+    absurd (blank.none uber is.right (settled.only (slot_of uber.group) (encoded uber setting.reach) (omega arith)
     (subst (λ d. Contains (able disk d (slot_of uber.group)) (encoded uber d)) same is.could))))
     (cases_lt device setting.reach))
     (λ image might pool devices differs distinct each. knows.votes image might pool devices differs distinct

@@ -20,3 +20,4 @@ pub mod Chosen
 pub mod Finding
 pub mod Created
 pub mod Joining
+pub mod Resting

@@ -1,0 +1,4 @@
+pub mod Turns
+pub mod Guests
+pub mod Joins
+pub mod Spares

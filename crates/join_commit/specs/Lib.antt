@@ -1,0 +1,3 @@
+pub mod JoinRun
+pub mod JoinTurns
+pub mod Joining
