@@ -16,6 +16,11 @@ expect 'a pool for the examples' 0 'pool 9 parity 1 width 3 rows 1856 group 1' \
   "${IMAGES[@]}" -- create --parity 1 --width 3 --id 9
 example store
 example read-back
+expect 'a look at that pool' 0 'pool 9 parity 1 rows 1856 group 6
+width 3
+births 0:3
+out none
+blocks 1' "${IMAGES[@]}" -- status
 rm disk1
 example one-disk-lost
 rm disk2

@@ -172,6 +172,8 @@ grep -q '^raidzx: usage: raidzx IMAGE.. -- create --parity P --width W --id N$' 
 expect 'a word too many' 1 usage disk0 disk1 -- run now
 grep -q '^raidzx: usage: raidzx IMAGE.. -- run <SCRIPT$' told || failed usage "$(cat told)"
 ! grep -q create told || failed usage "$(cat told)"
+expect 'a word too many' 1 usage disk0 disk1 -- status now
+grep -q '^raidzx: usage: raidzx IMAGE.. -- status$' told || failed usage "$(cat told)"
 expect 'a command that there is not' 1 usage disk0 disk1 -- sweep
-[ "$(grep -c '^raidzx: usage: ' told)" = 3 ] || failed usage "$(cat told)"
+[ "$(grep -c '^raidzx: usage: ' told)" = 4 ] || failed usage "$(cat told)"
 echo 'ok the form of the command that was meant is told'

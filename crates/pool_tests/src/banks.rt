@@ -4,10 +4,12 @@ ghost use Rattle.std.specs.Prelude.{◌≤◌};
 use bank_mem::MemBank;
 use bank_trait::Bank;
 use core_open::create;
+use reflow_mark::{Reflow, State};
 use std::alloc::Global;
 use std::process::Abort;
 use std::test::Fail;
 use uberblock_ring::{Uber, slot};
+use width_map::Births;
 
 /// The calls on each device that make a pool: 32 zeros, a sync, the uberblock, a sync.
 pub const MAKING: u64 = 35;
@@ -49,4 +51,26 @@ pub fn show(rt: &impl Abort, bank: &mut MemBank, uber: &Uber, device: u32) -> Re
     assert!(rt; uber.is_right() && device < bank.devices() && bank.sectors() == 256);
     bank.write(device, u64::from(slot(uber.group())), &uber.encode(device))?;
     Ok(())
+}
+
+/// How far a pool has come: where its sectors stand that lie below the mark, and the mark.
+pub type Way = (State, u64);
+
+/// Four devices with pool 9, which has one parity and was made on three of them.
+pub fn bank_on_the_way(rt: &impl Abort, alloc: Global, way: Way) -> Result<MemBank, Fail> {
+    let (state, mark) = way;
+    let reflow = Reflow {
+        from: 3,
+        to: 4,
+        rows: 64,
+        mark,
+        state,
+    };
+    let mut uber = Uber::first(9, 1, 3, 64);
+    uber.set_widths(reflow, Births::first(3));
+    let mut bank = MemBank::new(alloc, 4, 256)?;
+    for device in 0..4 {
+        show(rt, &mut bank, &uber, device)?;
+    }
+    Ok(bank)
 }

@@ -11,6 +11,8 @@ pub const RUN: &str = "raidzx run";
 
 pub const REPLAY: &str = "raidzx replay";
 
+pub const STATUS: &str = "raidzx status";
+
 /// What a call told and left.
 #[derive(Drop)]
 pub struct Told {

@@ -1,6 +1,6 @@
 // Devices, sinks and sources that fail.
 use crate::banks::{MAKING, OPENING, bank_of_nine};
-use crate::calls::{MAKE_NINE, REPLAY, RUN, call, call_with};
+use crate::calls::{MAKE_NINE, REPLAY, RUN, STATUS, call, call_with};
 use bank_mem::{MemBank, MemSink, MemSource};
 use raidzx_top::Status;
 use std::alloc::Global;
@@ -195,14 +195,16 @@ fn a_device_that_answers_again_gives_what_was_synced_with_the_others_lost(
 fn a_sink_that_fails_has_a_front_of_the_text(rt: HostRuntime) -> Result<(), Fail> {
     let alloc = rt.alloc();
     // (the words, the sink's room, which of its writes fails, the status, what it has)
-    let rows: [(&str, u64, u64, Status, &[u8]); 8] = [
+    let rows: [(&str, u64, u64, Status, &[u8]); 10] = [
         (RUN, 10, 9, Status::SinkFault, b"0 group 3 "),
         (RUN, 1000, 0, Status::SinkFault, b""),
         (REPLAY, 10, 9, Status::SinkFault, b"0 group 3 "),
         (MAKE_NINE, 10, 9, Status::SinkFault, b"pool 9 par"),
         (MAKE_NINE, 1000, 0, Status::SinkFault, b""),
-        ("raidzx status", 2, 9, Status::Usage, b"us"),
-        ("raidzx status", 1000, 0, Status::Usage, b""),
+        ("raidzx scrub", 2, 9, Status::Usage, b"us"),
+        ("raidzx scrub", 1000, 0, Status::Usage, b""),
+        (STATUS, 10, 9, Status::SinkFault, b"pool 9 par"),
+        (STATUS, 1000, 0, Status::SinkFault, b""),
         (
             "raidzx create --parity 1 --width 4 --id 9",
             0,
@@ -241,7 +243,7 @@ fn a_source_that_fails_is_told_and_changes_nothing(rt: HostRuntime) -> Result<()
         (RUN, 0, Status::SourceFault, b"source fault\n"),
         (RUN, 1, Status::SourceFault, b"source fault\n"),
         (REPLAY, 0, Status::SourceFault, b"source fault\n"),
-        ("raidzx status", 0, Status::Usage, b"usage\n"),
+        ("raidzx scrub", 0, Status::Usage, b"usage\n"),
     ];
     for (words, number, status, text) in rows {
         let bank = bank_of_nine(alloc)?;

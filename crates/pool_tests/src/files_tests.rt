@@ -2,7 +2,7 @@
 ghost use Rattle.std.specs.Prelude.{◌↔◌, ◌<◌, IsTrue};
 
 use crate::banks::MAKING;
-use crate::calls::{MAKE_NINE, RUN, words_of};
+use crate::calls::{MAKE_NINE, RUN, STATUS, words_of};
 use bank_mem::{MemBank, MemSink, MemSource};
 use bank_trait::{Bank, Failed};
 use file_bank::{FileBank, MemFile};
@@ -16,14 +16,15 @@ const SECTORS: u32 = 256;
 /// The most bytes that a read of a file gives: a sector comes in three pieces.
 const PIECE: usize = 200;
 
-/// Words and the script that they read: the first run of a new pool, and one that reads it back.
-const CALLS: [(&str, &[u8]); 3] = [
+/// Words and the script that they read: the first run of a new pool, one that reads it back, and a look.
+const CALLS: [(&str, &[u8]); 4] = [
     (MAKE_NINE, b""),
     (
         RUN,
         b"clients 2\na put 7 1500 5\nb get 7\nb put 8 3 1\na sync\nb free 8\na sync\n",
     ),
     (RUN, b"clients 1\na get 7\na sum 8\n"),
+    (STATUS, b""),
 ];
 
 /// What a command told and left.

@@ -52,6 +52,8 @@ mod script_tests;
 #[cfg(test)]
 mod small_pool_tests;
 #[cfg(test)]
+mod status_tests;
+#[cfg(test)]
 mod stop_tests;
 #[cfg(test)]
 mod turn_order_tests;

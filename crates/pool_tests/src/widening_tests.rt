@@ -1,21 +1,17 @@
 // Pools on their way from three devices to four, and from where their blocks are read.
-use crate::banks::{bank_of_nine, show};
+use crate::banks::{Way, bank_of_nine, bank_on_the_way};
 use crate::runs::run;
 use bank_mem::MemBank;
 use bank_trait::Bank;
-use reflow_mark::{Reflow, State};
+use reflow_mark::State;
 use std::alloc::Global;
 use std::process::Abort;
 use std::test::Fail;
-use uberblock_ring::{DeviceSet, Uber};
-use width_map::Births;
+use uberblock_ring::DeviceSet;
 
 /// How many blocks of two content sectors are put. With their parity and a spare one they take four sectors each,
 /// and the first begins at sector 2.
 const BLOCKS: u64 = 47;
-
-/// How far a pool has come: where its sectors stand that lie below the mark, and the mark.
-type Way = (State, u64);
 
 /// A device and a device sector.
 type Place = (u32, u64);
@@ -25,25 +21,6 @@ const SCRATCH: Way = (State::Valid, 128);
 
 /// What lies below 128 stands at its new places.
 const NEW: Way = (State::Moved, 128);
-
-/// Four devices with pool 9, which has one parity and was made on three of them.
-fn bank_on_the_way(rt: &impl Abort, alloc: Global, way: Way) -> Result<MemBank, Fail> {
-    let (state, mark) = way;
-    let reflow = Reflow {
-        from: 3,
-        to: 4,
-        rows: 64,
-        mark,
-        state,
-    };
-    let mut uber = Uber::first(9, 1, 3, 64);
-    uber.set_widths(reflow, Births::first(3));
-    let mut bank = MemBank::new(alloc, 4, 256)?;
-    for device in 0..4 {
-        show(rt, &mut bank, &uber, device)?;
-    }
-    Ok(bank)
-}
 
 /// Puts a block of one content sector, and behind it those of two. Each has other bytes.
 fn puts(alloc: Global) -> Result<Vec<u8>, Fail> {

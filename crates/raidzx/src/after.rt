@@ -67,7 +67,7 @@ fn tell_of_create<R: Eprint, B: Bank>(
     }
 }
 
-/// What a run has left to tell: what images show, where no pool was opened, or which are out for good.
+/// What a run or a look has left to tell: what images show, where there was no pool, or which are out for good.
 #[tactic(auto, using(core_open::proofs::Unchanged::unchanged_none, core_open::proofs::Unchanged::unchanged_then))]
 fn tell_of_run<R: Eprint, B: Bank>(
     rt: &R,

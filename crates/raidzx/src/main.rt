@@ -21,8 +21,8 @@ use bank_mem::MemBank;
 use bank_trait::Bank;
 use hints::hint_line;
 use notes::{note_lengths, note_unopened};
-use opening::{Unopened, open_image};
-use raidzx_top::{Outcome, Status, image_words, is_command, raidzx, write_status};
+use opening::{Access, Unopened, access_for, open_image};
+use raidzx_top::{Outcome, Status, image_words, raidzx, read_command, write_status};
 use std::alloc::{AllocFailed, Global};
 use std::env;
 use std::io::{self, ErrorKind};
@@ -51,8 +51,13 @@ impl<T: Drop> From<AllocFailed<T>> for NoBank {
 
 /// Opens the files that the words from the second on name, so many of them, in this order, and tells why one could not
 /// be opened. At the first one that another program has, or that this one is refused, it stops: of two programs that
-/// want the same images one gets them all.
-fn open_files(rt: &HostRuntime, words: &[String], count: u32) -> Result<FileBank, NoBank>
+/// want to change the same images one gets them all.
+fn open_files(
+    rt: &HostRuntime,
+    words: &[String],
+    count: u32,
+    access: Access,
+) -> Result<FileBank, NoBank>
     requires { count + 1 < length words.now }
     ensures devices { IfOk result (λ bank. (disk_of image_contents bank).devices ≡ count) }
 {
@@ -61,7 +66,7 @@ fn open_files(rt: &HostRuntime, words: &[String], count: u32) -> Result<FileBank
     let mut faults = Vec::new(alloc);
     for device in 0..count {
         let name = words[device as usize + 1].as_str();
-        match open_image(rt, name) {
+        match open_image(rt, name, access) {
             Ok(image) => images.push(Some(image))?,
             Err(why) => {
                 note_unopened(rt, name, &why);
@@ -133,9 +138,9 @@ fn main(rt: HostRuntime) -> ExitCode {
         return end_misused(&rt, &words);
     };
     let command = &words[images.count + 1..];
-    if !is_command(command) {
+    let Some(served) = read_command(command) else {
         return end_misused(&rt, &words);
-    }
+    };
     let Ok(count) = u32::try_from(images.count) else {
         return end(&rt, Status::NoMemory);
     };
@@ -144,7 +149,7 @@ fn main(rt: HostRuntime) -> ExitCode {
             Ok(bank) => ExitCode::from(run_over(&rt, command, bank).status.code()),
             Err(_) => end(&rt, Status::NoMemory),
         },
-        None => match open_files(&rt, &words, count) {
+        None => match open_files(&rt, &words, count, access_for(served)) {
             Ok(bank) => {
                 let outcome = run_over(&rt, command, bank);
                 let code = outcome.status.code();

@@ -1,9 +1,12 @@
 // How images are opened, and why one can't be used.
 ghost use Rattle.std.specs.Prelude.{◌≡◌, ◌↔◌, IfErr, IsTrue};
+ghost use Rattle.raidzx_top.specs.declared.words.ServedCommand.TheVariants as served;
+ghost use Rattle.raidzx.specs.declared.opening.Access.TheVariants.{Look};
 ghost use Rattle.raidzx.specs.declared.opening.Unopened.TheVariants as unopened;
 ghost use Rattle.raidzx.specs.Opening.{IsJust, IsOfProgram};
 
 use crate::files::Image;
+use raidzx_top::ServedCommand;
 use std::fs::{File, Files, OpenOptions, TryLockError};
 use std::io::{Error, ErrorKind, Seek, SeekFrom};
 
@@ -11,6 +14,9 @@ use std::io::{Error, ErrorKind, Seek, SeekFrom};
 const NONE_LEFT_IN_SYSTEM: i32 = 23;
 
 const NONE_LEFT_IN_PROGRAM: i32 = 24;
+
+/// The system's number for a folder where a file is wanted.
+const IS_A_FOLDER: i32 = 21;
 
 /// Why an image can't be used.
 #[derive(Drop)]
@@ -48,9 +54,58 @@ fn why(error: Error) -> Unopened
     }
 }
 
+/// What images are opened for.
+#[derive(Clone, Copy, Debug, PartialEq, Eq)]
+pub enum Access {
+    /// To be read and written, by this program alone.
+    Change,
+    /// To be read, also where another program has them.
+    Look,
+}
+
+/// What a command opens its images for: a `status` looks at them alone.
+pub fn access_for(command: ServedCommand) -> Access
+    ensures { result ≡ Look ↔ command ≡ served.Status }
+{
+    match command {
+        ServedCommand::Status => Access::Look,
+        _ => Access::Change,
+    }
+}
+
+/// Opens a file for what is to be done with it.
+pub fn open_image<R: Files<File = File>>(
+    rt: &R,
+    name: &str,
+    access: Access,
+) -> Result<Image, Unopened>
+    ensures { IfErr result IsJust }
+{
+    match access {
+        Access::Change => open_alone(rt, name),
+        Access::Look => open_to_read(rt, name),
+    }
+}
+
+/// Opens a file for reading alone, without a lock: nothing is written to it, and whoever has it goes on. A folder can
+/// be opened so, and is none.
+fn open_to_read<R: Files<File = File>>(rt: &R, name: &str) -> Result<Image, Unopened>
+    ensures { IfErr result IsJust }
+{
+    let file = match OpenOptions::new().read(true).open(rt, name) {
+        Ok(file) => file,
+        Err(error) => return Err(why(error)),
+    };
+    match file.metadata() {
+        Ok(found) if found.is_dir() => Err(why(Error::from_raw_os_error(IS_A_FOLDER))),
+        Ok(_) => measured(file),
+        Err(error) => Err(why(error)),
+    }
+}
+
 /// Opens a file for reading and writing, and locks it. Where another program has it, or this one is refused it, nothing
 /// may be done to any image of its pool: another program may be at work on it, or the disk may be a whole one.
-pub fn open_image<R: Files<File = File>>(rt: &R, name: &str) -> Result<Image, Unopened>
+fn open_alone<R: Files<File = File>>(rt: &R, name: &str) -> Result<Image, Unopened>
     ensures { IfErr result IsJust }
 {
     let file = match OpenOptions::new().read(true).write(true).open(rt, name) {

@@ -1,6 +1,6 @@
 // The form of a command, where the words are none.
 ghost use Rattle.std.specs.Prelude.{◌≡◌, ◌↔◌, codes};
-ghost use Rattle.raidzx.specs.declared.usage.Meant.TheVariants.{Create, Run, Replay};
+ghost use Rattle.raidzx.specs.declared.usage.Meant.TheVariants.{Create, Run, Replay, Status};
 
 /// Which command was meant, by the first word behind the dashes.
 #[derive(Clone, Copy, Debug, PartialEq, Eq)]
@@ -8,6 +8,7 @@ pub enum Meant {
     Create,
     Run,
     Replay,
+    Status,
     Unknown,
 }
 
@@ -27,11 +28,13 @@ fn named(word: &str) -> Meant
     ensures create { result ≡ Create ↔ word.now ≡ codes "create" }
     ensures run { result ≡ Run ↔ word.now ≡ codes "run" }
     ensures replay { result ≡ Replay ↔ word.now ≡ codes "replay" }
+    ensures status { result ≡ Status ↔ word.now ≡ codes "status" }
 {
     match word {
         "create" => Meant::Create,
         "run" => Meant::Run,
         "replay" => Meant::Replay,
+        "status" => Meant::Status,
         _ => Meant::Unknown,
     }
 }
@@ -41,6 +44,8 @@ const CREATE: &str = "raidzx IMAGE.. -- create --parity P --width W --id N";
 const RUN: &str = "raidzx IMAGE.. -- run <SCRIPT";
 
 const REPLAY: &str = "raidzx IMAGE.. -- replay <SCRIPT";
+
+const STATUS: &str = "raidzx IMAGE.. -- status";
 
 /// Shows the form of the command that was meant, or of all.
 pub fn hint_usage<R: Eprint>(rt: &R, words: &[String]) {
@@ -57,6 +62,9 @@ pub fn hint_usage<R: Eprint>(rt: &R, words: &[String]) {
     }
     if wants_all || meant == Meant::Replay {
         let _ = eprintln!(rt; "raidzx: usage: {REPLAY}");
+    }
+    if wants_all || meant == Meant::Status {
+        let _ = eprintln!(rt; "raidzx: usage: {STATUS}");
     }
     let _ = eprintln!(rt;
         "raidzx: each IMAGE is a file or a disk; or each is mem:SECTORS, one number for all, from 1 to 65728"

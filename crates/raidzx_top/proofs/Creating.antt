@@ -1,8 +1,7 @@
 -- What a call of `create` promises follows from how it ends.
-use Rattle.std.proofs.Common.{◌^◌, ◌≡◌, ◌≢◌, ◌⊎◌, inl, inr, ⊎_elim, ℕ, ◌<◌, ◌≤◌, List, [], ◌++◌, Some, refl, sym, ◌∙◌, ap, subst, arith}
-use Rattle.std.specs.Prelude.{take, true, false}
+use Rattle.std.proofs.Common.{◌^◌, ◌≡◌, ◌≢◌, ◌⊎◌, inl, inr, ⊎_elim, ℕ, ◌<◌, ◌≤◌, [], Some, refl, sym, ◌∙◌, ap, subst, arith}
+use Rattle.std.specs.Prelude.{true, false}
 use Rattle.std.proofs.lemmas.Bool.{cases_lt, cases_eq}
-use Rattle.std.proofs.lemmas.List.{append-nil}
 use Rattle.bank_trait.specs.Causes.{FaultCounted}
 use Rattle.bank_trait.specs.Disk.{Image, Disk, Later}
 use Rattle.bank_trait.specs.Regions.{Tells, TouchesOnly}
@@ -17,7 +16,6 @@ use Rattle.core_state.specs.Collision.{BankKeeps, MightStand}
 use Rattle.core_state.specs.Keeps.{Setting, HasDevices}
 use Rattle.core_state.specs.Shown.{Shape, Shows}
 use Rattle.uberblock_ring.specs.Uberblock.{first_uber}
-use Rattle.client_script.specs.Written.{IsAdded, IsPartAdded}
 use Rattle.raidzx_top.specs.declared.order.Order.{Order}
 use Rattle.raidzx_top.specs.declared.order.Order.TheVariants.{OfLines, AsListed}
 use Rattle.raidzx_top.specs.declared.status.Status.{Status}
@@ -27,14 +25,17 @@ use Rattle.raidzx_top.specs.declared.words.ServedCommand.{ServedCommand}
 use Rattle.raidzx_top.specs.declared.words.ServedCommand.TheVariants as served
 use Rattle.raidzx_top.specs.Words.{Command, Create}
 use Rattle.raidzx_top.specs.Spelled.{SpellsCreate, IsServedAs, command_of}
-use Rattle.raidzx_top.specs.Call.{ReadsScript, TopCall}
+use Rattle.raidzx_top.specs.Call.{IsCarriedOut, IsQuiet, ReadsScript, TopCall}
 use Rattle.raidzx_top.specs.Order.{served_by}
 use Rattle.raidzx_top.specs.Causes.{NoneRose, IsCaused, IsCause, HaveFailedInCall, IsTooSmall, IsFoundImage, ComesWhere, IsOrNoMemory}
 use Rattle.raidzx_top.specs.RunText.{IsLineFor, TextIsRight, create_text, status_line}
-use Rattle.raidzx_top.specs.Promises.{CreatePromises, IsNewSetting, NoneShowsFrom, IsQuiet, RunIsKept, RunCompletes, CallPromises, IsCarriedOut}
+use Rattle.raidzx_top.specs.Promises.{CreatePromises, IsNewSetting, NoneShowsFrom, RunIsKept, RunCompletes, CallPromises}
+use Rattle.raidzx_top.specs.StatusCall.{StatusIsTold}
 use Rattle.raidzx_top.specs.Making.{IsSmallFor, HasFailedOn, Makes, IsSaid, EndsCreate}
 use Rattle.raidzx_top.proofs.NewPools.{new_begins}
-use Rattle.raidzx_top.proofs.Spelling.{one_create, create_no_script, create_spells}
+use Rattle.raidzx_top.proofs.NoStatus.{not_told}
+use Rattle.raidzx_top.proofs.Spelling.{one_create, create_no_script, create_no_status, create_spells}
+use Rattle.raidzx_top.proofs.Texts.{part_right, whole_right}
 use Rattle.raidzx_top.proofs.Refusing.{said_right}
 
 -- A set of one device has no other.
@@ -62,43 +63,6 @@ risen call out is = record {
       subst (λ (d : ℕ). FaultCounted (call.old.faults d) (call.new.faults d)) (sym it) is.rose;
 }
 
--- The texts of a created pool have no status line.
-created_right : (call : TopCall) (text : List ℕ) → call.status ≡ status.Done
-    → IsAdded call.sink.bytes call.sink_after.bytes text
-    → TextIsRight call text
-created_right call text done added = record {
-  written = λ held told. (
-    status.Done,
-    subst (λ (s : Status). IsLineFor s status.Done) (sym done) refl,
-    inl (added.whole held told ∙ ap (λ (t : List ℕ). Some (held ++ t)) (sym (append-nil text))),
-  );
-}
-
-part_right : (call : TopCall) (text : List ℕ) → call.status ≡ status.SinkFault
-    → FaultCounted call.sink.faults call.sink_after.faults
-    → IsPartAdded call.sink.bytes call.sink_after.bytes text
-    → TextIsRight call text
-part_right call text fault rose part = record {
-  written = λ held told. (
-    status.Done,
-    subst (λ (s : Status). IsLineFor s status.Done) (sym fault) (inl refl),
-    inr (
-      rose,
-      (λ done. no_sink_fault (sym fault ∙ done)),
-      ap_part held (part.front held told),
-    ),
-  );
-}
-  where
-    no_sink_fault : status.SinkFault ≡ status.Done → ⊥
-    no_sink_fault same = cc
-
-    ap_part : (held : List ℕ)
-        → (len : ℕ) × (call.sink_after.bytes ≡ Some (held ++ take len text))
-        → (len : ℕ) × (call.sink_after.bytes ≡ Some (held ++ take len (text ++ [])))
-    ap_part held (len, is) =
-        (len, is ∙ ap (λ (t : List ℕ). Some (held ++ take len t)) (sym (append-nil text)))
-
 -- How a call that made a pool, or tried to, is kept by its promises.
 module _ (call : TopCall) (made : NewPool) (served_as : IsServedAs call.words (served.Create made))
     (quiet_call : IsQuiet call) where
@@ -116,6 +80,13 @@ module _ (call : TopCall) (made : NewPool) (served_as : IsServedAs call.words (s
   -- no script is asked for
   no_script : {A : Type 0} → (order : Order) → IsServedAs call.words (served_by order) → A
   no_script order is = absurd (create_no_script call.words made order served_as is)
+
+  -- and no status
+  no_status : {A : Type 0} → IsServedAs call.words served.Status → A
+  no_status is = absurd (create_no_status call.words made served_as is)
+
+  no_told : StatusIsTold call
+  no_told = not_told call (create_no_status call.words made served_as)
 
   no_run : (order : Order) → RunIsKept order call
   no_run order = record {
@@ -151,6 +122,7 @@ module _ (call : TopCall) (made : NewPool) (served_as : IsServedAs call.words (s
           → IsCause call (command_of command) call.status
       each served.Run served_run = no_script OfLines served_run
       each served.Replay served_replay = no_script AsListed served_replay
+      each served.Status served_status = no_status served_status
       each (served.Create m) served_m =
           subst (λ (n : NewPool). IsCause call (Create n.parity n.width n.id) call.status)
           (same m served_m)
@@ -171,6 +143,7 @@ module _ (call : TopCall) (made : NewPool) (served_as : IsServedAs call.words (s
       reads_none (served.Create m) is reads = absurd reads
       reads_none served.Run is reads = no_script OfLines is
       reads_none served.Replay is reads = no_script AsListed is
+      reads_none served.Status is reads = absurd reads
 
       finds_none : (image : Image) (command : Command) (given : ServedCommand) → IsServedAs call.words given
           → command_of given ≡ command → IsFoundImage call command image → ⊥
@@ -178,12 +151,14 @@ module _ (call : TopCall) (made : NewPool) (served_as : IsServedAs call.words (s
           (subst (λ (c : Command). IsFoundImage call c image) (sym it) found).is
       finds_none image command served.Run is it found = no_script OfLines is
       finds_none image command served.Replay is it found = no_script AsListed is
+      finds_none image command served.Status is it found = no_status is
 
       where_small : (command : ServedCommand) → IsServedAs call.words command
           → IsTooSmall call (command_of command)
           → IsOrNoMemory call status.TooSmall
       where_small served.Run is less = no_script OfLines is
       where_small served.Replay is less = no_script AsListed is
+      where_small served.Status is less = no_status is
       where_small (served.Create m) is less = small (is_small
           (subst (λ (n : NewPool). IsTooSmall call (Create n.parity n.width n.id))
           (sym (same m is)) less))
@@ -261,6 +236,7 @@ module _ (call : TopCall) (made : NewPool) (served_as : IsServedAs call.words (s
     turns = λ none. quiet_call.turns;
     run = no_run OfLines;
     replay = no_run AsListed;
+    told = no_told;
     completes = no_smooth;
     create = record {
       quiet = λ m served_m. quiet_call;
@@ -331,6 +307,7 @@ module _ (call : TopCall) (made : NewPool) (served_as : IsServedAs call.words (s
     turns = λ none. quiet_call.turns;
     run = no_run OfLines;
     replay = no_run AsListed;
+    told = no_told;
     completes = no_smooth;
     create = record {
       quiet = λ m served_m. quiet_call;
@@ -355,7 +332,7 @@ module _ (call : TopCall) (made : NewPool) (served_as : IsServedAs call.words (s
       call.sink.faults call.sink_after.faults given
       → CallPromises call
   created status.Done is ends =
-      carried_out status.Done is (inl refl) ends.0 (created_right call _ is ends.1)
+      carried_out status.Done is (inl refl) ends.0 (whole_right call _ is ends.1)
   created status.SinkFault is ends =
       carried_out status.SinkFault is (inr (refl, ends.1)) ends.0
       (part_right call _ is ends.1 ends.2)

@@ -8,10 +8,12 @@ use Rattle.raidzx_top.specs.declared.status.Status.TheVariants as status
 use Rattle.raidzx_top.specs.declared.words.ServedCommand.TheVariants as served
 use Rattle.raidzx_top.specs.Call.{TopCall}
 use Rattle.raidzx_top.specs.Order.{served_by}
-use Rattle.raidzx_top.specs.Ending.{EndsUsage, Ends, AsUsage, AsCreate, AsRun}
+use Rattle.raidzx_top.specs.Ending.{EndsUsage, Ends, AsUsage, AsCreate, AsRun, AsStatus}
 use Rattle.raidzx_top.specs.Promises.{CallPromises, RunIsKept}
 use Rattle.raidzx_top.specs.RunText.{IsLineFor}
 use Rattle.raidzx_top.proofs.Creating.{created}
+use Rattle.raidzx_top.proofs.StatusEnding.{status_promises}
+use Rattle.raidzx_top.proofs.NoStatus.{not_told}
 use Rattle.raidzx_top.proofs.Refusing.{said_right}
 use Rattle.raidzx_top.proofs.RunEnding.{run_promises}
 
@@ -40,6 +42,7 @@ refused_words call ends = record {
   };
   run = kept OfLines;
   replay = kept AsListed;
+  told = not_told call (λ is. ends.none (served.Status, is));
   complete = record { done = λ m served_m fits quiet sink. absurd (ends.none (served.Create m, served_m)) };
   completes = λ order smooth. absurd (ends.none (served_by order, smooth.served));
 }
@@ -60,4 +63,5 @@ ends_promise call lawful ends = elim ends [
   | AsUsage usage ↦ refused_words call usage
   | AsCreate create ↦ created call create.made create.served_as create.quiet call.status refl create.ends
   | AsRun run ↦ run_promises run.order call lawful run.served_as run.ends
+  | AsStatus asked ↦ status_promises call asked.served_as asked.quiet asked.ends
 ]

@@ -2,6 +2,8 @@ pub mod Rows
 pub mod WordTexts
 pub mod Spelling
 pub mod Refusing
+pub mod Texts
+pub mod NoStatus
 pub mod Creating
 pub mod Telling
 pub mod Reading
@@ -11,6 +13,7 @@ pub mod RunRefused
 pub mod RunAnswers
 pub mod RunCarried
 pub mod RunEnding
+pub mod StatusEnding
 pub mod Ending
 pub mod NewPools
 pub mod Bearing

@@ -12,14 +12,15 @@ use Rattle.raidzx_top.specs.declared.status.Status.TheVariants as status
 use Rattle.raidzx_top.specs.declared.words.NewPool.{NewPool}
 use Rattle.raidzx_top.specs.declared.words.ServedCommand.{ServedCommand}
 use Rattle.raidzx_top.specs.declared.words.ServedCommand.TheVariants as served
-use Rattle.raidzx_top.specs.Call.{TopCall, Opens, ReadsScript}
+use Rattle.raidzx_top.specs.Call.{TopCall, IsCarriedOut, MakesGroups, Opens, ReadsScript}
 use Rattle.raidzx_top.specs.Order.{served_by}
 use Rattle.raidzx_top.specs.Causes.{IsCause, IsFoundImage, IsReadWhole, IsOrNoMemory, IsFaultOrNoMemory, IsTooSmall, FindsNoPool}
-use Rattle.raidzx_top.specs.Promises.{CallPromises, IsCarriedOut, RunPromises, RunIsKept, LeavesNone, RunsUnhindered, CompletesAll}
+use Rattle.raidzx_top.specs.Promises.{CallPromises, RunPromises, RunIsKept, LeavesNone, RunsUnhindered, CompletesAll}
 use Rattle.raidzx_top.specs.RunText.{TextIsRight}
 use Rattle.raidzx_top.specs.Spelled.{IsServedAs, command_of}
 use Rattle.raidzx_top.specs.Words.{Command}
-use Rattle.raidzx_top.proofs.Spelling.{create_no_script, run_no_replay}
+use Rattle.raidzx_top.proofs.NoStatus.{not_told}
+use Rattle.raidzx_top.proofs.Spelling.{create_no_script, run_no_replay, script_no_status}
 
 -- the command that carries a script out in this manner
 abbrev pub command_in : Order → Command
@@ -34,6 +35,11 @@ reads AsListed = tt
 pub opens : (order : Order) → Opens (command_in order)
 opens OfLines = tt
 opens AsListed = tt
+
+-- with a group of its own,
+pub makes_groups : (order : Order) → MakesGroups (command_in order)
+makes_groups OfLines = tt
+makes_groups AsListed = tt
 
 -- and has no size that may be too small.
 no_size : (call : TopCall) (order : Order) → IsTooSmall call (command_in order) → ⊥
@@ -93,6 +99,7 @@ module _ (order : Order) (call : TopCall) (served_as : IsServedAs call.words (se
       subst (λ (m : Order). P (command_in m)) (one_manner call.words order OfLines served_as is) right
   for_script P right served.Replay is =
       subst (λ (m : Order). P (command_in m)) (one_manner call.words order AsListed served_as is) right
+  for_script P right served.Status is = absurd (script_no_status call.words order served_as is)
 
   -- What is promised in this manner is promised in each that the words ask for.
   kept : (other : Order) → RunIsKept other call
@@ -143,6 +150,7 @@ module _ (order : Order) (call : TopCall) (served_as : IsServedAs call.words (se
     };
     run = kept OfLines;
     replay = kept AsListed;
+    told = not_told call (script_no_status call.words order served_as);
     complete = record { done = λ made is fits quiet sink. no_create made is };
     completes = completing;
   }

@@ -23,7 +23,7 @@ use Rattle.raidzx_top.specs.Running.{IsWell, IsUnread, IsUnopened, HasRead, IsRe
 use Rattle.raidzx_top.specs.RunText.{IsLineFor}
 use Rattle.raidzx_top.proofs.Reopening.{survives_opening}
 use Rattle.raidzx_top.proofs.Refusing.{said_right}
-use Rattle.raidzx_top.proofs.RunParts.{IsRunEnd, command_in, reads, opens, held_at_entry, none_silent}
+use Rattle.raidzx_top.proofs.RunParts.{IsRunEnd, command_in, reads, opens, makes_groups, held_at_entry, none_silent}
 
 -- A status of a refusal, where no pool is opened.
 pub record IsRefusal (given : Status) : Type 0 where
@@ -43,7 +43,7 @@ refuses_read (read.Limit reached) =
 refuses_read read.NoMemory =
     record { no_usage = λ same. cc; no_small = λ same. cc; no_done = λ same. cc; no_fault = λ same. cc; line = refl }
 
-refuses_open : (why : OpenWhy) → IsRefusal (why_status why)
+pub refuses_open : (why : OpenWhy) → IsRefusal (why_status why)
 refuses_open reason.NotPool =
     record { no_usage = λ same. cc; no_small = λ same. cc; no_done = λ same. cc; no_fault = λ same. cc; line = refl }
 refuses_open (reason.TooManyFailed out) =
@@ -176,7 +176,7 @@ unopened order call none_yet no_turns script was_read why is status_is = record 
         )))
         (λ many. inl (opens order, λ image found. many image (held_at_entry call order image found))) is.cause
     caused (reason.Limit group) is =
-        inr (inl (opens order, none_yet, λ image found. is.cause image (held_at_entry call order image found)))
+        inr (inl (makes_groups order, none_yet, λ image found. is.cause image (held_at_entry call order image found)))
     caused reason.NoMemory is = opens order
 
     -- A choice contradicts that there is nothing to choose.

@@ -1,5 +1,5 @@
 -- Commands as lists of words, and word by word.
-use Rattle.std.proofs.Common.{◌≡◌, ℕ, ◌<◌, ◌≤◌, List, [], ◌∷◌, length, Some, refl, sym, ◌∙◌, ap, arith}
+use Rattle.std.proofs.Common.{◌≡◌, ℕ, ◌<◌, ◌≤◌, List, [], ◌∷◌, length, get_or, Some, refl, sym, ◌∙◌, ap, arith}
 use Rattle.std.proofs.lemmas.Fmt.{decimal_injective}
 use Rattle.std.specs.Prelude.{◌^◌, slice_get, codes, decimal, ◌++◌}
 use Rattle.raidzx_top.specs.Order.{served_by}
@@ -135,6 +135,17 @@ served_alone words AsListed is =
     is.words_are ∙ ap (λ (l : List (List ℕ)). is.first ∷ l) is.spelled in
     record { count = ap length all; word = ap (λ (l : List (List ℕ)). slice_get l 1) all }
 
+pub status_is_served : (words : List (List ℕ)) → SpellsAlone (codes "status") words → IsServedAs words served.Status
+status_is_served words is =
+    let list = two words (codes "status") is.count is.word in
+    record { first = list.0; rest = _; words_are = list.1; spelled = refl; in_range = tt }
+
+pub status_alone : (words : List (List ℕ)) → IsServedAs words served.Status → SpellsAlone (codes "status") words
+status_alone words is =
+    let all : words ≡ is.first ∷ codes "status" ∷ [] =
+    is.words_are ∙ ap (λ (l : List (List ℕ)). is.first ∷ l) is.spelled in
+    record { count = ap length all; word = ap (λ (l : List (List ℕ)). slice_get l 1) all }
+
 -- Words that ask for a script to be carried out make no pool.
 pub create_no_script : (words : List (List ℕ)) (s : NewPool) (order : Order) → IsServedAs words (served.Create s)
     → IsServedAs words (served_by order) → ⊥
@@ -151,3 +162,27 @@ run_no_replay words run replay =
     (sym (served_alone words OfLines run).word ∙ (served_alone words AsListed replay).word) in
     let long : 3 ≡ 6 = ap length same in
     omega (arith, long)
+
+-- Words that ask what a pool's status is make no pool,
+pub create_no_status : (words : List (List ℕ)) (s : NewPool) → IsServedAs words (served.Create s)
+    → IsServedAs words served.Status → ⊥
+create_no_status words s create status =
+    let eight_words = (create_spells words s create).count in
+    let two_words = (status_alone words status).count in
+    omega (arith, eight_words, two_words)
+
+-- and ask for no script to be carried out.
+pub script_no_status : (words : List (List ℕ)) (order : Order) → IsServedAs words (served_by order)
+    → IsServedAs words served.Status → ⊥
+script_no_status words OfLines run status =
+    let same : codes "run" ≡ codes "status" =
+    some_injective (codes "run") (codes "status")
+    (sym (served_alone words OfLines run).word ∙ (status_alone words status).word) in
+    let long : 3 ≡ 6 = ap length same in
+    omega (arith, long)
+script_no_status words AsListed replay status =
+    let same : codes "replay" ≡ codes "status" =
+    some_injective (codes "replay") (codes "status")
+    (sym (served_alone words AsListed replay).word ∙ (status_alone words status).word) in
+    let letter : 114 ≡ 115 = ap (λ (l : List ℕ). get_or l 0 0) same in
+    omega (arith, letter)

@@ -19,7 +19,7 @@ use Rattle.raidzx_top.specs.declared.status.Status.TheVariants as status
 use Rattle.raidzx_top.specs.Words.{Command, Create, Load}
 use Rattle.raidzx_top.specs.declared.words.ServedCommand.{ServedCommand}
 use Rattle.raidzx_top.specs.Spelled.{IsServed, IsServedAs, command_of}
-use Rattle.raidzx_top.specs.Call.{TopCall, HoldsImage, Opens, ReadsScript, size_of, shape_of}
+use Rattle.raidzx_top.specs.Call.{TopCall, HoldsImage, MakesGroups, Opens, ReadsScript, size_of, shape_of}
 
 -- A device has failed in this call, or none has.
 abbrev pub HasRisen : TopCall → ℕ → Type 0
@@ -68,7 +68,7 @@ IsTooManyFailed call command listed =
 -- An opening finds a group too near the greatest; a call was refused for that; or the turns were used up.
 abbrev pub MeetsLimit : TopCall → Command → Type 0
 MeetsLimit call command =
-    (Opens command × (call.journal ≡ [])
+    (MakesGroups command × (call.journal ≡ [])
     × ((image : Image) → IsFoundImage call command image
     → (shown : IsShownChoice call.old call.new image) × (max_group < shown.choice.uber.group + 2)))
     ⊎ (((index : ℕ) × (entry : Entry) × (reached : ℕ) × CallAt call.journal index entry

@@ -4,10 +4,10 @@ use Rattle.raidzx_top.specs.declared.order.Order.{Order}
 use Rattle.raidzx_top.specs.declared.status.Status.TheVariants as status
 use Rattle.raidzx_top.specs.declared.words.NewPool.{NewPool}
 use Rattle.raidzx_top.specs.declared.words.ServedCommand.TheVariants as served
-use Rattle.raidzx_top.specs.Call.{TopCall}
+use Rattle.raidzx_top.specs.Call.{TopCall, IsQuiet}
 use Rattle.raidzx_top.specs.Order.{served_by}
+use Rattle.raidzx_top.specs.Looking.{EndsStatus}
 use Rattle.raidzx_top.specs.Making.{EndsCreate, IsSaid}
-use Rattle.raidzx_top.specs.Promises.{IsQuiet}
 use Rattle.raidzx_top.specs.Running.{EndsRun}
 use Rattle.raidzx_top.specs.RunText.{status_line}
 use Rattle.raidzx_top.specs.Spelled.{IsServed, IsServedAs}
@@ -36,8 +36,15 @@ pub record EndsAsRun (call : TopCall) : Type 0 where
   pub ends : EndsRun order call.source call.source_after call.sink call.sink_after call.old
       call.new call.journal call.status call.turns
 
+-- They asked what the devices show.
+pub record EndsAsStatus (call : TopCall) : Type 0 where
+  pub quiet : IsQuiet call
+  pub served_as : IsServedAs call.words served.Status
+  pub ends : EndsStatus call.old call.new call.sink call.sink_after call.status
+
 -- how a call ends
 pub data Ends (call : TopCall) : Type 0 where
   AsUsage : EndsUsage call → Ends call
   AsCreate : EndsAsCreate call → Ends call
   AsRun : EndsAsRun call → Ends call
+  AsStatus : EndsAsStatus call → Ends call

@@ -11,5 +11,7 @@ pub mod Order
 pub mod Reopened
 pub mod Promises
 pub mod Making
+pub mod Looking
+pub mod StatusCall
 pub mod Running
 pub mod Ending

@@ -1,5 +1,5 @@
 -- What a call promises: what a new pool is, what a run or a replay answers and keeps at each moment and in the
--- end, and what is written.
+-- end, what a `status` tells (`StatusCall.antt`), and what is written.
 use Rattle.std.specs.Prelude.{◌≡◌, ◌≢◌, ◌⊎◌, ℕ, ◌≤◌, List, [], ◌∷◌, ◌++◌, Some, ⊤}
 use Rattle.bank_trait.specs.Causes.{FaultCounted}
 use Rattle.bank_trait.specs.Disk.{Image, Unchanged}
@@ -34,13 +34,14 @@ use Rattle.raidzx_top.specs.Words.{Create}
 use Rattle.raidzx_top.specs.declared.words.NewPool.{NewPool}
 use Rattle.raidzx_top.specs.declared.words.ServedCommand.TheVariants as served
 use Rattle.raidzx_top.specs.Spelled.{IsServedAs, command_of}
-use Rattle.raidzx_top.specs.Call.{TopCall, HoldsImage, shape_of}
+use Rattle.raidzx_top.specs.Call.{TopCall, HoldsImage, IsCarriedOut, IsQuiet, shape_of}
 use Rattle.raidzx_top.specs.Order.{listed_by, served_by}
 use Rattle.raidzx_top.specs.Causes.{NoneRose, IsTooSmall, MeetsLimit, IsNoCommand, IsCaused, ComesWhere, most_turns}
 use Rattle.raidzx_top.specs.Reopened.{BearsCut, SurvivesOpening, SurvivesStops}
 use Rattle.raidzx_top.specs.RunJournal.{NoneWantsMemory}
 use Rattle.raidzx_top.specs.RunText.{IsWritten, TextIsRight, create_text, status_line}
 use Rattle.raidzx_top.specs.Running.{IsStatusOf, StoppedFor, after_fault}
+use Rattle.raidzx_top.specs.StatusCall.{StatusIsTold}
 
 -- a setting in which a new pool stands: its devices, and failures of no more of them than its parity
 pub record IsNewSetting (call : TopCall) (parity width id : ℕ) (setting : Setting) : Type 0 where
@@ -68,16 +69,6 @@ pub record CreatePromises (call : TopCall) (parity width id : ℕ) : Type 0 wher
       → ((image : Image) → HoldsImage call.new image
       → HasNoOtherPage setting (first_kept id parity width call.old.sectors ∷ []) image)
       → MayBegin setting (first_kept id parity width call.old.sectors) [] call.new
-
--- A command was carried out, whether its text was written whole or not.
-abbrev pub IsCarriedOut : TopCall → Type 0
-IsCarriedOut call = (call.status ≡ status.Done) ⊎ (call.status ≡ status.SinkFault)
-
--- Nothing was read from the source, nothing answered, and no turn made.
-pub record IsQuiet (call : TopCall) : Type 0 where
-  pub unread : call.source_after ≡ call.source
-  pub journal : call.journal ≡ []
-  pub turns : call.turns ≡ 0
 
 -- what a call of `create` promises
 pub record CreateIsKept (call : TopCall) : Type 0 where
@@ -228,6 +219,8 @@ pub record CallPromises (call : TopCall) : Type 0 where
   -- what a run answers is right and kept, and what was written is the text; so it is with a replay
   pub run : RunIsKept OfLines call
   pub replay : RunIsKept AsListed call
+  -- a `status` tells what the devices show, and changes nothing
+  pub told : StatusIsTold call
   -- what has nothing in its way is carried out
   pub complete : CreateCompletes call
   pub completes : (order : Order) → RunCompletes order call

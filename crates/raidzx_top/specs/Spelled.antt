@@ -1,6 +1,6 @@
 -- The commands that are carried out, and their words one by one.
 use Rattle.std.specs.Prelude.{◌≡◌, ℕ, ◌^◌, ◌<◌, List, length, slice_get, Some, false, codes, decimal}
-use Rattle.raidzx_top.specs.Words.{Command, Create, Run, Replay, IsCommand, IsSize}
+use Rattle.raidzx_top.specs.Words.{Command, Create, Run, Replay, Status, IsCommand, IsSize}
 use Rattle.raidzx_top.specs.declared.words.NewPool.{NewPool}
 use Rattle.raidzx_top.specs.declared.words.ServedCommand.{ServedCommand}
 use Rattle.raidzx_top.specs.declared.words.ServedCommand.TheVariants as served
@@ -28,6 +28,7 @@ abbrev pub command_of : ServedCommand → Command
 command_of (served.Create s) = Create s.parity s.width s.id
 command_of served.Run = Run false false
 command_of served.Replay = Replay
+command_of served.Status = Status
 
 -- The words are this command, which is carried out.
 abbrev pub IsServedAs : List (List ℕ) → ServedCommand → Type 0

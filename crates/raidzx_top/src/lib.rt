@@ -1,11 +1,13 @@
 //! The top call: what it answers, when, and what it keeps.
 //!
 //! Read `specs/Words.antt` for the commands, `specs/Causes.antt` for each status,
-//! `specs/Promises.antt` for what a run and a replay keep, `specs/Bearing.antt` for the failures that
-//! have to be borne, and `specs/Reopened.antt` for what is read back of what a stop leaves.
+//! `specs/Promises.antt` for what a run and a replay keep, `specs/StatusCall.antt` for what a status
+//! tells, `specs/Bearing.antt` for the failures that have to be borne, and `specs/Reopened.antt` for
+//! what is read back of what a stop leaves.
 #![tactic(auto)]
 
 mod images;
+mod looking;
 mod making;
 mod order;
 mod report;
@@ -18,4 +20,4 @@ pub use images::{Images, MOST_SECTORS, image_words};
 pub use report::write_status;
 pub use status::Status;
 pub use top::{Outcome, raidzx};
-pub use words::{NewPool, ServedCommand, is_command};
+pub use words::{NewPool, ServedCommand, read_command};

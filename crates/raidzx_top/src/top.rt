@@ -6,6 +6,7 @@ ghost use Rattle.raidzx_top.specs.Ending.{Ends};
 ghost use Rattle.raidzx_top.specs.Promises.{CallPromises};
 ghost use Rattle.raidzx_top.specs.Words.{IsSize};
 
+use crate::looking::tell_status;
 use crate::making::make_pool;
 use crate::order::Order;
 use crate::report::{refuse, write_created};
@@ -65,6 +66,7 @@ fn carry_out<B: Bank, S: Source, K: Sink>(
         Some(ServedCommand::Create(made)) => Ending::without_turns(create_pool(bank, &made, out)),
         Some(ServedCommand::Run) => run(alloc, Order::OfLines, bank, script, out, journal),
         Some(ServedCommand::Replay) => run(alloc, Order::AsListed, bank, script, out, journal),
+        Some(ServedCommand::Status) => Ending::without_turns(tell_status(alloc, bank, out)),
     }
 }
 

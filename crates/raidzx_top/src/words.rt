@@ -20,6 +20,7 @@ pub enum ServedCommand {
     Create(NewPool),
     Run,
     Replay,
+    Status,
 }
 
 /// The number that a word spells: decimal, without sign or leading zeros.
@@ -124,15 +125,11 @@ pub fn read_command(words: &[String]) -> Option<ServedCommand>
     if is_alone(words, "replay") {
         return Some(ServedCommand::Replay);
     }
+    if is_alone(words, "status") {
+        return Some(ServedCommand::Status);
+    }
     match create(words) {
         Some(numbers) => Some(ServedCommand::Create(numbers)),
         None => None,
     }
-}
-
-/// Whether the words are a command that is carried out. The first word is not looked at.
-pub fn is_command(words: &[String]) -> bool
-    ensures { IsTrue result ↔ IsServed (map string_bytes words.now) }
-{
-    read_command(words).is_some()
 }

@@ -2,7 +2,7 @@ use Rattle.std.proofs.Common.{refl, subst}
 use Rattle.std.specs.Prelude.{map, string_bytes}
 use Rattle.raidzx_top.specs.declared.order.Order.TheVariants.{OfLines, AsListed}
 use Rattle.raidzx_top.specs.declared.words.ServedCommand.{ServedCommand}
-use Rattle.raidzx_top.specs.Ending.{AsUsage, AsCreate, AsRun}
+use Rattle.raidzx_top.specs.Ending.{AsUsage, AsCreate, AsRun, AsStatus}
 use Rattle.raidzx_top.specs.Spelled.{IsServedAs}
 use Rattle.raidzx_top.proofs.top.carry_out.Goals as goal
 
@@ -40,3 +40,12 @@ returns-in-Some-Replay g c = AsRun (record {
       c.in-Some-Replay.field-0-is c.in-Some-Replay.ensures.some;
   ends = c.run-in-Some-Replay.ensures;
 })
+
+pub returns-in-Some-Status : goal.returns-in-Some-Status
+returns-in-Some-Status g c = rw (c.without_turns-in-Some-Status.ensures.status, c.without_turns-in-Some-Status.ensures.turns)
+    (AsStatus (record {
+      quiet = record { unread = refl; journal = c.requires.empty; turns = refl };
+      served_as = subst (λ (given : ServedCommand). IsServedAs (map string_bytes c.args.words.now) given)
+          c.in-Some-Status.field-0-is c.in-Some-Status.ensures.some;
+      ends = c.tell_status.ensures;
+    }))
