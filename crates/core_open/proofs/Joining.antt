@@ -26,6 +26,7 @@ since_longer setting groups more time disk since = record {
       after = some.after ++ more;
       row = ap (λ (g : List Kept). g ++ more) some.row
           ∙ append_assoc (some.before ++ (some.first ∷ some.later)) some.after more;
+      reach = some.reach;
       keeps = some.keeps;
     }
 

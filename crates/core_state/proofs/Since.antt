@@ -37,6 +37,7 @@ some_now setting groups first later disk image row knows might = record {
   later = later;
   after = row.after;
   row = row.row;
+  reach = setting.reach;
   keeps = knows_keep setting first later disk knows image might;
 }
 

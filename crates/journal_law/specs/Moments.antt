@@ -11,7 +11,7 @@ use Rattle.core_state.specs.Collision.{BankKeeps}
 use Rattle.core_state.specs.Moment.{IsGroupOf, IsBegunAfter, KeepsSince}
 use Rattle.journal_law.specs.Parity.{HaveParityOf}
 
--- The bank keeps the journal's last group, and maybe one that was begun after it.
+-- The bank keeps the journal's last group, and maybe one that was begun after it, in a pool that reaches so far by then.
 pub record KeepsLast (setting : Setting) (calls : Calls) (handed : PutBytes) (opening : Map) (items : List Item)
     (disk : Disk) : Type 0 where
   pub group : GroupItem
@@ -22,7 +22,8 @@ pub record KeepsLast (setting : Setting) (calls : Calls) (handed : PutBytes) (op
   pub one : length begun ≤ 1
   pub begun_is : (kept : Kept) → Contains begun kept
       → IsBegunAfter calls handed opening items group kept
-  pub keeps : BankKeeps setting last begun disk
+  pub reach : ℕ
+  pub keeps : BankKeeps (record setting { reach = reach }) last begun disk
 
 -- From the moment at which the journal came to these items until it came to the next one: first the bank
 -- kept their last group, and whatever a stop left keeps that group, one that was begun after it, or both. These

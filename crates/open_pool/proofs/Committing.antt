@@ -40,22 +40,6 @@ table_indexes entries map index table = record {
       (found.0, found_among entries id found.0 found.1, found_id entries id found.0 found.1);
 }
 
--- Groups that join the end of a list are no loss.
-pub since_wider : (setting : Setting) (groups more : List Kept) (time : ℕ) (disk : Disk)
-    → KeepsSince setting groups time disk
-    → KeepsSince setting (groups ++ more) time disk
-since_wider setting groups more time disk kept = record {
-  each = λ moment image from until might. let some = kept.each moment image from until might in record {
-    before = some.before;
-    first = some.first;
-    later = some.later;
-    after = some.after ++ more;
-    row = ap (λ (l : List Kept). l ++ more) some.row
-        ∙ append_assoc (some.before ++ (some.first ∷ some.later)) some.after more;
-    keeps = some.keeps;
-  };
-}
-
 module _ (setting : Setting) (last : Kept) (map : Map) (before : State) (is : IsPool before.pool)
     (bank : HasBank before.pool.uber before.pool.out before.disk)
     (group : HoldsGroup setting last before) (holds : HoldsMap map before) (chosen : Reflow)

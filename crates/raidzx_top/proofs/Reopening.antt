@@ -53,11 +53,13 @@ taken_there (item ∷ items) (suc count) zero entry there = there
 taken_there (item ∷ items) (suc count) (suc index) entry there = taken_there items count index entry there
 
 -- An image that keeps some of the groups in a row is read back as one of them.
-read_back : (setting : Setting) (groups : List Kept) (opened first : Kept) (later : List Kept) (image : Image)
-    → setting.excepted ≡ [] → IsImageOf setting.shape image → Keeps setting first later image
+read_back : (setting : Setting) (reach : ℕ) (groups : List Kept) (opened first : Kept) (later : List Kept) (image : Image)
+    → setting.excepted ≡ [] → IsImageOf setting.shape image
+    → Keeps (record setting { reach = reach }) first later image
     → ((kept : Kept) → Contains (first ∷ later) kept → Contains groups kept)
     → HaveParity opened.uber.parity groups → HaveBytes groups → IsReadBack setting groups image
-read_back setting groups opened first later image excepted only keeps among parity bytes = record {
+read_back setting reach groups opened first later image excepted only keeps among parity bytes = record {
+  reach = reach;
   opened = λ disk left. record {
     first = first;
     later = later;
@@ -67,14 +69,14 @@ read_back setting groups opened first later image excepted only keeps among pari
   each = reads;
 }
   where
-    may : (disk : Disk) → IsLeftOn setting groups image disk → MayBegin setting first later disk
-    may disk left = stopped_begins setting first later disk image left.shape excepted left.alone only keeps
+    may : (disk : Disk) → IsLeftOn setting groups image disk → MayBegin (record setting { reach = reach }) first later disk
+    may disk left = stopped_begins (record setting { reach = reach }) first later disk image left.shape excepted left.alone only keeps
         (record { page = λ one shower giver uber listed. left.pages.page one shower giver uber (among one listed) })
         (λ one listed. parity one (among one listed) ∙ sym (parity first (among first (contains_head first later))))
         (λ one id content listed. bytes one (among one listed) id content)
 
     reads : (script : Script) (old new : Disk) (items : List Item) (out : ℕ) → (run : HasRun script old new items out)
-        → IsLeftOn setting groups image old → IsWithinBelow setting.reach run.silent setting.failed
+        → IsLeftOn setting groups image old → IsWithinBelow reach run.silent setting.failed
         → IsWithin run.borne setting.failed
         → ReadsBack groups script items
     reads script old new items out run left missed bears = record {
@@ -84,9 +86,9 @@ read_back setting groups opened first later image excepted only keeps among pari
       sound = kept.sound;
     }
       where
-        kept : RunKeeps script setting first later old new items run.parity run.silent (banks_of run)
-        kept = run.keeps setting first later (may old left)
-            (λ device below. missed device (let wide = (first_width setting first later keeps.widths).most in
+        kept : RunKeeps script (record setting { reach = reach }) first later old new items run.parity run.silent (banks_of run)
+        kept = run.keeps (record setting { reach = reach }) first later (may old left)
+            (λ device below. missed device (let wide = (first_width (record setting { reach = reach }) first later keeps.widths).most in
             omega (arith, below, wide))) bears
 
 module _ (script : Script) (old new : Disk) (items : List Item) (out : ℕ) (run : HasRun script old new items out)
@@ -150,7 +152,7 @@ module _ (script : Script) (old new : Disk) (items : List Item) (out : ℕ) (run
       → IsReadBack setting run_groups image
   any_moment moment image since until left =
       let some = keeps.any_moment.since.each moment image since until left.might in
-      read_back setting run_groups first some.first some.later image may.excepted left.only some.keeps
+      read_back setting some.reach run_groups first some.first some.later image may.excepted left.only some.keeps
       (row_among (record { before = some.before; after = some.after; row = some.row })) keeps.parities all_bytes
 
   by_then : (count : ℕ) (some : 1 ≤ count) (all : count ≤ length items) (moment : ℕ) (image : Image)
@@ -163,7 +165,7 @@ module _ (script : Script) (old new : Disk) (items : List Item) (out : ℕ) (run
       let part_hands : HandsBytes (handed_by script) (take count items) = record {
         each = λ index entry there. hands.each index entry (taken_there items count index entry there);
       } in
-      read_back setting (last_groups until) first found.first found.later image may.excepted left.only found.keeps
+      read_back setting found.reach (last_groups until) first found.first found.later image may.excepted left.only found.keeps
       (row_among (record { before = found.before; after = found.after; row = found.row }))
       (until.parity first (contains_head first later))
       (last_bytes (take count items) part_hands until.kept.group until.kept.last until.onward until.kept.last_is
@@ -171,7 +173,7 @@ module _ (script : Script) (old new : Disk) (items : List Item) (out : ℕ) (run
 
   at_end : (image : Image) → IsLeft setting new new.clock image
       → IsReadBack setting (keeps.kept.last ∷ keeps.kept.begun) image
-  at_end image left = read_back setting (keeps.kept.last ∷ keeps.kept.begun) first keeps.kept.last keeps.kept.begun
+  at_end image left = read_back setting keeps.kept.reach (keeps.kept.last ∷ keeps.kept.begun) first keeps.kept.last keeps.kept.begun
       image may.excepted left.only (keeps.kept.keeps image left.might) (λ kept listed. listed)
       (λ kept has. keeps.parities kept (keeps.kept_among kept has))
       (last_bytes items hands keeps.kept.group keeps.kept.last keeps.kept.begun keeps.kept.last_is
@@ -216,7 +218,7 @@ module _ (setting : Setting) (first : Kept) (later : List Kept) (old : Disk) (ma
         adds = adds;
         any_moment = λ moment image from until left.
             let some = since.each moment image from until left.might in
-            read_back setting ((first ∷ later) ++ joined) first some.first some.later image may.excepted left.only some.keeps
+            read_back setting some.reach ((first ∷ later) ++ joined) first some.first some.later image may.excepted left.only some.keeps
             (row_among (record { before = some.before; after = some.after; row = some.row })) joined_parity joined_bytes;
       }
 

@@ -49,11 +49,14 @@ pub record ReadsBack (groups : List Kept) (script : Script) (items : List Item) 
   pub sound : (index : ℕ) (entry : Entry) → CallAt items index entry → entry.answer ≢ answer.Damaged
 
 -- A bank that holds the image alone may be opened with some of these groups, and each script that is carried out on
--- it reads back one of them, where the silent devices of the pool and those that have to be borne may fail.
+-- it reads back one of them, where the silent devices of the pool, which reached so far when the image was left, and
+-- those that have to be borne may fail.
 pub record IsReadBack (setting : Setting) (groups : List Kept) (image : Image) : Type 0 where
-  pub opened : (disk : Disk) → IsLeftOn setting groups image disk → MayBeginAmong setting groups disk
+  pub reach : ℕ
+  pub opened : (disk : Disk) → IsLeftOn setting groups image disk
+      → MayBeginAmong (record setting { reach = reach }) groups disk
   pub each : (script : Script) (old new : Disk) (items : List Item) (out : ℕ) → (run : HasRun script old new items out)
-      → IsLeftOn setting groups image old → IsWithinBelow setting.reach run.silent setting.failed
+      → IsLeftOn setting groups image old → IsWithinBelow reach run.silent setting.failed
       → IsWithin run.borne setting.failed → ReadsBack groups script items
 
 -- what is kept from one item of a journal to the next: the last group listed, and at most one begun after it

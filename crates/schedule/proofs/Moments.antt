@@ -16,7 +16,7 @@ use Rattle.core_state.specs.Certain.{Knows}
 use Rattle.core_state.specs.Moment.{IsGroupOf, IsBegunAfter, IsRowOf, KeepsSince, KeepsThroughout}
 use Rattle.core_state.proofs.Keeping.{knows_keep}
 use Rattle.core_state.proofs.Since.{since_now}
-use Rattle.open_pool.proofs.Committing.{since_wider}
+use Rattle.core_open.proofs.Joining.{since_longer}
 use Rattle.journal_law.specs.Moments.{KeepsUntil}
 use Rattle.journal_law.specs.Parity.{HaveParityOf}
 use Rattle.journal_law.proofs.Moments.{moved}
@@ -47,6 +47,7 @@ module _ {setting : Setting} {calls : Calls} {handed : PutBytes} {opening : Map}
     first = on.first;
     one = on.one;
     first_is = on.first_is;
+    reach = on.reach;
     keeps = on.keeps;
     since = keeps on.since;
   }
@@ -59,8 +60,9 @@ module _ {setting : Setting} {calls : Calls} {handed : PutBytes} {opening : Map}
     first = on.first;
     one = on.one;
     first_is = on.first_is;
+    reach = on.reach;
     keeps = on.keeps;
-    since = since_wider setting (last ∷ begun) more from.clock now on.since;
+    since = since_longer setting (last ∷ begun) more from.clock now on.since;
   }
 
 module _ {setting : Setting} {calls : Calls} {handed : PutBytes} {opening : Map} {known : List Kept} {items : List Item}
@@ -73,6 +75,7 @@ module _ {setting : Setting} {calls : Calls} {handed : PutBytes} {opening : Map}
     first = begun;
     one = are.one;
     first_is = are.begun_is;
+    reach = setting.reach;
     keeps = knows_keep setting last begun now knows;
     since = since_now setting (last ∷ begun) last begun now (whole_row last begun) knows;
   }
@@ -91,7 +94,8 @@ module _ {setting : Setting} {calls : Calls} {handed : PutBytes} {opening : Map}
       begun = on.first;
       one = on.one;
       begun_is = on.first_is;
-      keeps = on.keeps;
+      reach = on.reach;
+    keeps = on.keeps;
     };
     onward = begun;
     one = are.one;

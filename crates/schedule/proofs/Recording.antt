@@ -18,7 +18,7 @@ use Rattle.core_state.specs.Moment.{IsGroupOf, IsBegunAfter, Groups, IsRowOf, Ke
 use Rattle.core_state.specs.World.{World}
 use Rattle.core_state.proofs.Keeping.{knows_keep}
 use Rattle.core_state.proofs.Listed.{contains_head, contains_none, contains_tail}
-use Rattle.open_pool.proofs.Committing.{since_wider}
+use Rattle.core_open.proofs.Joining.{since_longer}
 use Rattle.journal_law.specs.Moments.{KeepsLast}
 use Rattle.journal_law.specs.Parity.{HaveParityOf}
 use Rattle.journal_law.proofs.Parity.{parity_with}
@@ -205,6 +205,7 @@ module _ {world : World} {past : Past} {items : List Item} {item : GroupItem} {l
       begun = begun;
       one = latest_now.one;
       begun_is = latest_now.begun_is;
+      reach = world.setting.reach;
       keeps = knows_keep world.setting last begun now knows;
     },
     row_among row_now,
@@ -243,7 +244,7 @@ module _ {world : World} {past : Past} {items : List Item} {item : GroupItem} {l
         sound = so_far.sound;
         counted = so_far.counted;
         since = subst (λ (l : List Kept). KeepsSince world.setting l past.origin.clock now) row
-            (since_wider world.setting all (next ∷ []) past.origin.clock now so_far.since);
+            (since_longer world.setting all (next ∷ []) past.origin.clock now so_far.since);
         parity = subst (HaveParityOf world.known) row
             (parity_with world.known all last next (row_among (row_now so_far) last (contains_head last [])) parity
             so_far.parity);

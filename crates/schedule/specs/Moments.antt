@@ -41,5 +41,6 @@ pub record KeepsOn (setting : Setting) (calls : Calls) (handed : PutBytes) (open
   pub first : List Kept
   pub one : length first ≤ 1
   pub first_is : (kept : Kept) → Contains first kept → IsBegunAfter calls handed opening items item kept
-  pub keeps : BankKeeps setting last first from
+  pub reach : ℕ
+  pub keeps : BankKeeps (record setting { reach = reach }) last first from
   pub since : KeepsSince setting (last ∷ begun) from.clock now
