@@ -86,6 +86,7 @@ unchanged_keeps setting first later joined {old = old} {new = new} same keeps = 
     later = later;
     after = joined;
     row = refl;
+    reach = setting.reach;
     keeps = keeps image (might_at setting.shape new old moment old.clock image
         (at moment (omega (arith, since, until, same.clock)) (omega (arith, since, until, same.clock))) might);
   };

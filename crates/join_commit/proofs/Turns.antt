@@ -17,7 +17,7 @@ use Rattle.join_commit.specs.declared.guest.Guest.{Guest}
 use Rattle.join_commit.specs.declared.guest.Guest.TheVariants.{Laid, Settled}
 use Rattle.join_commit.specs.declared.guest.JoinTurn.TheVariants.{GuestWrite, GuestSync}
 use Rattle.join_commit.specs.JoinRun.{JoinRun, IsJoinRun}
-use Rattle.join_commit.specs.JoinTurns.{IsTurnOf, guest_after, HasLaidGuest, HasSyncedGuest, FitsJoin}
+use Rattle.join_commit.specs.JoinTurns.{IsNextTurnOf, guest_after, HasLaidGuest, HasSyncedGuest, FitsJoin}
 
 nothing : {call : CommitCall} → slice_get [] 0 ≡ Some call → ⊥
 nothing is = cc
@@ -86,7 +86,7 @@ fits_on join stepped before after laid later was now below =
 -- A call on the device that may join, as the code makes it.
 module _ (join : JoinRun) (out device : ℕ) (before after : Disk) (result : Result (Unit {0}) Failed) (guest : Guest)
     (device_is : device ≡ join.run.uber.reflow.to) where
-  pub guest_laid : (part : ℕ) → IsTurnOf join out (GuestWrite part)
+  pub guest_laid : (part : ℕ) → IsNextTurnOf join out (GuestWrite part)
       → guest ≡ guest_after result (Laid (part + 1))
       → Wrote before after device (area_sector join.run.uber.area + part) (index_part join.run.entries part) result
       → HasLaidGuest join (point_of out before) (record { run = join.run; guest = guest }) (point_of out after)
@@ -100,7 +100,7 @@ module _ (join : JoinRun) (out device : ℕ) (before after : Disk) (result : Res
     out = refl;
   }
 
-  pub guest_synced : IsTurnOf join out GuestSync → guest ≡ guest_after result Settled
+  pub guest_synced : IsNextTurnOf join out GuestSync → guest ≡ guest_after result Settled
       → Synced before after device result
       → HasSyncedGuest join (point_of out before) (record { run = join.run; guest = guest }) (point_of out after)
   guest_synced turn guest_is synced = record {

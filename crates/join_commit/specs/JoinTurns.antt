@@ -39,21 +39,21 @@ abbrev pub IsLaidBy : Option CommitCall → Type 0
 IsLaidBy next = (call : CommitCall) → next ≡ Some call → IsSigning call
 
 -- What comes next: pages before syncs, and of each the pool's calls before those on the device; then the decision.
-abbrev pub IsTurn : Option CommitCall → Guest → ℕ → JoinTurn → Type 0
-IsTurn next guest sectors PoolCall = (call : CommitCall) × (next ≡ Some call) × IsLaying call
+abbrev pub IsNextTurn : Option CommitCall → Guest → ℕ → JoinTurn → Type 0
+IsNextTurn next guest sectors PoolCall = (call : CommitCall) × (next ≡ Some call) × IsLaying call
     × (IsPageWrite call ⊎ (part_left guest sectors ≡ None))
-IsTurn next guest sectors (GuestWrite part) = (guest ≡ Laid part) × (part < sectors)
+IsNextTurn next guest sectors (GuestWrite part) = (guest ≡ Laid part) × (part < sectors)
     × ((call : CommitCall) → next ≡ Some call → IsPageWrite call → ⊥)
-IsTurn next guest sectors GuestSync = (parts : ℕ) × (guest ≡ Laid parts) × (sectors ≤ parts) × IsLaidBy next
-IsTurn next guest sectors Decision = ((guest ≡ Settled) ⊎ (guest ≡ Lost)) × IsLaidBy next
+IsNextTurn next guest sectors GuestSync = (parts : ℕ) × (guest ≡ Laid parts) × (sectors ≤ parts) × IsLaidBy next
+IsNextTurn next guest sectors Decision = ((guest ≡ Settled) ⊎ (guest ≡ Lost)) × IsLaidBy next
 
-abbrev pub IsTurnOf : JoinRun → ℕ → JoinTurn → Type 0
-IsTurnOf join out turn =
-    IsTurn (slice_get (calls_left out join.run.calls) 0) join.guest (page_sectors join.run.uber.count) turn
+abbrev pub IsNextTurnOf : JoinRun → ℕ → JoinTurn → Type 0
+IsNextTurnOf join out turn =
+    IsNextTurn (slice_get (calls_left out join.run.calls) 0) join.guest (page_sectors join.run.uber.count) turn
 
 -- The pool's next call was made, and the device is left alone.
 pub record HasCalledPool (old : JoinRun) (before : Point) (new : JoinRun) (after : Point) : Type 0 where
-  pub turn : IsTurnOf old before.out PoolCall
+  pub turn : IsNextTurnOf old before.out PoolCall
   pub called : HasCalled old.run before new.run after
   pub same : new.guest ≡ old.guest
 
@@ -65,7 +65,7 @@ guest_after (Err failed) guest = Lost
 -- A sector of the index page was written to the device, and nobody is out for it.
 pub record HasLaidGuest (old : JoinRun) (before : Point) (new : JoinRun) (after : Point) : Type 0 where
   pub part : ℕ
-  pub turn : IsTurnOf old before.out (GuestWrite part)
+  pub turn : IsNextTurnOf old before.out (GuestWrite part)
   pub result : Result (Unit {0}) Failed
   pub wrote : Wrote before.disk after.disk old.run.uber.reflow.to (area_sector old.run.uber.area + part)
       (index_part old.run.entries part) result
@@ -74,7 +74,7 @@ pub record HasLaidGuest (old : JoinRun) (before : Point) (new : JoinRun) (after 
 
 -- The device was synced, and nobody is out for it.
 pub record HasSyncedGuest (old : JoinRun) (before : Point) (new : JoinRun) (after : Point) : Type 0 where
-  pub turn : IsTurnOf old before.out GuestSync
+  pub turn : IsNextTurnOf old before.out GuestSync
   pub result : Result (Unit {0}) Failed
   pub synced : Synced before.disk after.disk old.run.uber.reflow.to result
   pub new_is : new ≡ record { run = old.run; guest = guest_after result Settled }
@@ -82,7 +82,7 @@ pub record HasSyncedGuest (old : JoinRun) (before : Point) (new : JoinRun) (afte
 
 -- The device has joined: it is synced and no device of the pool is out. The group's second half has begun with it.
 pub record HasJoined (old : JoinRun) (before : Point) (run : CommitRun) (after : Point) : Type 0 where
-  pub turn : IsTurnOf old before.out Decision
+  pub turn : IsNextTurnOf old before.out Decision
   pub synced : old.guest ≡ Settled
   pub whole : before.out ≡ 0
   pub result : CommitStep
@@ -97,7 +97,7 @@ IsWhy guest device out (DeviceOut lowest) = (guest ≢ Lost) × (has_device out 
 -- The device has not joined, and the group's second half has begun without it.
 pub record HasDropped (old : JoinRun) (before : Point) (run : CommitRun) (why : WhyDropped) (after : Point) :
     Type 0 where
-  pub turn : IsTurnOf old before.out Decision
+  pub turn : IsNextTurnOf old before.out Decision
   pub because : IsWhy old.guest old.run.uber.reflow.to before.out why
   pub result : CommitStep
   pub steps : CommitSteps old.run before run after result

@@ -1,6 +1,6 @@
 // How far the device has come that may join a commit, and whose turn it is.
 ghost use Rattle.std.specs.Prelude.{◌≡◌};
-ghost use Rattle.join_commit.specs.JoinTurns.{IsTurn, part_left};
+ghost use Rattle.join_commit.specs.JoinTurns.{IsNextTurn, part_left};
 
 use commit_job::CommitCall;
 
@@ -38,7 +38,7 @@ impl Guest {
 /// What comes next, where this is the pool's next call and the index page has so many sectors. The pool's calls of each
 /// kind come before those on the device.
 pub fn next_turn(next: Option<CommitCall>, guest: Guest, sectors: u64) -> JoinTurn
-    ensures turn { IsTurn next guest sectors result }
+    ensures turn { IsNextTurn next guest sectors result }
 {
     if let Some(CommitCall::IndexWrite { .. }) = next {
         return JoinTurn::PoolCall;

@@ -8,7 +8,7 @@ ghost use Rattle.core_commit.specs.Ran.{FitsBank};
 ghost use Rattle.core_commit.specs.Widening.{widened_uber};
 ghost use Rattle.join_commit.specs.declared.guest.Guest.TheVariants.{Laid, Lost};
 ghost use Rattle.join_commit.specs.declared.guest.JoinTurn.TheVariants.{PoolCall, GuestWrite, GuestSync, Decision};
-ghost use Rattle.join_commit.specs.JoinTurns.{FitsJoin, FitsStep, HasCalledPool, HasLaidGuest, HasSyncedGuest, IsTurnOf, IsWhy, JoinSteps};
+ghost use Rattle.join_commit.specs.JoinTurns.{FitsJoin, FitsStep, HasCalledPool, HasLaidGuest, HasSyncedGuest, IsNextTurnOf, IsWhy, JoinSteps};
 
 use crate::guest::{Guest, JoinTurn, next_turn};
 use bank_trait::Bank;
@@ -86,10 +86,17 @@ impl JoinRun {
         self.run.uber().reflow().to
     }
 
+    /// The pool's commit, and with it the group.
+    pub fn run(&self) -> &CommitRun
+        ensures value { result.now ≡ self.now.run }
+    {
+        &self.run
+    }
+
     /// What comes next.
     fn turn(&self, out: DeviceSet) -> JoinTurn
         requires count { self.now.run.uber.count ≤ 512 }
-        ensures turn { IsTurnOf self.now out result }
+        ensures turn { IsNextTurnOf self.now out result }
     {
         let sectors = page_sectors(self.run.uber().count() as usize);
         next_turn(self.run.next_call(out), self.guest, sectors)
@@ -97,7 +104,7 @@ impl JoinRun {
 
     /// Makes the next call of the pool's first half.
     fn call_pool<B: Bank>(self, bank: &mut B, out: &mut DeviceSet) -> JoinRun
-        requires turn { IsTurnOf self out.old PoolCall }
+        requires turn { IsNextTurnOf self out.old PoolCall }
         requires fits { FitsJoin self out.old (B.disk bank.old) }
         requires few { count_of out.old ≤ self.run.uber.parity }
         ensures called { HasCalledPool self (point_of out.old (B.disk bank.old)) result
@@ -111,7 +118,7 @@ impl JoinRun {
 
     /// Writes a sector of the index page to the device that may join.
     fn lay_guest<B: Bank>(self, bank: &mut B, out: DeviceSet, part: u64) -> JoinRun
-        requires turn { IsTurnOf self out (GuestWrite part) }
+        requires turn { IsNextTurnOf self out (GuestWrite part) }
         requires fits { FitsJoin self out (B.disk bank.old) }
         ensures laid { HasLaidGuest self (point_of out (B.disk bank.old)) result
             (point_of out (B.disk bank.new)) }
@@ -128,7 +135,7 @@ impl JoinRun {
 
     /// Syncs the device that may join.
     fn sync_guest<B: Bank>(self, bank: &mut B, out: DeviceSet) -> JoinRun
-        requires turn { IsTurnOf self out GuestSync }
+        requires turn { IsNextTurnOf self out GuestSync }
         requires fits { FitsJoin self out (B.disk bank.old) }
         ensures synced { HasSyncedGuest self (point_of out (B.disk bank.old)) result
             (point_of out (B.disk bank.new)) }
@@ -145,7 +152,7 @@ impl JoinRun {
 
     /// Decides whether the device joins, and makes the first uberblock write.
     fn decide<B: Bank>(self, bank: &mut B, out: &mut DeviceSet) -> JoinStep
-        requires turn { IsTurnOf self out.old Decision }
+        requires turn { IsNextTurnOf self out.old Decision }
         requires fits { FitsJoin self out.old (B.disk bank.old) }
         requires few { count_of out.old ≤ self.run.uber.parity }
         ensures steps { JoinSteps self (point_of out.old (B.disk bank.old)) result

@@ -1,5 +1,5 @@
 -- What a run keeps from one item of its journal to the next.
-use Rattle.std.specs.Prelude.{◌≤◌, List, ◌∷◌, length, Contains}
+use Rattle.std.specs.Prelude.{ℕ, ◌≤◌, List, ◌∷◌, length, Contains}
 use Rattle.bank_trait.specs.Disk.{Disk, Later}
 use Rattle.core_state.specs.declared.item.Group.{Group as GroupItem}
 use Rattle.core_state.specs.declared.item.Item.{Item}

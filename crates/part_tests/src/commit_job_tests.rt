@@ -55,6 +55,21 @@ fn a_device_that_goes_out_is_passed_over(rt: HostRuntime) {
 }
 
 #[test]
+fn the_second_half_alone_writes_no_index(rt: HostRuntime) {
+    let mut commit = Commit::signing(2);
+    let calls = [
+        CommitCall::UberWrite { device: 0 },
+        CommitCall::UberWrite { device: 1 },
+        CommitCall::UberSync { device: 0 },
+        CommitCall::UberSync { device: 1 },
+    ];
+    for call in calls {
+        assert_eq!(rt; commit.advance(DeviceSet::empty()), Some(call));
+    }
+    assert!(rt; commit.next(DeviceSet::empty()).is_none());
+}
+
+#[test]
 fn copies_go_to_the_devices_that_lack_them(rt: HostRuntime) {
     let (page_lacks, uber_lacks) = (DeviceSet::from_bits(4), DeviceSet::from_bits(6));
     let mut copies = Commit::copies(3, 9, page_lacks, uber_lacks);

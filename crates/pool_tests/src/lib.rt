@@ -24,9 +24,13 @@ mod files_tests;
 #[cfg(test)]
 mod first_run_tests;
 #[cfg(test)]
+mod join_tests;
+#[cfg(test)]
 mod legal_check;
 #[cfg(test)]
 mod lost_block_tests;
+#[cfg(test)]
+mod new_device_tests;
 #[cfg(test)]
 mod opening_tests;
 #[cfg(test)]

@@ -1,5 +1,5 @@
 use Rattle.std.proofs.Common.{ℕ, drop, ◌∙◌, ap, arith}
-use Rattle.commit_job.specs.Stages.{plan_of, signing_of}
+use Rattle.commit_job.specs.Stages.{plan_of}
 use Rattle.commit_job.proofs.Lefts.{all_meant}
 use Rattle.commit_job.proofs.Plans.{length-signing, signing_left}
 use Rattle.commit_job.proofs.commit.Commit.signing.Goals as goal

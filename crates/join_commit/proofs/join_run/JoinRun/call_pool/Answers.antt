@@ -2,7 +2,7 @@ use Rattle.std.proofs.Common.{refl, sym, subst}
 use Rattle.core_state.specs.Committing.{point_of}
 use Rattle.join_commit.specs.declared.guest.JoinTurn.TheVariants.{PoolCall}
 use Rattle.join_commit.specs.JoinRun.{JoinRun}
-use Rattle.join_commit.specs.JoinTurns.{IsTurnOf, FitsJoin, HasCalledPool}
+use Rattle.join_commit.specs.JoinTurns.{IsNextTurnOf, FitsJoin, HasCalledPool}
 use Rattle.join_commit.proofs.Turns.{laid_on, still_joins, fits_on}
 use Rattle.join_commit.proofs.join_run.JoinRun.call_pool.Goals as goal
 
@@ -12,7 +12,8 @@ invariant_of-result g c =
     let after = point_of c.step.new.out (g.B.Bank.disk c.step.new.bank) in
     let old : JoinRun = record { run = c.self.inside.run; guest = c.self.inside.guest } in
     let new : JoinRun = record { run = c.step.new.self; guest = c.self.inside.guest } in
-    let turn = subst (λ (join : JoinRun). IsTurnOf join c.args.out.now PoolCall) (sym c.self.view_is) c.requires.turn in
+    let turn = subst (λ (join : JoinRun). IsNextTurnOf join c.args.out.now PoolCall) (sym c.self.view_is)
+    c.requires.turn in
     still_joins old before after new c.self.invariant
     (laid_on c.step.result old.run new.run before after turn.0 turn.1 turn.2 c.step.ensures.steps)
 
@@ -22,7 +23,8 @@ returns-clause-called g c =
     let after = point_of c.step.new.out (g.B.Bank.disk c.step.new.bank) in
     let old : JoinRun = record { run = c.self.inside.run; guest = c.self.inside.guest } in
     let new : JoinRun = record { run = c.step.new.self; guest = c.self.inside.guest } in
-    let turn = subst (λ (join : JoinRun). IsTurnOf join c.args.out.now PoolCall) (sym c.self.view_is) c.requires.turn in
+    let turn = subst (λ (join : JoinRun). IsNextTurnOf join c.args.out.now PoolCall) (sym c.self.view_is)
+    c.requires.turn in
     subst (λ (join : JoinRun). HasCalledPool join before new after) c.self.view_is (record {
       turn = turn;
       called = (laid_on c.step.result old.run new.run before after turn.0 turn.1 turn.2 c.step.ensures.steps).called;
@@ -35,7 +37,8 @@ returns-clause-fits g c =
     let after = point_of c.step.new.out (g.B.Bank.disk c.step.new.bank) in
     let old : JoinRun = record { run = c.self.inside.run; guest = c.self.inside.guest } in
     let new : JoinRun = record { run = c.step.new.self; guest = c.self.inside.guest } in
-    let turn = subst (λ (join : JoinRun). IsTurnOf join c.args.out.now PoolCall) (sym c.self.view_is) c.requires.turn in
+    let turn = subst (λ (join : JoinRun). IsNextTurnOf join c.args.out.now PoolCall) (sym c.self.view_is)
+    c.requires.turn in
     fits_on old new before after
     (laid_on c.step.result old.run new.run before after turn.0 turn.1 turn.2 c.step.ensures.steps)
     c.step.ensures.spares.later

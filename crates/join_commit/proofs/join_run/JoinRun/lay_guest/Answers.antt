@@ -4,7 +4,7 @@ use Rattle.core_state.specs.Committing.{point_of}
 use Rattle.join_commit.specs.declared.guest.Guest.TheVariants.{Laid}
 use Rattle.join_commit.specs.declared.guest.JoinTurn.TheVariants.{GuestWrite}
 use Rattle.join_commit.specs.JoinRun.{JoinRun}
-use Rattle.join_commit.specs.JoinTurns.{IsTurnOf, HasLaidGuest, guest_after}
+use Rattle.join_commit.specs.JoinTurns.{IsNextTurnOf, HasLaidGuest, guest_after}
 use Rattle.join_commit.proofs.Turns.{guest_laid}
 use Rattle.join_commit.proofs.join_run.JoinRun.lay_guest.Goals as goal
 use Rattle.join_commit.proofs.join_run.JoinRun.lay_guest.Goals.{in-Ok, in-Err}
@@ -23,6 +23,6 @@ returns-clause-laid g c =
     (record { run = c.self.inside.run; guest = c.match-lay_on.guest }) (point_of c.args.out after)) c.self.view_is
     (guest_laid old c.args.out c.device-device.result before after c.lay_on.result c.match-lay_on.guest
     (c.device-device.ensures.value ∙ ap (λ (join : JoinRun). join.run.uber.reflow.to) (sym c.self.view_is)) c.args.part
-    (subst (λ (join : JoinRun). IsTurnOf join c.args.out (GuestWrite c.args.part)) (sym c.self.view_is) c.requires.turn)
-    guest_is
+    (subst (λ (join : JoinRun). IsNextTurnOf join c.args.out (GuestWrite c.args.part)) (sym c.self.view_is)
+    c.requires.turn) guest_is
     c.lay_on.ensures.value)

@@ -4,7 +4,7 @@ use Rattle.core_state.specs.Committing.{point_of}
 use Rattle.join_commit.specs.declared.guest.Guest.TheVariants.{Settled}
 use Rattle.join_commit.specs.declared.guest.JoinTurn.TheVariants.{GuestSync}
 use Rattle.join_commit.specs.JoinRun.{JoinRun}
-use Rattle.join_commit.specs.JoinTurns.{IsTurnOf, HasSyncedGuest, guest_after}
+use Rattle.join_commit.specs.JoinTurns.{IsNextTurnOf, HasSyncedGuest, guest_after}
 use Rattle.join_commit.proofs.Turns.{guest_synced}
 use Rattle.join_commit.proofs.join_run.JoinRun.sync_guest.Goals as goal
 use Rattle.join_commit.proofs.join_run.JoinRun.sync_guest.Goals.{in-Ok, in-Err}
@@ -22,5 +22,5 @@ returns-clause-synced g c =
     (record { run = c.self.inside.run; guest = c.match-sync.guest }) (point_of c.args.out after)) c.self.view_is
     (guest_synced old c.args.out c.device-device.result before after c.sync.result c.match-sync.guest
     (c.device-device.ensures.value ∙ ap (λ (join : JoinRun). join.run.uber.reflow.to) (sym c.self.view_is))
-    (subst (λ (join : JoinRun). IsTurnOf join c.args.out (GuestSync)) (sym c.self.view_is) c.requires.turn) guest_is
+    (subst (λ (join : JoinRun). IsNextTurnOf join c.args.out (GuestSync)) (sym c.self.view_is) c.requires.turn) guest_is
     c.sync.ensures)
