@@ -1,5 +1,5 @@
 // A block that is read, one column at a time.
-ghost use Rattle.std.specs.Prelude.{◌≡◌, ◌+◌, ◌^◌, ◌<◌, ◌↔◌, IfOk, IsTrue, false};
+ghost use Rattle.std.specs.Prelude.{◌≡◌, ◌+◌, ◌^◌, ◌<◌, ◌↔◌, IfOk, IsTrue, false, ℕ, ◌≤◌};
 ghost use Rattle.bank_trait.specs.Disk.{Unchanged};
 ghost use Rattle.row_layout.specs.Layout.{IsLayout, rows_of};
 ghost use Rattle.core_client.specs.Outs.{OnlyFailedGoOut};
@@ -95,7 +95,7 @@ impl BlockRead {
         ensures unchanged { Unchanged (B.disk bank.old) (B.disk bank.new) }
         ensures out { OnlyFailedGoOut (point_of out.old (B.disk bank.old))
             (point_of out.new (B.disk bank.new)) }
-        ensures below { out.old < 2 ^ reflow.now.to → out.new < 2 ^ reflow.now.to }
+        ensures below { (devices : ℕ) → reflow.now.to ≤ devices → out.old < 2 ^ devices → out.new < 2 ^ devices }
     {
         let row = self.row;
         let column = self.column;

@@ -1,5 +1,5 @@
 // A column that is read.
-ghost use Rattle.std.specs.Prelude.{◌≡◌, ℕ, ◌^◌, ◌<◌, List, Some, IfOk, OnErr, OnOk, false};
+ghost use Rattle.std.specs.Prelude.{◌≡◌, ℕ, ◌^◌, ◌<◌, List, Some, IfOk, OnErr, OnOk, false, ◌≤◌};
 ghost use Rattle.bank_trait.specs.Causes.{FaultCounted, FailedOnce};
 ghost use Rattle.bank_trait.specs.Disk.{Unchanged};
 ghost use Rattle.row_layout.specs.Layout.{IsColumn};
@@ -34,7 +34,7 @@ pub fn read_column<B: Bank>(
     ensures unchanged { Unchanged (B.disk bank.old) (B.disk bank.new) }
     ensures out { OnlyFailedGoOut (point_of out.old (B.disk bank.old))
         (point_of out.new (B.disk bank.new)) }
-    ensures below { out.old < 2 ^ reflow.now.to → out.new < 2 ^ reflow.now.to }
+    ensures below { (devices : ℕ) → reflow.now.to ≤ devices → out.old < 2 ^ devices → out.new < 2 ^ devices }
 {
     read_spot(bank, spot_of(layout, reflow, row, column), out)
 }

@@ -13,7 +13,8 @@ use Rattle.reflow_copier.specs.declared.job.Job.TheVariants.{Fill, Drain, Chunk}
 use Rattle.reflow_copier.specs.Jobs.{job_end}
 use Rattle.core_state.specs.JobTurns.{MayRun}
 use Rattle.shadow_write.specs.Required.{IsFrontIn}
-use Rattle.mark_choice.specs.CommitChoice.{IsChoiceIn, IsFilledOrDrained, IsNextMark, MayRecord}
+use Rattle.mark_choice.specs.CommitChoice.{IsChoiceIn, IsFilledOrDrained, IsNextMark, MayRecord, Chooses}
+use Rattle.mark_choice.proofs.Recording.{chooses}
 use Rattle.mark_choice.proofs.Clear.{next_mark_between}
 use Rattle.reflow_band.specs.Band.{IsFrontOf, IsWidening}
 
@@ -65,14 +66,13 @@ module _ (reflow : Reflow) (done : ℕ) (chosen : Reflow) (widening : IsWidening
 
   recorded : (state : State) (later : ℕ) (holds : List Hold) → reflow.state ≡ state
       → IsChoiceIn state reflow later holds chosen → MayRecord reflow later chosen
-  recorded state later holds is choice = record {
-    holds = holds;
-    choice = subst (λ (s : State). IsChoiceIn s reflow later holds chosen) (sym is) choice;
-  }
+  recorded state later holds is choice = Chooses holds (subst (λ (s : State). IsChoiceIn s reflow later holds chosen) (sym is) choice)
 
   choice_in : (state : State) → MayRecord reflow done chosen → reflow.state ≡ state
       → (holds : List Hold) × IsChoiceIn state reflow done holds chosen
-  choice_in state records is = (records.holds, subst (λ (s : State). IsChoiceIn s reflow done records.holds chosen) is records.choice)
+  choice_in state records is =
+      let its = chooses reflow done chosen widening.expands records in
+      (its.0, subst (λ (s : State). IsChoiceIn s reflow done its.0 chosen) is its.1)
 
   leaves : (job : Job) → IsFrontOf reflow done → MayRun reflow done job → MayRecord reflow done chosen
       → MayRecord reflow (job_end reflow job) chosen

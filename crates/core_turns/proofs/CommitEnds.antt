@@ -17,6 +17,7 @@ use Rattle.core_state.specs.Keeps.{Kept, Setting}
 use Rattle.core_state.specs.Certain.{Knows}
 use Rattle.core_state.specs.Committing.{Point, point_of}
 use Rattle.mark_choice.specs.CommitChoice.{range_of_commit}
+use Rattle.mark_choice.proofs.Recording.{chooses}
 use Rattle.mark_advance.specs.Behind.{FollowsOn, IsOutside, front_behind}
 use Rattle.mark_advance.proofs.Apart.{held_outside}
 use Rattle.core_blocks.specs.Blocks.{put_run}
@@ -101,11 +102,14 @@ module _ (core : Core) (run : CommitRun) (is : IsCore core) (of : IsCommitOf cor
 
   -- A job goes on: at most the mark has moved.
   job_moves : (job : CopyRun) → GoesOnIn reflow core.pool.done job.job → MovesMark reflow core.pool.done chosen
-  job_moves job goes = choice_moves reflow core.pool.done job.job.job of.next.choice.holds chosen goes.widening goes.front
-      goes.may_run of.next.choice.choice
+  job_moves job goes =
+      let its = chooses reflow core.pool.done chosen goes.widening.expands of.next.choice in
+      choice_moves reflow core.pool.done job.job.job its.0 chosen goes.widening goes.front goes.may_run its.1
 
   job_goes : (job : CopyRun) → GoesOnIn reflow core.pool.done job.job → GoesOnIn chosen behind job.job
-  job_goes job goes = goes_behind reflow core.pool.done job.job of.next.choice.holds chosen of.next.choice.choice goes
+  job_goes job goes =
+      let its = chooses reflow core.pool.done chosen goes.widening.expands of.next.choice in
+      goes_behind reflow core.pool.done job.job its.0 chosen its.1 goes
 
   module _ (holds : List Hold) (drops : DropsHold core.holds holds (hold_for reflow chosen of.actor)) where
     -- the core that the end leaves
@@ -198,8 +202,9 @@ module _ (core : Core) (run : CommitRun) (is : IsCore core) (of : IsCommitOf cor
     job_holds : (disk : Disk) (job : CopyRun)
         → CopiesCells reflow core.pool.done job.job (point_of core.pool.out disk)
         → CopiesCells chosen behind job.job (point_of core.pool.out disk)
-    job_holds disk job held = cells_behind reflow core.pool.done job.job of.next.choice.holds chosen
-        (point_of core.pool.out disk) of.next.choice.choice held
+    job_holds disk job held =
+        let its = chooses reflow core.pool.done chosen held.goes.widening.expands of.next.choice in
+        cells_behind reflow core.pool.done job.job its.0 chosen (point_of core.pool.out disk) its.1 held
 
     call_holds : (disk : Disk) (content : List ℕ) (call : HoldingCall) → IsCallOfCore core call
         → HoldsCall (at_disk core disk) content call → HoldsCall (at_disk answered disk) content call
@@ -235,14 +240,14 @@ module _ (core : Core) (run : CommitRun) (is : IsCore core) (of : IsCommitOf cor
       shape = stands.shape;
       tells = stands.tells;
       bank = record {
-        room = (let room = stands.bank.room in let same = rows.rows in omega (arith, room, same));
-        devices = λ device below used. stands.bank.devices device (let same = rows.to in omega (arith, below, same)) used;
+        room = (let room = stands.bank.room in let same = rows in omega (arith, room, same));
+        devices = stands.bank.devices;
       };
       holds = answered_map core.pool run.uber pool is.step of.next on map disk stands.holds;
       each = λ call listed. call_holds disk (contents (actor_of call)) call (are.each call listed) (stands.each call listed);
     }
       where
-        rows : HasRowsOf reflow chosen
+        rows : chosen.rows ≡ reflow.rows
         rows = core_rows core chosen is of.next.choice
 
 -- A core of which no call was made leaves what a step that ends a commit begins with.

@@ -15,7 +15,7 @@ use Rattle.core_state.specs.Certain.{Knows}
 use Rattle.core_state.specs.Committing.{point_of}
 use Rattle.core_state.specs.Moment.{IsRowOf, KeepsSince}
 use Rattle.core_state.proofs.Frames.{Nowhere}
-use Rattle.mark_choice.specs.CommitChoice.{MayRecord}
+use Rattle.mark_choice.specs.CommitChoice.{MayRecord, Chooses}
 use Rattle.mark_advance.specs.Behind.{FollowsOn, KeepsOrEnds}
 use Rattle.core_blocks.specs.Blocks.{IsListed, put_run}
 use Rattle.core_blocks.specs.Kept.{NoneFree, SparesAll}
@@ -38,6 +38,8 @@ use Rattle.core_turns.specs.Getting.{HasTooManyOut}
 use Rattle.core_turns.specs.Committing.{BeginsCommit, BeginsCommitSo, StepsCommit, commit_of, hold_for}
 use Rattle.core_turns.specs.UnderWay.{HoldingCall, Putting, LiesInPool, actor_of, Stands, AreCallsOf}
 use Rattle.core_turns.proofs.Calls.{range_listed}
+use Rattle.core_turns.proofs.Cores.{bank_within}
+use Rattle.mark_advance.proofs.Follows.{choice_widths}
 use Rattle.core_turns.proofs.Commits.{begins_ready, begun_commit, core_follows, few_out, rests, rests_pool}
 use Rattle.core_turns.proofs.Frames.{call_off_nowhere, off_nowhere, leaves_spared, call_stays, calls_keep, calls_stay, stands_frame}
 use Rattle.core_turns.proofs.Holds.{taken_has}
@@ -100,18 +102,21 @@ module _ (setting : Setting) (last : Kept) (map : Map) (contents : ℕ → List 
   }
 
   may : MayRecord old.pool.uber.reflow old.pool.done chosen
-  may = record { holds = old.holds; choice = begins.choice }
+  may = Chooses old.holds begins.choice
 
   on : FollowsOn old.pool.uber.reflow old.pool.done chosen
   on = core_follows old chosen is may
 
+  widths : KeepsOrEnds old.pool.uber.reflow chosen
+  widths = choice_widths (as_begun old).uber old.pool.done old.holds chosen is.is.right begins.choice
+
   is_ready : IsReady old.pool chosen
-  is_ready = begins_ready old chosen is table begins.none begins.few (let low = begins.limit in omega (arith, low)) may
+  is_ready = begins_ready old chosen is table begins.none begins.few (let low = begins.limit in omega (arith, low)) may widths
 
   come : IsCommitting setting last begun_group (commit_of old.pool chosen) (point_of old.pool.out disk)
   come = committing_begins setting [] last begun_group (point_of old.pool.out disk) is_ready.right lawful
-      (may_commit setting last map (pool_at (at_disk old disk)) (rests_pool old is begins.none) stands.bank held stands.holds
-      chosen on is.step is_ready [])
+      (may_commit setting last map (pool_at (at_disk old disk)) (rests_pool old is begins.none) (bank_within old disk is stands.bank) held stands.holds
+      chosen on widths is.step is_ready [])
 
   -- Its blocks are those of the table.
   listed : (entry : IndexEntry) → Contains entries entry → IsListed entries entry
@@ -168,7 +173,7 @@ commit_begins_stands {setting} {last} {begun} {map} {contents} {calls} {old} {ne
       (let same = rests old is begins.none in
           let later = ap (λ (core : Core). core.begun) begins.rest in
           omega (arith, same, later)),
-      (on setting last map contents calls old new disk actor run lawful is table begins are alone).widths,
+      widths setting last map contents calls old new disk actor run lawful is table begins are alone,
       refl,
       subst (λ (core : Core). Stands setting last (next ∷ []) map contents calls (Some run) (at_disk core disk))
           (sym begins.rest)

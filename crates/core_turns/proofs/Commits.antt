@@ -1,5 +1,5 @@
 -- Commits, turn by turn: that a pool stays one, and what each turn comes to.
-use Rattle.std.specs.Prelude.{◌==◌, if◌then◌else◌}
+use Rattle.std.specs.Prelude.{◌==◌, if◌then◌else◌, Contains}
 use Rattle.std.proofs.Common.{◌≡◌, ◌⊎◌, inl, inr, ⊎_elim, Bool, true, false, ℕ, ◌*◌, ◌+◌, ◌^◌, ◌<◌, ◌≤◌, List, length, None, Some, Option, refl, sym, ◌∙◌, ap, subst, arith}
 use Rattle.std.proofs.lemmas.Bool.{true≢false, cases_lt}
 use Rattle.sha2.specs.Sha256.{sha256}
@@ -25,12 +25,12 @@ use Rattle.uberblock_ring.specs.Valid.{IsRightUber}
 use Rattle.core_state.specs.declared.answer.Answer.{Answer}
 use Rattle.core_state.specs.declared.answer.Answer.TheVariants as answer
 use Rattle.core_state.specs.Committing.{Point, point_of}
-use Rattle.mark_choice.specs.CommitChoice.{IsChoiceIn, IsCommitChoice, MayRecord, births_of_commit, range_of_commit}
+use Rattle.mark_choice.specs.CommitChoice.{IsChoiceIn, IsCommitChoice, IsWiderByOne, MayRecord, Chooses, Widens, births_of_commit, range_of_commit}
 use Rattle.mark_choice.proofs.Clear.{choice_clear}
-use Rattle.mark_advance.specs.Behind.{FollowsOn, front_behind, front_in}
+use Rattle.mark_advance.specs.Behind.{FollowsOn, KeepsOrEnds, front_behind, front_in}
 use Rattle.reflow_band.specs.Band.{IsFrontOf}
 use Rattle.shadow_write.specs.Required.{IsFrontIn}
-use Rattle.mark_advance.proofs.Follows.{follows}
+use Rattle.mark_advance.proofs.Follows.{choice_widths, follows}
 use Rattle.core_blocks.specs.Blocks.{Blocks}
 use Rattle.core_client.specs.Outs.{OnlyFailedGoOut}
 use Rattle.core_client.proofs.Outs.{outs_none}
@@ -46,7 +46,7 @@ use Rattle.core_commit.proofs.Touching.{touched_none, touched_more}
 use Rattle.core_open.proofs.Renewing.{none_above_more}
 use Rattle.open_pool.specs.Answered.{IsNextGroup, answered_by, blocks_behind}
 use Rattle.open_pool.specs.NextGroup.{next_uber, uber_for}
-use Rattle.open_pool.specs.Pool.{Pool, IsPool, HasBank}
+use Rattle.open_pool.specs.Pool.{Pool, IsPool}
 use Rattle.open_pool.proofs.Answered.{answered_pool, answered_step, may_grow_now}
 use Rattle.open_pool.proofs.Banks.{bank_later}
 use Rattle.open_pool.proofs.Growing.{MayGrow}
@@ -54,7 +54,7 @@ use Rattle.open_pool.proofs.NewBirth.{HasRowsOf, rows_of}
 use Rattle.open_pool.proofs.NextGroup.{IsReady, ready}
 use Rattle.core_turns.specs.declared.turn.Turn.{Turn}
 use Rattle.core_turns.specs.declared.turn.Turn.TheVariants.{More, Busy, Done}
-use Rattle.core_turns.specs.Core.{Core, CoreState, IsCore, alone_below, as_begun, groups_begun, jobs_begun}
+use Rattle.core_turns.specs.Core.{Core, CoreState, IsCore, HasBankOf, alone_below, as_begun, groups_begun, jobs_begun, reaching}
 use Rattle.core_turns.specs.Getting.{HasTooManyOut}
 use Rattle.core_turns.specs.Committing.{AnswersUber, BeginsCommitSo, DropsHold, IsHeldAlone, IsCommitOf, StepsCommit, TakesHold, commit_of, hold_for}
 use Rattle.core_turns.specs.UnderWay.{TurnGoesOn}
@@ -83,26 +83,53 @@ pub core_follows : (core : Core) (chosen : Reflow) → IsCore core
     → FollowsOn core.pool.uber.reflow core.pool.done chosen
 core_follows core chosen is choice = follows (as_begun core).uber core.pool.done chosen is.is.right is.is.front choice
 
--- It has the devices and the data rows of the pool.
+-- It has the data rows of the pool.
 pub core_rows : (core : Core) (chosen : Reflow) → IsCore core → MayRecord core.pool.uber.reflow core.pool.done chosen
-    → HasRowsOf core.pool.uber.reflow chosen
-core_rows core chosen is choice = rows_of core.pool.uber.reflow chosen (core_follows core chosen is choice).widths
+    → chosen.rows ≡ core.pool.uber.reflow.rows
+core_rows core chosen is choice = ⊎_elim
+    (λ keeps. (rows_of core.pool.uber.reflow chosen keeps).rows)
+    (λ joins. ap (λ (r : Reflow). r.rows) joins.wider_is)
+    (core_follows core chosen is choice).widths
+
+-- While no commit is under way the devices that are out are the pool's own.
+own_out : (core : Core) → IsCore core → core.committing ≡ None → core.pool.out < 2 ^ core.pool.uber.reflow.to
+own_out core is none = subst (λ (n : ℕ). core.pool.out < 2 ^ n) (is.rests none) is.below
 
 -- The next group may be written with the table as it is.
 pub begins_ready : (core : Core) (chosen : Reflow) → IsCore core → IsTable core.pool.blocks.table → core.committing ≡ None
     → (HasTooManyOut core → ⊥) → core.begun + 1 ≤ 2 ^ 62 → MayRecord core.pool.uber.reflow core.pool.done chosen
+    → KeepsOrEnds core.pool.uber.reflow chosen
     → IsReady core.pool chosen
-begins_ready core chosen is table none few limit choice =
+begins_ready core chosen is table none few limit choice widths =
     let on = core_follows core chosen is choice in
     let number = rests core is none in
-    ready core.pool chosen (rests_pool core is none) is.step table on.right on.widths (omega (arith, limit, number))
-    (few_out core few)
+    ready core.pool chosen (rests_pool core is none) is.step table on.right widths (omega (arith, limit, number))
+    (own_out core is none) (few_out core few)
+
+-- Where a device joins, no sector's standing changes.
+wider_changes_none : (reflow chosen : Reflow) (actor : ℕ) → IsWiderByOne reflow chosen
+    → HasSectors (hold_for reflow chosen actor) → ⊥
+wider_changes_none reflow chosen actor wider some =
+    by reflow.from reflow.to reflow.rows reflow.mark reflow.state
+    (subst (λ (c : Reflow). HasSectors (hold_for reflow c actor)) wider.wider_is some)
+  where
+    by : (from to rows mark : ℕ) (state : State) → HasSectors (hold_for (record {
+          from = from;
+          to = to;
+          rows = rows;
+          mark = mark;
+          state = state;
+        }) (record { from = from; to = to + 1; rows = rows; mark = mark; state = state }) actor) → ⊥
+    by from to rows mark Unmoved some = omega (arith, some)
+    by from to rows mark Valid some = omega (arith, some)
+    by from to rows mark Moved some = omega (arith, some)
 
 -- The sectors whose standing a commit's choice changes begin below the front, if it changes any.
 pub change_below : (reflow : Reflow) (done : ℕ) (chosen : Reflow) (actor : ℕ) → IsFrontOf reflow done
     → MayRecord reflow done chosen → HasSectors (hold_for reflow chosen actor) → (hold_for reflow chosen actor).lo < done
-change_below reflow done chosen actor front may some =
-    omega (arith, some, range_below reflow done may.holds chosen front may.choice)
+change_below reflow done chosen actor front (Chooses holds choice) some =
+    omega (arith, some, range_below reflow done holds chosen front choice)
+change_below reflow done chosen actor front (Widens wider) some = absurd (wider_changes_none reflow chosen actor wider some)
 
 -- A core at which the next group was begun is one.
 pub begun_core : (core : Core) (holds : List Hold) (actor : ℕ) (chosen : Reflow) → IsCore core → core.committing ≡ None
@@ -140,9 +167,11 @@ begun_core core holds actor chosen is none limit may takes =
         capacity = is.is.capacity;
         born = λ entry listed. omega (arith, is.is.born entry listed);
         front = is.is.front;
-        below = is.is.below;
         lists = is.is.lists;
       };
+      reach = is.reach;
+      rests = λ rests. absurd (under_way rests);
+      below = is.below;
       begun = (let same = number in omega (arith, same));
       few = limit;
       step = is.step;
@@ -170,14 +199,16 @@ begun_commit core holds actor chosen is none ready choice takes = record {
     number = refl;
     pool_is = refl;
     parity = refl;
-    choice = record { holds = core.holds; choice = choice };
+    choice = Chooses core.holds choice;
     births = refl;
   };
   holds = alone_begins core.pool.done core.holds holds (hold_for core.pool.uber.reflow chosen actor) refl
       (change_below core.pool.uber.reflow core.pool.done chosen actor is.is.front
-      (record { holds = core.holds; choice = choice })) (is.shared none)
+      (Chooses core.holds choice)) (is.shared none)
       (choice_clear core.pool.uber.reflow core.pool.done core.holds chosen choice) takes;
   lists = λ device has. has;
+  reach = is.rests none ∙ sym (rows_of core.pool.uber.reflow chosen
+      (choice_widths (as_begun core).uber core.pool.done core.holds chosen is.is.right choice)).to;
 }
 
 -- A commit begins: what that makes of the core, in its parts.
@@ -188,10 +219,13 @@ module _ (core : Core) (actor : ℕ) (before chosen : Reflow) (is : IsCore core)
   its_choice = subst (λ (r : Reflow). IsCommitChoice r core.pool.done core.holds chosen) before_is choice
 
   pub begins_may : MayRecord core.pool.uber.reflow core.pool.done chosen
-  begins_may = record { holds = core.holds; choice = its_choice }
+  begins_may = Chooses core.holds its_choice
+
+  its_widths : KeepsOrEnds core.pool.uber.reflow chosen
+  its_widths = choice_widths (as_begun core).uber core.pool.done core.holds chosen is.is.right its_choice
 
   pub begins_ready_now : IsReady core.pool chosen
-  begins_ready_now = begins_ready core chosen is table none few (omega (arith, limit)) begins_may
+  begins_ready_now = begins_ready core chosen is table none few (omega (arith, limit)) begins_may its_widths
 
   -- The sectors whose standing changes are clear to be held alone.
   pub begins_clear : HasSectors (hold_for before chosen actor)
@@ -304,17 +338,18 @@ commit_stays core run stepped out old new result of did still =
       holds = subst (λ (r : Reflow). IsHeldAlone core.pool.done core.holds (hold_for core.pool.uber.reflow r of.actor))
           (sym (ap (λ (u : Uber). u.reflow) same)) of.holds;
       lists = step_lists core run stepped out old new result of.lists still did;
+      reach = of.reach ∙ sym (ap (λ (u : Uber). u.reflow.to) same);
     }
 
 -- The bank has what the commit's calls ask for.
 pub commit_fits : (core : Core) (run : CommitRun) (disk : Disk) → IsCore core → IsCommitOf core run
-    → length run.entries ≡ run.uber.count → HasBank core.pool.uber core.pool.out disk
+    → length run.entries ≡ run.uber.count → HasBankOf core disk
     → FitsBank run.uber run.entries core.pool.out disk
 commit_fits core run disk is of counted bank =
     let rows = core_rows core run.uber.reflow is of.next.choice in
     let right = of.next.right in
     record {
-      devices = λ device below used. bank.devices device (let same = rows.to in omega (arith, below, same)) used;
+      devices = λ device below used. bank.devices device (let same = of.reach in omega (arith, below, same)) used;
       few = right.widths.1;
       sectors = (let room = bank.room in omega (arith, room));
       area = right.area;
@@ -329,9 +364,8 @@ pub step_core : (core : Core) (run stepped : CommitRun) (old new : Disk) (out : 
     → IsCore (record core { pool = record core.pool { out = out } })
 step_core core run stepped old new out result is of did below =
     let same = (steps_same result run stepped (point_of core.pool.out old) (point_of out new) did).0 in
-    let widths = (core_rows core run.uber.reflow is of.next.choice).to in
     core_out core out is
-    (subst (λ (to : ℕ). out < 2 ^ to) (ap (λ (u : Uber). u.reflow.to) same ∙ widths) below)
+    (subst (λ (to : ℕ). out < 2 ^ to) (ap (λ (u : Uber). u.reflow.to) same ∙ sym of.reach) below)
     (step_outs (point_of core.pool.out old) (point_of out new) run stepped result did).still
 
 -- ---- the group is answered
@@ -345,8 +379,8 @@ begun_pool core run is of =
 -- The front behind an answer is no higher than it was.
 front_no_higher : (reflow : Reflow) (done : ℕ) (chosen : Reflow) → IsFrontOf reflow done → MayRecord reflow done chosen
     → front_behind reflow done chosen ≤ done
-front_no_higher reflow done chosen front may =
-    by reflow.from reflow.to reflow.rows reflow.mark done may.holds reflow.state chosen front.front may.choice
+front_no_higher reflow done chosen front (Chooses holds choice) =
+    by reflow.from reflow.to reflow.rows reflow.mark done holds reflow.state chosen front.front choice
   where
     by : (from to rows mark done : ℕ) (holds : List Hold) (state : State) (chosen : Reflow)
         → IsFrontIn state (record { from = from; to = to; rows = rows; mark = mark; state = state }) done
@@ -372,6 +406,13 @@ front_no_higher reflow done chosen front may =
             → (let r : Reflow = if b then one else other in front_in Moved r.state done r.mark ≤ done)
         either one other true low high = low
         either one other false low high = high
+front_no_higher reflow done chosen front (Widens wider) =
+    subst (λ (c : Reflow). front_behind reflow done c ≤ done) (sym wider.wider_is) (same reflow.state)
+  where
+    same : (state : State) → front_in state state done reflow.mark ≤ done
+    same Unmoved = omega arith
+    same Valid = omega arith
+    same Moved = omega arith
 
 pub answered_core : (core : Core) (run : CommitRun) (holds : List Hold) → IsCore core → IsCommitOf core run
     → alone_below core.pool.done holds ≡ 0 → exclusive_count holds ≡ jobs_begun core.copying
@@ -383,6 +424,9 @@ answered_core core run holds is of none jobs =
       is = subst (λ (group : ℕ). IsPool (record (answered_by run.uber core.pool) {
         uber = record run.uber { group = group };
       })) of.number (answered_pool core.pool run.uber pool is.step of.next on of.lists);
+      reach = omega (arith, of.reach);
+      rests = λ rests. of.reach;
+      below = is.below;
       begun = (let same = of.number in omega (arith, same));
       few = is.few;
       step = answered_step core.pool run.uber pool is.step of.next on;
@@ -406,6 +450,13 @@ held_by_actor core run actor of is = subst
     same : {one other : ℕ} → Some one ≡ Some other → one ≡ other
     same is = cc
 
+-- It is among the holds where it has sectors.
+pub held_where : (core : Core) (run : CommitRun) (actor : ℕ) → IsCommitOf core run → core.committing ≡ Some actor
+    → HasSectors (hold_for core.pool.uber.reflow run.uber.reflow actor)
+    → Contains core.holds (hold_for core.pool.uber.reflow run.uber.reflow actor)
+held_where core run actor of is some = ⊎_elim (λ held. held.1) (λ none. absurd (none.0 some))
+    (held_by_actor core run actor of is).held
+
 -- A group is answered: what that makes of the core, in its parts.
 module _ (core : Core) (run : CommitRun) (uber : Uber) (before chosen : Reflow) (blocks : Blocks) (done actor : ℕ)
     (holds : List Hold) (is : IsCore core) (of : IsCommitOf core run) (uber_is : run.uber ≡ uber)
@@ -413,7 +464,7 @@ module _ (core : Core) (run : CommitRun) (uber : Uber) (before chosen : Reflow) 
     (chosen_is : chosen ≡ uber.reflow) (drops : DropsHold core.holds holds (hold_for before chosen actor))
     (blocks_are : blocks ≡ blocks_behind core.pool uber) (done_is : done ≡ front_behind before core.pool.done chosen) where
   abbrev now : Core
-  now = core_with uber blocks core.pool.out done holds core.begun None core.copying
+  now = core_with uber blocks core.pool.out done holds core.begun None core.copying core.reach
 
   its_drops : DropsHold core.holds holds (hold_for core.pool.uber.reflow uber.reflow actor)
   its_drops = subst (λ (r : Reflow × Reflow). DropsHold core.holds holds (hold_for r.0 r.1 actor))
@@ -421,7 +472,7 @@ module _ (core : Core) (run : CommitRun) (uber : Uber) (before chosen : Reflow) 
 
   now_is : now ≡ record core { pool = answered_by uber core.pool; holds = holds; committing = None }
   now_is i = core_with uber (blocks_are i) core.pool.out
-      ((done_is ∙ (λ j. front_behind (before_is j) core.pool.done (chosen_is j))) i) holds core.begun None core.copying
+      ((done_is ∙ (λ j. front_behind (before_is j) core.pool.done (chosen_is j))) i) holds core.begun None core.copying core.reach
 
   pub answers_uber : AnswersUber core now uber
   answers_uber = record { actor = actor; under_way = under_way; holds = its_drops; rest = now_is }
@@ -448,27 +499,26 @@ answer_grows core run is of ends = may_grow_now core.pool run.uber (begun_pool c
 -- The devices that a step touches are in use.
 pub step_touches : (core : Core) (run stepped : CommitRun) (out : ℕ) (old new : Disk) (result : CommitStep)
     → IsCore core → Lawful old → IsCommitOf core run → CommitSteps run (point_of core.pool.out old) stepped (point_of out new) result
-    → TouchesOnly (IsOnInUse core.pool.uber.reflow.to core.pool.out) old new
+    → TouchesOnly (IsOnInUse core.reach core.pool.out) old new
 step_touches core run stepped out old new Called is lawful of did =
-    let widths : did.ready.uber.reflow.to ≡ core.pool.uber.reflow.to =
-    ap (λ (u : Uber). u.reflow.to) (ready_keeps core.pool.out run did.ready did.is_ready).uber
-    ∙ (core_rows core run.uber.reflow is of.next.choice).to in
+    let widths : did.ready.uber.reflow.to ≡ core.reach =
+    ap (λ (u : Uber). u.reflow.to) (ready_keeps core.pool.out run did.ready did.is_ready).uber ∙ sym of.reach in
     subst (λ (to : ℕ). TouchesOnly (IsOnInUse to core.pool.out) old new) widths
     (touched_more did.ready.uber did.ready.entries did.call (point_of core.pool.out old) (point_of core.pool.out old)
     (point_of out new) lawful did.inside (touched_none did.ready.uber (point_of core.pool.out old)) did.made).only
 step_touches core run stepped out old new Ended is lawful of did =
-    subst (λ (d : Disk). TouchesOnly (IsOnInUse core.pool.uber.reflow.to core.pool.out) old d)
-    (sym (ap (λ (p : Point). p.disk) did.same)) (touches_none (IsOnInUse core.pool.uber.reflow.to core.pool.out) old)
+    subst (λ (d : Disk). TouchesOnly (IsOnInUse core.reach core.pool.out) old d)
+    (sym (ap (λ (p : Point). p.disk) did.same)) (touches_none (IsOnInUse core.reach core.pool.out) old)
 
 -- No turn was made.
 pub turn_nowhere : (state : CoreState) → TurnGoesOn state state
 turn_nowhere state = record {
   parity = refl;
-  widths = refl;
+  reach = refl;
   rows = refl;
   later = later_refl state.disk;
   out = outs_none (point_of state.core.pool.out state.disk);
-  only = touches_none (IsOnInUse state.core.pool.uber.reflow.to state.core.pool.out) state.disk;
+  only = touches_none (IsOnInUse state.core.reach state.core.pool.out) state.disk;
 }
 
 -- What a turn of a commit does, whether its group is answered or not.
@@ -476,14 +526,14 @@ pub turn_steps : (before after : CoreState) (run stepped : CommitRun) (result : 
     → Lawful before.disk → IsCommitOf before.core run
     → CommitSteps run (point_of before.core.pool.out before.disk) stepped (point_of after.core.pool.out after.disk) result
     → (after.core.pool.uber ≡ before.core.pool.uber) ⊎ (after.core.pool.uber ≡ stepped.uber)
+    → after.core.reach ≡ before.core.reach
     → TurnGoesOn before after
-turn_steps before after run stepped result is lawful of did uber = record {
+turn_steps before after run stepped result is lawful of did uber reach = record {
   parity = ⊎_elim (λ same. ap (λ (u : Uber). u.parity) same)
       (λ group. ap (λ (u : Uber). u.parity) (group ∙ made) ∙ of.next.parity) uber;
-  widths = ⊎_elim (λ same. ap (λ (u : Uber). u.reflow.to) same)
-      (λ group. ap (λ (u : Uber). u.reflow.to) (group ∙ made) ∙ on.to) uber;
+  reach = reach;
   rows = ⊎_elim (λ same. ap (λ (u : Uber). u.reflow.rows) same)
-      (λ group. ap (λ (u : Uber). u.reflow.rows) (group ∙ made) ∙ on.rows) uber;
+      (λ group. ap (λ (u : Uber). u.reflow.rows) (group ∙ made) ∙ on) uber;
   later = (steps_went result run stepped (point_of before.core.pool.out before.disk)
       (point_of after.core.pool.out after.disk) did).spares.later;
   out = step_outs (point_of before.core.pool.out before.disk) (point_of after.core.pool.out after.disk)
@@ -495,7 +545,7 @@ turn_steps before after run stepped result is lawful of did uber = record {
     made = (steps_same result run stepped (point_of before.core.pool.out before.disk)
         (point_of after.core.pool.out after.disk) did).0
 
-    on : HasRowsOf before.core.pool.uber.reflow run.uber.reflow
+    on : run.uber.reflow.rows ≡ before.core.pool.uber.reflow.rows
     on = core_rows before.core run.uber.reflow is of.next.choice
 
 -- A turn of a commit is nothing, or a step of it.
@@ -504,6 +554,7 @@ pub record IsStepped (before : CoreState) (run : CommitRun) (after : CoreState) 
   pub kind : CommitStep
   pub did : CommitSteps run (point_of before.core.pool.out before.disk) stepped (point_of after.core.pool.out after.disk) kind
   pub uber : (after.core.pool.uber ≡ before.core.pool.uber) ⊎ (after.core.pool.uber ≡ stepped.uber)
+  pub reach : after.core.reach ≡ before.core.reach
 
 pub commit_turn : (before after : CoreState) (run : CommitRun) (result : Turn CommitRun)
     → StepsCommit before run after result
@@ -513,6 +564,7 @@ commit_turn before after run (More next) steps = inr (record {
   kind = Called;
   did = steps.1;
   uber = inl (ap (λ (core : Core). core.pool.uber) steps.2);
+  reach = ap (λ (core : Core). core.reach) steps.2;
 })
 commit_turn before after run (Busy by) steps = absurd steps
 commit_turn before after run (Done given) steps = by given steps
@@ -523,6 +575,7 @@ commit_turn before after run (Done given) steps = by given steps
       kind = Ended;
       did = answers.ends;
       uber = inr (ap (λ (core : Core). core.pool.uber) answers.answers.rest);
+      reach = ap (λ (core : Core). core.reach) answers.answers.rest;
     })
     by (answer.TooManyFailed out) many = inl many.2
     by other none = absurd none
@@ -532,16 +585,16 @@ pub commit_goes : (before after : CoreState) (run : CommitRun) (result : Turn Co
     → Lawful before.disk → IsCommitOf before.core run → StepsCommit before run after result → TurnGoesOn before after
 commit_goes before after run result is lawful of steps = ⊎_elim
     (λ same. subst (TurnGoesOn before) (sym same) (turn_nowhere before))
-    (λ some. turn_steps before after run some.stepped some.kind is lawful of some.did some.uber)
+    (λ some. turn_steps before after run some.stepped some.kind is lawful of some.did some.uber some.reach)
     (commit_turn before after run result steps)
 
 -- The bank goes on having what is in use over any turn.
 pub turn_bank : (before after : CoreState) → TurnGoesOn before after
-    → HasBank before.core.pool.uber before.core.pool.out before.disk
-    → HasBank after.core.pool.uber after.core.pool.out after.disk
+    → HasBankOf before.core before.disk
+    → HasBankOf after.core after.disk
 turn_bank before after goes bank =
-    let now = bank_later before.core.pool.uber before.disk after.disk before.core.pool.out after.core.pool.out
+    let now = bank_later (reaching before.core) before.disk after.disk before.core.pool.out after.core.pool.out
     goes.later goes.out.still bank in record {
       room = (let room = now.room in let rows = goes.rows in omega (arith, room, rows));
-      devices = λ device inside used. now.devices device (let widths = goes.widths in omega (arith, inside, widths)) used;
+      devices = λ device inside used. now.devices device (let reach = goes.reach in omega (arith, inside, reach)) used;
     }

@@ -1,5 +1,5 @@
 -- A core of which devices went out, and its bank.
-use Rattle.std.proofs.Common.{List, ◌≡◌, ℕ, Option, ◌+◌, ◌^◌, ◌<◌, ◌≤◌, sym, ◌∙◌, ap, subst}
+use Rattle.std.proofs.Common.{List, ◌≡◌, ℕ, Option, ◌+◌, ◌^◌, ◌<◌, ◌≤◌, sym, ◌∙◌, ap, subst, arith}
 use Rattle.bank_trait.specs.Disk.{Disk}
 use Rattle.reflow_mark.specs.declared.reflow.Reflow.{Reflow}
 use Rattle.range_locks.specs.declared.hold.Hold.{Hold}
@@ -9,37 +9,40 @@ use Rattle.block_record.specs.declared.entry.IndexEntry.{IndexEntry}
 use Rattle.core_blocks.specs.Blocks.{Blocks, AreInStep, IsListed}
 use Rattle.core_client.specs.Pool.{HasPool}
 use Rattle.open_pool.specs.Pool.{Pool, IsPool, HasBank}
-use Rattle.core_turns.specs.Core.{Core, IsCore, as_begun, jobs_begun}
+use Rattle.core_turns.specs.Core.{Core, HasBankOf, IsCore, as_begun, jobs_begun}
 use Rattle.core_turns.proofs.Holds.{SameAlone}
 
 -- a core of these parts
-abbrev pub core_with : Uber → Blocks → ℕ → ℕ → List Hold → ℕ → Option ℕ → Option ℕ → Core
-core_with uber blocks out done holds begun committing copying = record {
+abbrev pub core_with : Uber → Blocks → ℕ → ℕ → List Hold → ℕ → Option ℕ → Option ℕ → ℕ → Core
+core_with uber blocks out done holds begun committing copying reach = record {
   pool = record { uber = uber; blocks = blocks; out = out; done = done };
   holds = holds;
   begun = begun;
   committing = committing;
   copying = copying;
+  reach = reach;
 }
 
 -- More devices may be out.
-pub pool_out : (pool : Pool) (out : ℕ) → IsPool pool → out < 2 ^ pool.uber.reflow.to → IsWithin pool.out out
+pub pool_out : (pool : Pool) (out : ℕ) → IsPool pool → IsWithin pool.out out
     → IsPool (record pool { out = out })
-pool_out pool out is below within = record {
+pool_out pool out is within = record {
   right = is.right;
   parity = is.parity;
   births = is.births;
   capacity = is.capacity;
   born = is.born;
   front = is.front;
-  below = below;
   lists = λ device has. within device (is.lists device has);
 }
 
-pub core_out : (core : Core) (out : ℕ) → IsCore core → out < 2 ^ core.pool.uber.reflow.to → IsWithin core.pool.out out
+pub core_out : (core : Core) (out : ℕ) → IsCore core → out < 2 ^ core.reach → IsWithin core.pool.out out
     → IsCore (record core { pool = record core.pool { out = out } })
 core_out core out is below within = record {
-  is = pool_out (as_begun core) out is.is below within;
+  is = pool_out (as_begun core) out is.is within;
+  below = below;
+  reach = is.reach;
+  rests = is.rests;
   begun = is.begun;
   few = is.few;
   step = is.step;
@@ -52,12 +55,23 @@ pub core_held : (core : Core) (holds : List Hold) → IsCore core → SameAlone 
     → IsCore (record core { holds = holds })
 core_held core holds is same = record {
   is = is.is;
+  below = is.below;
+  reach = is.reach;
+  rests = is.rests;
   begun = is.begun;
   few = is.few;
   step = is.step;
   shared = λ rests. same.below core.pool.done ∙ is.shared rests;
   copies = same.all ∙ is.copies
       ∙ ap (λ (n : ℕ). n + jobs_begun core.copying) (sym (same.below core.pool.done));
+}
+
+-- The bank has what the pool's own devices are asked for.
+pub bank_within : (core : Core) (disk : Disk) → IsCore core → HasBankOf core disk
+    → HasBank core.pool.uber core.pool.out disk
+bank_within core disk is bank = record {
+  room = bank.room;
+  devices = λ device below used. bank.devices device (let more = is.reach in omega (arith, below, more)) used;
 }
 
 -- The bank of a pool has what a block's calls ask for.
@@ -83,9 +97,11 @@ core_blocks core blocks holds is parity births capacity born step same = record 
     capacity = capacity ∙ is.is.capacity;
     born = born;
     front = is.is.front;
-    below = is.is.below;
     lists = is.is.lists;
   };
+  below = is.below;
+  reach = is.reach;
+  rests = is.rests;
   begun = is.begun;
   few = is.few;
   step = step;

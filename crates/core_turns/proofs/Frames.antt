@@ -45,7 +45,7 @@ use Rattle.open_pool.proofs.Holding.{block_stays}
 use Rattle.core_turns.specs.declared.copying.CopyRun.{CopyRun}
 use Rattle.core_turns.specs.declared.getting.GetRun.{GetRun}
 use Rattle.core_turns.specs.declared.putting.PutRun.{PutRun}
-use Rattle.core_turns.specs.Core.{Core, CoreState, pool_at}
+use Rattle.core_turns.specs.Core.{Core, CoreState, pool_at, reaching}
 use Rattle.core_turns.specs.Getting.{IsGetOf, HoldsGet}
 use Rattle.core_turns.specs.Putting.{AsksAlike, IsPutOf, HoldsPut}
 use Rattle.core_turns.specs.Committing.{IsHeldAlone, IsCommitOf, hold_for}
@@ -386,6 +386,7 @@ pub record LeavesCommit (old new : Core) : Type 0 where
   pub done : new.pool.done ≡ old.pool.done
   pub begun : new.begun ≡ old.begun
   pub committing : new.committing ≡ old.committing
+  pub reach : new.reach ≡ old.reach
   pub within : IsWithin old.pool.out new.pool.out
   pub holds : KeepsAlone old.pool.done old.holds new.holds
 
@@ -409,6 +410,7 @@ commit_still {run} old new leaves of = record {
       (λ i. (sym leaves.uber i, sym leaves.done i))
       (leaves.holds (hold_for old.pool.uber.reflow run.uber.reflow of.actor) refl of.holds);
   lists = λ device has. leaves.within device (of.lists device has);
+  reach = leaves.reach ∙ of.reach;
 }
 
 -- Where only devices went out the commit is left.
@@ -418,6 +420,7 @@ out_leaves old new core within = record {
   done = ap (λ (c : Core). c.pool.done) core;
   begun = ap (λ (c : Core). c.begun) core;
   committing = ap (λ (c : Core). c.committing) core;
+  reach = ap (λ (c : Core). c.reach) core;
   within = within;
   holds = keeps_same old.pool.done old.holds new.holds (ap (λ (c : Core). c.holds) core);
 }
@@ -490,11 +493,11 @@ since_read setting groups time old new same since = record {
 pub stands_still : {setting : Setting} {last : Kept} {begun : List Kept} {map : Map} {contents nows : ℕ → List ℕ}
     {calls nexts : List HoldingCall} {commit next : Option CommitRun} (P : ℕ → ℕ → Type 0) (before after : CoreState)
     → Leaves P before after → AreOff P before.core → after.core.pool.uber ≡ before.core.pool.uber
-    → after.core.pool.blocks ≡ before.core.pool.blocks → Later before.disk after.disk
+    → after.core.reach ≡ before.core.reach → after.core.pool.blocks ≡ before.core.pool.blocks → Later before.disk after.disk
     → GroupsStand setting last begun nexts next after → PutsSpare after nexts last
     → ((call : HoldingCall) → Contains nexts call → HoldsCall after (nows (actor_of call)) call)
     → Stands setting last begun map contents calls commit before → Stands setting last begun map nows nexts next after
-stands_still {last = last} {map = map} P before after leaves off uber blocks later groups spared each stands = record {
+stands_still {last = last} {map = map} P before after leaves off uber reach blocks later groups spared each stands = record {
   groups = groups;
   alike = ap (λ (u : Uber). record u { out = 0 }) uber ∙ stands.alike;
   kept = subst (λ (u : Uber). NoneFree after.core.pool.blocks u.group last.entries) (sym uber)
@@ -503,8 +506,9 @@ stands_still {last = last} {map = map} P before after leaves off uber blocks lat
   excepted = stands.excepted;
   shape = stands.shape ∙ (λ i. record { devices = sym later.devices i; sectors = sym later.sectors i });
   tells = tells_later later stands.tells;
-  bank = subst (λ (u : Uber). HasBank u after.core.pool.out after.disk) (sym uber)
-      (bank_later before.core.pool.uber before.disk after.disk before.core.pool.out after.core.pool.out later
+  bank = subst (λ (at : Uber × ℕ). HasBank (record at.0 { reflow = record at.0.reflow { to = at.1 } }) after.core.pool.out after.disk)
+      (λ i. (sym uber i, sym reach i))
+      (bank_later (reaching before.core) before.disk after.disk before.core.pool.out after.core.pool.out later
       leaves.within stands.bank);
   holds = map_stays P map before after leaves (ap (λ (b : Blocks). b.table.entries) blocks) off stands.holds;
   each = each;
@@ -518,7 +522,7 @@ pub stands_anew : {setting : Setting} {last : Kept} {begun : List Kept} {map : M
     → ((call : HoldingCall) → Contains nexts call → HoldsCall after (nows (actor_of call)) call)
     → Stands setting last begun map contents calls commit before → Stands setting last begun map nows nexts next after
 stands_anew P before after leaves off core = stands_still P before after leaves off (ap (λ (c : Core). c.pool.uber) core)
-    (ap (λ (c : Core). c.pool.blocks) core)
+    (ap (λ (c : Core). c.reach) core) (ap (λ (c : Core). c.pool.blocks) core)
 
 -- What stands, over a turn that is none of these calls', as a step of a commit.
 pub stands_frame : {setting : Setting} {last : Kept} {begun : List Kept} {map : Map} {contents : ℕ → List ℕ}

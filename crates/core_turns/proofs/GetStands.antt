@@ -32,12 +32,12 @@ use Rattle.core_client.specs.Reading.{spot_of}
 use Rattle.core_client.proofs.Gotten.{outs_by_step}
 use Rattle.core_commit.specs.CommitTurns.{CommitRun, IsCommitting}
 use Rattle.core_turns.specs.Freeing.{map_after_free}
-use Rattle.open_pool.specs.Pool.{HasBank, HoldsMap}
+use Rattle.open_pool.specs.Pool.{HoldsMap}
 use Rattle.open_pool.proofs.Frees.{freed_holds, none_freed_holds}
 use Rattle.core_turns.specs.declared.getting.GetRun.{GetRun}
 use Rattle.core_turns.specs.declared.putting.PutRun.{PutRun}
 use Rattle.core_turns.specs.declared.turn.Turn.TheVariants.{More}
-use Rattle.core_turns.specs.Core.{Core, IsCore, CoreState, at_disk, pool_at}
+use Rattle.core_turns.specs.Core.{Core, IsCore, CoreState, at_disk, pool_at, HasBankOf}
 use Rattle.core_turns.specs.Freeing.{FreesBlock}
 use Rattle.core_turns.specs.Getting.{IsReadKind, IsGetOf, BeginsGet, HoldsGet, ReadsTurn, SolvesGet}
 use Rattle.core_turns.specs.UnderWay.{HoldingCall, Putting, Reading, Copying, SetsContent, actor_of, ranges_of, HoldsCall, HaveNoneInCommon, AreCallsOf, PutsSpare, CommitStands, NoCommitStands, GroupsStand, Stands}
@@ -261,6 +261,7 @@ groups_held setting last begun calls nexts (Some run) old new disk core alone ad
       done = refl;
       begun = refl;
       committing = refl;
+      reach = refl;
       within = λ device out. out;
       holds = alone;
     } in
@@ -295,7 +296,7 @@ module _ {setting : Setting} {last : Kept} {begun : List Kept} {map : Map} {cont
       } in
       stands_still Nowhere (at_disk old disk) (at_disk new disk) leaves
       (λ entry listed. off_nowhere old.pool.uber.reflow old.pool.done (layout_of old.pool.uber.parity old.pool.uber.births entry))
-      (ap (λ (c : Core). c.pool.uber) core) (ap (λ (c : Core). c.pool.blocks) core) (later_refl disk)
+      (ap (λ (c : Core). c.pool.uber) core) (ap (λ (c : Core). c.reach) core) (ap (λ (c : Core). c.pool.blocks) core) (later_refl disk)
       (groups_held setting last begun calls nexts commit old new disk core alone adds stands.groups)
       (λ put listed. subst (λ (c : Core). SparesAll c.pool.blocks.parity c.pool.blocks.births last.entries
       (put_run put.range)) (sym core) (stands.spared put (adds put listed)))
@@ -424,6 +425,7 @@ frees_groups setting last begun calls (Some run) old new disk id given left kept
       done = ap (λ (c : Core). c.pool.done) left.rest;
       begun = ap (λ (c : Core). c.begun) left.rest;
       committing = ap (λ (c : Core). c.committing) left.rest;
+      reach = ap (λ (c : Core). c.reach) left.rest;
       within = λ device out. subst (λ (c : Core). has_device c.pool.out device ≡ true) (sym left.rest) out;
       holds = keeps_same old.pool.done old.holds new.holds (ap (λ (c : Core). c.holds) left.rest);
     } in record {
@@ -459,7 +461,7 @@ frees_stands {setting} {last} {begun} {map} {contents} {calls} {commit} {old} {n
       excepted = stands.excepted;
       shape = stands.shape;
       tells = stands.tells;
-      bank = subst (λ (c : Core). HasBank c.pool.uber c.pool.out disk) (sym left.rest) stands.bank;
+      bank = subst (λ (c : Core). HasBankOf c disk) (sym left.rest) stands.bank;
       holds = left.holds map disk stands.holds;
       each = λ call listed. call_stays Nowhere (contents (actor_of call)) (at_disk old disk) (at_disk new disk) call
           (record {

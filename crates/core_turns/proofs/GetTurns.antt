@@ -22,7 +22,7 @@ use Rattle.core_turns.specs.declared.getting.OutOfMemory.{OutOfMemory}
 use Rattle.core_turns.specs.declared.getting.Solved.TheVariants.{NotYet}
 use Rattle.core_turns.specs.declared.turn.Turn.{Turn}
 use Rattle.core_turns.specs.declared.turn.Turn.TheVariants.{More, Busy, Done}
-use Rattle.core_turns.specs.Core.{Core, CoreState, IsCore, as_begun}
+use Rattle.core_turns.specs.Core.{Core, CoreState, IsCore, as_begun, reaching}
 use Rattle.core_turns.specs.Getting.{HasTooManyOut, IsGetOf, IsMoreOf, hold_of, BeginsGet, ReadsTurn, SolvesGet}
 use Rattle.core_turns.proofs.Cores.{core_held}
 use Rattle.core_turns.proofs.Holds.{shared_ended}
@@ -101,11 +101,11 @@ get_of_more before after run (Busy by) of reads = tt
 get_of_more before after run (Done given) of reads = tt
 
 -- The uberblock stays in a turn that reads.
-pub reads_uber : (before after : CoreState) (run : GetRun) (result : Turn GetRun) → ReadsTurn before run after result
-    → after.core.pool.uber ≡ before.core.pool.uber
-reads_uber before after run (More next) reads = ap (λ (core : Core). core.pool.uber) reads.2
-reads_uber before after run (Busy by) reads = absurd reads
-reads_uber before after run (Done given) reads = ap (λ (core : Core). core.pool.uber) reads.0.rest
+pub reads_reaching : (before after : CoreState) (run : GetRun) (result : Turn GetRun) → ReadsTurn before run after result
+    → reaching after.core ≡ reaching before.core
+reads_reaching before after run (More next) reads = ap reaching reads.2
+reads_reaching before after run (Busy by) reads = absurd reads
+reads_reaching before after run (Done given) reads = ap reaching reads.0.rest
 
 -- Another read that begins leaves all but the holds, and the holds of those under way.
 pub begins_rest : (old new : Core) (actor id : ℕ) (asked : Kind) (result : Turn GetRun) → BeginsGet old new actor asked id result

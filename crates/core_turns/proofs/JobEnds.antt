@@ -144,6 +144,7 @@ module _ (core : Core) (run : CopyRun) (is : IsCore core) (of : IsJobOf core run
               omega (arith, some, begins))
           (below_behind core run holds is of ends).1 ends its.holds;
       lists = its.lists;
+      reach = its.reach;
     }
 
     groups_ended : (setting : Setting) (last : Kept) (begun : List Kept) (calls left : List HoldingCall)

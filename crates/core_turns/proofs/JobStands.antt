@@ -31,6 +31,7 @@ use Rattle.core_state.specs.JobTurns.{MayRun}
 use Rattle.core_state.specs.Moment.{IsRowOf, KeepsSince}
 use Rattle.core_state.specs.Whole.{Cell, IsCell, RightAt}
 use Rattle.core_state.proofs.Listed.{contains_cases, contains_none, contains_head, contains_tail}
+use Rattle.mark_choice.proofs.Recording.{chooses}
 use Rattle.mark_advance.proofs.Advance.{around_alone, around_begins}
 use Rattle.mark_choice.specs.CommitChoice.{IsCommitChoice}
 use Rattle.reflow_band.specs.Band.{IsFrontOf, IsWidening, copied_of}
@@ -49,15 +50,14 @@ use Rattle.core_commit.proofs.Halves.{sound_paged}
 use Rattle.core_copy.specs.JobRun.{JobRun, begun_run, present_sector, source_spot, target_spot}
 use Rattle.core_copy.specs.Holding.{GoesOnIn, HoldsJob}
 use Rattle.core_copy.proofs.Holding.{present_in, run_begins, run_steps, step_goes_on, target_at}
-use Rattle.open_pool.specs.Pool.{HasBank}
 use Rattle.open_pool.proofs.Holding.{listed_in_pool}
 use Rattle.core_turns.specs.declared.copying.CopyRun.{CopyRun}
 use Rattle.core_turns.specs.declared.putting.PutRun.{PutRun}
-use Rattle.core_turns.specs.Core.{Core, CoreState, IsCore, as_begun, at_disk}
+use Rattle.core_turns.specs.Core.{Core, CoreState, IsCore, as_begun, at_disk, HasBankOf}
 use Rattle.core_turns.specs.Copying.{BeginsJobSo, CopiesCells, DropsJob, IsJobOf, StepsJob}
 use Rattle.core_turns.specs.UnderWay.{HoldingCall, Putting, Reading, Copying, AreBeside, AreCallsOf, CommitStands, HoldsCall, IsCallOfCore, NoCommitStands, PutsSpare, Stands, actor_of}
 use Rattle.core_turns.proofs.Calls.{beside_turn}
-use Rattle.core_turns.proofs.Cores.{bank_has}
+use Rattle.core_turns.proofs.Cores.{bank_has, bank_within}
 use Rattle.core_turns.proofs.Frames.{AreOff, IsCallOff, IsOff, Leaves, call_stays, leaves_touched, stands_anew}
 use Rattle.core_turns.proofs.GetStands.{AddsNoPut, OnlyHeld, stands_held}
 use Rattle.core_turns.proofs.Holds.{KeepsAlone, alone_beside, alone_passes}
@@ -232,13 +232,13 @@ module _ {before after : CoreState} {run next : CopyRun} (is : IsCore before.cor
   few = let none : count_of before.core.pool.out ≡ 0 = ap count_of steps.whole ∙ none_counted in omega (arith, none)
 
   -- It has come one step further with each cell.
-  copies_on : Tells before.disk → HasBank before.core.pool.uber before.core.pool.out before.disk
+  copies_on : Tells before.disk → HasBankOf before.core before.disk
       → CopiesCells reflow done run.job here → CopiesCells reflow done next.job there
   copies_on tells bank held = record {
     goes = step_goes_on reflow done run.job next.job here there some steps.steps of.goes;
     each = λ whole cell close below right.
         run_steps reflow done run.job next.job here there [] cell of.goes some tells
-        (bank_has before.core.pool.uber reflow before.core.pool.out before.disk refl bank) close below
+        (bank_has before.core.pool.uber reflow before.core.pool.out before.disk refl (bank_within before.core before.disk is bank)) close below
         (λ listed. contains_none ((source_spot run.job).device, (source_spot run.job).device_sector) listed) steps.steps
         (held.each steps.whole cell close below (record {
           at = λ device device_sector place used kept.
@@ -294,9 +294,12 @@ module _ {before after : CoreState} {run next : CopyRun} (is : IsCore before.cor
 
     -- and beside one, whose group is another of the row.
     module _ (commit : CommitRun) (groups : CommitStands setting last begun calls commit before) where
+      choice : (holds : List Hold) × IsCommitChoice reflow done holds commit.uber.reflow
+      choice = chooses reflow done commit.uber.reflow of.goes.widening.expands groups.of.next.choice
+
       moves : MovesMark reflow done commit.uber.reflow
-      moves = choice_moves reflow done run.job.job groups.of.next.choice.holds commit.uber.reflow of.goes.widening
-          of.goes.front of.goes.may_run groups.of.next.choice.choice
+      moves = choice_moves reflow done run.job.job choice.0 commit.uber.reflow of.goes.widening of.goes.front
+          of.goes.may_run choice.1
 
       next_reflow : groups.next.uber.reflow ≡ commit.uber.reflow
       next_reflow = sym (ap (λ (u : Uber). u.reflow) groups.come.alike)
@@ -307,8 +310,8 @@ module _ {before after : CoreState} {run next : CopyRun} (is : IsCore before.cor
           (sound_close setting groups.next cell groups.come.sound its)
 
       next_around : StandAround reflow (copied_of reflow done) (last ∷ groups.next ∷ [])
-      next_around = around_begins reflow done groups.of.next.choice.holds last groups.next of.goes.widening of.goes.front
-          (subst (IsCommitChoice reflow done groups.of.next.choice.holds) (sym next_reflow) groups.of.next.choice.choice)
+      next_around = around_begins reflow done choice.0 last groups.next of.goes.widening of.goes.front
+          (subst (IsCommitChoice reflow done choice.0) (sym next_reflow) choice.1)
           next_close (last_around groups.come.sound_first)
 
       next_unmoved : run.job.job ≡ Fill → (kept : Kept) → Contains (last ∷ groups.next ∷ []) kept

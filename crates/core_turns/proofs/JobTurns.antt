@@ -1,4 +1,5 @@
 -- Copy jobs, turn by turn: that a pool stays one, and what each turn comes to.
+use Rattle.std.proofs.Math.Nat.{pow-le-pow_right}
 use Rattle.std.proofs.Common.{◌≡◌, inl, inr, ⊎_elim, ℕ, ◌+◌, ◌^◌, ◌<◌, ◌≤◌, List, false, Some, None, Option, refl, sym, ◌∙◌, ap, subst, arith}
 use Rattle.std.specs.Prelude.{◌/◌, ◌%◌, IfSome}
 use Rattle.bank_trait.specs.Disk.{Disk, Later}
@@ -100,6 +101,9 @@ job_begun_core core job actor hold holds is due hold_is gains =
     let copies = is.copies in
     record {
       is = is.is;
+      reach = is.reach;
+      rests = is.rests;
+      below = is.below;
       begun = is.begun;
       few = is.few;
       step = is.step;
@@ -108,6 +112,16 @@ job_begun_core core job actor hold holds is due hold_is gains =
     }
 
 -- ---- a job goes on
+
+-- A device that goes out in a step is one that the pool reaches to.
+pub job_below : (core : Core) (run : CopyRun) (out : ℕ) → IsCore core → IsJobOf core run → out < 2 ^ run.job.reflow.to
+    → out < 2 ^ core.reach
+job_below core run out is of below =
+    let same : core.pool.uber.reflow.to ≡ run.job.reflow.to = ap (λ (r : Reflow). r.to) of.goes.moves.is in
+    let more : run.job.reflow.to ≤ core.reach = let reach = is.reach in omega (arith, same, reach) in
+    let power : 2 ^ run.job.reflow.to ≤ 2 ^ core.reach =
+    pow-le-pow_right {n = 2} (omega arith) {i = run.job.reflow.to} {j = core.reach} more in
+    omega (arith, below, power)
 
 -- The job is the core's after a step,
 pub job_steps_of : (core : Core) (run : CopyRun) (next : JobRun) (out : ℕ) (old new : Disk) → IsJobOf core run
@@ -154,18 +168,19 @@ target_on core run of left =
     (present_in reflow core.pool.done run.job of.goes left) (target_at reflow core.pool.done run.job of.goes)
 
 -- So the turn goes on in the pool.
-pub job_turn : (before after : CoreState) (run next : CopyRun) → IsJobOf before.core run
+pub job_turn : (before after : CoreState) (run next : CopyRun) → IsCore before.core → IsJobOf before.core run
     → run.job.made < call_count run.job.reflow run.job.job → StepsJob before run after next → TurnGoesOn before after
-job_turn before after run next of left steps = record {
+job_turn before after run next is of left steps = record {
   parity = ap (λ (core : Core). core.pool.uber.parity) steps.rest;
-  widths = ap (λ (core : Core). core.pool.uber.reflow.to) steps.rest;
+  reach = ap (λ (core : Core). core.reach) steps.rest;
   rows = ap (λ (core : Core). core.pool.uber.reflow.rows) steps.rest;
   later = touched.later;
   out = outs_by_step run.job next.job (point_of before.core.pool.out before.disk)
       (point_of after.core.pool.out after.disk) steps.steps;
-  only = touches_widen (IsWrittenBy run.job) (IsOnInUse before.core.pool.uber.reflow.to before.core.pool.out)
+  only = touches_widen (IsWrittenBy run.job) (IsOnInUse before.core.reach before.core.pool.out)
       (λ device device_sector at. (
-        subst (λ (d : ℕ). d < before.core.pool.uber.reflow.to) (sym at.0) (target_on before.core run of left).0,
+        (let low = (target_on before.core run of left).0 in let more = is.reach in
+            subst (λ (d : ℕ). d < before.core.reach) (sym at.0) (omega (arith, low, more))),
         all_used before.core.pool.out device steps.whole,
       )) touched;
 }
@@ -200,6 +215,9 @@ job_dropped_core core run holds is of ends =
     let all = left.0 in
     record {
       is = is.is;
+      reach = is.reach;
+      rests = is.rests;
+      below = is.below;
       begun = is.begun;
       few = is.few;
       step = is.step;
@@ -239,9 +257,11 @@ job_ended_core core run holds is of ends =
         capacity = is.is.capacity;
         born = is.is.born;
         front = job_front core.pool.uber.reflow core.pool.done run.job.job of.goes.widening of.goes.front of.goes.may_run;
-        below = is.is.below;
         lists = is.is.lists;
       };
+      reach = is.reach;
+      rests = is.rests;
+      below = is.below;
       begun = is.begun;
       few = is.few;
       step = is.step;

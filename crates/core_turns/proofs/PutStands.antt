@@ -85,6 +85,7 @@ module _ (setting : Setting) (last : Kept) (begun : List Kept) (calls nexts : Li
     done = refl;
     begun = refl;
     committing = refl;
+    reach = refl;
     within = λ device out. out;
     holds = alone;
   }

@@ -48,14 +48,15 @@ use Rattle.core_turns.specs.declared.putting.Filled.{Filled}
 use Rattle.core_turns.specs.declared.putting.PutRun.{PutRun}
 use Rattle.core_turns.specs.declared.turn.Turn.{Turn}
 use Rattle.core_turns.specs.declared.turn.Turn.TheVariants.{More, Busy, Done}
-use Rattle.core_turns.specs.Core.{Core, CoreState, IsCore, as_begun, at_disk}
+use Rattle.core_turns.specs.Core.{Core, CoreState, IsCore, as_begun, at_disk, HasBankOf}
 use Rattle.core_turns.specs.Getting.{HasTooManyOut}
 use Rattle.core_turns.specs.Putting.{AsksAlike, BeginsPutTurn, FillsPut, IsFilledWith, IsMorePut, IsPutOf, LeavesBlocks, StoresBlock, WritesOne, WritesTurn, filled_entry, hold_on, refused_turn}
 use Rattle.core_turns.specs.UnderWay.{TurnGoesOn}
-use Rattle.core_turns.proofs.Cores.{bank_has, core_blocks}
+use Rattle.core_turns.proofs.Cores.{bank_within, bank_has, core_blocks}
 use Rattle.core_turns.proofs.Holds.{shared_ended, shared_gained}
 use Rattle.core_turns.proofs.Frames.{put_of_stays, widths_out}
 use Rattle.core_turns.proofs.TakenBack.{was_there}
+use Rattle.core_turns.proofs.Commits.{turn_bank}
 
 -- What is filled in is one.
 pub same_filled : {one two : Filled} → Some one ≡ Some two → one ≡ two
@@ -297,14 +298,14 @@ written_of core run filled write is there of =
 -- ---- a turn that writes
 
 -- The writes of a put can be made,
-pub put_inside : (core : Core) (run : PutRun) (filled : Filled) (disk : Disk) → IsPutOf core run
-    → run.filled ≡ Some filled → HasBank core.pool.uber core.pool.out disk
+pub put_inside : (core : Core) (run : PutRun) (filled : Filled) (disk : Disk) → IsCore core → IsPutOf core run
+    → run.filled ≡ Some filled → HasBankOf core disk
     → All (IsOnBank filled.write.rows core.pool.out disk) filled.write.writes
-put_inside core run filled disk of is bank =
-    let plan = (of.filled filled is).1.plan in
+put_inside core run filled disk is of filled_is bank =
+    let plan = (of.filled filled filled_is).1.plan in
     plan_inside run.range.layout core.pool.uber.reflow core.pool.done filled.write.rows
     filled.write.writes core.pool.out disk of.pool
-    (bank_has core.pool.uber core.pool.uber.reflow core.pool.out disk refl bank) plan.encoded.shape plan.required
+    (bank_has core.pool.uber core.pool.uber.reflow core.pool.out disk refl (bank_within core disk is bank)) plan.encoded.shape plan.required
 
 -- and go to devices of the pool.
 write_below : (core : Core) (run : PutRun) (filled : Filled) (write : Write) → IsPutOf core run
@@ -352,16 +353,18 @@ has_left run filled is (other, also, left) =
     subst (λ (f : Filled). f.write.next < length f.write.writes) (same_filled (sym also ∙ is)) left
 
 -- The devices that are out stay the pool's.
-pub put_below : (core : Core) (run : PutRun) (filled : Filled) (out : ℕ) (old new : Disk) → IsPutOf core run
+pub put_below : (core : Core) (run : PutRun) (filled : Filled) (out : ℕ) (old new : Disk) → IsCore core → IsPutOf core run
     → run.filled ≡ Some filled → filled.write.next < length filled.write.writes
     → ((next : Write) → slice_get filled.write.writes filled.write.next ≡ Some next
     → IsPassedOrMade filled.write.rows next (point_of core.pool.out old) (point_of out new))
-    → core.pool.out < 2 ^ core.pool.uber.reflow.to → out < 2 ^ core.pool.uber.reflow.to
-put_below core run filled out old new of is low step below =
+    → out < 2 ^ core.reach
+put_below core run filled out old new is of filled_is low step =
     let next = next_write filled.write.writes filled.write.next low in
-    below_by_write filled.write.rows next.0 (point_of core.pool.out old) (point_of out new) core.pool.uber.reflow.to
+    below_by_write filled.write.rows next.0 (point_of core.pool.out old) (point_of out new) core.reach
     (step next.0 next.1)
-    (write_below core run filled next.0 of is (listed_at filled.write.writes filled.write.next next.0 next.1)) below
+    (let low = write_below core run filled next.0 of filled_is
+    (listed_at filled.write.writes filled.write.next next.0 next.1) in
+    let more = is.reach in omega (arith, low, more)) is.below
 
 -- One write puts out no device but its own, where it failed.
 pub outs_by_write : (before after : Point) (filled : Filled) (write : Write)
@@ -395,52 +398,45 @@ touches_by_write before after filled write width below step = ⊎_elim
     step
 
 -- A turn that writes goes on.
-pub put_goes_on : (before after : CoreState) (run : PutRun) (result : Turn PutRun) → IsPutOf before.core run
+pub put_goes_on : (before after : CoreState) (run : PutRun) (result : Turn PutRun) → IsCore before.core → IsPutOf before.core run
     → WritesTurn before run after result → TurnGoesOn before after
-put_goes_on before after run (More next) of writes =
+put_goes_on before after run (More next) is of writes =
     let here = point_of before.core.pool.out before.disk in
     let there = point_of after.core.pool.out after.disk in
     let uber : after.core.pool.uber ≡ before.core.pool.uber = ap (λ (c : Core). c.pool.uber) writes.rest in
     let listed = listed_at writes.filled.write.writes writes.filled.write.next writes.write writes.write_is in
-    let width = before.core.pool.uber.reflow.to in
-    let below = write_below before.core run writes.filled writes.write of writes.filled_is listed in
+    let width = before.core.reach in
+    let below : writes.write.device < width =
+    let low = write_below before.core run writes.filled writes.write of writes.filled_is listed in
+    let more = is.reach in omega (arith, low, more) in
     let only = touches_by_write here there writes.filled writes.write width below writes.made in
     record {
       parity = ap (λ (u : Uber). u.parity) uber;
-      widths = ap (λ (u : Uber). u.reflow.to) uber;
+      reach = ap (λ (c : Core). c.reach) writes.rest;
       rows = ap (λ (u : Uber). u.reflow.rows) uber;
       later = only.later;
       out = outs_by_write here there writes.filled writes.write writes.made;
       only = only;
     }
-put_goes_on before after run (Busy by) of writes = absurd writes
-put_goes_on before after run (Done given) of writes =
+put_goes_on before after run (Busy by) is of writes = absurd writes
+put_goes_on before after run (Done given) is of writes =
     let stopped = writes.0.gives_up.rest in
     subst (λ (d : Disk). TurnGoesOn before (at_disk after.core d)) (sym writes.1)
     (subst (λ (c : Core). TurnGoesOn before (at_disk c before.disk)) (sym stopped) (record {
       parity = refl;
-      widths = refl;
+      reach = refl;
       rows = refl;
       later = later_refl before.disk;
       out = outs_none (point_of before.core.pool.out before.disk);
-      only = touches_none (IsOnInUse before.core.pool.uber.reflow.to before.core.pool.out) before.disk;
+      only = touches_none (IsOnInUse before.core.reach before.core.pool.out) before.disk;
     }))
 
 -- The bank has what the pool asks for still.
-pub put_bank : (before after : CoreState) (run : PutRun) (result : Turn PutRun) → IsPutOf before.core run
-    → WritesTurn before run after result → HasBank before.core.pool.uber before.core.pool.out before.disk
-    → HasBank after.core.pool.uber after.core.pool.out after.disk
-put_bank before after run result of writes bank =
-    let goes = put_goes_on before after run result of writes in
-    subst (λ (u : Uber). HasBank u after.core.pool.out after.disk) (sym (writes_uber result writes))
-    (bank_later before.core.pool.uber before.disk after.disk before.core.pool.out after.core.pool.out goes.later
-    goes.out.still bank)
-  where
-    writes_uber : (result : Turn PutRun) → WritesTurn before run after result
-        → after.core.pool.uber ≡ before.core.pool.uber
-    writes_uber (More next) writes = ap (λ (c : Core). c.pool.uber) writes.rest
-    writes_uber (Busy by) writes = absurd writes
-    writes_uber (Done given) writes = ap (λ (c : Core). c.pool.uber) writes.0.gives_up.rest
+pub put_bank : (before after : CoreState) (run : PutRun) (result : Turn PutRun) → IsCore before.core → IsPutOf before.core run
+    → WritesTurn before run after result → HasBankOf before.core before.disk
+    → HasBankOf after.core after.disk
+put_bank before after run result is of writes bank =
+    turn_bank before after (put_goes_on before after run result is of writes) bank
 
 -- A put with one write more is one of this pool still.
 pub put_more : (before after : CoreState) (run : PutRun) (result : Turn PutRun) → IsPutOf before.core run

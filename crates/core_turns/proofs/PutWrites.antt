@@ -49,17 +49,17 @@ use Rattle.core_commit.specs.declared.commit_run.Stage.TheVariants.{Lays, Signs}
 use Rattle.core_commit.specs.CommitTurns.{CommitRun, shown_at, shown_by}
 use Rattle.core_commit.proofs.Beside.{committing_knows, committing_touched}
 use Rattle.core_commit.proofs.Halves.{sound_paged}
-use Rattle.open_pool.specs.Pool.{HasBank}
 use Rattle.open_pool.proofs.Holding.{listed_in_pool}
 use Rattle.open_pool.proofs.Layouts.{entry_in_pool}
 use Rattle.open_pool.proofs.PutRanges.{tells_at}
 use Rattle.core_turns.specs.declared.putting.Filled.{Filled}
 use Rattle.core_turns.specs.declared.putting.PutRun.{PutRun}
-use Rattle.core_turns.specs.Core.{Core, CoreState, IsCore, as_begun, at_disk}
+use Rattle.core_turns.specs.Core.{Core, CoreState, IsCore, as_begun, at_disk, HasBankOf}
 use Rattle.core_turns.specs.Putting.{IsPutOf, HoldsPut, WritesOne}
 use Rattle.core_turns.specs.UnderWay.{HoldingCall, Putting, Reading, Copying, AreBeside, AreCallsOf, CommitStands, GroupsStand, HoldsCall, IsCallOfCore, NoCommitStands, PutsSpare, Stands, actor_of}
 use Rattle.core_turns.proofs.Beside.{IsWrittenTo, AreInPool, never_asked, put_beside_commit, required_data}
 use Rattle.core_turns.proofs.CommitEnds.{layout_same}
+use Rattle.core_turns.proofs.Cores.{bank_within}
 use Rattle.core_turns.proofs.Commits.{core_follows}
 use Rattle.core_turns.proofs.Frames.{AreOff, IsCallOff, commit_still, lies_still, out_leaves, IsOff, Leaves, call_stays, leaves_touched, off_written, stands_anew}
 use Rattle.core_turns.proofs.Calls.{beside_turn, range_listed}
@@ -207,7 +207,7 @@ module _ {left calls : List HoldingCall} {before after : CoreState} {run next : 
         (listed_clear before.core run.range entry is under listed)
 
     -- One write more of the put's block stands there.
-    holds_further : (content : List ℕ) → Tells before.disk → HasBank before.core.pool.uber before.core.pool.out before.disk
+    holds_further : (content : List ℕ) → Tells before.disk → HasBankOf before.core before.disk
         → HoldsPut content before run → HoldsPut content written next
     holds_further content tells bank holds = subst (HoldsPut content written) (sym writes.next_is) (record {
       len_is = holds.len_is;
@@ -218,7 +218,7 @@ module _ {left calls : List HoldingCall} {before after : CoreState} {run next : 
             so_far.0,
             written_more layout content reflow done writes.filled.write writes.write here there
                 writes.write_is so_far.1 writes.made
-                (λ used. tells_at layout before.core.pool.uber done before.core.pool.out before.disk of.pool is.is.front bank tells
+                (λ used. tells_at layout before.core.pool.uber done before.core.pool.out before.disk of.pool is.is.front (bank_within before.core before.disk is bank) tells
                 writes.write write_listed used),
           );
     })

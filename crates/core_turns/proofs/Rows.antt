@@ -1,6 +1,6 @@
 -- The rows of a block outside the sectors that a commit holds: they are asked for, and read, at the same places behind
 -- its answer.
-use Rattle.std.proofs.Common.{◌≡◌, inl, inr, ⊎_elim, ℕ, ◌+◌, ◌-◌, ◌*◌, ◌<◌, ◌≤◌, Bool, true, false, List, sym, ◌∙◌, ap, subst, arith}
+use Rattle.std.proofs.Common.{◌≡◌, inl, inr, ⊎_elim, ℕ, ◌+◌, ◌-◌, ◌*◌, ◌<◌, ◌≤◌, Bool, true, false, List, refl, sym, ◌∙◌, ap, subst, arith}
 use Rattle.std.specs.Prelude.{◌==◌, if◌then◌else◌, nat_le}
 use Rattle.std.proofs.lemmas.Bool.Decides.{nat_tests}
 use Rattle.range_locks.specs.declared.hold.Hold.{Hold}
@@ -13,7 +13,7 @@ use Rattle.reflow_mark.specs.Reflow.{IsRightReflow}
 use Rattle.reflow_mark.specs.Standing.{stand_of}
 use Rattle.row_layout.specs.Layout.{Layout, IsLayout, IsColumn, allocated_of, columns_in, end_of, sector_of, total_of}
 use Rattle.row_layout.proofs.Laws.{inside}
-use Rattle.mark_choice.specs.CommitChoice.{IsChoiceIn, MayRecord, range_of_commit}
+use Rattle.mark_choice.specs.CommitChoice.{IsChoiceIn, MayRecord, Chooses, Widens, range_of_commit}
 use Rattle.mark_choice.proofs.Clear.{next_mark_between}
 use Rattle.mark_advance.specs.Behind.{IsOutside, RowsStand, front_behind}
 use Rattle.reflow_band.specs.Band.{IsFrontOf}
@@ -161,15 +161,23 @@ pub spot_stays : (reflow : Reflow) (done : ℕ) (chosen : Reflow) (layout : Layo
     → IsFrontOf reflow done → MayRecord reflow done chosen
     → IsBlockOutside (range_of_commit reflow chosen).0 (range_of_commit reflow chosen).1 layout
     → IsColumn layout row column → spot_of layout chosen row column ≡ spot_of layout reflow row column
-spot_stays reflow done chosen layout row column pool front choice outside there =
+spot_stays reflow done chosen layout row column pool front (Chooses holds choice) outside there =
     subst (λ (row_end : ℕ). spot_in (stand_of chosen.state chosen.mark row_end) chosen (sector_of layout row column)
     ≡ spot_in (stand_of reflow.state reflow.mark row_end) reflow (sector_of layout row column)) ends_there
-    (in_state reflow.from reflow.to reflow.rows reflow.mark done choice.holds layout.start (end_of layout row)
+    (in_state reflow.from reflow.to reflow.rows reflow.mark done holds layout.start (end_of layout row)
     (sector_of layout row column) (let low = there.column_in in omega (arith, low))
     (let ends = row_ends layout row column pool.within.is there in let end = pool.end in omega (arith, ends, end))
-    reflow.state chosen pool.right front choice.choice
+    reflow.state chosen pool.right front choice
     (row_outside (range_of_commit reflow chosen).0 (range_of_commit reflow chosen).1 layout row column pool.within.is there
     outside))
   where
     ends_there : end_of layout row ≡ sector_of layout row 0 + columns_in layout row
     ends_there = omega arith
+spot_stays reflow done chosen layout row column pool front (Widens wider) outside there =
+    ap (λ (r : Reflow). spot_of layout r row column) wider.wider_is
+    ∙ subst (λ (state : State). spot_of layout (record reflow { to = reflow.to + 1; state = state }) row column
+    ≡ spot_of layout (record reflow { state = state }) row column) (sym unmoved) refl
+  where
+    unmoved : reflow.state ≡ None
+    unmoved = ⊎_elim (λ rests. rests.2)
+        (λ expands. let grows = expands.0 in let rest = wider.rest in absurd (omega (arith, rest, grows))) pool.right

@@ -60,7 +60,8 @@ abbrev pub DropsHold : List Hold → List Hold → Hold → Type 0
 DropsHold old new hold = (HasSectors hold × EndsHold old new hold) ⊎ ((HasSectors hold → ⊥) × (new ≡ old))
 
 -- The commit under way is one of this core: it makes the group that was begun last, of the pool's devices, at a reflow
--- that may be recorded at the pool's front, and holds the sectors whose standing that changes.
+-- that may be recorded at the pool's front, with the devices that the pool reaches to, and holds the sectors whose
+-- standing that changes.
 pub record IsCommitOf (core : Core) (run : CommitRun) : Type 0 where
   pub actor : ℕ
   pub under_way : core.committing ≡ Some actor
@@ -68,6 +69,7 @@ pub record IsCommitOf (core : Core) (run : CommitRun) : Type 0 where
   pub next : IsNextGroup core.pool run.uber
   pub holds : IsHeldAlone core.pool.done core.holds (hold_for core.pool.uber.reflow run.uber.reflow actor)
   pub lists : IsWithin run.uber.out core.pool.out
+  pub reach : core.reach ≡ run.uber.reflow.to
 
 -- Why a sync ends in its first turn.
 abbrev pub IsSyncRefused : Core → Answer → Type 0

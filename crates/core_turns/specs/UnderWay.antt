@@ -22,11 +22,11 @@ use Rattle.core_state.specs.Committing.{point_of}
 use Rattle.core_commit.specs.CommitTurns.{CommitRun, IsCommitting}
 use Rattle.core_commit.specs.Spared.{IsOnInUse}
 use Rattle.core_open.specs.Holds.{shape_of}
-use Rattle.open_pool.specs.Pool.{HasBank, HoldsMap}
+use Rattle.open_pool.specs.Pool.{HoldsMap}
 use Rattle.core_turns.specs.declared.copying.CopyRun.{CopyRun}
 use Rattle.core_turns.specs.declared.getting.GetRun.{GetRun}
 use Rattle.core_turns.specs.declared.putting.PutRun.{PutRun}
-use Rattle.core_turns.specs.Core.{Core, CoreState, pool_at}
+use Rattle.core_turns.specs.Core.{Core, CoreState, pool_at, HasBankOf}
 use Rattle.core_turns.specs.Getting.{IsReadKind, IsGetOf, HoldsGet}
 use Rattle.core_turns.specs.Putting.{IsPutOf, HoldsPut}
 use Rattle.core_turns.specs.Committing.{IsCommitOf}
@@ -149,17 +149,17 @@ pub record Stands (setting : Setting) (last : Kept) (begun : List Kept) (map : M
   pub excepted : setting.excepted ≡ []
   pub shape : setting.shape ≡ shape_of state.disk
   pub tells : Tells state.disk
-  pub bank : HasBank state.core.pool.uber state.core.pool.out state.disk
+  pub bank : HasBankOf state.core state.disk
   pub holds : HoldsMap map (pool_at state)
   pub each : (call : HoldingCall) → Contains calls call → HoldsCall state (contents (actor_of call)) call
 
 -- What each turn does: the bank goes on, devices go out where they failed, and none is touched but those of the
--- pool that were in use. The pool has as many devices and data rows as before.
+-- pool that were in use. The pool reaches to as many devices as before, and has as many data rows.
 pub record TurnGoesOn (before after : CoreState) : Type 0 where
   pub parity : after.core.pool.uber.parity ≡ before.core.pool.uber.parity
-  pub widths : after.core.pool.uber.reflow.to ≡ before.core.pool.uber.reflow.to
+  pub reach : after.core.reach ≡ before.core.reach
   pub rows : after.core.pool.uber.reflow.rows ≡ before.core.pool.uber.reflow.rows
   pub later : Later before.disk after.disk
   pub out : OnlyFailedGoOut (point_of before.core.pool.out before.disk)
       (point_of after.core.pool.out after.disk)
-  pub only : TouchesOnly (IsOnInUse before.core.pool.uber.reflow.to before.core.pool.out) before.disk after.disk
+  pub only : TouchesOnly (IsOnInUse before.core.reach before.core.pool.out) before.disk after.disk

@@ -6,9 +6,9 @@ ghost use Rattle.core_client.specs.Outs.{OnlyFailedGoOut};
 ghost use Rattle.core_state.specs.Committing.{point_of};
 ghost use Rattle.uberblock_ring.specs.Valid.{IsRightUber};
 ghost use Rattle.open_pool.specs.Answered.{blocks_behind};
-ghost use Rattle.open_pool.specs.Pool.{HasBank, Pool as PoolOf};
+ghost use Rattle.open_pool.specs.Pool.{Pool as PoolOf};
 ghost use Rattle.open_pool.proofs.Growing.{MayGrow};
-ghost use Rattle.core_turns.specs.Core.{IsCore, at_disk};
+ghost use Rattle.core_turns.specs.Core.{IsCore, at_disk, HasBankOf};
 ghost use Rattle.core_commit.specs.CommitTurns.{CommitRun as RunOf};
 ghost use Rattle.core_turns.specs.Committing.{AnswersUber, BeginsCommit, DropsHold, HasTable, IsCommitOf, StepsCommit, TakesHold, hold_for};
 ghost use Rattle.core_turns.specs.UnderWay.{TurnGoesOn};
@@ -126,10 +126,10 @@ impl Core {
     /// what was held back until it is free, and where it ended an expansion the pool has grown.
     pub fn commit_step<B: Bank>(&mut self, bank: &mut B, run: CommitRun) -> Turn<CommitRun>
         requires of { IsCommitOf self.old run }
-        requires bank { HasBank self.old.pool.uber self.old.pool.out (B.disk bank.old) }
+        requires bank { HasBankOf self.old (B.disk bank.old) }
         ensures steps { StepsCommit (at_disk self.old (B.disk bank.old)) run
             (at_disk self.new (B.disk bank.new)) result }
-        ensures bank { HasBank self.new.pool.uber self.new.pool.out (B.disk bank.new) }
+        ensures bank { HasBankOf self.new (B.disk bank.new) }
         ensures out { OnlyFailedGoOut (point_of self.old.pool.out (B.disk bank.old))
             (point_of self.new.pool.out (B.disk bank.new)) }
         ensures goes_on { TurnGoesOn (at_disk self.old (B.disk bank.old))
@@ -140,7 +140,7 @@ impl Core {
 
     fn step_commit<B: Bank>(&mut self, bank: &mut B, run: CommitRun) -> Turn<CommitRun>
         requires of { IsCommitOf self.old run }
-        requires bank { HasBank self.old.pool.uber self.old.pool.out (B.disk bank.old) }
+        requires bank { HasBankOf self.old (B.disk bank.old) }
         ensures is { IsCore self.old }
         ensures steps { StepsCommit (at_disk self.old (B.disk bank.old)) run
             (at_disk self.new (B.disk bank.new)) result }

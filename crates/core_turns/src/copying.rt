@@ -3,8 +3,7 @@ ghost use Rattle.std.specs.Prelude.{◌≡◌, ◌<◌, ◌↔◌, IsTrue, false
 ghost use Rattle.core_client.specs.Outs.{OnlyFailedGoOut};
 ghost use Rattle.core_state.specs.Committing.{point_of};
 ghost use Rattle.job_copy.specs.Progress.{call_count};
-ghost use Rattle.open_pool.specs.Pool.{HasBank};
-ghost use Rattle.core_turns.specs.Core.{IsCore, at_disk};
+ghost use Rattle.core_turns.specs.Core.{IsCore, at_disk, HasBankOf};
 ghost use Rattle.core_turns.specs.Copying.{BeginsJob, DropsJob, EndsJob, IsDue, IsGivenUpFor, IsJobOf, StepsJob};
 ghost use Rattle.core_turns.specs.UnderWay.{TurnGoesOn};
 
@@ -83,13 +82,13 @@ impl Core {
         requires of { IsJobOf self.old run }
         requires whole { self.old.pool.out ≡ 0 }
         requires left { run.job.made < call_count run.job.reflow run.job.job }
-        requires bank { HasBank self.old.pool.uber self.old.pool.out (B.disk bank.old) }
+        requires bank { HasBankOf self.old (B.disk bank.old) }
         ensures steps { StepsJob (at_disk self.old (B.disk bank.old)) run
             (at_disk self.new (B.disk bank.new)) result }
         ensures of { IsJobOf self.new result }
         ensures goes_on { TurnGoesOn (at_disk self.old (B.disk bank.old))
             (at_disk self.new (B.disk bank.new)) }
-        ensures bank { HasBank self.new.pool.uber self.new.pool.out (B.disk bank.new) }
+        ensures bank { HasBankOf self.new (B.disk bank.new) }
         ensures out { OnlyFailedGoOut (point_of self.old.pool.out (B.disk bank.old))
             (point_of self.new.pool.out (B.disk bank.new)) }
     {
@@ -149,7 +148,8 @@ impl Core {
         requires of { IsJobOf self.old run }
         requires whole { self.old.pool.out ≡ 0 }
         requires left { run.job.made < call_count run.job.reflow run.job.job }
-        requires bank { HasBank self.old.pool.uber self.old.pool.out (B.disk bank.old) }
+        requires bank { HasBankOf self.old (B.disk bank.old) }
+        ensures is { IsCore self.old }
         ensures steps { StepsJob (at_disk self.old (B.disk bank.old)) run
             (at_disk self.new (B.disk bank.new)) result }
         ensures of { IsJobOf self.new result }

@@ -6,8 +6,8 @@ ghost use Rattle.core_state.specs.Map.{Map};
 ghost use Rattle.core_blocks.specs.declared.range.PutRange.{PutRange};
 ghost use Rattle.core_blocks.specs.Blocks.{AreUnderWay};
 ghost use Rattle.core_blocks.specs.Kept.{NoneFree};
-ghost use Rattle.open_pool.specs.Pool.{HasBank, HoldsMap};
-ghost use Rattle.core_turns.specs.Core.{at_disk, pool_at};
+ghost use Rattle.open_pool.specs.Pool.{HoldsMap};
+ghost use Rattle.core_turns.specs.Core.{at_disk, pool_at, HasBankOf};
 ghost use Rattle.core_turns.specs.declared.getting.GetRun.{GetRun};
 ghost use Rattle.core_turns.specs.Getting.{IsGetOf};
 ghost use Rattle.core_turns.specs.Freeing.{FreesBlock, map_after_free};
@@ -26,8 +26,8 @@ impl Core {
 
         // Reads under way stay so, also of the block that is gone.
         ensures gets { (run : GetRun) → IsGetOf self.old run → IsGetOf self.new run }
-        ensures bank { (disk : Disk) → HasBank self.old.pool.uber self.old.pool.out disk
-            → HasBank self.new.pool.uber self.new.pool.out disk }
+        ensures bank { (disk : Disk) → HasBankOf self.old disk
+            → HasBankOf self.new disk }
 
         // Puts under way stay so, and no sector of a block that a group up to now keeps is free.
         ensures under { (ranges : List PutRange) → AreUnderWay self.old.pool.blocks ranges

@@ -10,9 +10,9 @@ ghost use Rattle.reflow_band.specs.Band.{IsFrontOf};
 ghost use Rattle.core_client.specs.BlockTurns.{IsAtColumn};
 ghost use Rattle.core_client.specs.Outs.{OnlyFailedGoOut};
 ghost use Rattle.core_state.specs.Committing.{point_of};
-ghost use Rattle.open_pool.specs.Pool.{HasBank, HoldsMap};
+ghost use Rattle.open_pool.specs.Pool.{HoldsMap};
 ghost use Rattle.core_turns.specs.declared.getting.GetRun.{GetRun as GetRunOf};
-ghost use Rattle.core_turns.specs.Core.{Core as CoreOf, CoreState, IsCore, at_disk, pool_at};
+ghost use Rattle.core_turns.specs.Core.{Core as CoreOf, CoreState, IsCore, at_disk, pool_at, HasBankOf};
 ghost use Rattle.core_turns.specs.Getting.{HasLayout, HoldsGet, FindsGet, KeepsGet, TellsGet, IsGetOf, IsMoreOf, IsReadKind, BeginsGet, ReadsTurn, SolvesGet, EndsGet, answer_of};
 
 use crate::turn::too_many;
@@ -117,8 +117,8 @@ impl Core {
 
         // Other reads go on.
         ensures others { (run : GetRunOf) → IsGetOf self.old run → IsGetOf self.new run }
-        ensures bank { (disk : Disk) → HasBank self.old.pool.uber self.old.pool.out disk
-            → HasBank self.new.pool.uber self.new.pool.out disk }
+        ensures bank { (disk : Disk) → HasBankOf self.old disk
+            → HasBankOf self.new disk }
     {
         self.begin_get(alloc, actor, kind, id)
     }
@@ -127,14 +127,14 @@ impl Core {
     pub fn get_read<B: Bank>(&mut self, bank: &mut B, run: GetRun) -> Turn<GetRun>
         requires left { run.read.row < rows_of run.read.layout }
         requires of { IsGetOf self.old run }
-        requires bank { HasBank self.old.pool.uber self.old.pool.out (B.disk bank.old) }
+        requires bank { HasBankOf self.old (B.disk bank.old) }
         ensures reads { ReadsTurn (at_disk self.old (B.disk bank.old)) run
             (at_disk self.new (B.disk bank.new)) result }
         ensures keeps { (content : List ℕ)
             → HoldsGet content (at_disk self.old (B.disk bank.old)) run
             → KeepsGet content (at_disk self.new (B.disk bank.new)) result }
         ensures of { IsMoreOf self.new result }
-        ensures bank { HasBank self.new.pool.uber self.new.pool.out (B.disk bank.new) }
+        ensures bank { HasBankOf self.new (B.disk bank.new) }
         ensures unchanged { Unchanged (B.disk bank.old) (B.disk bank.new) }
         ensures out { OnlyFailedGoOut (point_of self.old.pool.out (B.disk bank.old))
             (point_of self.new.pool.out (B.disk bank.new)) }
@@ -185,7 +185,7 @@ impl Core {
     fn read_get<B: Bank>(&mut self, bank: &mut B, run: GetRun) -> Turn<GetRun>
         requires left { run.read.row < rows_of run.read.layout }
         requires of { IsGetOf self.old run }
-        requires bank { HasBank self.old.pool.uber self.old.pool.out (B.disk bank.old) }
+        requires bank { HasBankOf self.old (B.disk bank.old) }
         ensures reads { ReadsTurn (at_disk self.old (B.disk bank.old)) run
             (at_disk self.new (B.disk bank.new)) result }
         ensures place { IsAtColumn run.read }

@@ -13,8 +13,9 @@ use uberblock_ring::{DeviceSet, Uber};
 
 /// The last answered group's uberblock, the blocks with the sectors that they take, the devices that
 /// are out, the front, the holds of the calls under way, the group that was begun last, who makes it where it isn't
-/// answered, and who copies sectors where a job is under way. A commit that is cut short stays there: too many devices
-/// are out then.
+/// answered, who copies sectors where a job is under way, and how many devices the pool reaches to: one more than its
+/// width once a device has joined it with a group that isn't answered. A commit that is cut short stays there: too many
+/// devices are out then.
 #[derive(Drop)]
 pub struct Core {
     pub(crate) uber: Uber,
@@ -25,6 +26,7 @@ pub struct Core {
     pub(crate) begun: u64,
     pub(crate) committing: Option<u8>,
     pub(crate) copying: Option<u8>,
+    pub(crate) reach: u32,
 }
 
 impl Model for Core {
@@ -38,6 +40,7 @@ impl Model for Core {
       begun = core.begun;
       committing = core.committing;
       copying = core.copying;
+      reach = core.reach;
     } };
 
     ghost invariant = { λ core. IsCore (record {
@@ -46,6 +49,7 @@ impl Model for Core {
       begun = core.begun;
       committing = core.committing;
       copying = core.copying;
+      reach = core.reach;
     }) };
 }
 
@@ -58,10 +62,12 @@ impl Core {
           begun = pool.uber.group;
           committing = None;
           copying = None;
+          reach = pool.uber.reflow.to;
         } }
     {
         let (uber, blocks, out, done) = pool.into_parts();
         let begun = uber.group();
+        let reach = uber.reflow().to;
         Core {
             uber,
             blocks,
@@ -71,6 +77,7 @@ impl Core {
             begun,
             committing: None,
             copying: None,
+            reach,
         }
     }
 

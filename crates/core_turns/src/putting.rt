@@ -9,9 +9,8 @@ ghost use Rattle.core_blocks.specs.Blocks.{IsUnderWay};
 ghost use Rattle.core_client.specs.Outs.{OnlyFailedGoOut};
 ghost use Rattle.core_state.specs.Committing.{point_of};
 ghost use Rattle.core_client.specs.Pool.{IsInPool};
-ghost use Rattle.open_pool.specs.Pool.{HasBank};
 ghost use Rattle.core_turns.specs.declared.putting.Filled.{Filled as FilledOf};
-ghost use Rattle.core_turns.specs.Core.{Core as CoreOf, IsCore, at_disk};
+ghost use Rattle.core_turns.specs.Core.{Core as CoreOf, IsCore, at_disk, HasBankOf};
 ghost use Rattle.core_turns.specs.Getting.{HasTooManyOut};
 ghost use Rattle.core_turns.specs.Putting.{BeginsPutTurn, EndsPut, FillsPut, GivesUp, GivesUpTurn, HoldsRange, IsMorePut, IsPutOf, IsStoppedPut, WritesTurn, refused_turn};
 ghost use Rattle.core_turns.specs.UnderWay.{TurnGoesOn};
@@ -173,13 +172,13 @@ impl Core {
         requires under_way { IsUnderWay self.old.pool.blocks run.range }
         requires left { (filled : FilledOf) × (run.filled ≡ Some filled)
             × (filled.write.next < length filled.write.writes) }
-        requires bank { HasBank self.old.pool.uber self.old.pool.out (B.disk bank.old) }
+        requires bank { HasBankOf self.old (B.disk bank.old) }
         ensures writes { WritesTurn (at_disk self.old (B.disk bank.old)) run
             (at_disk self.new (B.disk bank.new)) result }
         ensures of { IsMorePut self.new result }
         ensures goes_on { TurnGoesOn (at_disk self.old (B.disk bank.old))
             (at_disk self.new (B.disk bank.new)) }
-        ensures bank { HasBank self.new.pool.uber self.new.pool.out (B.disk bank.new) }
+        ensures bank { HasBankOf self.new (B.disk bank.new) }
         ensures out { OnlyFailedGoOut (point_of self.old.pool.out (B.disk bank.old))
             (point_of self.new.pool.out (B.disk bank.new)) }
     {
@@ -234,8 +233,9 @@ impl Core {
         requires under_way { IsUnderWay self.old.pool.blocks run.range }
         requires left { (filled : FilledOf) × (run.filled ≡ Some filled)
             × (filled.write.next < length filled.write.writes) }
-        requires bank { HasBank self.old.pool.uber self.old.pool.out (B.disk bank.old) }
-        ensures { WritesTurn (at_disk self.old (B.disk bank.old)) run
+        requires bank { HasBankOf self.old (B.disk bank.old) }
+        ensures is { IsCore self.old }
+        ensures writes { WritesTurn (at_disk self.old (B.disk bank.old)) run
             (at_disk self.new (B.disk bank.new)) result }
     {
         let mut run = run;

@@ -7,7 +7,7 @@ use Rattle.reflow_mark.specs.Reflow.{Expands, IsRightReflow, at_rest, sectors_of
 use Rattle.shadow_write.specs.Required.{IsRequiredPlace}
 use Rattle.reflow_band.specs.Band.{AsksSame, IsWidening, IsFrontOf}
 use Rattle.mark_choice.specs.Advance.{AsksNoMore}
-use Rattle.mark_choice.specs.CommitChoice.{range_of_commit}
+use Rattle.mark_choice.specs.CommitChoice.{IsWiderByOne, range_of_commit}
 
 -- the reflow of an expansion that has just begun, from this width to one more
 abbrev pub begun : ℕ → ℕ → Reflow
@@ -47,6 +47,10 @@ KeepsOrEnds before chosen =
     ((chosen.from ≡ before.from) × (chosen.to ≡ before.to) × (chosen.rows ≡ before.rows))
     ⊎ (Expands before × (chosen ≡ at_rest before.to before.rows))
 
+-- So, or a device has joined a pool at rest.
+abbrev pub IsStepOfWidths : Reflow → Reflow → Type 0
+IsStepOfWidths before chosen = KeepsOrEnds before chosen ⊎ IsWiderByOne before chosen
+
 -- Rows outside the range that a commit holds are asked for at the same places behind its answer.
 abbrev pub RowsStand : Reflow → ℕ → Reflow → Type 0
 RowsStand reflow done chosen = (first row_end sector : ℕ) → first ≤ sector → sector < row_end
@@ -58,7 +62,7 @@ RowsStand reflow done chosen = (first row_end sector : ℕ) → first ≤ sector
 -- stop and behind the answer, is asked for already.
 pub record FollowsOn (reflow : Reflow) (done : ℕ) (chosen : Reflow) : Type 0 where
   pub right : IsRightReflow chosen
-  pub widths : KeepsOrEnds reflow chosen
+  pub widths : IsStepOfWidths reflow chosen
   pub front : IsFrontOf chosen (front_behind reflow done chosen)
   pub stop : AsksNoMore reflow done chosen
   pub behind : AsksNoMoreAt reflow done chosen (front_behind reflow done chosen)

@@ -2,3 +2,4 @@ pub mod CommitRows
 pub mod Advance
 pub mod Clear
 pub mod Still
+pub mod Recording

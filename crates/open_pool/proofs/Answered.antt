@@ -18,8 +18,8 @@ use Rattle.reconstruct.specs.Rows.{sectors_for}
 use Rattle.uberblock_ring.specs.Devices.{IsWithin}
 use Rattle.uberblock_ring.specs.Uberblock.{Uber}
 use Rattle.reflow_band.specs.Band.{IsWidening}
-use Rattle.mark_choice.specs.CommitChoice.{births_of_commit}
-use Rattle.mark_advance.specs.Behind.{FollowsOn, front_behind}
+use Rattle.mark_choice.specs.CommitChoice.{IsWiderByOne, births_of_commit}
+use Rattle.mark_advance.specs.Behind.{FollowsOn, KeepsOrEnds, front_behind}
 use Rattle.core_state.specs.Map.{Map}
 use Rattle.core_state.specs.Index.{layout_of}
 use Rattle.core_state.specs.Whole.{Cell, IsCell}
@@ -127,13 +127,20 @@ module _ (pool : Pool) (uber : Uber) (is : IsPool (record pool { uber = record p
   abbrev same_width : Bool
   same_width = uber.reflow.from == pool.uber.reflow.from
 
-  -- The pool gets no narrower, and has as many devices and rows as before.
-  shape : (before.from ≤ uber.reflow.from) × (uber.reflow.to ≡ before.to) × (uber.reflow.rows ≡ before.rows)
-  shape = ⊎_elim
-      (λ keeps. (omega (arith, keeps.0), keeps.1, keeps.2))
+  -- The pool gets no narrower, loses no device, and has as many rows as before.
+  shape : (before.from ≤ uber.reflow.from) × (before.to ≤ uber.reflow.to) × (uber.reflow.rows ≡ before.rows)
+  shape = ⊎_elim (λ (same : KeepsOrEnds before uber.reflow). ⊎_elim
+      (λ keeps. (omega (arith, keeps.0), omega (arith, keeps.1), keeps.2))
       (λ ends.
       let from : uber.reflow.from ≡ before.to = ap (λ (r : Reflow). r.from) ends.1 in
-      (omega (arith, from, ends.0), ap (λ (r : Reflow). r.to) ends.1, ap (λ (r : Reflow). r.rows) ends.1))
+      let to : uber.reflow.to ≡ before.to = ap (λ (r : Reflow). r.to) ends.1 in
+      (omega (arith, from, ends.0), omega (arith, to), ap (λ (r : Reflow). r.rows) ends.1))
+      same)
+      (λ (joins : IsWiderByOne before uber.reflow).
+      let is = joins.wider_is in
+      let from : uber.reflow.from ≡ before.from = ap (λ (r : Reflow). r.from) is in
+      let to : uber.reflow.to ≡ before.to + 1 = ap (λ (r : Reflow). r.to) is in
+      (omega (arith, from), omega (arith, to), ap (λ (r : Reflow). r.rows) is))
       follows.widths
 
   -- So it gets no smaller,
@@ -152,7 +159,10 @@ module _ (pool : Pool) (uber : Uber) (is : IsPool (record pool { uber = record p
 
   -- Where the width is another, an expansion has ended.
   has_ended : (uber.reflow.from ≡ before.from → ⊥) → Expands before × (uber.reflow ≡ at_rest before.to before.rows)
-  has_ended wider = ⊎_elim (λ keeps. absurd (wider keeps.0)) (λ ends. ends) follows.widths
+  has_ended wider = ⊎_elim
+      (λ (same : KeepsOrEnds before uber.reflow). ⊎_elim (λ keeps. absurd (wider keeps.0)) (λ ends. ends) same)
+      (λ (joins : IsWiderByOne before uber.reflow). absurd (wider (ap (λ (r : Reflow). r.from) joins.wider_is)))
+      follows.widths
 
   -- No block is born later than in the group after this one.
   born_before : (entry : IndexEntry) → IsListed pool.blocks.table.entries entry → entry.birth < uber.group + 2
@@ -274,7 +284,6 @@ module _ (pool : Pool) (uber : Uber) (is : IsPool (record pool { uber = record p
     capacity = capacity_at pool.blocks uber.group (sectors_of uber.reflow) same_width (λ same. is.capacity ∙ sectors_same same);
     born = λ entry listed. is.born entry (listed_before entry listed);
     front = follows.front;
-    below = subst (λ (to : ℕ). pool.out < 2 ^ to) (sym shape.1) is.below;
     lists = within;
   }
 
@@ -284,7 +293,7 @@ module _ (pool : Pool) (uber : Uber) (is : IsPool (record pool { uber = record p
     within = there.within;
     right = follows.right;
     width = (let width = there.width in let wider = shape.0 in omega (arith, width, wider));
-    few = subst (λ (to : ℕ). to ≤ 16) (sym shape.1) there.few;
+    few = next.right.widths.1;
     rows = subst (λ (rows : ℕ). rows ≤ 65536) (sym shape.2) there.rows;
     end = (let end = there.end in omega (arith, end, sectors_grow));
   }

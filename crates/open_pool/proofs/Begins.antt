@@ -36,7 +36,7 @@ use Rattle.core_open.specs.Failing.{HaveFailed}
 use Rattle.core_open.specs.Opens.{HasOpened, IsWithinBelow, LeavesBank, OpeningKeeps, RenewsChoice, WritesInOrder}
 use Rattle.core_open.specs.Regions.{IsOnBelow}
 use Rattle.core_open.proofs.BlockSpans.{block_width}
-use Rattle.open_pool.specs.Pool.{Pool, IsPool, HasBank, IsTableOf, HoldsMap, State, pool_of, state_of}
+use Rattle.open_pool.specs.Pool.{Pool, IsPoolAtRest, HasBank, IsTableOf, HoldsMap, State, pool_of, state_of}
 use Rattle.open_pool.specs.HoldsGroup.{HoldsGroup}
 use Rattle.open_pool.specs.declared.opening.OpenedPool.{OpenedPool}
 use Rattle.open_pool.specs.Opening.{AreLoaded, MayBegin, OpensPool, CutsOpening}
@@ -78,21 +78,23 @@ renews_loaded {shape} {silent} {image} {uber} loaded renews =
 -- With its index loaded, an uberblock makes a pool.
 pub begun_is_pool : (uber : Uber) (entries : List IndexEntry) (blocks : Blocks) (out done : ℕ) → IsRightUber uber
     → IsIndexFor uber entries → AreLoaded uber entries blocks → out < 2 ^ uber.reflow.to → IsWithin uber.out out
-    → done ≡ front_after_stop uber.reflow → IsPool (pool_of uber blocks out done)
+    → done ≡ front_after_stop uber.reflow → IsPoolAtRest (pool_of uber blocks out done)
 begun_is_pool uber entries blocks out done right is loaded below lists stopped = record {
-  right = right;
-  parity = loaded.parity;
-  births = loaded.births;
-  capacity = loaded.space.size;
-  born = λ entry listed.
-      let among = found_among entries entry.id entry
-      (subst (λ (l : List IndexEntry). IsListed l entry) loaded.entries_are listed) in
-      let born : entry.birth ≤ uber.group =
-      All-contains (λ (e : IndexEntry). e.birth ≤ uber.group) entries entry is.fitting.births among in
-      omega (arith, born);
-  front = subst (IsFrontOf uber.reflow) (sym stopped) (front_is_right uber.reflow right.reflow);
+  is = record {
+    right = right;
+    parity = loaded.parity;
+    births = loaded.births;
+    capacity = loaded.space.size;
+    born = λ entry listed.
+        let among = found_among entries entry.id entry
+        (subst (λ (l : List IndexEntry). IsListed l entry) loaded.entries_are listed) in
+        let born : entry.birth ≤ uber.group =
+        All-contains (λ (e : IndexEntry). e.birth ≤ uber.group) entries entry is.fitting.births among in
+        omega (arith, born);
+    front = subst (IsFrontOf uber.reflow) (sym stopped) (front_is_right uber.reflow right.reflow);
+    lists = lists;
+  };
   below = below;
-  lists = lists;
 }
 
 -- An index of a map is its table.

@@ -17,7 +17,7 @@ use Rattle.core_state.specs.Whole.{Cell, IsCellOf, RightAt}
 use Rattle.core_state.specs.Keeps.{HasWidthIn, Kept, Setting, IsNextOf}
 use Rattle.core_state.specs.Certain.{CellsOn, IsSound, IsSuccession}
 use Rattle.core_state.specs.Moment.{KeepsSince}
-use Rattle.mark_advance.specs.Behind.{FollowsOn}
+use Rattle.mark_advance.specs.Behind.{FollowsOn, KeepsOrEnds}
 use Rattle.mark_advance.proofs.Advance.{same_cells}
 use Rattle.core_blocks.specs.Blocks.{AreInStep}
 use Rattle.core_blocks.proofs.Listed.{among_listed, found_among, found_id}
@@ -43,7 +43,8 @@ table_indexes entries map index table = record {
 module _ (setting : Setting) (last : Kept) (map : Map) (before : State) (is : IsPool before.pool)
     (bank : HasBank before.pool.uber before.pool.out before.disk)
     (group : HoldsGroup setting last before) (holds : HoldsMap map before) (chosen : Reflow)
-    (follows : FollowsOn before.pool.uber.reflow before.pool.done chosen) (step : AreInStep before.pool.blocks)
+    (follows : FollowsOn before.pool.uber.reflow before.pool.done chosen)
+    (widths : KeepsOrEnds before.pool.uber.reflow chosen) (step : AreInStep before.pool.blocks)
     (is_ready : IsReady before.pool chosen) where
   abbrev uber : Uber
   uber = uber_for before.pool chosen
@@ -67,7 +68,7 @@ module _ (setting : Setting) (last : Kept) (map : Map) (before : State) (is : Is
 
   -- What is chosen has the devices and the rows of the pool.
   same : HasRowsOf before.pool.uber.reflow chosen
-  same = rows_of before.pool.uber.reflow chosen follows.widths
+  same = rows_of before.pool.uber.reflow chosen widths
 
   group_is : before.pool.uber.group ≡ last.uber.group
   group_is = ap (λ (u : Uber). u.group) group.alike

@@ -119,14 +119,14 @@ module _ (pool : Pool) (chosen : Reflow) (is : IsPool pool) (step : AreInStep po
 -- It may, where it has a number and no more devices are out than there are parities.
 pub ready : (pool : Pool) (chosen : Reflow) → IsPool pool → AreInStep pool.blocks → IsTable pool.blocks.table
     → IsRightReflow chosen → KeepsOrEnds pool.uber.reflow chosen
-    → pool.uber.group + 1 ≤ 2 ^ 62 → count_of pool.out ≤ pool.uber.parity
+    → pool.uber.group + 1 ≤ 2 ^ 62 → pool.out < 2 ^ pool.uber.reflow.to → count_of pool.out ≤ pool.uber.parity
     → IsReady pool chosen
-ready pool chosen is step table reflow widths limit few = record {
+ready pool chosen is step table reflow widths limit below few = record {
   index = table.index;
   few = listed;
   right = right_next pool.uber chosen (length pool.blocks.table.entries) (sha256 (index_page pool.blocks.table.entries)) pool.out
       is.right reflow widths limit listed (sha256_is_digest (index_page pool.blocks.table.entries))
-      (few_below pool.uber pool.out is.right is.below few);
+      (few_below pool.uber pool.out is.right below few);
   fitting = ⊎_elim
       (λ keeps. kept_fitting pool chosen is step table keeps.0 keeps.2)
       (λ ends. ended_fitting pool chosen is step table ends.0 ends.1)

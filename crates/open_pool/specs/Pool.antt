@@ -40,7 +40,7 @@ first_item pool = record {
 abbrev pub open_group : Pool → ℕ
 open_group pool = pool.uber.group + 1
 
--- Uberblock and blocks belong together, the front is where it may be, and the devices that are out are the pool's.
+-- Uberblock and blocks belong together, the front is where it may be, and the devices that the group lists are out.
 pub record IsPool (pool : Pool) : Type 0 where
   pub right : IsRightUber pool.uber
   pub parity : pool.blocks.parity ≡ pool.uber.parity
@@ -49,8 +49,12 @@ pub record IsPool (pool : Pool) : Type 0 where
   pub born : (entry : IndexEntry) → IsListed pool.blocks.table.entries entry
       → entry.birth ≤ open_group pool
   pub front : IsFrontOf pool.uber.reflow pool.done
-  pub below : pool.out < 2 ^ pool.uber.reflow.to
   pub lists : IsWithin pool.uber.out pool.out
+
+-- A pool of which no call is under way: the devices that are out are its own.
+pub record IsPoolAtRest (pool : Pool) : Type 0 where
+  pub is : IsPool pool
+  pub below : pool.out < 2 ^ pool.uber.reflow.to
 
 -- an open pool and what its devices hold
 pub record State : Type 0 where

@@ -1,6 +1,6 @@
 // An open pool.
 ghost use Rattle.std.specs.Prelude.{◌≡◌};
-ghost use Rattle.open_pool.specs.Pool.{IsPool, first_item, pool_of};
+ghost use Rattle.open_pool.specs.Pool.{IsPoolAtRest, first_item, pool_of};
 
 use core_blocks::Blocks;
 use core_state::Group;
@@ -19,7 +19,7 @@ pub struct Pool {
 }
 
 impl Model for Pool {
-    ghost use Rattle.open_pool.specs.Pool.{Pool as PoolOf, IsPool};
+    ghost use Rattle.open_pool.specs.Pool.{Pool as PoolOf, IsPoolAtRest};
 
     ghost Value = { PoolOf };
 
@@ -30,7 +30,7 @@ impl Model for Pool {
       done = pool.done;
     } };
 
-    ghost invariant = { λ pool. IsPool (record {
+    ghost invariant = { λ pool. IsPoolAtRest (record {
       uber = pool.uber;
       blocks = pool.blocks;
       out = pool.out;
@@ -69,7 +69,7 @@ impl Pool {
     /// The last answered group's uberblock, the blocks, the devices that are out, and the front.
     pub fn into_parts(self) -> (Uber, Blocks, DeviceSet, u64)
         ensures value { pool_of result.0 result.1 result.2 result.3 ≡ self }
-        ensures is { IsPool self }
+        ensures is { IsPoolAtRest self }
     {
         (self.uber, self.blocks, self.out, self.done)
     }

@@ -13,8 +13,7 @@ use Rattle.core_state.specs.Journal.{Asked, IsComplete}
 use Rattle.core_state.specs.JournalRoom.{Journal}
 use Rattle.client_script.specs.declared.call.ScriptCall.{ScriptCall}
 use Rattle.client_script.specs.Script.{Placed, Script, asked_by, calls_of}
-use Rattle.open_pool.specs.Pool.{HasBank}
-use Rattle.core_turns.specs.Core.{Core, at_disk}
+use Rattle.core_turns.specs.Core.{Core, at_disk, HasBankOf}
 use Rattle.schedule.specs.declared.client.Client.{Client}
 use Rattle.schedule.specs.declared.progress.Progress.{Progress}
 use Rattle.schedule.specs.Clients.{ClientsAreAnswered, answered_of}
@@ -30,7 +29,7 @@ use Rattle.core_turns.specs.UnderWay.{AreCallsOf}
 
 -- A core at rest, clients that have begun no call, and a journal that answers none are a schedule.
 pub schedule_at_rest : (script : Script) (core : Core) (disk : Disk) (items : List Item) (count : ℕ) → IsAtRest core
-    → HasBank core.pool.uber core.pool.out disk
+    → HasBankOf core disk
     → ((index : ℕ) (entry : Entry) → CallAt items index entry → ⊥)
     → IsSchedule script (turns_of (at_disk core disk) items (blank_clients count))
 schedule_at_rest script core disk items count rest bank none = record {
@@ -67,7 +66,7 @@ shared_at_rest core rest = subst OnlyShared (sym rest.holds)
 
 -- Before the first turn: clients that have begun no call, and room for all answers.
 pub ready_at_rest : (script : Script) (core : Core) (disk : Disk) (items : List Item) (journal : Journal)
-    (progress : Progress) → IsAtRest core → HasBank core.pool.uber core.pool.out disk
+    (progress : Progress) → IsAtRest core → HasBankOf core disk
     → ((index : ℕ) (entry : Entry) → CallAt items index entry → ⊥)
     → journal.items ≡ items → progress.clients.items ≡ blank_clients script.clients
     → 2 * length script.calls ≤ journal.room → IsReady script (turns_by core disk journal progress) journal.room

@@ -24,7 +24,7 @@ use Rattle.core_turns.specs.Core.{Core, CoreState, at_disk}
 use Rattle.core_turns.specs.Getting.{IsReadKind, BeginsGet, ReadsTurn, SolvesGet, EndsGet}
 use Rattle.core_turns.specs.Putting.{IsPutOf, FillsPut, EndsPut, GivesUpTurn}
 use Rattle.core_turns.specs.UnderWay.{TurnGoesOn}
-use Rattle.core_turns.proofs.GetTurns.{reads_uber}
+use Rattle.core_turns.proofs.GetTurns.{reads_reaching}
 use Rattle.core_turns.proofs.PutTurns.{fills_of}
 use Rattle.schedule.specs.declared.client.Work.{Work}
 use Rattle.schedule.specs.Turned.{AnswersAtOnce, Waits, BeginsWork, BeginsCall, IsFilledIn, PutGoesOn, ReadGoesOn, read_turn}
@@ -146,13 +146,13 @@ pub read_goes_on : (before after : CoreState) (run : GetRun) (turn : Turn GetRun
     → OnlyFailedGoOut (point_of before.core.pool.out before.disk) (point_of after.core.pool.out after.disk)
     → TurnGoesOn before after
 read_goes_on before after run turn reads unchanged out =
-    let uber = reads_uber before after run turn reads in record {
+    let uber = reads_reaching before after run turn reads in record {
       parity = ap (λ (u : Uber). u.parity) uber;
-      widths = ap (λ (u : Uber). u.reflow.to) uber;
+      reach = ap (λ (u : Uber). u.reflow.to) uber;
       rows = ap (λ (u : Uber). u.reflow.rows) uber;
       later = unchanged.goes_on.later;
       out = out;
-      only = read_touches (IsOnInUse before.core.pool.uber.reflow.to before.core.pool.out) unchanged;
+      only = read_touches (IsOnInUse before.core.reach before.core.pool.out) unchanged;
     }
 
 solved_now : (old new : GetRun) (result : Result (Unit {0}) OutOfMemory) → OnOk result (SolvesGet old new)

@@ -46,8 +46,8 @@ came_nowhere script turns passed same = by (few_or_many turns.state.core.pool.ou
       ends = same;
       later = later_refl turns.state.disk;
       parity = refl;
-      widths = refl;
-      only = touches_none (IsOnInUse turns.state.core.pool.uber.reflow.to turns.state.core.pool.out) turns.state.disk;
+      reach = refl;
+      only = touches_none (IsOnInUse turns.state.core.reach turns.state.core.pool.out) turns.state.disk;
       out = outs_none (point_of turns.state.core.pool.out turns.state.disk);
       listed = λ index item there. there;
       fits = λ index entry there. inl there;
@@ -65,8 +65,8 @@ came_nowhere script turns passed same = by (few_or_many turns.state.core.pool.ou
       ends = same;
       later = later_refl turns.state.disk;
       parity = refl;
-      widths = refl;
-      only = touches_none (IsOnInUse turns.state.core.pool.uber.reflow.to turns.state.core.pool.out) turns.state.disk;
+      reach = refl;
+      only = touches_none (IsOnInUse turns.state.core.reach turns.state.core.pool.out) turns.state.disk;
       out = outs_none (point_of turns.state.core.pool.out turns.state.disk);
       listed = λ index item there. there;
       fits = λ index entry there. inl there;
@@ -111,14 +111,14 @@ module _ (script : Script) (start middle now : Turns) (one two : List TurnTaken)
   parity_is : now.state.core.pool.uber.parity ≡ start.state.core.pool.uber.parity
   parity_is = second.parity ∙ first.parity
 
-  only_then : TouchesOnly (IsOnInUse start.state.core.pool.uber.reflow.to start.state.core.pool.out) start.state.disk
+  only_then : TouchesOnly (IsOnInUse start.state.core.reach start.state.core.pool.out) start.state.disk
       now.state.disk
-  only_then = touches_then (IsOnInUse start.state.core.pool.uber.reflow.to start.state.core.pool.out)
-      (IsOnInUse middle.state.core.pool.uber.reflow.to middle.state.core.pool.out)
-      (IsOnInUse start.state.core.pool.uber.reflow.to start.state.core.pool.out)
+  only_then = touches_then (IsOnInUse start.state.core.reach start.state.core.pool.out)
+      (IsOnInUse middle.state.core.reach middle.state.core.pool.out)
+      (IsOnInUse start.state.core.reach start.state.core.pool.out)
       (λ d x here. here)
       (λ d x here. (
-        subst (λ (to : ℕ). d < to) first.widths here.0,
+        subst (λ (reach : ℕ). d < reach) first.reach here.0,
         in_use_before (point_of start.state.core.pool.out start.state.disk)
             (point_of middle.state.core.pool.out middle.state.disk) d first.out.still here.1,
       ))
@@ -145,7 +145,7 @@ module _ (script : Script) (start middle now : Turns) (one two : List TurnTaken)
     ends = ends;
     later = later_trans first.later second.later;
     parity = parity_is;
-    widths = second.widths ∙ first.widths;
+    reach = second.reach ∙ first.reach;
     only = only_then;
     out = outs_then (point_of start.state.core.pool.out start.state.disk)
         (point_of middle.state.core.pool.out middle.state.disk) (point_of now.state.core.pool.out now.state.disk)
@@ -174,7 +174,7 @@ module _ (script : Script) (start middle now : Turns) (one two : List TurnTaken)
     ends = ends;
     later = later_trans first.later second.later;
     parity = parity_is;
-    widths = second.widths ∙ first.widths;
+    reach = second.reach ∙ first.reach;
     only = only_then;
     out = outs_then (point_of start.state.core.pool.out start.state.disk)
         (point_of middle.state.core.pool.out middle.state.disk) (point_of now.state.core.pool.out now.state.disk)
@@ -220,7 +220,7 @@ module _ (script : Script) (actor : ℕ) (before after : Turns) (goes : TurnGoes
     ends = refl;
     later = goes.later;
     parity = goes.parity;
-    widths = goes.widths;
+    reach = goes.reach;
     only = goes.only;
     out = goes.out;
     listed = λ index item there. subst (λ (l : List Item). slice_get l index ≡ Some item) (sym items)
@@ -240,7 +240,7 @@ module _ (script : Script) (actor : ℕ) (before after : Turns) (goes : TurnGoes
     ends = refl;
     later = goes.later;
     parity = goes.parity;
-    widths = goes.widths;
+    reach = goes.reach;
     only = goes.only;
     out = goes.out;
     listed = λ index item there. subst (λ (l : List Item). slice_get l index ≡ Some item) (sym items)

@@ -1,11 +1,11 @@
 -- What turns leave of a pool where nothing was copied: a commit records its reflow as it stands, and holds nothing.
-use Rattle.std.proofs.Common.{◌≡◌, ⊎_elim, ℕ, ◌≤◌, if◌then◌else◌, Bool, List, eq-eqb, sym, ◌∙◌, ap, subst, arith}
+use Rattle.std.proofs.Common.{◌≡◌, ⊎_elim, ℕ, ◌+◌, ◌≤◌, if◌then◌else◌, Bool, List, eq-eqb, sym, ◌∙◌, ap, subst, arith}
 use Rattle.width_map.specs.declared.birth.Birth.{Birth}
 use Rattle.width_map.specs.Births.{births_after}
 use Rattle.reflow_mark.specs.declared.reflow.Reflow.{Reflow}
 use Rattle.reflow_mark.specs.Reflow.{Expands}
 use Rattle.shadow_write.specs.Required.{front_after_stop}
-use Rattle.mark_choice.specs.CommitChoice.{births_of_commit, range_of_commit}
+use Rattle.mark_choice.specs.CommitChoice.{MayRecord, Chooses, Widens, births_of_commit, range_of_commit}
 use Rattle.mark_choice.proofs.Still.{choice_still, nothing_held}
 use Rattle.mark_advance.specs.Behind.{front_behind}
 use Rattle.mark_advance.proofs.Advance.{front_stays_behind}
@@ -23,22 +23,26 @@ pub record Stays (old new : Core) : Type 0 where
   pub births : new.pool.uber.births ≡ old.pool.uber.births
   pub reflow : new.pool.uber.reflow ≡ old.pool.uber.reflow
   pub done : new.pool.done ≡ old.pool.done
+  pub reach : new.reach ≡ old.reach
 
 -- So it is with the same uberblock and the same front.
-pub stays_same : (old new : Core) → new.pool.uber ≡ old.pool.uber → new.pool.done ≡ old.pool.done → Stays old new
-stays_same old new uber done = record {
+pub stays_same : (old new : Core) → new.pool.uber ≡ old.pool.uber → new.pool.done ≡ old.pool.done
+    → new.reach ≡ old.reach → Stays old new
+stays_same old new uber done reach = record {
   group = (let same = ap (λ (u : Uber). u.group) uber in omega (arith, same));
   parity = ap (λ (u : Uber). u.parity) uber;
   births = ap (λ (u : Uber). u.births) uber;
   reflow = ap (λ (u : Uber). u.reflow) uber;
   done = done;
+  reach = reach;
 }
 
 -- Then nothing is copied still,
 pub copied_none : (old new : Core) → Stays old new → HasCopiedNone old → HasCopiedNone new
-copied_none old new stays still expands = stays.done
-    ∙ still (subst Expands stays.reflow expands)
-    ∙ ap front_after_stop (sym stays.reflow)
+copied_none old new stays still = record {
+  front = λ expands. stays.done ∙ still.front (subst Expands stays.reflow expands) ∙ ap front_after_stop (sym stays.reflow);
+  reach = stays.reach ∙ still.reach ∙ ap (λ (r : Reflow). r.to) (sym stays.reflow);
+}
 
 -- and the pool is as at its opening.
 pub opened_stays : (uber : Uber) (old new : Core) → Stays old new → IsOpenSince uber old → IsOpenSince uber new
@@ -62,7 +66,7 @@ begins_holds old new actor run is still begins = ⊎_elim
   where
     empty : (range_of_commit old.pool.uber.reflow run.uber.reflow).0 ≡ (range_of_commit old.pool.uber.reflow run.uber.reflow).1
     empty = nothing_held old.pool.uber.reflow run.uber.reflow
-        (choice_still old.pool.uber.reflow old.pool.done old.holds run.uber.reflow is.is.right.reflow still begins.choice)
+        (choice_still old.pool.uber.reflow old.pool.done old.holds run.uber.reflow is.is.right.reflow still.front begins.choice)
 
 -- Where the reflow stays no birth is added.
 same_births : (reflow chosen : Reflow) (births : List Birth) (group : ℕ) → chosen ≡ reflow
@@ -88,12 +92,21 @@ module _ (before after : CoreState) (run : CommitRun) (number : ℕ) (is : IsCor
   uber_is : new.pool.uber ≡ ended
   uber_is = ap (λ (c : Core). c.pool.uber) answers.answers.rest
 
+  -- What it records is the reflow as it stands: no device has joined in it.
+  records_same : HasCopiedNone old → MayRecord old.pool.uber.reflow old.pool.done run.uber.reflow
+      → run.uber.reflow ≡ old.pool.uber.reflow
+  records_same still (Chooses holds choice) =
+      choice_still old.pool.uber.reflow old.pool.done holds run.uber.reflow is.is.right.reflow still.front choice
+  records_same still (Widens wider) =
+      let wider_to : run.uber.reflow.to ≡ old.pool.uber.reflow.to + 1 = ap (λ (r : Reflow). r.to) wider.wider_is in
+      let same = still.reach in
+      let reach = of.reach in
+      absurd (omega (arith, wider_to, same, reach))
+
   -- A commit that is answered leaves the pool as it was but for its group.
   pub answers_stays : HasCopiedNone old → Stays old new
   answers_stays still =
-      let chosen : run.uber.reflow ≡ old.pool.uber.reflow =
-      choice_still old.pool.uber.reflow old.pool.done of.next.choice.holds run.uber.reflow is.is.right.reflow still
-      of.next.choice.choice in
+      let chosen = records_same still of.next.choice in
       let reflow : ended.reflow ≡ old.pool.uber.reflow = ap (λ (u : Uber). u.reflow) made ∙ chosen in record {
         group = (let its : new.pool.uber.group ≡ run.uber.group = ap (λ (u : Uber). u.group) (uber_is ∙ made) in
             let next = of.next.number in omega (arith, its, next));
@@ -104,4 +117,5 @@ module _ (before after : CoreState) (run : CommitRun) (number : ℕ) (is : IsCor
         done = ap (λ (c : Core). c.pool.done) answers.answers.rest
             ∙ ap (front_behind old.pool.uber.reflow old.pool.done) reflow
             ∙ front_stays_behind old.pool.uber.reflow old.pool.done;
+        reach = ap (λ (c : Core). c.reach) answers.answers.rest;
       }

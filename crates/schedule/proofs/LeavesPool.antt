@@ -35,6 +35,7 @@ leaves_pool old new blocks holds core alone = record {
     done = ap (λ (c : Core). c.pool.done) core;
     begun = ap (λ (c : Core). c.begun) core;
     committing = ap (λ (c : Core). c.committing) core;
+    reach = ap (λ (c : Core). c.reach) core;
     within = λ device has. subst (λ (n : ℕ). has_device n device ≡ true) (sym out) has;
     holds = alone;
   };
@@ -76,15 +77,15 @@ out_keeps {old} {new} rest within = keeps_left (out_leaves old new rest within)
 
 -- Where the disk is as it was, no device was called.
 pub turn_still : (before after : CoreState) → after.core.pool.uber ≡ before.core.pool.uber
-    → after.core.pool.out ≡ before.core.pool.out → after.disk ≡ before.disk → TurnGoesOn before after
-turn_still before after uber outs disk = let none = turn_nowhere before in record {
+    → after.core.reach ≡ before.core.reach → after.core.pool.out ≡ before.core.pool.out → after.disk ≡ before.disk → TurnGoesOn before after
+turn_still before after uber reach outs disk = let none = turn_nowhere before in record {
   parity = ap (λ (u : Uber). u.parity) uber;
-  widths = ap (λ (u : Uber). u.reflow.to) uber;
+  reach = reach;
   rows = ap (λ (u : Uber). u.reflow.rows) uber;
   later = subst (Later before.disk) (sym disk) none.later;
   out = subst (OnlyFailedGoOut (point_of before.core.pool.out before.disk))
       (λ i. point_of (sym outs i) (sym disk i)) none.out;
-  only = subst (TouchesOnly (IsOnInUse before.core.pool.uber.reflow.to before.core.pool.out) before.disk) (sym disk)
+  only = subst (TouchesOnly (IsOnInUse before.core.reach before.core.pool.out) before.disk) (sym disk)
       none.only;
 }
 
@@ -93,4 +94,4 @@ pub pool_goes : (old new : Core) (blocks : Blocks) (holds : List Hold) (disk : D
     → new ≡ record old { pool = record old.pool { blocks = blocks }; holds = holds }
     → TurnGoesOn (at_disk old disk) (at_disk new disk)
 pool_goes old new blocks holds disk core = turn_still (at_disk old disk) (at_disk new disk)
-    (ap (λ (c : Core). c.pool.uber) core) (ap (λ (c : Core). c.pool.out) core) refl
+    (ap (λ (c : Core). c.pool.uber) core) (ap (λ (c : Core). c.reach) core) (ap (λ (c : Core). c.pool.out) core) refl

@@ -25,7 +25,14 @@ use Rattle.schedule.specs.Moments.{Past}
 
 -- the core of a pool of which no call is under way
 abbrev pub resting : Pool → Core
-resting pool = record { pool = pool; holds = []; begun = pool.uber.group; committing = None; copying = None }
+resting pool = record {
+  pool = pool;
+  holds = [];
+  begun = pool.uber.group;
+  committing = None;
+  copying = None;
+  reach = pool.uber.reflow.to;
+}
 
 -- A client that has begun no call is one of those,
 pub blank_is : (count index : ℕ) (client : Client) → slice_get (blank_clients count) index ≡ Some client

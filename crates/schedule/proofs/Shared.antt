@@ -29,7 +29,7 @@ IsCalm core = OnlyShared core.holds × HasCopiedNone core
 -- So it is after a first turn,
 calm_begun : {old new : Core} {more : List Run} → BeginsWith old new more → IsCalm old → IsCalm new
 calm_begun {old} {new} begins calm =
-    (begins.shared calm.1 calm.0, copied_none old new (stays_same old new begins.uber begins.done) calm.1)
+    (begins.shared calm.1 calm.0, copied_none old new (stays_same old new begins.uber begins.done begins.reach) calm.1)
 
 -- after a later one,
 calm_gone : {old new : Core} {group : ℕ} → GoesWith old new group → IsCalm old → IsCalm new

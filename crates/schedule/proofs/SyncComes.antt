@@ -53,6 +53,7 @@ module _ {script : Script} {actor : ℕ} {before after : Station} {clients news 
   sync_begins run table begins leaves =
       comes_on takes
       (turn_still before.state after.state (ap (λ (c : Core). c.pool.uber) begins.rest)
+      (ap (λ (c : Core). c.reach) begins.rest)
       (ap (λ (c : Core). c.pool.out) begins.rest) disk)
       leaves.0 (ap answered leaves.1 ∙ number ∙ sym (answered_idle before.client idle))
       (let low = slice_get_within (calls_of script actor) before.client.begun call next in omega (arith, low, begun_is))

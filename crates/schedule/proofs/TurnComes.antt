@@ -158,7 +158,7 @@ module _ {script : Script} {actor : ℕ} {before after : Station} {clients news 
   module _ (call : ScriptCall) (idle : before.client.under_way ≡ None) (leaves : LeavesPool old now)
       (disk : after.state.disk ≡ before.state.disk) where
     abbrev still : TurnGoesOn before.state after.state
-    still = turn_still before.state after.state leaves.commit.uber leaves.out disk
+    still = turn_still before.state after.state leaves.commit.uber leaves.commit.reach leaves.out disk
 
     -- The client has no call under way still.
     module _ (rests : after.client.under_way ≡ None) (are : AreCallsOf now (calls_under_way clients)) where

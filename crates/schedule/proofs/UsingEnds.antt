@@ -47,12 +47,13 @@ pub record GoesWith (old new : Core) (group : ℕ) : Type 0 where
   pub group_is : new.pool.uber.group ≡ group
   pub stays : HasCopiedNone old → Stays old new
 
-goes_still : (old new : Core) → new.pool.uber ≡ old.pool.uber → new.pool.done ≡ old.pool.done → UsesNoMore old new
+goes_still : (old new : Core) → new.pool.uber ≡ old.pool.uber → new.pool.done ≡ old.pool.done
+    → new.reach ≡ old.reach → UsesNoMore old new
     → GoesWith old new old.pool.uber.group
-goes_still old new uber done uses = record {
+goes_still old new uber done reach uses = record {
   uses = uses;
   group_is = ap (λ (u : Uber). u.group) uber;
-  stays = λ still. stays_same old new uber done;
+  stays = λ still. stays_same old new uber done reach;
 }
 
 -- An answer that neither ends a group nor tells of no space.
@@ -101,12 +102,12 @@ module _ (before after : CoreState) (is : IsCore before.core) where
 
   -- Only devices went out.
   core_goes : (out : ℕ) → new ≡ record old { pool = record old.pool { out = out } } → GoesWith old new old.pool.uber.group
-  core_goes out rest = goes_still old new (ap (λ (c : Core). c.pool.uber) rest) (ap (λ (c : Core). c.pool.done) rest)
+  core_goes out rest = goes_still old new (ap (λ (c : Core). c.pool.uber) rest) (ap (λ (c : Core). c.pool.done) rest) (ap (λ (c : Core). c.reach) rest)
       (same_parts old new (ap (λ (c : Core). c.pool.blocks.space) rest) (ap (λ (c : Core). c.holds) rest))
 
   stopped_goes : (run : PutRun) (given : Answer) → IsStoppedPut old new run given → GoesWith old new old.pool.uber.group
   stopped_goes run given stopped = goes_still old new (ap (λ (c : Core). c.pool.uber) stopped.gives_up.rest)
-      (ap (λ (c : Core). c.pool.done) stopped.gives_up.rest) (given_up old new run stopped.gives_up)
+      (ap (λ (c : Core). c.pool.done) stopped.gives_up.rest) (ap (λ (c : Core). c.reach) stopped.gives_up.rest) (given_up old new run stopped.gives_up)
 
   writes_goes : (run : PutRun) (turn : Turn PutRun) → WritesTurn before run after turn
       → GoesWith old new old.pool.uber.group
@@ -118,7 +119,7 @@ module _ (before after : CoreState) (is : IsCore before.core) where
       → IsPlainEnd given × GoesWith old new old.pool.uber.group
   ended_put run answer.Stored ends = (
     tt,
-    goes_still old new (ap (λ (c : Core). c.pool.uber) ends.rest) (ap (λ (c : Core). c.pool.done) ends.rest)
+    goes_still old new (ap (λ (c : Core). c.pool.uber) ends.rest) (ap (λ (c : Core). c.pool.done) ends.rest) (ap (λ (c : Core). c.reach) ends.rest)
         (stored old new run ends),
   )
   ended_put run (answer.TooManyFailed out) ends = (tt, stopped_goes run (answer.TooManyFailed out) ends)
@@ -128,7 +129,7 @@ module _ (before after : CoreState) (is : IsCore before.core) where
       → IsPlainEnd given × GoesWith old new old.pool.uber.group
   gave_up run answer.NoMemory ends = (
     tt,
-    goes_still old new (ap (λ (c : Core). c.pool.uber) ends.1.rest) (ap (λ (c : Core). c.pool.done) ends.1.rest)
+    goes_still old new (ap (λ (c : Core). c.pool.uber) ends.1.rest) (ap (λ (c : Core). c.pool.done) ends.1.rest) (ap (λ (c : Core). c.reach) ends.1.rest)
         (given_up old new run ends.1),
   )
   gave_up run (answer.TooManyFailed out) ends = (tt, stopped_goes run (answer.TooManyFailed out) ends)
@@ -147,7 +148,7 @@ module _ (before after : CoreState) (is : IsCore before.core) where
   ended_hold : (hold : Hold) → new ≡ record old { holds = new.holds } → EndsHold old.holds new.holds hold
       → GoesWith old new old.pool.uber.group
   ended_hold hold rest ends = goes_still old new (ap (λ (c : Core). c.pool.uber) rest)
-      (ap (λ (c : Core). c.pool.done) rest) (record {
+      (ap (λ (c : Core). c.pool.done) rest) (ap (λ (c : Core). c.reach) rest) (record {
         taken = λ run listed. subst (λ (s : Space). Contains s.taken run)
             (ap (λ (c : Core). c.pool.blocks.space) rest) listed;
         held = λ run listed. inl (subst (λ (s : Space). Contains s.held run)
@@ -216,7 +217,7 @@ module _ (before after : CoreState) (is : IsCore before.core) where
       inl (
         tt,
         goes_still old new (ap (λ (s : CoreState). s.core.pool.uber) steps.2)
-            (ap (λ (s : CoreState). s.core.pool.done) steps.2) (same_core old new (ap (λ (s : CoreState). s.core) steps.2)),
+            (ap (λ (s : CoreState). s.core.pool.done) steps.2) (ap (λ (s : CoreState). s.core.reach) steps.2) (same_core old new (ap (λ (s : CoreState). s.core) steps.2)),
       )
   sync_ends run other of steps = absurd steps
 

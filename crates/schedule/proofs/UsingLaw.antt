@@ -69,8 +69,9 @@ module _ (script : Script) (actor : ℕ) (before after : Station) (clients news 
 
   -- ---- what the pool was opened with
 
-  opened_same : new.pool.uber ≡ old.pool.uber → new.pool.done ≡ old.pool.done → IsOpenSince uber new
-  opened_same same done = opened_stays uber old new (stays_same old new same done) stood.opened
+  opened_same : new.pool.uber ≡ old.pool.uber → new.pool.done ≡ old.pool.done → new.reach ≡ old.reach
+      → IsOpenSince uber new
+  opened_same same done reach = opened_stays uber old new (stays_same old new same done reach) stood.opened
 
   opened_goes : (group : ℕ) → GoesWith old new group → IsOpenSince uber new
   opened_goes group with = opened_stays uber old new (with.stays stood.opened.still) stood.opened
@@ -196,21 +197,21 @@ module _ (script : Script) (actor : ℕ) (before after : Station) (clients news 
       → HasUsedRuns script uber entries after.state.core after.items news
   turn_uses (Nothing nothing) =
       let core : new ≡ old = ap (λ (s : Station). s.state.core) nothing.same in
-      lists_none (opened_same (ap (λ (c : Core). c.pool.uber) core) (ap (λ (c : Core). c.pool.done) core))
+      lists_none (opened_same (ap (λ (c : Core). c.pool.uber) core) (ap (λ (c : Core). c.pool.done) core) (ap (λ (c : Core). c.reach) core))
       (used_still (runs_still old new (same_core old new core))
       (ap (λ (s : Station). s.client.begun) nothing.same))
       (ap (λ (s : Station). s.items) nothing.same)
   turn_uses (Began (More does) begins leaves) =
       let on = works_begin old new is actor begins.call begins.call.kind begins.call.id does begins.did in
-      lists_none (opened_same on.begins.uber on.begins.done)
+      lists_none (opened_same on.begins.uber on.begins.done on.begins.reach)
       (used_next begins.call begins.next (ap (λ (c : Client). c.begun) leaves.1) on.more on.begins
       (on.fits uber stood.opened)) leaves.0
   turn_uses (Began (Busy by) begins leaves) =
       let with = waits_with old new is actor begins.call begins.call.kind begins.call.id by begins.did in
-      lists_none (opened_same with.uber with.done) (used_still (with.runs stood.opened.still) (ap (λ (c : Client). c.begun) leaves.1)) leaves.0
+      lists_none (opened_same with.uber with.done with.reach) (used_still (with.runs stood.opened.still) (ap (λ (c : Client). c.begun) leaves.1)) leaves.0
   turn_uses (Began (Done given) begins leaves) =
       let with = answers_with old new is actor begins.call begins.call.kind begins.call.id given begins.did in
-      lists_entry (opened_same with.uber with.done)
+      lists_entry (opened_same with.uber with.done with.reach)
       (used_next begins.call begins.next (ap (λ (c : Client). c.begun) leaves.1) [] with
       (none_fits uber (length_put begins.call.kind (fill_bytes begins.call.fill))))
       (entry_for begins.call actor (before.client.begun + 1) (length before.items) given) leaves.0

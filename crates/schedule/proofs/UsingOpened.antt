@@ -84,7 +84,7 @@ module _ (script : Script) (pool : Pool) (disk : Disk) (right : IsRightUber pool
       parity = refl;
       births = refl;
       reflow = refl;
-      still = λ expands. front;
+      still = record { front = λ expands. front; reach = refl };
     };
     used = record {
       left = script.calls;

@@ -12,7 +12,6 @@ use Rattle.core_state.specs.World.{World}
 use Rattle.core_client.specs.Outs.{OnlyFailedGoOut}
 use Rattle.core_state.specs.Committing.{point_of}
 use Rattle.core_commit.specs.Spared.{IsOnInUse}
-use Rattle.open_pool.specs.Pool.{HasBank}
 use Rattle.client_script.specs.Script.{Script, handed_by}
 use Rattle.schedule.specs.Caused.{FullIsCaused}
 use Rattle.schedule.specs.Clients.{ClientsAreAnswered}
@@ -22,12 +21,13 @@ use Rattle.schedule.specs.Numbered.{IsNumbered}
 use Rattle.schedule.specs.Running.{AreGoing, Runs}
 use Rattle.schedule.specs.Turns.{Turns, TurnTaken, AreListedWith, last_left}
 use Rattle.schedule.specs.Using.{HasUsedRuns}
+use Rattle.core_turns.specs.Core.{HasBankOf}
 
 -- What is needed of the calls under way, and which calls the journal answers.
 pub record IsSchedule (script : Script) (turns : Turns) : Type 0 where
   pub going : AreGoing script turns.state.core turns.clients
   pub answered : ClientsAreAnswered script turns.clients turns.items
-  pub bank : HasBank turns.state.core.pool.uber turns.state.core.pool.out turns.state.disk
+  pub bank : HasBankOf turns.state.core turns.state.disk
 
 -- What turns have used of a pool's space since its opening goes on being known.
 abbrev pub KeepsUsing : Script → Turns → Turns → Type 0
@@ -35,7 +35,7 @@ KeepsUsing script start now = (uber : Uber) (entries : List IndexEntry)
     → HasUsedRuns script uber entries start.state.core start.items start.clients
     → HasUsedRuns script uber entries now.state.core now.items now.clients
 
--- These turns lead from one state to another, in a pool of as many devices. Devices went out where they failed, and none was
+-- These turns lead from one state to another, in a pool that reaches to as many devices. Devices went out where they failed, and none was
 -- touched but those of the pool that were in use. What was answered fits its call, and groups are numbered. The devices
 -- whose failure has to be borne were out when it began, or have failed, and are no more than there are parities; none
 -- where too many were out then, since no device is called any more. Where these may fail, what stood stands, and answers
@@ -44,8 +44,8 @@ pub record LeadTo (script : Script) (start : Turns) (passed : List TurnTaken) (n
   pub ends : last_left start passed ≡ now
   pub later : Later start.state.disk now.state.disk
   pub parity : now.state.core.pool.uber.parity ≡ start.state.core.pool.uber.parity
-  pub widths : now.state.core.pool.uber.reflow.to ≡ start.state.core.pool.uber.reflow.to
-  pub only : TouchesOnly (IsOnInUse start.state.core.pool.uber.reflow.to start.state.core.pool.out)
+  pub reach : now.state.core.reach ≡ start.state.core.reach
+  pub only : TouchesOnly (IsOnInUse start.state.core.reach start.state.core.pool.out)
       start.state.disk now.state.disk
   pub out : OnlyFailedGoOut (point_of start.state.core.pool.out start.state.disk)
       (point_of now.state.core.pool.out now.state.disk)

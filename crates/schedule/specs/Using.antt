@@ -64,9 +64,10 @@ pub record AreAtMost (runs : List Run) (left sizes : List ℕ) : Type 0 where
 
 -- ---- between two turns
 
--- Nothing was copied since the opening: the front is where it was then.
-abbrev pub HasCopiedNone : Core → Type 0
-HasCopiedNone core = Expands core.pool.uber.reflow → core.pool.done ≡ front_after_stop core.pool.uber.reflow
+-- Nothing was copied since the opening: the front is where it was then. No device has joined.
+pub record HasCopiedNone (core : Core) : Type 0 where
+  pub front : Expands core.pool.uber.reflow → core.pool.done ≡ front_after_stop core.pool.uber.reflow
+  pub reach : core.reach ≡ core.pool.uber.reflow.to
 
 -- A pool has parity, births and widths of its opening's uberblock, and is of no older group. No birth is above that, and
 -- nothing was copied.

@@ -19,8 +19,7 @@ use Rattle.core_open.specs.Opens.{IsWithinBelow, RenewsChoice, WritesInOrder}
 use Rattle.core_open.specs.Regions.{IsOnBelow}
 use Rattle.client_script.specs.Script.{Script, asked_by, handed_by}
 use Rattle.open_pool.specs.Opening.{MayBegin}
-use Rattle.open_pool.specs.Pool.{HasBank}
-use Rattle.core_turns.specs.Core.{CoreState}
+use Rattle.core_turns.specs.Core.{CoreState, HasBankOf}
 use Rattle.journal_law.specs.Caused.{HasTooManyIds}
 use Rattle.journal_law.specs.Moments.{KeepsLast}
 use Rattle.journal_law.specs.NoSpace.{NoSpaceIsCaused}
@@ -80,7 +79,7 @@ pub record HasRun (script : Script) (old new : Disk) (items : List Item) (out : 
   pub start : CoreState
   pub rest : IsAtRest start.core
   pub opened_is : opened ≡ first_item start.core.pool
-  pub bank : HasBank start.core.pool.uber start.core.pool.out start.disk
+  pub bank : HasBankOf start.core start.disk
   pub later : Later old start.disk
   -- and from there these turns were taken.
   pub passed : List TurnTaken

@@ -4,8 +4,7 @@ ghost use Rattle.core_state.specs.declared.item.Entry.{Entry as EntryOf};
 ghost use Rattle.core_state.specs.Journal.{CallsAreRight, IsComplete};
 ghost use Rattle.core_state.specs.Legal.{CallAt};
 ghost use Rattle.client_script.specs.Script.{IsAllowed, asked_by, calls_of};
-ghost use Rattle.open_pool.specs.Pool.{HasBank};
-ghost use Rattle.core_turns.specs.Core.{at_disk};
+ghost use Rattle.core_turns.specs.Core.{at_disk, HasBankOf};
 ghost use Rattle.schedule.specs.declared.client.Client.{Client as ClientOf};
 ghost use Rattle.schedule.specs.declared.whole_run.Ended.TheVariants.{Whole};
 ghost use Rattle.schedule.specs.Turns.{most_turns, turns_of};
@@ -336,7 +335,7 @@ pub fn carry_out<B: Bank>(
     listed: &[u8],
     journal: &mut Journal,
 ) -> CarriedOut
-    requires bank { HasBank core.old.pool.uber core.old.pool.out (B.disk bank.old) }
+    requires bank { HasBankOf core.old (B.disk bank.old) }
     requires rest { IsAtRest core.old }
     requires allowed { All (λ placed. IsAllowed placed.call) script.now.calls }
     requires actors { All (λ placed. placed.actor < script.now.clients) script.now.calls }

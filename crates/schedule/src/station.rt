@@ -3,8 +3,7 @@ ghost use Rattle.std.specs.Prelude.{◌≡◌, ◌≤◌, ◌<◌, ◌+◌, ◌-
 ghost use Rattle.bank_trait.specs.Disk.{Disk, Lawful};
 ghost use Rattle.client_script.specs.declared.call.ScriptCall.{ScriptCall as CallOf};
 ghost use Rattle.client_script.specs.Script.{IsAllowed};
-ghost use Rattle.open_pool.specs.Pool.{HasBank};
-ghost use Rattle.core_turns.specs.Core.{IsCore};
+ghost use Rattle.core_turns.specs.Core.{IsCore, HasBankOf};
 ghost use Rattle.schedule.specs.declared.client.UnderWay.{UnderWay as UnderWayOf};
 ghost use Rattle.schedule.specs.Playing.{UsesRoom, unanswered};
 ghost use Rattle.schedule.specs.Turned.{MayGoOn, Turned, entry_for, listed_with, station_of};
@@ -65,8 +64,8 @@ fn begin_next(
     ensures turned { (disk : Disk) → Turned calls.now actor
         (station_of core.old disk journal.old.items client.old)
         (station_of core.new disk journal.new.items client.new) }
-    ensures bank { (disk : Disk) → HasBank core.old.pool.uber core.old.pool.out disk
-        → HasBank core.new.pool.uber core.new.pool.out disk }
+    ensures bank { (disk : Disk) → HasBankOf core.old disk
+        → HasBankOf core.new disk }
     ensures room { UsesRoom journal.old.room journal.new.room client.old client.new }
 {
     let Some(call) = calls.get(client.begun) else {
@@ -100,7 +99,7 @@ pub fn take_turn<B: Bank>(
 )
     requires allowed { (number : ℕ) (call : CallOf) → slice_get calls.now number ≡ Some call → IsAllowed call }
     requires room { 1 ≤ unanswered (length calls.now) client.old → 2 ≤ journal.old.room }
-    requires bank { HasBank core.old.pool.uber core.old.pool.out (B.disk bank.old) }
+    requires bank { HasBankOf core.old (B.disk bank.old) }
     requires few { client.old.begun ≤ length calls.now }
     requires begun { (under : UnderWayOf) → client.old.under_way ≡ Some under → 1 ≤ client.old.begun }
     requires may { (under : UnderWayOf) (call : CallOf) → client.old.under_way ≡ Some under
@@ -109,7 +108,7 @@ pub fn take_turn<B: Bank>(
         (station_of core.old (B.disk bank.old) journal.old.items client.old)
         (station_of core.new (B.disk bank.new) journal.new.items client.new) }
     ensures is { IsCore core.old }
-    ensures bank { HasBank core.new.pool.uber core.new.pool.out (B.disk bank.new) }
+    ensures bank { HasBankOf core.new (B.disk bank.new) }
     ensures lawful { Lawful (B.disk bank.old) × Lawful (B.disk bank.new) }
     ensures room { UsesRoom journal.old.room journal.new.room client.old client.new }
 {

@@ -7,9 +7,8 @@ ghost use Rattle.reflow_band.specs.Band.{IsFrontOf};
 ghost use Rattle.core_client.specs.Pool.{IsInPool};
 ghost use Rattle.client_script.specs.Lines.{fill_bytes};
 ghost use Rattle.client_script.specs.Script.{IsAllowed};
-ghost use Rattle.open_pool.specs.Pool.{HasBank};
 ghost use Rattle.core_turns.specs.declared.putting.Filled.{Filled as FilledOf};
-ghost use Rattle.core_turns.specs.Core.{Core as CoreOf, at_disk};
+ghost use Rattle.core_turns.specs.Core.{Core as CoreOf, at_disk, HasBankOf};
 ghost use Rattle.core_turns.specs.Getting.{IsGetOf, IsReadKind};
 ghost use Rattle.core_turns.specs.Putting.{IsPutOf};
 ghost use Rattle.core_turns.specs.UnderWay.{TurnGoesOn};
@@ -70,8 +69,8 @@ pub fn begin_call(alloc: Global, core: &mut Core, actor: u8, call: &ScriptCall) 
     requires allowed { IsAllowed call.now }
     ensures begins { BeginsCall core.old core.new actor call.now result }
     ensures table { HasTableOf core.old result }
-    ensures bank { (disk : Disk) → HasBank core.old.pool.uber core.old.pool.out disk
-        → HasBank core.new.pool.uber core.new.pool.out disk }
+    ensures bank { (disk : Disk) → HasBankOf core.old disk
+        → HasBankOf core.new disk }
 {
     match call.id {
         Some(id) => begin_block_call(alloc, core, actor, call, id),
@@ -91,8 +90,8 @@ fn begin_block_call(
     requires id { call.now.id ≡ Some id }
     ensures begins { BeginsCall core.old core.new actor call.now result }
     ensures table { HasTableOf core.old result }
-    ensures bank { (disk : Disk) → HasBank core.old.pool.uber core.old.pool.out disk
-        → HasBank core.new.pool.uber core.new.pool.out disk }
+    ensures bank { (disk : Disk) → HasBankOf core.old disk
+        → HasBankOf core.new disk }
 {
     match call.kind {
         Kind::Put => put_turn(core.put_begin(actor, id, fill_len(&call.fill))),
@@ -126,7 +125,7 @@ fn write_on<B: Bank>(bank: &mut B, core: &mut Core, run: PutRun) -> Turn<PutRun>
     requires of { IsPutOf core.old run }
     requires under_way { IsUnderWay core.old.pool.blocks run.range }
     requires filled { (filled : FilledOf) × (run.filled ≡ Some filled) }
-    requires bank { HasBank core.old.pool.uber core.old.pool.out (B.disk bank.old) }
+    requires bank { HasBankOf core.old (B.disk bank.old) }
     ensures writes { WritesOn (at_disk core.old (B.disk bank.old)) run
         (at_disk core.new (B.disk bank.new)) result }
     ensures goes_on { TurnGoesOn (at_disk core.old (B.disk bank.old))
@@ -150,7 +149,7 @@ fn go_on_putting<B: Bank>(
     requires of { IsPutOf core.old run }
     requires under_way { IsUnderWay core.old.pool.blocks run.range }
     requires len { length (fill_bytes call.now.fill) ≡ run.len }
-    requires bank { HasBank core.old.pool.uber core.old.pool.out (B.disk bank.old) }
+    requires bank { HasBankOf core.old (B.disk bank.old) }
     ensures goes { PutGoesOn (at_disk core.old (B.disk bank.old)) (at_disk core.new (B.disk bank.new))
         call.now run result }
     ensures goes_on { TurnGoesOn (at_disk core.old (B.disk bank.old))
@@ -168,7 +167,7 @@ fn go_on_putting<B: Bank>(
 fn go_on_reading<B: Bank>(alloc: Global, bank: &mut B, core: &mut Core, run: GetRun) -> Turn<GetRun>
     requires kind { IsReadKind run.kind }
     requires of { IsGetOf core.old run }
-    requires bank { HasBank core.old.pool.uber core.old.pool.out (B.disk bank.old) }
+    requires bank { HasBankOf core.old (B.disk bank.old) }
     ensures goes { ReadGoesOn (at_disk core.old (B.disk bank.old))
         (at_disk core.new (B.disk bank.new)) run result }
     ensures goes_on { TurnGoesOn (at_disk core.old (B.disk bank.old))
@@ -191,12 +190,12 @@ pub fn go_on<B: Bank>(
     work: Work,
 ) -> Turn<Work>
     requires may { MayGoOn core.old call.now work }
-    requires bank { HasBank core.old.pool.uber core.old.pool.out (B.disk bank.old) }
+    requires bank { HasBankOf core.old (B.disk bank.old) }
     ensures goes { GoesOnBy (at_disk core.old (B.disk bank.old)) (at_disk core.new (B.disk bank.new))
         call.now work result }
     ensures goes_on { TurnGoesOn (at_disk core.old (B.disk bank.old))
         (at_disk core.new (B.disk bank.new)) }
-    ensures bank { HasBank core.new.pool.uber core.new.pool.out (B.disk bank.new) }
+    ensures bank { HasBankOf core.new (B.disk bank.new) }
 {
     match work {
         Work::Put(run) => put_turn(go_on_putting(alloc, bank, core, call, run)),

@@ -1,4 +1,4 @@
-use Rattle.std.proofs.Common.{subst}
+use Rattle.std.proofs.Common.{subst, arith}
 use Rattle.core_client.specs.declared.spot.Spot.{Spot}
 use Rattle.core_state.specs.Committing.{point_of}
 use Rattle.core_client.specs.Reading.{IsGot, IsPassedOrRead}
@@ -29,6 +29,7 @@ returns-clause-out g c =
     (point_of c.read_spot.new.out (g.B.Bank.disk c.read_spot.new.bank)) c.read_spot.ensures
 
 pub returns-clause-below : goal.returns-clause-below
-returns-clause-below g c =
+returns-clause-below g c devices more =
     below_by_read c.spot_of.result c.read_spot.result (point_of c.args.out.now (g.B.Bank.disk c.args.bank.now))
-    (point_of c.read_spot.new.out (g.B.Bank.disk c.read_spot.new.bank)) c.args.reflow.now.to c.read_spot.ensures c.spot_of.ensures.device
+    (point_of c.read_spot.new.out (g.B.Bank.disk c.read_spot.new.bank)) devices c.read_spot.ensures
+    (let low = c.spot_of.ensures.device in omega (arith, low, more))

@@ -17,6 +17,7 @@ returns c =
       begun = inside.begun;
       committing = inside.committing;
       copying = inside.copying;
+      reach = inside.reach;
     } in
     let entry = c.in-Some.entry.now in
     let run : GetRun = record {

@@ -2,9 +2,9 @@ use Rattle.std.proofs.Common.{refl, sym, ◌∙◌, subst}
 use Rattle.core_state.specs.declared.answer.Answer.{Answer}
 use Rattle.core_blocks.specs.Blocks.{AreUnderWay}
 use Rattle.core_turns.specs.Freeing.{map_after_free}
-use Rattle.open_pool.specs.Pool.{HasBank, HoldsMap, pool_of, state_of}
+use Rattle.open_pool.specs.Pool.{HoldsMap, pool_of, state_of}
 use Rattle.open_pool.proofs.Frees.{freed_holds, none_freed_holds}
-use Rattle.core_turns.specs.Core.{Core, at_disk, pool_at}
+use Rattle.core_turns.specs.Core.{Core, at_disk, pool_at, HasBankOf}
 use Rattle.core_turns.specs.Getting.{IsGetOf}
 use Rattle.core_turns.proofs.GetTurns.{get_of}
 use Rattle.core_turns.proofs.open_core.Core.free.Goals as goal
@@ -36,4 +36,4 @@ returns-clause-gets c = λ run of.
 
 pub returns-clause-bank : goal.returns-clause-bank
 returns-clause-bank c = λ disk bank.
-    subst (λ (core : Core). HasBank core.pool.uber core.pool.out disk) (sym c.self.view_is) bank
+    subst (λ (core : Core). HasBankOf core disk) (sym c.self.view_is) bank

@@ -1,6 +1,5 @@
 use Rattle.std.proofs.Common.{sym, ap, subst}
-use Rattle.open_pool.specs.Pool.{HasBank}
-use Rattle.core_turns.specs.Core.{Core}
+use Rattle.core_turns.specs.Core.{Core, HasBankOf}
 use Rattle.core_turns.proofs.GetTurns.{get_of, begins_rest, begins_holds}
 use Rattle.core_turns.proofs.GetLaws.{get_finds}
 use Rattle.core_turns.proofs.open_core.Core.get_begin.Goals as goal
@@ -20,7 +19,7 @@ returns-clause-others c = λ run of.
     of
 
 pub returns-clause-bank : goal.returns-clause-bank
-returns-clause-bank c = λ disk bank. subst (λ (core : Core). HasBank core.pool.uber core.pool.out disk)
+returns-clause-bank c = λ disk bank. subst (λ (core : Core). HasBankOf core disk)
     (sym (begins_rest c.args.self.now c.begin_get.new.self c.args.actor c.args.id c.args.kind c.begin_get.result
     c.begin_get.ensures))
     bank

@@ -2,8 +2,9 @@ use Rattle.std.proofs.Common.{sym, subst}
 use Rattle.uberblock_ring.specs.Uberblock.{Uber}
 use Rattle.core_turns.proofs.GetLaws.{get_reads}
 use Rattle.open_pool.specs.Pool.{HasBank}
+use Rattle.core_turns.specs.Core.{reaching}
 use Rattle.open_pool.proofs.Banks.{bank_later}
-use Rattle.core_turns.proofs.GetTurns.{get_of_more, reads_uber}
+use Rattle.core_turns.proofs.GetTurns.{get_of_more, reads_reaching}
 use Rattle.core_turns.proofs.open_core.Core.get_read.Goals as goal
 
 pub returns-clause-keeps : goal.returns-clause-keeps
@@ -16,7 +17,7 @@ returns-clause-of g c = get_of_more _ _ c.args.run c.read_get.result c.requires.
 pub returns-clause-bank : goal.returns-clause-bank
 returns-clause-bank g c =
     subst (λ (u : Uber). HasBank u c.read_get.new.self.pool.out (g.B.Bank.disk c.read_get.new.bank))
-    (sym (reads_uber _ _ c.args.run c.read_get.result c.read_get.ensures.reads))
-    (bank_later c.args.self.now.pool.uber (g.B.Bank.disk c.args.bank.now) (g.B.Bank.disk c.read_get.new.bank)
+    (sym (reads_reaching _ _ c.args.run c.read_get.result c.read_get.ensures.reads))
+    (bank_later (reaching c.args.self.now) (g.B.Bank.disk c.args.bank.now) (g.B.Bank.disk c.read_get.new.bank)
     c.args.self.now.pool.out c.read_get.new.self.pool.out c.read_get.ensures.unchanged.goes_on.later c.read_get.ensures.out.still
     c.requires.bank)

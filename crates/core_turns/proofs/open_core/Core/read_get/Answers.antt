@@ -1,28 +1,30 @@
-use Rattle.std.proofs.Common.{◌≡◌, ◌^◌, ◌<◌, ℕ, sym, ap, subst}
+use Rattle.std.proofs.Common.{◌≡◌, sym, ap, subst, arith}
 use Rattle.reflow_mark.specs.declared.reflow.Reflow.{Reflow}
-use Rattle.open_pool.specs.Pool.{HasBank}
-use Rattle.core_turns.specs.Core.{Core}
+use Rattle.core_turns.specs.Core.{Core, HasBankOf}
 use Rattle.core_turns.specs.Getting.{IsGetOf}
-use Rattle.core_turns.proofs.Cores.{bank_has, core_out, core_with}
+use Rattle.core_turns.proofs.Cores.{bank_has, bank_within, core_out, core_with}
 use Rattle.core_turns.proofs.GetTurns.{read_ended}
 use Rattle.core_turns.proofs.open_core.Core.read_get.Goals as goal
 
 pub step-requires-clause-bank : goal.step-requires-clause-bank
-step-requires-clause-bank g c = bank_has c.self.inside.uber c.reflow-reflow.result c.self.inside.out (g.B.Bank.disk c.args.bank.now)
-    c.reflow-reflow.ensures.value
-    (subst (λ (core : Core). HasBank core.pool.uber core.pool.out (g.B.Bank.disk c.args.bank.now)) (sym c.self.view_is) c.requires.bank)
+step-requires-clause-bank g c =
+    let at = c.self.inside in
+    let core = core_with at.uber at.blocks at.out at.done at.locks at.begun at.committing at.copying at.reach in
+    bank_has at.uber c.reflow-reflow.result at.out (g.B.Bank.disk c.args.bank.now) c.reflow-reflow.ensures.value
+    (bank_within core (g.B.Bank.disk c.args.bank.now) c.self.invariant
+    (subst (λ (core : Core). HasBankOf core (g.B.Bank.disk c.args.bank.now)) (sym c.self.view_is) c.requires.bank))
 
 pub invariant_of-self : goal.invariant_of-self
 invariant_of-self g c =
     let at = c.self.inside in
-    read_ended (core_with at.uber at.blocks at.out at.done at.locks at.begun at.committing at.copying) c.args.run c.end.new.self
+    read_ended (core_with at.uber at.blocks at.out at.done at.locks at.begun at.committing at.copying at.reach) c.args.run c.end.new.self
     c.self.invariant (subst (λ (core : Core). IsGetOf core c.args.run) (sym c.self.view_is) c.requires.of)
     c.end.ensures.ends
 
 pub invariant_of-self-2 : goal.invariant_of-self-2
 invariant_of-self-2 g c =
     let to : c.reflow-reflow.result.to ≡ c.self.inside.uber.reflow.to = ap (λ (r : Reflow). r.to) c.reflow-reflow.ensures.value in
+    let more = c.self.invariant.reach in
     core_out _ c.step.new.out c.self.invariant
-    (subst (λ (n : ℕ). c.step.new.out < 2 ^ n) to
-    (c.step.ensures.below (subst (λ (n : ℕ). c.self.inside.out < 2 ^ n) (sym to) c.self.invariant.is.below)))
+    (c.step.ensures.below c.self.inside.reach (omega (arith, to, more)) c.self.invariant.below)
     c.step.ensures.out.still
