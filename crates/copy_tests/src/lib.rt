@@ -5,10 +5,24 @@
 #![tactic(auto)]
 
 #[cfg(test)]
+mod attached;
+#[cfg(test)]
+mod beside_jobs_tests;
+#[cfg(test)]
+mod failing_job_tests;
+#[cfg(test)]
 mod job_tests;
+#[cfg(test)]
+mod pool_on_bank;
+#[cfg(test)]
+mod pool_widening_tests;
 #[cfg(test)]
 mod rounds;
 #[cfg(test)]
 mod sectors;
+#[cfg(test)]
+mod stops;
+#[cfg(test)]
+mod widening_stop_tests;
 #[cfg(test)]
 mod widening_tests;

@@ -7,9 +7,7 @@ use Rattle.range_locks.specs.declared.hold.Hold.{Hold}
 use Rattle.range_locks.specs.declared.hold.HoldKind.TheVariants.{Shared}
 use Rattle.reflow_mark.specs.declared.reflow.Reflow.{Reflow}
 use Rattle.row_layout.specs.Layout.{Layout, allocated_of}
-use Rattle.shadow_write.specs.declared.write.Write.{Write}
 use Rattle.block_record.specs.declared.entry.IndexEntry.{IndexEntry}
-use Rattle.reconstruct.specs.Rows.{Rows}
 use Rattle.uberblock_ring.specs.Devices.{IsWithin, has_device}
 use Rattle.core_state.specs.Map.{Map}
 use Rattle.core_state.specs.Index.{layout_of}
@@ -23,7 +21,6 @@ use Rattle.mark_advance.proofs.Apart.{held_outside}
 use Rattle.core_blocks.specs.Blocks.{put_run}
 use Rattle.core_blocks.specs.Kept.{NoneFree}
 use Rattle.core_client.specs.Reading.{spot_of}
-use Rattle.core_client.specs.Writing.{IsPlanOf}
 use Rattle.core_client.specs.BlockTurns.{IsColumnOf}
 use Rattle.core_client.specs.Got.{got_of}
 use Rattle.core_commit.specs.declared.commit_run.CommitStep.TheVariants.{Ended}
@@ -34,7 +31,6 @@ use Rattle.job_copy.specs.Progress.{MovesMark}
 use Rattle.job_copy.proofs.Beside.{choice_moves}
 use Rattle.open_pool.specs.Answered.{answered_by}
 use Rattle.open_pool.specs.Pool.{IsPool}
-use Rattle.open_pool.proofs.NewBirth.{HasRowsOf}
 use Rattle.open_pool.proofs.Answered.{answered_block, answered_in_pool, answered_kept, answered_layout, answered_map, answered_range, answered_spares, answered_under}
 use Rattle.core_turns.specs.declared.copying.CopyRun.{CopyRun}
 use Rattle.core_turns.specs.declared.getting.GetRun.{GetRun}

@@ -63,13 +63,13 @@ pub commit_begins_calls : (old new : Core) (calls : List HoldingCall) (actor : �
 commit_begins_calls old new calls actor run begins are = subst (λ (core : Core). AreCallsOf core calls) (sym begins.rest)
     (calls_keep old (begun_by old new.holds actor) calls (record {
       widths = record {
-      parity = refl;
-      births = refl;
-      reflow = refl;
-      done = refl;
-      block_parity = refl;
-      block_births = refl;
-      begun = omega arith;
+        parity = refl;
+        births = refl;
+        reflow = refl;
+        done = refl;
+        block_parity = refl;
+        block_births = refl;
+        begun = omega arith;
       };
       copying = refl;
       within = λ device has. has;

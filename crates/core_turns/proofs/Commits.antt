@@ -25,7 +25,7 @@ use Rattle.uberblock_ring.specs.Valid.{IsRightUber}
 use Rattle.core_state.specs.declared.answer.Answer.{Answer}
 use Rattle.core_state.specs.declared.answer.Answer.TheVariants as answer
 use Rattle.core_state.specs.Committing.{Point, point_of}
-use Rattle.mark_choice.specs.CommitChoice.{IsChoiceIn, IsCommitChoice, IsWiderByOne, MayRecord, Chooses, Widens, births_of_commit, range_of_commit}
+use Rattle.mark_choice.specs.CommitChoice.{IsChoiceIn, IsCommitChoice, IsWiderByOne, MayRecord, Chooses, Widens, births_of_commit}
 use Rattle.mark_choice.proofs.Clear.{choice_clear}
 use Rattle.mark_advance.specs.Behind.{FollowsOn, KeepsOrEnds, front_behind, front_in}
 use Rattle.reflow_band.specs.Band.{IsFrontOf}
@@ -50,7 +50,7 @@ use Rattle.open_pool.specs.Pool.{Pool, IsPool}
 use Rattle.open_pool.proofs.Answered.{answered_pool, answered_step, may_grow_now}
 use Rattle.open_pool.proofs.Banks.{bank_later}
 use Rattle.open_pool.proofs.Growing.{MayGrow}
-use Rattle.open_pool.proofs.NewBirth.{HasRowsOf, rows_of}
+use Rattle.open_pool.proofs.NewBirth.{rows_of}
 use Rattle.open_pool.proofs.NextGroup.{IsReady, ready}
 use Rattle.core_turns.specs.declared.turn.Turn.{Turn}
 use Rattle.core_turns.specs.declared.turn.Turn.TheVariants.{More, Busy, Done}
@@ -59,7 +59,7 @@ use Rattle.core_turns.specs.Getting.{HasTooManyOut}
 use Rattle.core_turns.specs.Committing.{AnswersUber, BeginsCommitSo, DropsHold, IsHeldAlone, IsCommitOf, StepsCommit, TakesHold, commit_of, hold_for}
 use Rattle.core_turns.specs.UnderWay.{TurnGoesOn}
 use Rattle.core_turns.proofs.Cores.{core_out, core_with}
-use Rattle.core_turns.proofs.Holds.{alone_begins, alone_ends, below_lower, none_below, others_end, taken_count, below_all}
+use Rattle.core_turns.proofs.Holds.{alone_begins, alone_ends, below_lower, none_below, others_end, taken_count}
 
 -- Few devices are out.
 pub few_out : (core : Core) → (HasTooManyOut core → ⊥) → count_of core.pool.out ≤ core.pool.uber.parity
@@ -114,12 +114,12 @@ wider_changes_none reflow chosen actor wider some =
     (subst (λ (c : Reflow). HasSectors (hold_for reflow c actor)) wider.wider_is some)
   where
     by : (from to rows mark : ℕ) (state : State) → HasSectors (hold_for (record {
-          from = from;
-          to = to;
-          rows = rows;
-          mark = mark;
-          state = state;
-        }) (record { from = from; to = to + 1; rows = rows; mark = mark; state = state }) actor) → ⊥
+      from = from;
+      to = to;
+      rows = rows;
+      mark = mark;
+      state = state;
+    }) (record { from = from; to = to + 1; rows = rows; mark = mark; state = state }) actor) → ⊥
     by from to rows mark Unmoved some = omega (arith, some)
     by from to rows mark Valid some = omega (arith, some)
     by from to rows mark Moved some = omega (arith, some)

@@ -56,13 +56,13 @@ OnlyHolds old new = new ≡ record old { holds = new.holds }
 calls_held : (old new : Core) → OnlyHolds old new → KeepsCalls old new
 calls_held old new core = record {
   widths = record {
-  parity = ap (λ (c : Core). c.pool.uber.parity) core;
-  births = ap (λ (c : Core). c.pool.uber.births) core;
-  reflow = ap (λ (c : Core). c.pool.uber.reflow) core;
-  done = ap (λ (c : Core). c.pool.done) core;
-  block_parity = ap (λ (c : Core). c.pool.blocks.parity) core;
-  block_births = ap (λ (c : Core). c.pool.blocks.births) core;
-  begun = (let begun : new.begun ≡ old.begun = ap (λ (c : Core). c.begun) core in omega (arith, begun));
+    parity = ap (λ (c : Core). c.pool.uber.parity) core;
+    births = ap (λ (c : Core). c.pool.uber.births) core;
+    reflow = ap (λ (c : Core). c.pool.uber.reflow) core;
+    done = ap (λ (c : Core). c.pool.done) core;
+    block_parity = ap (λ (c : Core). c.pool.blocks.parity) core;
+    block_births = ap (λ (c : Core). c.pool.blocks.births) core;
+    begun = (let begun : new.begun ≡ old.begun = ap (λ (c : Core). c.begun) core in omega (arith, begun));
   };
   copying = ap (λ (c : Core). c.copying) core;
   within = λ device has. subst (λ (c : Core). has_device c.pool.out device ≡ true) (sym core) has;
@@ -201,13 +201,13 @@ frees_calls old new id given calls frees under are =
     let left = freed old new id given frees in
     calls_keep old new calls (record {
       widths = record {
-      parity = ap (λ (c : Core). c.pool.uber.parity) left.rest;
-      births = ap (λ (c : Core). c.pool.uber.births) left.rest;
-      reflow = ap (λ (c : Core). c.pool.uber.reflow) left.rest;
-      done = ap (λ (c : Core). c.pool.done) left.rest;
-      block_parity = left.parity;
-      block_births = left.births;
-      begun = (let begun : new.begun ≡ old.begun = ap (λ (c : Core). c.begun) left.rest in omega (arith, begun));
+        parity = ap (λ (c : Core). c.pool.uber.parity) left.rest;
+        births = ap (λ (c : Core). c.pool.uber.births) left.rest;
+        reflow = ap (λ (c : Core). c.pool.uber.reflow) left.rest;
+        done = ap (λ (c : Core). c.pool.done) left.rest;
+        block_parity = left.parity;
+        block_births = left.births;
+        begun = (let begun : new.begun ≡ old.begun = ap (λ (c : Core). c.begun) left.rest in omega (arith, begun));
       };
       copying = ap (λ (c : Core). c.copying) left.rest;
       within = λ device has. subst (λ (c : Core). has_device c.pool.out device ≡ true) (sym left.rest) has;

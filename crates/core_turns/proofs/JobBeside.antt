@@ -1,12 +1,11 @@
 -- A job beside puts, and beside the answer of a commit.
-use Rattle.std.proofs.Common.{◌≡◌, inl, inr, ⊎_elim, ℕ, ◌+◌, ◌*◌, ◌<◌, ◌≤◌, List, [], sym, ◌∙◌, ap, subst, arith}
+use Rattle.std.proofs.Common.{◌≡◌, inl, inr, ⊎_elim, ℕ, ◌<◌, ◌≤◌, List, [], sym, ◌∙◌, ap, subst, arith}
 use Rattle.std.proofs.lemmas.Bool.{cases_lt}
 use Rattle.range_locks.specs.declared.hold.Hold.{Hold}
 use Rattle.range_locks.specs.Holds.{Overlaps}
 use Rattle.reflow_mark.specs.declared.reflow.State.{State}
 use Rattle.reflow_mark.specs.declared.reflow.State.TheVariants.{None, Valid, Moved}
 use Rattle.reflow_mark.specs.declared.reflow.Reflow.{Reflow}
-use Rattle.reflow_mark.specs.Reflow.{sectors_of}
 use Rattle.reflow_mark.specs.Standing.{NeedsOld}
 use Rattle.row_layout.specs.Layout.{Layout, end_of, sector_of}
 use Rattle.shadow_write.specs.Required.{IsRequiredPlace, NeedsScratch}
@@ -18,7 +17,6 @@ use Rattle.core_state.specs.JobTurns.{MayRun}
 use Rattle.core_state.specs.Whole.{Cell, IsCell, RightAt}
 use Rattle.mark_choice.specs.CommitChoice.{IsCommitChoice, MayRecord}
 use Rattle.mark_advance.specs.Behind.{front_behind}
-use Rattle.reflow_band.specs.Band.{IsFrontOf}
 use Rattle.spare_write.specs.Around.{IsClose}
 use Rattle.job_copy.specs.Progress.{CopiesSector, IsPlaceSoFar, IsTarget, MovesMark}
 use Rattle.job_copy.proofs.Beside.{choice_moves, front_stays_behind, same_targets}

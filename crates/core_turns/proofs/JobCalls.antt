@@ -1,41 +1,24 @@
 -- Which calls are under way over each turn of a job.
-use Rattle.std.proofs.Common.{◌≡◌, ◌≢◌, inl, inr, ⊎_elim, ℕ, ◌+◌, ◌≤◌, List, [], ◌∷◌, Some, None, sym, ◌∙◌, ap, subst, arith, refl}
+use Rattle.std.proofs.Common.{◌≡◌, ◌≢◌, inl, inr, ⊎_elim, ℕ, List, ◌∷◌, Some, None, sym, ◌∙◌, ap, subst, arith, refl}
 use Rattle.std.specs.Prelude.{Contains}
 use Rattle.std.proofs.lemmas.Bool.{cases_lt}
 use Rattle.std.proofs.lemmas.List.Elements.{filter_map-append}
 use Rattle.range_locks.specs.declared.hold.Hold.{Hold}
-use Rattle.range_locks.specs.declared.hold.HoldKind.{HoldKind}
-use Rattle.range_locks.specs.declared.hold.HoldKind.TheVariants.{Exclusive, Shared}
-use Rattle.range_locks.specs.Holds.{EndsHold, Overlaps}
+use Rattle.range_locks.specs.Holds.{Overlaps}
 use Rattle.space_alloc.specs.Space.{Gains}
 use Rattle.reflow_mark.specs.declared.reflow.Reflow.{Reflow}
-use Rattle.row_layout.specs.Layout.{Layout, allocated_of, total_of}
 use Rattle.reflow_copier.specs.Jobs.{job_begin, job_end}
 use Rattle.uberblock_ring.specs.Devices.{IsWithin}
-use Rattle.shadow_write.specs.declared.write.Write.{Write}
 use Rattle.mark_advance.specs.Behind.{IsOutside}
-use Rattle.reflow_band.specs.Band.{IsFrontOf}
-use Rattle.job_copy.proofs.Fronts.{job_front}
-use Rattle.job_copy.proofs.Places.{rows_same}
-use Rattle.job_copy.proofs.Rows.{plan_same}
 use Rattle.core_blocks.specs.declared.range.PutRange.{PutRange}
 use Rattle.core_blocks.specs.Blocks.{AreUnderWay}
-use Rattle.core_blocks.proofs.Lists.{gains_cases, gains_item, gains_old, pairs_beside, pairs_gain, pairs_lose}
-use Rattle.core_client.specs.Writing.{IsPlanOf}
-use Rattle.core_copy.specs.JobRun.{JobRun}
-use Rattle.open_pool.proofs.Layouts.{total_few}
+use Rattle.core_blocks.proofs.Lists.{gains_cases, gains_old, pairs_beside, pairs_gain, pairs_lose}
 use Rattle.core_turns.specs.declared.copying.CopyRun.{CopyRun}
-use Rattle.core_turns.specs.declared.getting.GetRun.{GetRun}
-use Rattle.core_turns.specs.declared.putting.PutRun.{PutRun}
-use Rattle.core_turns.specs.Core.{Core, CoreState, IsCore}
-use Rattle.core_turns.specs.Copying.{BeginsJobSo, DropsJob, EndsJob, IsJobOf, StepsJob}
-use Rattle.core_turns.specs.Getting.{IsGetOf}
-use Rattle.core_turns.specs.Putting.{AsksAlike, IsPutOf}
+use Rattle.core_turns.specs.Core.{Core, CoreState}
+use Rattle.core_turns.specs.Copying.{BeginsJobSo, DropsJob, IsJobOf, StepsJob}
 use Rattle.core_turns.specs.UnderWay.{HoldingCall, Putting, Reading, Copying, AreBeside, AreCallsOf, HaveNoneInCommon, IsCallOfCore, ShareNoSector, actor_of, hold_of_call, range_in, ranges_of}
 use Rattle.core_turns.proofs.Calls.{beside_turn, calls_swap}
 use Rattle.core_turns.proofs.Frames.{KeepsWidths, calls_stay, ends_other, get_of_stays, hold_listed, put_of_stays}
-use Rattle.core_turns.proofs.GetTurns.{get_shared}
-use Rattle.core_turns.proofs.PutStands.{put_shared}
 
 -- A job has no range of a put.
 pub ranges_copied : (left calls : List HoldingCall) (run : CopyRun) → Gains left calls (Copying run)
@@ -93,8 +76,11 @@ job_begins_calls {old} {new} {run} {left} {calls} actor begins differs gains are
     of_call : (call : HoldingCall) → IsCallOfCore old call → IsCallOfCore new call
     of_call (Putting put) of = put_of_stays old new put (begun_widths old new actor run begins)
         (gains_old old.holds new.holds run.hold put.hold begins.holds of.holds) of
-    of_call (Reading get) of = (of.0, get_of_stays old new get (begun_widths old new actor run begins)
-        (gains_old old.holds new.holds run.hold get.hold begins.holds of.1.holds) of.1)
+    of_call (Reading get) of = (
+      of.0,
+      get_of_stays old new get (begun_widths old new actor run begins)
+          (gains_old old.holds new.holds run.hold get.hold begins.holds of.1.holds) of.1,
+    )
     of_call (Copying other) of = absurd (none_under_way other of)
 
     clear_of : (hold : Hold) → Contains old.holds hold → ShareNoSector run.hold hold

@@ -1,14 +1,12 @@
 -- The end of a job beside the calls that are under way: the front is behind it, and each call goes on where it was.
-use Rattle.std.proofs.Common.{◌≡◌, ℕ, ◌+◌, ◌<◌, ◌≤◌, List, [], None, Option, Some, refl, sym, ◌∙◌, ap, subst, arith}
+use Rattle.std.proofs.Common.{◌≡◌, ℕ, List, [], None, Option, Some, refl, sym, ◌∙◌, ap, subst, arith}
 use Rattle.std.specs.Prelude.{Contains}
 use Rattle.bank_trait.specs.Disk.{Disk}
 use Rattle.range_locks.specs.declared.hold.Hold.{Hold}
-use Rattle.range_locks.specs.declared.hold.HoldKind.TheVariants.{Exclusive}
 use Rattle.range_locks.specs.Holds.{EndsHold}
 use Rattle.reflow_mark.specs.declared.reflow.Reflow.{Reflow}
 use Rattle.row_layout.specs.Layout.{Layout, end_of, sector_of}
 use Rattle.space_alloc.specs.Space.{Gains}
-use Rattle.block_record.specs.declared.entry.IndexEntry.{IndexEntry}
 use Rattle.reflow_copier.specs.Jobs.{job_begin, job_end}
 use Rattle.core_state.specs.Map.{Map}
 use Rattle.core_state.specs.Index.{layout_of}
@@ -21,9 +19,9 @@ use Rattle.job_copy.proofs.Close.{cell_below, cell_close}
 use Rattle.job_copy.proofs.Fronts.{job_at_front, job_front, job_some}
 use Rattle.job_copy.proofs.Places.{rows_same}
 use Rattle.core_blocks.specs.declared.range.PutRange.{PutRange}
-use Rattle.core_blocks.specs.Blocks.{AreUnderWay, IsListed}
+use Rattle.core_blocks.specs.Blocks.{AreUnderWay}
 use Rattle.core_blocks.proofs.Lists.{gains_item, gains_old, pairs_beside, pairs_lose}
-use Rattle.core_client.specs.Pool.{IsInPool, IsRightBlock}
+use Rattle.core_client.specs.Pool.{IsInPool}
 use Rattle.core_commit.specs.CommitTurns.{CommitRun}
 use Rattle.core_copy.proofs.Choosing.{run_leaves_choice}
 use Rattle.core_copy.proofs.Holding.{run_ends}
@@ -35,13 +33,13 @@ use Rattle.core_turns.specs.declared.putting.PutRun.{PutRun}
 use Rattle.core_turns.specs.Core.{Core, IsCore, as_begun, at_disk, pool_at}
 use Rattle.core_turns.specs.Committing.{IsCommitOf, hold_for}
 use Rattle.core_turns.specs.Copying.{CopiesCells, EndsJob, IsJobOf}
-use Rattle.core_turns.specs.Getting.{HoldsGet, IsGetOf}
-use Rattle.core_turns.specs.Putting.{AsksAlike, HoldsPut, IsPutOf}
-use Rattle.core_turns.specs.UnderWay.{HoldingCall, Putting, Reading, Copying, AreBeside, AreCallsOf, GroupsStand, HaveNoneInCommon, HoldsCall, IsCallOfCore, ShareNoSector, Stands, actor_of, hold_of_call, ranges_of}
+use Rattle.core_turns.specs.Getting.{IsGetOf}
+use Rattle.core_turns.specs.Putting.{AsksAlike, IsPutOf}
+use Rattle.core_turns.specs.UnderWay.{HoldingCall, Putting, Reading, Copying, AreBeside, AreCallsOf, GroupsStand, HaveNoneInCommon, HoldsCall, IsCallOfCore, ShareNoSector, Stands, actor_of, hold_of_call}
 use Rattle.core_turns.proofs.Calls.{beside_turn}
 use Rattle.core_turns.proofs.Frames.{ends_other, hold_listed}
 use Rattle.core_turns.proofs.Holds.{alone_passes}
-use Rattle.core_turns.proofs.JobCalls.{apart_outside, gone_others, ranges_copied}
+use Rattle.core_turns.proofs.JobCalls.{apart_outside, ranges_copied}
 use Rattle.core_turns.proofs.JobTurns.{below_behind}
 use Rattle.core_turns.proofs.Moved.{block_moves, put_holds_moves, put_moves}
 use Rattle.core_turns.proofs.Rows.{IsBlockOutside, row_outside}
@@ -91,14 +89,17 @@ module _ (core : Core) (run : CopyRun) (is : IsCore core) (of : IsJobOf core run
         → IsCallOfCore core call → IsCallOfCore ended call
     call_ended (Putting put) apart held its = put_moves core ended put its (put_same put its apart) its.pool front its.range
         its.born.1 held
-    call_ended (Reading get) apart held its = (its.0, record {
-      layout_is = its.1.layout_is;
-      pool = its.1.pool;
-      born = its.1.born;
-      holds = held;
-      actor = its.1.actor;
-      hold_is = its.1.hold_is;
-    })
+    call_ended (Reading get) apart held its = (
+      its.0,
+      record {
+        layout_is = its.1.layout_is;
+        pool = its.1.pool;
+        born = its.1.born;
+        holds = held;
+        actor = its.1.actor;
+        hold_is = its.1.hold_is;
+      },
+    )
     call_ended (Copying other) apart held its = absurd apart
 
     -- What a call has written or read is its block's still.
@@ -137,11 +138,11 @@ module _ (core : Core) (run : CopyRun) (is : IsCore core) (of : IsJobOf core run
       holds = alone_passes core.pool.done behind core.holds holds run.hold (hold_for reflow commit.uber.reflow its.actor) refl
           (ap (λ (h : Hold). h.kind) of.hold_is)
           (let begins : run.hold.lo ≡ core.pool.done = ap (λ (h : Hold). h.lo) of.hold_is
-              ∙ job_at_front reflow core.pool.done run.job.job of.goes.may_run in
-              omega (arith, begins))
+          ∙ job_at_front reflow core.pool.done run.job.job of.goes.may_run in
+          omega (arith, begins))
           (let some = job_some reflow core.pool.done run.job.job of.goes.widening of.goes.may_run in
-              let begins = job_at_front reflow core.pool.done run.job.job of.goes.may_run in
-              omega (arith, some, begins))
+          let begins = job_at_front reflow core.pool.done run.job.job of.goes.may_run in
+          omega (arith, some, begins))
           (below_behind core run holds is of ends).1 ends its.holds;
       lists = its.lists;
       reach = its.reach;

@@ -1,9 +1,7 @@
 -- What a job that is under way has copied, over what others do.
-use Rattle.std.proofs.Common.{◌≡◌, inl, inr, ⊎_elim, ℕ, ◌+◌, ◌<◌, ◌≤◌, [], true, false, sym, ◌∙◌, ap, subst, arith}
+use Rattle.std.proofs.Common.{◌≡◌, inl, inr, ⊎_elim, ℕ, ◌<◌, [], true, false, sym, ◌∙◌, subst, arith}
 use Rattle.std.proofs.lemmas.Bool.{cases_lt}
-use Rattle.bank_trait.specs.Disk.{Known}
 use Rattle.reflow_mark.specs.declared.reflow.Reflow.{Reflow}
-use Rattle.shadow_write.specs.Required.{IsRequiredPlace}
 use Rattle.reflow_copier.specs.declared.job.Job.{Job}
 use Rattle.reflow_copier.specs.declared.job.Job.TheVariants.{Fill, Drain, Chunk}
 use Rattle.reflow_copier.specs.Jobs.{job_begin, job_end}
@@ -13,10 +11,9 @@ use Rattle.core_state.specs.Committing.{Point}
 use Rattle.core_state.specs.JobTurns.{MayRun}
 use Rattle.core_state.specs.Whole.{Cell, RightAt}
 use Rattle.core_state.proofs.Places.{IsDataSector}
-use Rattle.reflow_band.specs.Band.{IsFrontOf}
 use Rattle.spare_write.specs.Around.{IsClose}
 use Rattle.job_copy.specs.Progress.{CopiesSector, IsPlaceSoFar, IsTarget}
-use Rattle.core_copy.specs.JobRun.{JobRun, present_sector}
+use Rattle.core_copy.specs.JobRun.{JobRun}
 use Rattle.core_copy.specs.Holding.{GoesOnIn, HoldsJob}
 use Rattle.core_copy.proofs.Holding.{run_beside, run_stays}
 use Rattle.core_open.proofs.Unhindered.{none_empty}

@@ -1,35 +1,28 @@
 -- What stands between two turns stands over each turn of a job, and so does what images keep.
-use Rattle.std.proofs.Common.{◌≡◌, ◌≢◌, ◌⊎◌, inl, inr, ⊎_elim, ℕ, ◌+◌, ◌<◌, ◌≤◌, List, [], ◌∷◌, Option, Some, None, false, refl, sym, ◌∙◌, ap, subst, arith}
+use Rattle.std.proofs.Common.{◌≡◌, ◌⊎◌, inl, inr, ⊎_elim, ℕ, ◌<◌, ◌≤◌, List, [], ◌∷◌, Option, refl, sym, ◌∙◌, ap, subst, arith}
 use Rattle.std.specs.Prelude.{Contains}
-use Rattle.std.proofs.lemmas.Bool.{cases_lt}
 use Rattle.bank_trait.specs.Disk.{Disk, Lawful}
 use Rattle.bank_trait.specs.Regions.{Tells, TouchesOnly}
 use Rattle.range_locks.specs.declared.hold.Hold.{Hold}
 use Rattle.range_locks.specs.declared.hold.HoldKind.TheVariants.{Exclusive}
-use Rattle.range_locks.specs.Holds.{EndsHold}
-use Rattle.reflow_mark.specs.declared.reflow.State.{State}
 use Rattle.reflow_mark.specs.declared.reflow.State.TheVariants.{None as Unmoved}
 use Rattle.reflow_mark.specs.declared.reflow.Reflow.{Reflow}
-use Rattle.reflow_mark.specs.Reflow.{sectors_of}
 use Rattle.row_layout.specs.Layout.{Layout}
-use Rattle.shadow_write.specs.Required.{IsRequiredPlace}
 use Rattle.space_alloc.specs.Space.{Gains}
-use Rattle.block_record.specs.declared.entry.IndexEntry.{IndexEntry}
-use Rattle.reflow_copier.specs.declared.job.Job.{Job}
 use Rattle.reflow_copier.specs.declared.job.Job.TheVariants.{Fill}
-use Rattle.uberblock_ring.specs.Devices.{has_device, IsWithin, count_of}
+use Rattle.uberblock_ring.specs.Devices.{IsWithin, count_of}
 use Rattle.uberblock_ring.specs.Uberblock.{Uber}
 use Rattle.uberblock_ring.proofs.DeviceSets.{count_none}
 use Rattle.uberblock_ring.specs.Valid.{AreAlike}
 use Rattle.core_state.specs.Index.{layout_of}
 use Rattle.core_state.specs.Map.{Map}
 use Rattle.core_state.specs.Keeps.{Kept, Setting}
-use Rattle.core_state.specs.Certain.{Asks, IsSound}
+use Rattle.core_state.specs.Certain.{IsSound}
 use Rattle.core_state.specs.Committing.{Point, point_of}
 use Rattle.core_state.specs.Free.{IsSpare}
 use Rattle.core_state.specs.JobTurns.{MayRun}
 use Rattle.core_state.specs.Moment.{IsRowOf, KeepsSince}
-use Rattle.core_state.specs.Whole.{Cell, IsCell, RightAt}
+use Rattle.core_state.specs.Whole.{Cell, RightAt}
 use Rattle.core_state.proofs.Listed.{contains_cases, contains_none, contains_head, contains_tail}
 use Rattle.mark_choice.proofs.Recording.{chooses}
 use Rattle.mark_advance.proofs.Advance.{around_alone, around_begins}
@@ -43,11 +36,11 @@ use Rattle.job_copy.proofs.Fronts.{job_at_front, job_spare}
 use Rattle.job_copy.proofs.Places.{target_free}
 use Rattle.core_blocks.proofs.Lists.{gains_cases, gains_item, gains_old, pairs_beside}
 use Rattle.core_client.specs.Pool.{IsInPool}
-use Rattle.core_commit.specs.CommitTurns.{CommitRun, IsBeside, shown_at, shown_by}
+use Rattle.core_commit.specs.CommitTurns.{CommitRun, IsBeside, shown_at}
 use Rattle.core_commit.specs.declared.commit_run.Stage.{Stage}
 use Rattle.core_commit.specs.declared.commit_run.Stage.TheVariants.{Lays, Signs}
 use Rattle.core_commit.proofs.Halves.{sound_paged}
-use Rattle.core_copy.specs.JobRun.{JobRun, begun_run, present_sector, source_spot, target_spot}
+use Rattle.core_copy.specs.JobRun.{JobRun, begun_run, present_sector, source_spot}
 use Rattle.core_copy.specs.Holding.{GoesOnIn, HoldsJob}
 use Rattle.core_copy.proofs.Holding.{present_in, run_begins, run_steps, step_goes_on, target_at}
 use Rattle.open_pool.proofs.Holding.{listed_in_pool}
@@ -60,10 +53,9 @@ use Rattle.core_turns.proofs.Calls.{beside_turn}
 use Rattle.core_turns.proofs.Cores.{bank_has, bank_within}
 use Rattle.core_turns.proofs.Frames.{AreOff, IsCallOff, IsOff, Leaves, call_stays, leaves_touched, stands_anew}
 use Rattle.core_turns.proofs.GetStands.{AddsNoPut, OnlyHeld, stands_held}
-use Rattle.core_turns.proofs.Holds.{KeepsAlone, alone_beside, alone_passes}
+use Rattle.core_turns.proofs.Holds.{alone_beside, alone_passes}
 use Rattle.core_turns.proofs.JobBeside.{off_target}
-use Rattle.core_turns.proofs.JobCalls.{gone_others}
-use Rattle.core_turns.proofs.JobLaws.{all_used, none_before, target_data}
+use Rattle.core_turns.proofs.JobLaws.{all_used, target_data}
 use Rattle.core_turns.proofs.JobTurns.{IsWrittenBy, due_runs, none_left, step_touches_target}
 use Rattle.core_turns.proofs.PutStands.{groups_with}
 use Rattle.core_turns.proofs.WritesBeside.{AreSpare, groups_written, since_written}

@@ -1,8 +1,8 @@
 -- Copy jobs, turn by turn: that a pool stays one, and what each turn comes to.
 use Rattle.std.proofs.Math.Nat.{pow-le-pow_right}
-use Rattle.std.proofs.Common.{◌≡◌, inl, inr, ⊎_elim, ℕ, ◌+◌, ◌^◌, ◌<◌, ◌≤◌, List, false, Some, None, Option, refl, sym, ◌∙◌, ap, subst, arith}
+use Rattle.std.proofs.Common.{◌≡◌, inl, inr, ⊎_elim, ℕ, ◌+◌, ◌^◌, ◌<◌, ◌≤◌, List, Some, None, Option, refl, sym, ◌∙◌, ap, subst, arith}
 use Rattle.std.specs.Prelude.{◌/◌, ◌%◌, IfSome}
-use Rattle.bank_trait.specs.Disk.{Disk, Later}
+use Rattle.bank_trait.specs.Disk.{Disk}
 use Rattle.bank_trait.specs.Regions.{TouchesOnly}
 use Rattle.bank_trait.proofs.Touches.{touches_widen, wrote_touches}
 use Rattle.range_locks.specs.declared.hold.Hold.{Hold}
@@ -11,27 +11,21 @@ use Rattle.range_locks.specs.Gaining.{Gains}
 use Rattle.range_locks.specs.Holds.{EndsHold, IsClear}
 use Rattle.range_locks.specs.Order.{exclusive_count}
 use Rattle.reflow_mark.specs.declared.reflow.Reflow.{Reflow}
-use Rattle.reflow_mark.specs.Reflow.{Expands}
 use Rattle.reflow_copier.specs.declared.job.Job.{Job}
 use Rattle.reflow_copier.specs.Jobs.{job_begin, job_end, next_job_of}
 use Rattle.uberblock_ring.specs.Devices.{IsWithin}
-use Rattle.uberblock_ring.specs.Valid.{IsRightUber}
 use Rattle.core_state.specs.Committing.{Point, point_of}
 use Rattle.core_state.specs.JobTurns.{MayRun}
-use Rattle.reflow_band.specs.Band.{IsFrontOf}
 use Rattle.core_blocks.proofs.Lists.{gains_item}
-use Rattle.core_client.specs.Outs.{OnlyFailedGoOut}
 use Rattle.core_commit.specs.Spared.{IsOnInUse}
 use Rattle.core_open.proofs.Others.{read_touches}
-use Rattle.job_copy.specs.Progress.{CopiesSector, IsOnPool, call_count}
+use Rattle.job_copy.specs.Progress.{IsOnPool, call_count}
 use Rattle.job_copy.proofs.Due.{due_may_run}
 use Rattle.job_copy.proofs.Fronts.{job_at_front, job_front, job_some}
 use Rattle.job_copy.proofs.Inside.{target_inside}
 use Rattle.core_copy.specs.JobRun.{HoldsRead, JobRun, JobSteps, ReadsSector, WritesSector, begun_run, target_spot}
-use Rattle.core_copy.specs.Holding.{GoesOnIn}
 use Rattle.core_copy.proofs.Holding.{begun_goes_on, present_in, right_begins, step_goes_on, target_at}
 use Rattle.core_copy.proofs.Steps.{outs_by_step}
-use Rattle.open_pool.specs.Pool.{IsPool}
 use Rattle.core_turns.specs.declared.copying.CopyRun.{CopyRun}
 use Rattle.core_turns.specs.Core.{Core, CoreState, IsCore, alone_below, as_begun, jobs_begun}
 use Rattle.core_turns.specs.Copying.{BeginsJobSo, IsDue, IsJobOf, StepsJob, hold_for_job}

@@ -31,13 +31,13 @@ pub record Rearranges (old new : Core) : Type 0 where
 rearranged_keeps : (old new : Core) → Rearranges old new → KeepsCalls old new
 rearranged_keeps old new change = record {
   widths = record {
-  parity = ap (λ (core : Core). core.pool.uber.parity) change.rest;
-  births = ap (λ (core : Core). core.pool.uber.births) change.rest;
-  reflow = ap (λ (core : Core). core.pool.uber.reflow) change.rest;
-  done = ap (λ (core : Core). core.pool.done) change.rest;
-  block_parity = change.parity;
-  block_births = change.births;
-  begun = (let begun : new.begun ≡ old.begun = ap (λ (core : Core). core.begun) change.rest in omega (arith, begun));
+    parity = ap (λ (core : Core). core.pool.uber.parity) change.rest;
+    births = ap (λ (core : Core). core.pool.uber.births) change.rest;
+    reflow = ap (λ (core : Core). core.pool.uber.reflow) change.rest;
+    done = ap (λ (core : Core). core.pool.done) change.rest;
+    block_parity = change.parity;
+    block_births = change.births;
+    begun = (let begun : new.begun ≡ old.begun = ap (λ (core : Core). core.begun) change.rest in omega (arith, begun));
   };
   copying = ap (λ (core : Core). core.copying) change.rest;
   within = λ device has. subst (λ (core : Core). has_device core.pool.out device ≡ true) (sym change.rest) has;
@@ -72,7 +72,6 @@ begins_beside {old} left begins under (Reading other) listed differs of = record
       (refl, record { begins = omega (arith, inside.0); ends = inside.1 }) in
       (begins.begins.first.free sector in_put).not_shared (other.hold, of.1.holds, shared.0, shared.1);
 }
-
 begins_beside {old} {run = run} left begins under (Copying other) listed differs of = record {
   actors = λ same. differs (sym same ∙ ap (λ (hold : Hold). hold.actor) begins.hold_is);
   apart = λ overlaps. begins.begins.first.clear other.hold of.holds (record {

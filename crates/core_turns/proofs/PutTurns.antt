@@ -40,8 +40,6 @@ use Rattle.core_client.proofs.Below.{below_by_write}
 use Rattle.core_client.proofs.Outs.{outs_none, outs_called}
 use Rattle.core_client.proofs.Stored.{plan_below, plan_inside}
 use Rattle.core_commit.specs.Spared.{IsOnInUse}
-use Rattle.open_pool.specs.Pool.{HasBank}
-use Rattle.open_pool.proofs.Banks.{bank_later}
 use Rattle.open_pool.proofs.PutRanges.{entry_range, range_in_pool}
 use Rattle.core_turns.specs.declared.getting.OutOfMemory.{OutOfMemory}
 use Rattle.core_turns.specs.declared.putting.Filled.{Filled}

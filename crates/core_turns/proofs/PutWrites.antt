@@ -1,5 +1,5 @@
 -- What stands between two turns stands over each write of a put, and so does what images keep.
-use Rattle.std.proofs.Common.{◌≡◌, ⊎_elim, ℕ, ◌+◌, ◌≤◌, List, [], ◌∷◌, Option, Some, None, true, refl, sym, ◌∙◌, ap, subst, arith, append_assoc}
+use Rattle.std.proofs.Common.{◌≡◌, ⊎_elim, ℕ, ◌+◌, ◌≤◌, List, [], ◌∷◌, Option, Some, true, refl, sym, ap, subst, arith}
 use Rattle.std.specs.Prelude.{Contains}
 use Rattle.std.proofs.lemmas.Bool.{cases_lt}
 use Rattle.std.proofs.lemmas.List.Elements.{All-contains}
@@ -34,7 +34,6 @@ use Rattle.core_state.specs.Free.{IsSpare}
 use Rattle.core_state.specs.Moment.{IsRowOf, KeepsSince}
 use Rattle.core_state.proofs.Listed.{contains_cases, contains_none}
 use Rattle.core_state.proofs.Places.{IsDataSector, data_is_no_page, page_place}
-use Rattle.core_state.proofs.Touched.{touched_knows, touched_since}
 use Rattle.core_blocks.specs.Blocks.{AreInStep, IsUnderWay, layout_run, put_run}
 use Rattle.core_blocks.specs.Kept.{SparesAll}
 use Rattle.core_blocks.specs.Runs.{AreClear}
@@ -47,7 +46,6 @@ use Rattle.core_client.proofs.BlockTurns.{listed_at, written_more}
 use Rattle.core_commit.specs.declared.commit_run.Stage.{Stage}
 use Rattle.core_commit.specs.declared.commit_run.Stage.TheVariants.{Lays, Signs}
 use Rattle.core_commit.specs.CommitTurns.{CommitRun, shown_at, shown_by}
-use Rattle.core_commit.proofs.Beside.{committing_knows, committing_touched}
 use Rattle.core_commit.proofs.Halves.{sound_paged}
 use Rattle.open_pool.proofs.Holding.{listed_in_pool}
 use Rattle.open_pool.proofs.Layouts.{entry_in_pool}
@@ -56,12 +54,12 @@ use Rattle.core_turns.specs.declared.putting.Filled.{Filled}
 use Rattle.core_turns.specs.declared.putting.PutRun.{PutRun}
 use Rattle.core_turns.specs.Core.{Core, CoreState, IsCore, as_begun, at_disk, HasBankOf}
 use Rattle.core_turns.specs.Putting.{IsPutOf, HoldsPut, WritesOne}
-use Rattle.core_turns.specs.UnderWay.{HoldingCall, Putting, Reading, Copying, AreBeside, AreCallsOf, CommitStands, GroupsStand, HoldsCall, IsCallOfCore, NoCommitStands, PutsSpare, Stands, actor_of}
+use Rattle.core_turns.specs.UnderWay.{HoldingCall, Putting, Reading, Copying, AreBeside, AreCallsOf, CommitStands, HoldsCall, IsCallOfCore, NoCommitStands, PutsSpare, Stands, actor_of}
 use Rattle.core_turns.proofs.Beside.{IsWrittenTo, AreInPool, never_asked, put_beside_commit, required_data}
 use Rattle.core_turns.proofs.CommitEnds.{layout_same}
 use Rattle.core_turns.proofs.Cores.{bank_within}
 use Rattle.core_turns.proofs.Commits.{core_follows}
-use Rattle.core_turns.proofs.Frames.{AreOff, IsCallOff, commit_still, lies_still, out_leaves, IsOff, Leaves, call_stays, leaves_touched, off_written, stands_anew}
+use Rattle.core_turns.proofs.Frames.{AreOff, IsCallOff, Leaves, call_stays, leaves_touched, off_written, stands_anew}
 use Rattle.core_turns.proofs.Calls.{beside_turn, range_listed}
 use Rattle.core_turns.proofs.PutStands.{groups_with, listed_clear, next_spares}
 use Rattle.core_turns.proofs.JobBeside.{job_off_written}

@@ -1,5 +1,5 @@
 -- A write to sectors that no group asks for leaves the groups, and what images keep of them.
-use Rattle.std.proofs.Common.{◌≡◌, ℕ, ◌+◌, ◌≤◌, List, [], ◌∷◌, Option, Some, None, refl, sym, ◌∙◌, subst, append_assoc}
+use Rattle.std.proofs.Common.{ℕ, ◌≤◌, List, [], ◌∷◌, Option, Some, None, refl, sym, ◌∙◌, subst, append_assoc}
 use Rattle.bank_trait.specs.Disk.{Disk, Lawful}
 use Rattle.bank_trait.specs.Regions.{TouchesOnly}
 use Rattle.uberblock_ring.specs.Devices.{IsWithin, count_of}

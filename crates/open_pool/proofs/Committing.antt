@@ -1,9 +1,8 @@
 -- A sync may commit the open group, and what that keeps.
-use Rattle.std.proofs.Common.{◌≡◌, ◌≢◌, inl, ℕ, ◌+◌, ◌<◌, ◌≤◌, List, ◌∷◌, ◌++◌, false, Some, refl, sym, ◌∙◌, ap, arith, append_assoc, []}
+use Rattle.std.proofs.Common.{◌≡◌, ◌≢◌, inl, ℕ, ◌+◌, ◌<◌, ◌≤◌, List, ◌∷◌, false, Some, refl, sym, ◌∙◌, ap, arith, []}
 use Rattle.std.specs.Prelude.{Contains}
 use Rattle.std.proofs.lemmas.List.Elements.{All-cons}
 use Rattle.std.proofs.lemmas.List.Kept.{AllPairs-cons}
-use Rattle.bank_trait.specs.Disk.{Disk}
 use Rattle.reflow_mark.specs.declared.reflow.Reflow.{Reflow}
 use Rattle.reflow_mark.specs.Reflow.{sectors_of}
 use Rattle.row_layout.proofs.Laws.{inside}
@@ -16,7 +15,6 @@ use Rattle.core_state.specs.Index.{IsIndexOf, layout_of}
 use Rattle.core_state.specs.Whole.{Cell, IsCellOf, RightAt}
 use Rattle.core_state.specs.Keeps.{HasWidthIn, Kept, Setting, IsNextOf}
 use Rattle.core_state.specs.Certain.{CellsOn, IsSound, IsSuccession}
-use Rattle.core_state.specs.Moment.{KeepsSince}
 use Rattle.mark_advance.specs.Behind.{FollowsOn, KeepsOrEnds}
 use Rattle.mark_advance.proofs.Advance.{same_cells}
 use Rattle.core_blocks.specs.Blocks.{AreInStep}

@@ -95,7 +95,7 @@ module _ {setting : Setting} {calls : Calls} {handed : PutBytes} {opening : Map}
       one = on.one;
       begun_is = on.first_is;
       reach = on.reach;
-    keeps = on.keeps;
+      keeps = on.keeps;
     };
     onward = begun;
     one = are.one;

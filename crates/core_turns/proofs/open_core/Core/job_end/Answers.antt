@@ -1,6 +1,4 @@
 use Rattle.std.proofs.Common.{◌≡◌, ℕ, None, sym, ◌∙◌, subst}
-use Rattle.reflow_mark.specs.declared.reflow.Reflow.{Reflow}
-use Rattle.reflow_copier.specs.declared.job.Job.{Job}
 use Rattle.reflow_copier.specs.Jobs.{job_end}
 use Rattle.core_turns.specs.Core.{Core, IsCore}
 use Rattle.core_turns.specs.Copying.{IsJobOf}
