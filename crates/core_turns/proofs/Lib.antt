@@ -24,4 +24,3 @@ pub mod GetStands
 pub mod JobCalls
 pub mod JobEnds
 pub mod JobStands
-pub mod Joining
