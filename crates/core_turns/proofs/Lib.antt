@@ -24,3 +24,4 @@ pub mod GetStands
 pub mod JobCalls
 pub mod JobEnds
 pub mod JobStands
+pub mod Joining
