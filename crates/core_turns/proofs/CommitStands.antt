@@ -1,6 +1,6 @@
 -- A commit beside the calls that are under way: how it begins, goes on, and is cut short.
 use Rattle.std.specs.Prelude.{Contains}
-use Rattle.std.proofs.Common.{◌≡◌, ℕ, ◌+◌, List, [], ◌∷◌, Some, None, refl, sym, ap, subst, arith}
+use Rattle.std.proofs.Common.{◌≡◌, ℕ, ◌+◌, List, [], ◌∷◌, Some, None, refl, sym, ◌∙◌, ap, subst, arith}
 use Rattle.bank_trait.specs.Disk.{Disk, Lawful}
 use Rattle.range_locks.specs.declared.hold.Hold.{Hold}
 use Rattle.reflow_mark.specs.declared.reflow.Reflow.{Reflow}
@@ -12,19 +12,22 @@ use Rattle.core_state.specs.Map.{Map}
 use Rattle.core_state.specs.Index.{layout_of}
 use Rattle.core_state.specs.Keeps.{Kept, Setting}
 use Rattle.core_state.specs.Certain.{Knows}
-use Rattle.core_state.specs.Committing.{point_of}
+use Rattle.core_state.specs.Committing.{Point, point_of}
 use Rattle.core_state.specs.Moment.{IsRowOf, KeepsSince}
 use Rattle.core_state.proofs.Frames.{Nowhere}
+use Rattle.core_state.proofs.Since.{since_more}
 use Rattle.mark_choice.specs.CommitChoice.{MayRecord, Chooses}
 use Rattle.mark_advance.specs.Behind.{FollowsOn, KeepsOrEnds}
 use Rattle.core_blocks.specs.Blocks.{IsListed, put_run}
 use Rattle.core_blocks.specs.Kept.{NoneFree, SparesAll}
 use Rattle.core_blocks.proofs.Keeping.{blocks_kept}
 use Rattle.core_blocks.proofs.Listed.{among_listed}
-use Rattle.core_commit.specs.declared.commit_run.CommitStep.TheVariants.{Called}
-use Rattle.core_commit.specs.CommitTurns.{CommitRun, IsCommitting}
-use Rattle.core_commit.proofs.CommitTurns.{committing_begins, committing_steps, committing_since}
-use Rattle.core_commit.proofs.Beside.{committing_cut}
+use Rattle.core_commit.specs.declared.commit_run.CommitStep.{CommitStep}
+use Rattle.core_commit.specs.declared.commit_run.CommitStep.TheVariants.{Called, Ended}
+use Rattle.core_commit.specs.CommitTurns.{CommitRun, CommitSteps, IsCommitting, shown_by}
+use Rattle.core_commit.proofs.CommitTurns.{committing_begins, committing_steps}
+use Rattle.core_commit.proofs.Beside.{committing_cut, committing_knows}
+use Rattle.core_commit.proofs.Halves.{goes_on}
 use Rattle.core_commit.proofs.Stepping.{steps_went}
 use Rattle.open_pool.specs.HoldsGroup.{HoldsGroup}
 use Rattle.open_pool.specs.NextGroup.{uber_for}
@@ -35,14 +38,15 @@ use Rattle.core_turns.specs.declared.putting.PutRun.{PutRun}
 use Rattle.core_turns.specs.declared.turn.Turn.TheVariants.{More}
 use Rattle.core_turns.specs.Core.{Core, IsCore, CoreState, as_begun, at_disk, pool_at}
 use Rattle.core_turns.specs.Getting.{HasTooManyOut}
-use Rattle.core_turns.specs.Committing.{BeginsCommit, BeginsCommitSo, StepsCommit, commit_of, hold_for}
-use Rattle.core_turns.specs.UnderWay.{HoldingCall, Putting, LiesInPool, actor_of, Stands, AreCallsOf}
+use Rattle.core_turns.specs.Committing.{BeginsCommit, BeginsCommitSo, IsCommitOf, StepsCommit, commit_of, hold_for}
+use Rattle.core_turns.specs.UnderWay.{HoldingCall, Putting, LiesInPool, actor_of, Stands, AreCallsOf, shown_in, shown_of}
 use Rattle.core_turns.proofs.Calls.{range_listed}
 use Rattle.core_turns.proofs.Cores.{bank_within}
 use Rattle.mark_advance.proofs.Follows.{choice_widths}
 use Rattle.core_turns.proofs.Commits.{begins_ready, begun_commit, core_follows, few_out, rests, rests_pool}
-use Rattle.core_turns.proofs.Frames.{call_off_nowhere, off_nowhere, leaves_spared, call_stays, calls_keep, calls_stay, stands_frame}
+use Rattle.core_turns.proofs.Frames.{OnlyOut, call_off_nowhere, off_nowhere, leaves_spared, call_stays, calls_keep, calls_stay, stands_frame}
 use Rattle.core_turns.proofs.Holds.{taken_has}
+use Rattle.core_turns.proofs.WritesBeside.{shown_one}
 
 -- No put has a sector of a block that stands in the table.
 spare_table : (core : Core) (calls : List HoldingCall) (run : PutRun) → AreCallsOf core calls
@@ -202,40 +206,74 @@ commit_steps_calls before after calls run next steps are = calls_stay before.cor
     steps.1).stay are
 
 module _ {setting : Setting} {last : Kept} {begun : List Kept} {map : Map} {contents : ℕ → List ℕ}
+    {calls : List HoldingCall} {before : CoreState} {run : CommitRun} (is : IsCore before.core)
+    (within : IsWithin before.core.pool.out setting.failed)
+    (stands : Stands setting last begun map contents calls (Some run) before) where
+  module _ (after : CoreState) (next : CommitRun) (result : CommitStep)
+      (steps : CommitSteps run (point_of before.core.pool.out before.disk) next
+      (point_of after.core.pool.out after.disk) result) (core : OnlyOut before.core after.core)
+      (of : IsCommitOf after.core next) where
+    abbrev old : Point
+    old = point_of before.core.pool.out before.disk
+
+    abbrev new : Point
+    new = point_of after.core.pool.out after.disk
+
+    come_on : IsCommitting setting last stands.groups.next next new
+    come_on = committing_steps setting last stands.groups.next result run next old new within steps stands.groups.come
+
+    -- A step of a commit leaves the rest as it stands.
+    pub commit_moves_stands : Stands setting last begun map contents calls (Some next) after
+    commit_moves_stands =
+        let was = stands.groups in
+        let went = steps_went result run next old new steps in
+        stands_frame Nowhere before after (leaves_spared before after is.is.front core went.stay went.spares)
+        (λ call listed. call_off_nowhere before.core.pool.uber.reflow before.core.pool.done call)
+        (λ entry listed. off_nowhere before.core.pool.uber.reflow before.core.pool.done
+        (layout_of before.core.pool.uber.parity before.core.pool.uber.births entry))
+        core went.spares.later
+        (record {
+          next = was.next;
+          begun_is = was.begun_is;
+          of = of;
+          come = come_on;
+          lies = subst (λ (core : Core). LiesInPool core was.next) (sym core)
+              (record { born = was.lies.born; inside = was.lies.inside });
+          kept = subst (λ (core : Core). NoneFree core.pool.blocks core.begun was.next.entries) (sym core) was.kept;
+          spared = λ put has. subst (λ (core : Core). SparesAll core.pool.blocks.parity core.pool.blocks.births
+              was.next.entries (put_run put.range)) (sym core) (was.spared put has);
+        })
+        stands
+
+    -- What images keep since a moment they keep over a step: beside the last group they can show what the commit has come
+    -- to.
+    pub commit_moves_since : (groups : List Kept) (time : ℕ) → IsRowOf groups last (shown_of begun (Some next))
+        → KeepsSince setting groups time before.disk → KeepsSince setting groups time after.disk
+    commit_moves_since groups time row = moved result steps
+      where
+        shown : IsRowOf groups last (shown_by stands.groups.next next)
+        shown = subst (IsRowOf groups last)
+            (ap (λ (l : List Kept). shown_in l next.stage) stands.groups.begun_is ∙ shown_one stands.groups.next next.stage)
+            row
+
+        moved : (result : CommitStep) → CommitSteps run old next new result → KeepsSince setting groups time before.disk
+            → KeepsSince setting groups time after.disk
+        moved Called steps kept = since_more setting groups time last (shown_by stands.groups.next next) before.disk
+            after.disk shown (goes_on steps.ready.uber steps.ready.entries steps.call old new steps.made)
+            (committing_knows setting last stands.groups.next next new come_on) kept
+        moved Ended steps kept = subst (λ (p : Point). KeepsSince setting groups time p.disk) (sym steps.same) kept
+
+-- A call of it in a turn of its own.
+module _ {setting : Setting} {last : Kept} {begun : List Kept} {map : Map} {contents : ℕ → List ℕ}
     {calls : List HoldingCall} {before after : CoreState} {run next : CommitRun} (is : IsCore before.core)
     (steps : StepsCommit before run after (More next)) (within : IsWithin before.core.pool.out setting.failed)
     (stands : Stands setting last begun map contents calls (Some run) before) where
-  -- A step of a commit leaves the rest as it stands.
   pub commit_steps_stands : Stands setting last begun map contents calls (Some next) after
-  commit_steps_stands =
-      let was = stands.groups in
-      let old = point_of before.core.pool.out before.disk in
-      let new = point_of after.core.pool.out after.disk in
-      let went = steps_went Called run next old new steps.1 in
-      stands_frame Nowhere before after (leaves_spared before after is.is.front steps.2 went.stay went.spares)
-      (λ call listed. call_off_nowhere before.core.pool.uber.reflow before.core.pool.done call)
-      (λ entry listed. off_nowhere before.core.pool.uber.reflow before.core.pool.done
-      (layout_of before.core.pool.uber.parity before.core.pool.uber.births entry))
-      steps.2 went.spares.later
-      (record {
-        next = was.next;
-        begun_is = was.begun_is;
-        of = steps.3;
-        come = committing_steps setting last was.next Called run next old new within steps.1 was.come;
-        lies = subst (λ (core : Core). LiesInPool core was.next) (sym steps.2)
-            (record { born = was.lies.born; inside = was.lies.inside });
-        kept = subst (λ (core : Core). NoneFree core.pool.blocks core.begun was.next.entries) (sym steps.2) was.kept;
-        spared = λ put has. subst (λ (core : Core). SparesAll core.pool.blocks.parity core.pool.blocks.births
-            was.next.entries (put_run put.range)) (sym steps.2) (was.spared put has);
-      })
-      stands
+  commit_steps_stands = commit_moves_stands is within stands after next Called steps.1 steps.2 steps.3
 
-  -- What images keep since a moment they keep over a step.
-  pub commit_steps_since : (groups : List Kept) (time : ℕ) → IsRowOf groups last begun
+  pub commit_steps_since : (groups : List Kept) (time : ℕ) → IsRowOf groups last (shown_of begun (Some next))
       → KeepsSince setting groups time before.disk → KeepsSince setting groups time after.disk
-  commit_steps_since groups time row kept = committing_since setting last stands.groups.next Called run next
-      (point_of before.core.pool.out before.disk) (point_of after.core.pool.out after.disk) groups time
-      (subst (IsRowOf groups last) stands.groups.begun_is row) within steps.1 stands.groups.come kept
+  commit_steps_since = commit_moves_since is within stands after next Called steps.1 steps.2 steps.3
 
 -- ---- cut short
 

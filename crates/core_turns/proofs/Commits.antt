@@ -464,7 +464,7 @@ module _ (core : Core) (run : CommitRun) (uber : Uber) (before chosen : Reflow) 
     (chosen_is : chosen ≡ uber.reflow) (drops : DropsHold core.holds holds (hold_for before chosen actor))
     (blocks_are : blocks ≡ blocks_behind core.pool uber) (done_is : done ≡ front_behind before core.pool.done chosen) where
   abbrev now : Core
-  now = core_with uber blocks core.pool.out done holds core.begun None core.copying core.reach
+  now = core_with uber blocks core.pool.out done holds core.begun None core.copying core.attaching core.reach
 
   its_drops : DropsHold core.holds holds (hold_for core.pool.uber.reflow uber.reflow actor)
   its_drops = subst (λ (r : Reflow × Reflow). DropsHold core.holds holds (hold_for r.0 r.1 actor))
@@ -472,7 +472,7 @@ module _ (core : Core) (run : CommitRun) (uber : Uber) (before chosen : Reflow) 
 
   now_is : now ≡ record core { pool = answered_by uber core.pool; holds = holds; committing = None }
   now_is i = core_with uber (blocks_are i) core.pool.out
-      ((done_is ∙ (λ j. front_behind (before_is j) core.pool.done (chosen_is j))) i) holds core.begun None core.copying core.reach
+      ((done_is ∙ (λ j. front_behind (before_is j) core.pool.done (chosen_is j))) i) holds core.begun None core.copying core.attaching core.reach
 
   pub answers_uber : AnswersUber core now uber
   answers_uber = record { actor = actor; under_way = under_way; holds = its_drops; rest = now_is }

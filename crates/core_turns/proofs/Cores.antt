@@ -13,13 +13,14 @@ use Rattle.core_turns.specs.Core.{Core, HasBankOf, IsCore, as_begun, jobs_begun}
 use Rattle.core_turns.proofs.Holds.{SameAlone}
 
 -- a core of these parts
-abbrev pub core_with : Uber → Blocks → ℕ → ℕ → List Hold → ℕ → Option ℕ → Option ℕ → ℕ → Core
-core_with uber blocks out done holds begun committing copying reach = record {
+abbrev pub core_with : Uber → Blocks → ℕ → ℕ → List Hold → ℕ → Option ℕ → Option ℕ → Option ℕ → ℕ → Core
+core_with uber blocks out done holds begun committing copying attaching reach = record {
   pool = record { uber = uber; blocks = blocks; out = out; done = done };
   holds = holds;
   begun = begun;
   committing = committing;
   copying = copying;
+  attaching = attaching;
   reach = reach;
 }
 

@@ -217,14 +217,15 @@ frees_calls old new id given calls frees under are =
 
 -- ---- all that stands
 
--- Only holds came or went, and who copies sectors.
+-- Only holds came or went, and who copies sectors or attaches a device.
 abbrev pub OnlyHeld : Core → Core → Type 0
-OnlyHeld old new = new ≡ record old { holds = new.holds; copying = new.copying }
+OnlyHeld old new = new ≡ record old { holds = new.holds; copying = new.copying; attaching = new.attaching }
 
 held_only : (old new : Core) → OnlyHolds old new → OnlyHeld old new
 held_only old new same = same ∙ (λ i. record old {
   holds = new.holds;
   copying = sym (ap (λ (c : Core). c.copying) same) i;
+  attaching = sym (ap (λ (c : Core). c.attaching) same) i;
 })
 
 -- No put is among these calls that was not among those.
@@ -255,7 +256,7 @@ groups_held setting last begun calls nexts None old new disk core alone adds gro
     subst (λ (c : Core). NoCommitStands setting last begun (at_disk c disk)) (sym core)
     (record { knows = groups.knows; whole = groups.whole })
 groups_held setting last begun calls nexts (Some run) old new disk core alone adds groups =
-    let held = record old { holds = new.holds; copying = new.copying } in
+    let held = record old { holds = new.holds; copying = new.copying; attaching = new.attaching } in
     let leaves : LeavesCommit old held = record {
       uber = refl;
       done = refl;

@@ -48,7 +48,7 @@ use Rattle.core_turns.specs.declared.copying.CopyRun.{CopyRun}
 use Rattle.core_turns.specs.declared.putting.PutRun.{PutRun}
 use Rattle.core_turns.specs.Core.{Core, CoreState, IsCore, as_begun, at_disk, HasBankOf}
 use Rattle.core_turns.specs.Copying.{BeginsJobSo, CopiesCells, DropsJob, IsJobOf, StepsJob}
-use Rattle.core_turns.specs.UnderWay.{HoldingCall, Putting, Reading, Copying, AreBeside, AreCallsOf, CommitStands, HoldsCall, IsCallOfCore, NoCommitStands, PutsSpare, Stands, actor_of}
+use Rattle.core_turns.specs.UnderWay.{HoldingCall, Putting, Reading, Copying, AreBeside, AreCallsOf, CommitStands, HoldsCall, IsCallOfCore, NoCommitStands, PutsSpare, Stands, actor_of, shown_of}
 use Rattle.core_turns.proofs.Calls.{beside_turn}
 use Rattle.core_turns.proofs.Cores.{bank_has, bank_within}
 use Rattle.core_turns.proofs.Frames.{AreOff, IsCallOff, IsOff, Leaves, call_stays, leaves_touched, stands_anew}
@@ -107,6 +107,7 @@ module _ {setting : Setting} {last : Kept} {begun : List Kept} {map : Map} {cont
       only = begins.rest ∙ (λ i. record old {
         holds = new.holds;
         copying = sym (ap (λ (c : Core). c.copying) begins.rest) i;
+        attaching = sym (ap (λ (c : Core). c.attaching) begins.rest) i;
       })
 
       kind : run.hold.kind ≡ Exclusive
@@ -155,6 +156,7 @@ module _ {setting : Setting} {last : Kept} {begun : List Kept} {map : Map} {cont
       only = drops.rest ∙ (λ i. record old {
         holds = new.holds;
         copying = sym (ap (λ (c : Core). c.copying) drops.rest) i;
+        attaching = sym (ap (λ (c : Core). c.attaching) drops.rest) i;
       })
 
 -- ---- a step
@@ -384,7 +386,7 @@ module _ {before after : CoreState} {run next : CopyRun} (is : IsCore before.cor
         fewer group spared put listed = spared put (job_loses gains put (job_adds again put listed))
 
     -- Each image keeps what it kept, at each moment of it.
-    pub job_steps_since : (groups : List Kept) (time : ℕ) → IsRowOf groups last begun
+    pub job_steps_since : (groups : List Kept) (time : ℕ) → IsRowOf groups last (shown_of begun commit)
         → KeepsSince setting groups time before.disk → KeepsSince setting groups time after.disk
     job_steps_since groups time row kept =
         since_written after.core.pool.out after.disk places touched within lawful few setting last begun calls

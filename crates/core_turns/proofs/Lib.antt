@@ -25,3 +25,9 @@ pub mod JobCalls
 pub mod JobEnds
 pub mod JobStands
 pub mod Joining
+pub mod AttachTurns
+pub mod AttachGoes
+pub mod AttachStands
+pub mod AttachSigns
+pub mod AttachBeside
+pub mod AttachBegins

@@ -54,7 +54,7 @@ use Rattle.core_turns.specs.declared.putting.Filled.{Filled}
 use Rattle.core_turns.specs.declared.putting.PutRun.{PutRun}
 use Rattle.core_turns.specs.Core.{Core, CoreState, IsCore, as_begun, at_disk, HasBankOf}
 use Rattle.core_turns.specs.Putting.{IsPutOf, HoldsPut, WritesOne}
-use Rattle.core_turns.specs.UnderWay.{HoldingCall, Putting, Reading, Copying, AreBeside, AreCallsOf, CommitStands, HoldsCall, IsCallOfCore, NoCommitStands, PutsSpare, Stands, actor_of}
+use Rattle.core_turns.specs.UnderWay.{HoldingCall, Putting, Reading, Copying, AreBeside, AreCallsOf, CommitStands, HoldsCall, IsCallOfCore, NoCommitStands, PutsSpare, Stands, actor_of, shown_of}
 use Rattle.core_turns.proofs.Beside.{IsWrittenTo, AreInPool, never_asked, put_beside_commit, required_data}
 use Rattle.core_turns.proofs.CommitEnds.{layout_same}
 use Rattle.core_turns.proofs.Cores.{bank_within}
@@ -356,7 +356,7 @@ module _ {left calls : List HoldingCall} {before after : CoreState} {run next : 
             (subst (λ (r : PutRun). Gains left nexts (Putting r)) writes.next_is again)
 
     -- Each image keeps what it kept, at each moment of it.
-    pub put_writes_since : (groups : List Kept) (time : ℕ) → IsRowOf groups last begun
+    pub put_writes_since : (groups : List Kept) (time : ℕ) → IsRowOf groups last (shown_of begun commit)
         → KeepsSince setting groups time before.disk
         → KeepsSince setting groups time after.disk
     put_writes_since groups time row kept =

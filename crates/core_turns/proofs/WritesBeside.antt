@@ -1,5 +1,5 @@
 -- A write to sectors that no group asks for leaves the groups, and what images keep of them.
-use Rattle.std.proofs.Common.{ℕ, ◌≤◌, List, [], ◌∷◌, Option, Some, None, refl, sym, ◌∙◌, subst, append_assoc}
+use Rattle.std.proofs.Common.{◌≡◌, ℕ, ◌≤◌, List, [], ◌∷◌, Option, Some, None, refl, ◌∙◌, ap, subst}
 use Rattle.bank_trait.specs.Disk.{Disk, Lawful}
 use Rattle.bank_trait.specs.Regions.{TouchesOnly}
 use Rattle.uberblock_ring.specs.Devices.{IsWithin, count_of}
@@ -13,19 +13,13 @@ use Rattle.core_commit.specs.declared.commit_run.Stage.TheVariants.{Lays, Signs}
 use Rattle.core_commit.specs.CommitTurns.{CommitRun, IsBeside, shown_at, shown_by}
 use Rattle.core_commit.proofs.Beside.{committing_knows, committing_touched}
 use Rattle.core_turns.specs.Core.{CoreState, at_disk}
-use Rattle.core_turns.specs.UnderWay.{HoldingCall, CommitStands, GroupsStand, NoCommitStands}
+use Rattle.core_turns.specs.UnderWay.{HoldingCall, CommitStands, GroupsStand, NoCommitStands, shown_in, shown_of}
 use Rattle.core_turns.proofs.Frames.{commit_still, lies_still, out_leaves}
 
--- Groups that stand in a row do so without the one that images can't show yet.
-row_shown : (groups : List Kept) (last next : Kept) (stage : Stage) → IsRowOf groups last (next ∷ [])
-    → IsRowOf groups last (shown_at next stage)
-row_shown groups last next Signs row = row
-row_shown groups last next Lays row = record {
-  before = row.before;
-  after = next ∷ row.after;
-  row = row.row ∙ append_assoc row.before (last ∷ next ∷ []) row.after
-      ∙ sym (append_assoc row.before (last ∷ []) (next ∷ row.after));
-}
+-- Of one group that was begun images can show what its commit has come to.
+pub shown_one : (next : Kept) (stage : Stage) → shown_in (next ∷ []) stage ≡ shown_at next stage
+shown_one next Lays = refl
+shown_one next Signs = refl
 
 -- These sectors are asked for by no group that stands, and a write there may come between the steps of a commit.
 pub record AreSpare (P : ℕ → ℕ → Type 0) (setting : Setting) (last : Kept) (begun : List Kept) (calls : List HoldingCall)
@@ -65,7 +59,8 @@ module _ {before : CoreState} (out : ℕ) (disk : Disk) (P : ℕ → ℕ → Typ
   }
 
   -- and what each image keeps.
-  pub since_written : (commit : Option CommitRun) (groups : List Kept) (time : ℕ) → IsRowOf groups last begun
+  pub since_written : (commit : Option CommitRun) (groups : List Kept) (time : ℕ)
+      → IsRowOf groups last (shown_of begun commit)
       → GroupsStand setting last begun calls commit before → KeepsSince setting groups time before.disk
       → KeepsSince setting groups time disk
   since_written None groups time row stands kept =
@@ -73,5 +68,5 @@ module _ {before : CoreState} (out : ℕ) (disk : Disk) (P : ℕ → ℕ → Typ
   since_written (Some commit) groups time row stands kept =
       touched_since P touched setting last (shown_by stands.next commit) lawful (spare.shown commit stands)
       (committing_knows setting last stands.next commit (point_of before.core.pool.out before.disk) stands.come) groups time
-      (row_shown groups last stands.next commit.stage
-      (subst (λ (later : List Kept). IsRowOf groups last later) stands.begun_is row)) kept
+      (subst (IsRowOf groups last)
+      (ap (λ (l : List Kept). shown_in l commit.stage) stands.begun_is ∙ shown_one stands.next commit.stage) row) kept

@@ -8,14 +8,15 @@ use Rattle.open_pool.specs.Pool.{Pool, State, IsPool, HasBank}
 use Rattle.uberblock_ring.specs.Uberblock.{Uber, max_group}
 
 -- the pool, the holds of the calls under way, the group that was begun last, who makes it where it isn't answered, who
--- copies sectors where a job is under way, and how many devices may be out: the pool's, and one that has joined it with
--- a group that isn't answered
+-- copies sectors where a job is under way, who attaches a device, and how many devices may be out: the pool's, and one
+-- that has joined it with a group that isn't answered
 pub record Core : Type 0 where
   pub pool : Pool
   pub holds : List Hold
   pub begun : ℕ
   pub committing : Option ℕ
   pub copying : Option ℕ
+  pub attaching : Option ℕ
   pub reach : ℕ
 
 -- how many groups were begun and aren't answered
@@ -41,8 +42,8 @@ abbrev pub as_begun : Core → Pool
 as_begun core = record core.pool { uber = record core.pool.uber { group = core.begun } }
 
 -- The pool is one, its table and its space are in step, and the last group begun is the last answered one, or the
--- one after it, which is under way. The devices that are out are the pool's, or have joined it with that one. Nobody holds sectors below the front alone but a commit, and none from it on but a
--- job.
+-- one after it, which is under way. The devices that are out are the pool's, or have joined it with that one. Nobody
+-- holds sectors below the front alone but a commit, and none from it on but a job.
 pub record IsCore (core : Core) : Type 0 where
   pub is : IsPool (as_begun core)
   pub reach : core.pool.uber.reflow.to ≤ core.reach

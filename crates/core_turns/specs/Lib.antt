@@ -4,4 +4,5 @@ pub mod Freeing
 pub mod Putting
 pub mod Committing
 pub mod Copying
+pub mod Attaching
 pub mod UnderWay

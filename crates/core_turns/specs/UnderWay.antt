@@ -19,6 +19,8 @@ use Rattle.core_blocks.specs.Runs.{AreClear}
 use Rattle.core_client.specs.Outs.{OnlyFailedGoOut}
 use Rattle.core_client.specs.Pool.{IsInPool}
 use Rattle.core_state.specs.Committing.{point_of}
+use Rattle.core_commit.specs.declared.commit_run.Stage.{Stage}
+use Rattle.core_commit.specs.declared.commit_run.Stage.TheVariants.{Lays, Signs}
 use Rattle.core_commit.specs.CommitTurns.{CommitRun, IsCommitting}
 use Rattle.core_commit.specs.Spared.{IsOnInUse}
 use Rattle.core_open.specs.Holds.{shape_of}
@@ -136,6 +138,15 @@ pub record NoCommitStands (setting : Setting) (last : Kept) (begun : List Kept) 
 abbrev pub GroupsStand : Setting → Kept → List Kept → List HoldingCall → Option CommitRun → CoreState → Type 0
 GroupsStand setting last begun calls None state = NoCommitStands setting last begun state
 GroupsStand setting last begun calls (Some run) state = CommitStands setting last begun calls run state
+
+-- what images can show of the groups that were begun, by the half in which their commit is: none in the first one
+abbrev pub shown_in : List Kept → Stage → List Kept
+shown_in begun Lays = []
+shown_in begun Signs = begun
+
+abbrev pub shown_of : List Kept → Option CommitRun → List Kept
+shown_of begun None = begun
+shown_of begun (Some run) = shown_in begun run.stage
 
 -- Between two turns: the last answered group is certain on the devices, and what is known of one that was begun
 -- after it; the map is held; each call under way goes on as it should, with the bytes of its actor's block. No sector of

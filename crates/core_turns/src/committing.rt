@@ -138,7 +138,7 @@ impl Core {
         self.step_commit(bank, run)
     }
 
-    fn step_commit<B: Bank>(&mut self, bank: &mut B, run: CommitRun) -> Turn<CommitRun>
+    pub(crate) fn step_commit<B: Bank>(&mut self, bank: &mut B, run: CommitRun) -> Turn<CommitRun>
         requires of { IsCommitOf self.old run }
         requires bank { HasBankOf self.old (B.disk bank.old) }
         ensures is { IsCore self.old }

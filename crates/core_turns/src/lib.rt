@@ -1,13 +1,14 @@
 //! An open pool, turn by turn: several calls go on side by side, and a turn makes at most one device
 //! call.
 //!
-//! A call under way is a value that its caller keeps, a `PutRun`, a `GetRun`, a `CommitRun` or a `CopyRun`; each turn
+//! A call under way is a value that its caller keeps, a `PutRun`, a `GetRun`, a `CommitRun`, a `CopyRun` or an `AttachRun`; each turn
 //! takes it and gives it back, until the call is answered. A hold on its sectors keeps others away.
 //! Read `specs/Core.antt` and `specs/UnderWay.antt`, then `specs/Getting.antt`, `specs/Putting.antt`,
 //! `specs/Committing.antt` and `specs/Copying.antt`. Stands on `core_blocks`, `core_client`, `core_commit`, `core_copy`
 //! and `range_locks`, and on the definitions of `open_pool`.
 #![tactic(auto)]
 
+mod attaching;
 mod committing;
 mod copying;
 mod freeing;
@@ -16,6 +17,7 @@ mod open_core;
 mod putting;
 mod turn;
 
+pub use attaching::AttachRun;
 pub use copying::{CopyRun, JobBegin};
 pub use getting::{GetRun, OutOfMemory, Solved};
 pub use open_core::Core;

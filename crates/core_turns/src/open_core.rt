@@ -13,9 +13,9 @@ use uberblock_ring::{DeviceSet, Uber};
 
 /// The last answered group's uberblock, the blocks with the sectors that they take, the devices that
 /// are out, the front, the holds of the calls under way, the group that was begun last, who makes it where it isn't
-/// answered, who copies sectors where a job is under way, and how many devices the pool reaches to: one more than its
-/// width once a device has joined it with a group that isn't answered. A commit that is cut short stays there: too many
-/// devices are out then.
+/// answered, who copies sectors where a job is under way, who attaches a device, and how many devices the pool reaches
+/// to: one more than its width once a device has joined it with a group that isn't answered. A commit that is cut short
+/// stays there: too many devices are out then.
 #[derive(Drop)]
 pub struct Core {
     pub(crate) uber: Uber,
@@ -26,6 +26,7 @@ pub struct Core {
     pub(crate) begun: u64,
     pub(crate) committing: Option<u8>,
     pub(crate) copying: Option<u8>,
+    pub(crate) attaching: Option<u8>,
     pub(crate) reach: u32,
 }
 
@@ -40,6 +41,7 @@ impl Model for Core {
       begun = core.begun;
       committing = core.committing;
       copying = core.copying;
+      attaching = core.attaching;
       reach = core.reach;
     } };
 
@@ -49,6 +51,7 @@ impl Model for Core {
       begun = core.begun;
       committing = core.committing;
       copying = core.copying;
+      attaching = core.attaching;
       reach = core.reach;
     }) };
 }
@@ -62,6 +65,7 @@ impl Core {
           begun = pool.uber.group;
           committing = None;
           copying = None;
+          attaching = None;
           reach = pool.uber.reflow.to;
         } }
     {
@@ -77,6 +81,7 @@ impl Core {
             begun,
             committing: None,
             copying: None,
+            attaching: None,
             reach,
         }
     }

@@ -24,7 +24,8 @@ pub fn ring_is_settled()
 
 /// A pool may reach to one more device, whose ring is settled and shows no uberblock: the first is what the attach's
 /// commit leaves that has synced it, the second what the attach has read before. Once each group of the row has that
-/// device, the pool has it at least. All that is certain stays.
+/// device, the pool has it at least. A pool that was said to reach further than its groups do reaches as far as they do:
+/// what its devices show beyond them is its own, so no other pool gets a vote more. All that is certain stays.
 pub fn device_joins()
     ensures reach { (setting : Setting) (first : Kept) (later : List Kept) (disk : Disk)
         → IsRingSettled disk setting.reach → ReadsNoUber disk setting.reach
@@ -33,6 +34,9 @@ pub fn device_joins()
     ensures base { (setting : Setting) (first : Kept) (later : List Kept) (disk : Disk) (base : ℕ)
         → setting.base ≤ base → All (λ (kept : Kept). base ≤ kept.uber.reflow.to) (first ∷ later)
         → Knows setting first later disk → Knows (record setting { base = base }) first later disk }
+    ensures narrow { (setting : Setting) (first : Kept) (later : List Kept) (disk : Disk) (reach : ℕ)
+        → reach ≤ setting.reach → All (λ (kept : Kept). kept.uber.reflow.to ≤ reach) (first ∷ later)
+        → Knows setting first later disk → Knows (record setting { reach = reach }) first later disk }
 {}
 
 /// No two groups that an image keeps differ by more than one device.

@@ -17,6 +17,7 @@ returns c =
       begun = inside.begun;
       committing = inside.committing;
       copying = inside.copying;
+      attaching = inside.attaching;
       reach = inside.reach;
     } in
     let entry = c.in-Some.entry.now in

@@ -24,7 +24,7 @@ next_uber-next-requires-clause-few c =
 pub hold_change-requires-clause-clear : goal.hold_change-requires-clause-clear
 hold_change-requires-clause-clear c =
     let at = c.self.inside in
-    begins_clear (core_with at.uber at.blocks at.out at.done at.locks at.begun at.committing at.copying at.reach) c.args.actor
+    begins_clear (core_with at.uber at.blocks at.out at.done at.locks at.begun at.committing at.copying at.attaching at.reach) c.args.actor
     c.reflow-before.result c.choose-chosen.result c.self.invariant c.entries-entries.ensures.table c.in_default.is
     (subst (λ (core : Core). HasTooManyOut core → ⊥) (sym c.self.view_is)
     (λ many. true≢false (sym (c.has_too_many_out.ensures.1 many) ∙ c.if-has_too_many_out.false)))
@@ -33,7 +33,7 @@ hold_change-requires-clause-clear c =
 pub new-requires-clause-right : goal.new-requires-clause-right
 new-requires-clause-right c =
     let at = c.self.inside in
-    begins_right (core_with at.uber at.blocks at.out at.done at.locks at.begun at.committing at.copying at.reach) c.args.actor
+    begins_right (core_with at.uber at.blocks at.out at.done at.locks at.begun at.committing at.copying at.attaching at.reach) c.args.actor
     c.reflow-before.result c.choose-chosen.result c.self.invariant c.entries-entries.ensures.table c.in_default.is
     (subst (λ (core : Core). HasTooManyOut core → ⊥) (sym c.self.view_is)
     (λ many. true≢false (sym (c.has_too_many_out.ensures.1 many) ∙ c.if-has_too_many_out.false)))
@@ -43,7 +43,7 @@ new-requires-clause-right c =
 pub invariant_of-self-2 : goal.invariant_of-self-2
 invariant_of-self-2 c =
     let at = c.self.inside in
-    begun_core (core_with at.uber at.blocks at.out at.done at.locks at.begun at.committing at.copying at.reach) c.hold_change.new.locks
+    begun_core (core_with at.uber at.blocks at.out at.done at.locks at.begun at.committing at.copying at.attaching at.reach) c.hold_change.new.locks
     c.args.actor c.choose-chosen.result c.self.invariant c.in_default.is
     (let low = c.if-self.false in omega (arith, low))
     (Chooses at.locks (subst (λ (r : Reflow). IsCommitChoice r at.done at.locks c.choose-chosen.result)
@@ -55,9 +55,9 @@ pub returns-clause-begins : goal.returns-clause-begins
 returns-clause-begins c =
     let at = c.self.inside in
     subst (λ (old : Core). BeginsCommitSo old
-    (core_with at.uber at.blocks at.out at.done c.hold_change.new.locks (at.begun + 1) (Some c.args.actor) at.copying at.reach) c.args.actor
+    (core_with at.uber at.blocks at.out at.done c.hold_change.new.locks (at.begun + 1) (Some c.args.actor) at.copying at.attaching at.reach) c.args.actor
     c.new.result) c.self.view_is
-    (begins_so (core_with at.uber at.blocks at.out at.done at.locks at.begun at.committing at.copying at.reach) c.args.actor
+    (begins_so (core_with at.uber at.blocks at.out at.done at.locks at.begun at.committing at.copying at.attaching at.reach) c.args.actor
     c.reflow-before.result c.choose-chosen.result c.self.invariant c.entries-entries.ensures.table c.in_default.is
     (subst (λ (core : Core). HasTooManyOut core → ⊥) (sym c.self.view_is)
     (λ many. true≢false (sym (c.has_too_many_out.ensures.1 many) ∙ c.if-has_too_many_out.false)))

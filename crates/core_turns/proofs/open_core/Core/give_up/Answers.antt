@@ -11,7 +11,7 @@ use Rattle.core_turns.proofs.open_core.Core.give_up.Goals as goal
 pub invariant_of-self : goal.invariant_of-self
 invariant_of-self c =
     let at = c.self.inside in
-    core_blocks (core_with at.uber at.blocks at.out at.done at.locks at.begun at.committing at.copying at.reach) c.give_up.new.self
+    core_blocks (core_with at.uber at.blocks at.out at.done at.locks at.begun at.committing at.copying at.attaching at.reach) c.give_up.new.self
     c.end.new.self c.self.invariant c.give_up.ensures.parity c.give_up.ensures.births c.give_up.ensures.dropped.capacity
     (λ entry listed. c.self.invariant.is.born entry
     (subst (λ (l : List IndexEntry). IsListed l entry) c.give_up.ensures.entries listed)) c.give_up.ensures.stays
@@ -23,7 +23,7 @@ pub returns : goal.returns
 returns c =
     let at = c.self.inside in
     subst (λ (old : Core). GivesUp old
-    (core_with at.uber c.give_up.new.self at.out at.done c.end.new.self at.begun at.committing at.copying at.reach) c.args.run) c.self.view_is
+    (core_with at.uber c.give_up.new.self at.out at.done c.end.new.self at.begun at.committing at.copying at.attaching at.reach) c.args.run) c.self.view_is
     (record {
       rest = refl;
       ends = c.end.ensures.ends;

@@ -14,7 +14,7 @@ use Rattle.core_turns.proofs.open_core.Core.hold_job.Goals as goal
 pub returns-in-Ok : goal.returns-in-Ok
 returns-in-Ok c =
     let at = c.self.inside in
-    let core = core_with at.uber at.blocks at.out at.done at.locks at.begun at.committing at.copying at.reach in
+    let core = core_with at.uber at.blocks at.out at.done at.locks at.begun at.committing at.copying at.attaching at.reach in
     let new = record core { holds = c.hold_exclusive.new.self; copying = Some c.args.actor } in
     let reflow : c.args.reflow.now ≡ at.uber.reflow =
     subst (λ (core : Core). c.args.reflow.now ≡ core.pool.uber.reflow) (sym c.self.view_is) c.requires.reflow in

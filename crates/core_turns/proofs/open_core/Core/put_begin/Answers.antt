@@ -12,7 +12,7 @@ use Rattle.core_turns.proofs.open_core.Core.put_begin.Goals as goal
 pub returns-in-Err : goal.returns-in-Err
 returns-in-Err c =
     let core = core_with c.self.inside.uber c.self.inside.blocks c.self.inside.out c.self.inside.done c.self.inside.locks
-    c.self.inside.begun c.self.inside.committing c.self.inside.copying c.self.inside.reach in
+    c.self.inside.begun c.self.inside.committing c.self.inside.copying c.self.inside.attaching c.self.inside.reach in
     let few : HasTooManyOut core → ⊥ = subst (λ (core : Core). HasTooManyOut core → ⊥) (sym c.self.view_is)
     (λ many. true≢false (sym (c.has_too_many_out.ensures.1 many) ∙ c.if-has_too_many_out.false)) in
     record {
@@ -27,7 +27,7 @@ returns-in-Err c =
 pub returns-in_default : goal.returns-in_default
 returns-in_default c =
     let core = core_with c.self.inside.uber c.self.inside.blocks c.self.inside.out c.self.inside.done c.self.inside.locks
-    c.self.inside.begun c.self.inside.committing c.self.inside.copying c.self.inside.reach in
+    c.self.inside.begun c.self.inside.committing c.self.inside.copying c.self.inside.attaching c.self.inside.reach in
     let new = record core { pool = record core.pool { blocks = c.give_up.new.self }; holds = c.hold_range.new.locks } in
     record {
       begins = (
@@ -43,14 +43,14 @@ returns-in_default c =
 pub invariant_of-self-2 : goal.invariant_of-self-2
 invariant_of-self-2 c =
     let at = c.self.inside in
-    put_begins_core (core_with at.uber at.blocks at.out at.done at.locks at.begun at.committing at.copying at.reach) c.args.actor c.in-Ok.range
+    put_begins_core (core_with at.uber at.blocks at.out at.done at.locks at.begun at.committing at.copying at.attaching at.reach) c.args.actor c.in-Ok.range
     c.begin_put.new.self c.in-Some.hold c.hold_range.new.locks c.self.invariant c.in-Ok.ensures.begins
     c.begin_put.ensures.stays c.in-Some.ensures.0 c.in-Some.ensures.1
 
 pub returns : goal.returns
 returns c =
     let core = core_with c.self.inside.uber c.self.inside.blocks c.self.inside.out c.self.inside.done c.self.inside.locks
-    c.self.inside.begun c.self.inside.committing c.self.inside.copying c.self.inside.reach in
+    c.self.inside.begun c.self.inside.committing c.self.inside.copying c.self.inside.attaching c.self.inside.reach in
     let few : HasTooManyOut core → ⊥ = subst (λ (core : Core). HasTooManyOut core → ⊥) (sym c.self.view_is)
     (λ many. true≢false (sym (c.has_too_many_out.ensures.1 many) ∙ c.if-has_too_many_out.false)) in
     let run : PutRun = record {

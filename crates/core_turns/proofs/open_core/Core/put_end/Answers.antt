@@ -23,7 +23,7 @@ end_put-requires-clause-under_way c =
 pub invariant_of-self : goal.invariant_of-self
 invariant_of-self c = put_end_core
     (core_with c.self.inside.uber c.self.inside.blocks c.self.inside.out c.self.inside.done c.self.inside.locks c.self.inside.begun
-    c.self.inside.committing c.self.inside.copying c.self.inside.reach)
+    c.self.inside.committing c.self.inside.copying c.self.inside.attaching c.self.inside.reach)
     c.args.run c.into_entry.result c.end_put.new.self c.end.new.self c.end_put.result c.self.invariant
     (subst (λ (core : Core). IsPutOf core c.args.run) (sym c.self.view_is) c.requires.of)
     (ap (λ (e : IndexEntry). e.birth) c.into_entry.ensures.value)
@@ -33,7 +33,7 @@ invariant_of-self c = put_end_core
 pub returns : goal.returns
 returns c =
     let core = core_with c.self.inside.uber c.self.inside.blocks c.self.inside.out c.self.inside.done c.self.inside.locks
-    c.self.inside.begun c.self.inside.committing c.self.inside.copying c.self.inside.reach in
+    c.self.inside.begun c.self.inside.committing c.self.inside.copying c.self.inside.attaching c.self.inside.reach in
     let few : HasTooManyOut core → ⊥ = subst (λ (core : Core). HasTooManyOut core → ⊥) (sym c.self.view_is)
     (λ many. true≢false (sym (c.has_too_many_out.ensures.1 many) ∙ c.if-has_too_many_out.false)) in
     record {

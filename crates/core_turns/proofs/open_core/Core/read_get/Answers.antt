@@ -9,7 +9,7 @@ use Rattle.core_turns.proofs.open_core.Core.read_get.Goals as goal
 pub step-requires-clause-bank : goal.step-requires-clause-bank
 step-requires-clause-bank g c =
     let at = c.self.inside in
-    let core = core_with at.uber at.blocks at.out at.done at.locks at.begun at.committing at.copying at.reach in
+    let core = core_with at.uber at.blocks at.out at.done at.locks at.begun at.committing at.copying at.attaching at.reach in
     bank_has at.uber c.reflow-reflow.result at.out (g.B.Bank.disk c.args.bank.now) c.reflow-reflow.ensures.value
     (bank_within core (g.B.Bank.disk c.args.bank.now) c.self.invariant
     (subst (λ (core : Core). HasBankOf core (g.B.Bank.disk c.args.bank.now)) (sym c.self.view_is) c.requires.bank))
@@ -17,7 +17,7 @@ step-requires-clause-bank g c =
 pub invariant_of-self : goal.invariant_of-self
 invariant_of-self g c =
     let at = c.self.inside in
-    read_ended (core_with at.uber at.blocks at.out at.done at.locks at.begun at.committing at.copying at.reach) c.args.run c.end.new.self
+    read_ended (core_with at.uber at.blocks at.out at.done at.locks at.begun at.committing at.copying at.attaching at.reach) c.args.run c.end.new.self
     c.self.invariant (subst (λ (core : Core). IsGetOf core c.args.run) (sym c.self.view_is) c.requires.of)
     c.end.ensures.ends
 

@@ -10,7 +10,7 @@ use Rattle.core_turns.proofs.open_core.Core.write_put.Goals as goal
 pub step-requires-clause-inside : goal.step-requires-clause-inside
 step-requires-clause-inside g c = put_inside
     (core_with c.self.inside.uber c.self.inside.blocks c.self.inside.out c.self.inside.done c.self.inside.locks c.self.inside.begun
-    c.self.inside.committing c.self.inside.copying c.self.inside.reach)
+    c.self.inside.committing c.self.inside.copying c.self.inside.attaching c.self.inside.reach)
     c.args.run c.in-Some.filled (g.B.Bank.disk c.args.bank.now) c.self.invariant
     (subst (λ (core : Core). IsPutOf core c.args.run) (sym c.self.view_is) c.requires.of) c.in-Some.is
     (subst (λ (core : Core). HasBankOf core (g.B.Bank.disk c.args.bank.now)) (sym c.self.view_is)
@@ -19,7 +19,7 @@ step-requires-clause-inside g c = put_inside
 pub invariant_of-self : goal.invariant_of-self
 invariant_of-self g c =
     let core = core_with c.self.inside.uber c.self.inside.blocks c.self.inside.out c.self.inside.done c.self.inside.locks
-    c.self.inside.begun c.self.inside.committing c.self.inside.copying c.self.inside.reach in
+    c.self.inside.begun c.self.inside.committing c.self.inside.copying c.self.inside.attaching c.self.inside.reach in
     let of = subst (λ (core : Core). IsPutOf core c.args.run) (sym c.self.view_is) c.requires.of in
     let left = has_left c.args.run c.in-Some.filled c.in-Some.is c.requires.left in
     core_out core c.step.new.out c.self.invariant
@@ -31,7 +31,7 @@ invariant_of-self g c =
 pub returns-clause-writes : goal.returns-clause-writes
 returns-clause-writes g c =
     let core = core_with c.self.inside.uber c.self.inside.blocks c.self.inside.out c.self.inside.done c.self.inside.locks
-    c.self.inside.begun c.self.inside.committing c.self.inside.copying c.self.inside.reach in
+    c.self.inside.begun c.self.inside.committing c.self.inside.copying c.self.inside.attaching c.self.inside.reach in
     let few : HasTooManyOut core → ⊥ = subst (λ (core : Core). HasTooManyOut core → ⊥) (sym c.self.view_is)
     (λ many. true≢false (sym (c.has_too_many_out.ensures.1 many) ∙ c.if-has_too_many_out.false)) in
     subst (λ (old : Core). WritesOne (at_disk old (g.B.Bank.disk c.args.bank.now)) c.args.run

@@ -1,0 +1,183 @@
+-- An attach's commit from its first turn to its last one: what stands stands, with the device where it joins.
+use Rattle.std.specs.Prelude.{Contains}
+use Rattle.std.proofs.Common.{◌≡◌, inl, inr, ⊎_elim, ℕ, ◌+◌, ◌<◌, ◌≤◌, List, [], ◌∷◌, Option, Some, None, refl, sym, ◌∙◌, ap, subst, arith}
+use Rattle.bank_trait.specs.Disk.{Continues, Disk, Lawful}
+use Rattle.reflow_mark.specs.declared.reflow.Reflow.{Reflow}
+use Rattle.uberblock_ring.specs.Devices.{IsWithin}
+use Rattle.uberblock_ring.specs.Uberblock.{Uber}
+use Rattle.core_state.specs.declared.answer.Answer.{Answer}
+use Rattle.core_state.specs.Map.{Map}
+use Rattle.core_state.specs.Keeps.{Kept, Setting}
+use Rattle.core_state.specs.Certain.{Knows}
+use Rattle.core_state.specs.Committing.{Point, point_of}
+use Rattle.core_state.specs.Moment.{IsRowOf, KeepsSince}
+use Rattle.core_state.proofs.Since.{since_more}
+use Rattle.core_commit.specs.declared.commit_run.Stage.{Stage}
+use Rattle.core_commit.specs.declared.commit_run.Stage.TheVariants.{Lays, Signs as Signing}
+use Rattle.core_commit.specs.CommitTurns.{CommitRun, shown_at, shown_by}
+use Rattle.core_commit.specs.Widening.{MayWiden, widened_kept, widened_run}
+use Rattle.core_commit.proofs.Beside.{committing_knows}
+use Rattle.core_commit.proofs.Halves.{goes_on}
+use Rattle.join_commit.specs.declared.guest.Guest.{Guest}
+use Rattle.join_commit.specs.declared.guest.Guest.TheVariants.{Settled}
+use Rattle.join_commit.specs.declared.join_run.JoinStep.TheVariants as step
+use Rattle.join_commit.specs.declared.join_run.WhyDropped.{WhyDropped}
+use Rattle.join_commit.specs.JoinRun.{JoinRun}
+use Rattle.join_commit.specs.JoinTurns.{JoinSteps}
+use Rattle.join_commit.specs.Joining.{GuestSoFar, IsJoining}
+use Rattle.join_commit.proofs.Joins.{joining_goes_on}
+use Rattle.core_turns.specs.declared.attaching.AttachRun.TheVariants.{Joins}
+use Rattle.core_turns.specs.Core.{Core, CoreState, HasBankOf, IsCore, at_disk}
+use Rattle.core_turns.specs.Attaching.{EndsAttach, GoOutAndReach, HoldsAttach, MayReachOn, OnlyGoOut, StepsJoin}
+use Rattle.core_turns.specs.Committing.{IsCommitOf}
+use Rattle.core_turns.specs.UnderWay.{HoldingCall, AreCallsOf, CommitStands, Stands, shown_in, shown_of}
+use Rattle.core_turns.proofs.AttachStands.{attaching_stands, is_joining}
+use Rattle.core_turns.proofs.AttachTurns.{attaching_commit, join_drops_commit, join_joins_commit, reaching_on}
+use Rattle.core_turns.proofs.CommitEnds.{commit_ends_stands}
+use Rattle.core_turns.proofs.CommitStands.{commit_moves_since, commit_moves_stands}
+use Rattle.core_turns.proofs.Joining.{joined_core, joined_stands}
+
+-- ---- images over the first half
+
+-- A call of the first half goes on from one disk to the next.
+join_continues : (old next : JoinRun) (before after : Point) → JoinSteps old before (step.GoesOn next) after
+    → Continues before.disk after.disk
+join_continues old next before after (inl pool) =
+    goes_on pool.called.ready.uber pool.called.ready.entries pool.called.call before after pool.called.made
+join_continues old next before after (inr (inl laid)) = laid.wrote.goes_on
+join_continues old next before after (inr (inr synced)) = synced.synced.goes_on
+
+module _ {setting : Setting} {last : Kept} {begun : List Kept} {map : Map} {contents : ℕ → List ℕ}
+    {calls : List HoldingCall} {before : CoreState} (join : JoinRun) (after : CoreState) (is : IsCore before.core)
+    (may : MayReachOn before.core)
+    (are : AreCallsOf before.core calls)
+    (stands : Stands setting last begun map contents calls (Some join.run) before)
+    (holds : HoldsAttach setting last begun before.disk (Joins join)) where
+  abbrev old : Point
+  old = point_of before.core.pool.out before.disk
+
+  abbrev new : Point
+  new = point_of after.core.pool.out after.disk
+
+  its : IsJoining setting last stands.groups.next join old
+  its = is_joining join is are may stands holds
+
+  -- Images show the last group alone.
+  pub join_goes_since : (next : JoinRun) (groups : List Kept) (time : ℕ) → StepsJoin before join after (step.GoesOn next)
+      → IsWithin before.core.pool.out setting.failed → Lawful after.disk
+      → IsRowOf groups last (shown_of begun (Some next.run))
+      → KeepsSince setting groups time before.disk → KeepsSince setting groups time after.disk
+  join_goes_since next groups time did within lawful row =
+      let goes : IsJoining setting last stands.groups.next next new =
+      joining_goes_on setting last stands.groups.next join old new its next within lawful did.steps in
+      since_more setting groups time last [] before.disk after.disk (row_alone next.run.stage goes.lays row)
+      (join_continues join next old new did.steps)
+      (knows_alone next.run.stage goes.lays (committing_knows setting last stands.groups.next next.run new goes.commits))
+    where
+      row_alone : (stage : Stage) → stage ≡ Lays → IsRowOf groups last (shown_in begun stage) → IsRowOf groups last []
+      row_alone Lays lays row = row
+      row_alone Signing lays row = absurd (signing lays)
+        where
+          signing : Signing ≡ Lays → ⊥
+          signing same = cc
+
+      knows_alone : (stage : Stage) → stage ≡ Lays → Knows setting last (shown_at stands.groups.next stage) after.disk
+          → Knows setting last [] after.disk
+      knows_alone Lays lays knows = knows
+      knows_alone Signing lays knows = absurd (signing lays)
+        where
+          signing : Signing ≡ Lays → ⊥
+          signing same = cc
+
+  -- ---- the decision
+
+  -- It does not join: the commit goes on as it was begun.
+  pub join_drops_stands : (run : CommitRun) (because : WhyDropped) → StepsJoin before join after (step.Dropped run because)
+      → OnlyGoOut before after → IsWithin before.core.pool.out setting.failed
+      → Stands setting last begun map contents calls (Some run) after
+  join_drops_stands run because did core within = commit_moves_stands is within stands after run did.steps.result did.steps.steps core
+      (subst (λ (c : Core). IsCommitOf c run) (sym core)
+      (join_drops_commit before.core join after.core.pool.out before.disk after.disk is stands.groups.of may run because
+      did.steps))
+
+  pub join_drops_since : (run : CommitRun) (because : WhyDropped) → StepsJoin before join after (step.Dropped run because)
+      → OnlyGoOut before after → IsWithin before.core.pool.out setting.failed → (groups : List Kept) (time : ℕ)
+      → IsRowOf groups last (shown_of begun (Some run))
+      → KeepsSince setting groups time before.disk → KeepsSince setting groups time after.disk
+  join_drops_since run because did core within = commit_moves_since is within stands after run did.steps.result did.steps.steps core
+      (subst (λ (c : Core). IsCommitOf c run) (sym core)
+      (join_drops_commit before.core join after.core.pool.out before.disk after.disk is stands.groups.of may run because
+      did.steps))
+
+  -- It joins: the group has one device more, and the pool reaches to it.
+  module _ (run : CommitRun) (did : StepsJoin before join after (step.Joined run)) (core : GoOutAndReach before after)
+      (bank : HasBankOf (reaching_on before.core) before.disk) where
+    abbrev wider : Setting
+    wider = record setting { reach = setting.reach + 1 }
+
+    abbrev reached : CoreState
+    reached = at_disk (reaching_on before.core) before.disk
+
+    widens : MayWiden setting last stands.groups.next old
+    widens = record {
+      whole = did.steps.whole;
+      pool = its.pool;
+      joins = subst (GuestSoFar before.disk stands.groups.next setting.reach) did.steps.synced its.guest;
+    }
+
+    stood : Stands wider last (widened_kept stands.groups.next ∷ []) map contents calls (Some (widened_run join.run)) reached
+    stood = joined_stands before.core join.run before.disk is may.rest (its.lays, did.steps.turn.1) widens bank
+        (subst (λ (l : List Kept). Stands setting last l map contents calls (Some join.run) before) stands.groups.begun_is
+        stands)
+
+    its_core : IsCore (reaching_on before.core)
+    its_core = joined_core before.core join.run is stands.groups.of may.rest may.reach may.room
+
+    of : IsCommitOf after.core run
+    of = subst (λ (c : Core). IsCommitOf c run) (sym core)
+        (join_joins_commit before.core join after.core.pool.out before.disk after.disk is stands.groups.of may run
+        did.steps)
+
+    pub join_joins_stands : IsWithin before.core.pool.out setting.failed
+        → Stands wider last (widened_kept stands.groups.next ∷ []) map contents calls (Some run) after
+    join_joins_stands within = commit_moves_stands its_core within stood after run did.steps.result did.steps.steps core of
+
+    pub join_joins_since : IsWithin before.core.pool.out setting.failed → (groups : List Kept) (time : ℕ)
+        → IsRowOf groups last (shown_of (widened_kept stands.groups.next ∷ []) (Some run))
+        → KeepsSince wider groups time before.disk → KeepsSince wider groups time after.disk
+    join_joins_since within = commit_moves_since its_core within stood after run did.steps.result did.steps.steps core of
+
+-- ---- its end
+
+-- The group of an attach is the last one, and no commit is under way, nor an attach.
+pub attach_ends_stands : {setting : Setting} {last next : Kept} {map : Map} {contents : ℕ → List ℕ}
+    {calls : List HoldingCall} {before after : CoreState} {run : CommitRun} {because : Option WhyDropped}
+    {given : Answer} → IsCore before.core → IsCore after.core → IsCommitOf before.core run
+    → EndsAttach before run because after given → AreCallsOf before.core calls
+    → IsWithin before.core.pool.out setting.failed
+    → Stands setting last (next ∷ []) map contents calls (Some run) before
+    → Stands setting next [] map contents calls None after
+attach_ends_stands {setting} {last} {next} {map} {contents} {calls} {before} {after} {run} is now of ends are within stands =
+    subst (λ (s : CoreState). Stands setting next [] map contents calls None s) (sym same)
+    (attaching_stands ends.answered.core None ends.answered.disk was
+    (commit_ends_stands is of ends.answers are within stands))
+  where
+    same : after ≡ at_disk (record ends.answered.core { attaching = None }) ends.answered.disk
+    same i = record { core = ends.core i; disk = ends.disk i }
+
+    -- Who attaches is nothing to a core.
+    was : IsCore ends.answered.core
+    was = by ends.answered.core (subst IsCore ends.core now)
+      where
+        by : (core : Core) → IsCore (record core { attaching = None }) → IsCore core
+        by core is = record {
+          is = is.is;
+          reach = is.reach;
+          rests = is.rests;
+          below = is.below;
+          begun = is.begun;
+          few = is.few;
+          step = is.step;
+          shared = is.shared;
+          copies = is.copies;
+        }
