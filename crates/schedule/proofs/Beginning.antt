@@ -105,5 +105,5 @@ module _ {setting : Setting} {first : Kept} {later : List Kept} {pool : Pool} {s
             (record { groups = one.0; since = since });
         kept_on = subst
             (λ (d : Disk). KeepsOn setting calls handed begins.opened.chosen.map (Group item ∷ []) item next [] d mid)
-            (sym here) (on_now next_latest begins.opened.knows);
+            (sym here) (on_now setting.reach next_latest begins.opened.knows);
       }

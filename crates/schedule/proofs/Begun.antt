@@ -52,7 +52,7 @@ pub begun_now : {world : World} {past : Past} {items : List Item} {item : GroupI
     → next.uber.group ≡ last.uber.group + 1
     → KeepsOrEnds last.uber.reflow next.uber.reflow
     → SameMap next.map (map_of world.handed world.opening items)
-    → IsBegunAt world items item (length items) next
+    → IsBegunAt world items item (length items) ⊥ next
 begun_now {world = world} {items = items} {item} {last} {next} so_far number widths same = record {
   number = number ∙ ap (λ (n : ℕ). n + 1) so_far.item_is.number;
   listed = (after_few so_far, omega arith);

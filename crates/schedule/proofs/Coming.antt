@@ -46,7 +46,8 @@ came_nowhere script turns passed same = by (few_or_many turns.state.core.pool.ou
       ends = same;
       later = later_refl turns.state.disk;
       parity = refl;
-      reach = refl;
+      reach = omega arith;
+      same = λ none. refl;
       only = touches_none (IsOnInUse turns.state.core.reach turns.state.core.pool.out) turns.state.disk;
       out = outs_none (point_of turns.state.core.pool.out turns.state.disk);
       listed = λ index item there. there;
@@ -65,7 +66,8 @@ came_nowhere script turns passed same = by (few_or_many turns.state.core.pool.ou
       ends = same;
       later = later_refl turns.state.disk;
       parity = refl;
-      reach = refl;
+      reach = omega arith;
+      same = λ none. refl;
       only = touches_none (IsOnInUse turns.state.core.reach turns.state.core.pool.out) turns.state.disk;
       out = outs_none (point_of turns.state.core.pool.out turns.state.disk);
       listed = λ index item there. there;
@@ -111,14 +113,16 @@ module _ (script : Script) (start middle now : Turns) (one two : List TurnTaken)
   parity_is : now.state.core.pool.uber.parity ≡ start.state.core.pool.uber.parity
   parity_is = second.parity ∙ first.parity
 
-  only_then : TouchesOnly (IsOnInUse start.state.core.reach start.state.core.pool.out) start.state.disk
-      now.state.disk
-  only_then = touches_then (IsOnInUse start.state.core.reach start.state.core.pool.out)
-      (IsOnInUse middle.state.core.reach middle.state.core.pool.out)
-      (IsOnInUse start.state.core.reach start.state.core.pool.out)
-      (λ d x here. here)
+  reach_then : start.state.core.reach ≤ now.state.core.reach
+  reach_then = let one = first.reach in let two = second.reach in omega (arith, one, two)
+
+  only_then : TouchesOnly (IsOnInUse now.state.core.reach start.state.core.pool.out) start.state.disk now.state.disk
+  only_then = touches_then (IsOnInUse middle.state.core.reach start.state.core.pool.out)
+      (IsOnInUse now.state.core.reach middle.state.core.pool.out)
+      (IsOnInUse now.state.core.reach start.state.core.pool.out)
+      (λ d x here. (let below = here.0 in let more = second.reach in omega (arith, below, more), here.1))
       (λ d x here. (
-        subst (λ (reach : ℕ). d < reach) first.reach here.0,
+        here.0,
         in_use_before (point_of start.state.core.pool.out start.state.disk)
             (point_of middle.state.core.pool.out middle.state.disk) d first.out.still here.1,
       ))
@@ -145,7 +149,8 @@ module _ (script : Script) (start middle now : Turns) (one two : List TurnTaken)
     ends = ends;
     later = later_trans first.later second.later;
     parity = parity_is;
-    reach = second.reach ∙ first.reach;
+    reach = reach_then;
+    same = λ none. second.same none ∙ first.same none;
     only = only_then;
     out = outs_then (point_of start.state.core.pool.out start.state.disk)
         (point_of middle.state.core.pool.out middle.state.disk) (point_of now.state.core.pool.out now.state.disk)
@@ -174,7 +179,8 @@ module _ (script : Script) (start middle now : Turns) (one two : List TurnTaken)
     ends = ends;
     later = later_trans first.later second.later;
     parity = parity_is;
-    reach = second.reach ∙ first.reach;
+    reach = reach_then;
+    same = λ none. second.same none ∙ first.same none;
     only = only_then;
     out = outs_then (point_of start.state.core.pool.out start.state.disk)
         (point_of middle.state.core.pool.out middle.state.disk) (point_of now.state.core.pool.out now.state.disk)
@@ -214,14 +220,23 @@ module _ (script : Script) (actor : ℕ) (before after : Turns) (goes : TurnGoes
     → Runs world script past before.state before.items before.clients
     → Runs world script past after.state after.items after.clients)
     (full : FullStays script before after) where
+  reach_is : before.state.core.reach ≤ after.state.core.reach
+  reach_is = let same = goes.reach in omega (arith, same)
+
+  only_is : TouchesOnly (IsOnInUse after.state.core.reach before.state.core.pool.out) before.state.disk after.state.disk
+  only_is = subst
+      (λ (reach : ℕ). TouchesOnly (IsOnInUse reach before.state.core.pool.out) before.state.disk after.state.disk)
+      (sym goes.reach) goes.only
+
   turn : (count_of before.state.core.pool.out ≤ before.state.core.pool.uber.parity)
       ⊎ (before.state.core.pool.uber.parity < count_of before.state.core.pool.out) → LeadTo script before (taken_by actor after ∷ []) after
   turn (inl few) = record {
     ends = refl;
     later = goes.later;
     parity = goes.parity;
-    reach = goes.reach;
-    only = goes.only;
+    reach = reach_is;
+    same = λ none. goes.reach;
+    only = only_is;
     out = goes.out;
     listed = λ index item there. subst (λ (l : List Item). slice_get l index ≡ Some item) (sym items)
         (grown_has before.items more index item there);
@@ -240,8 +255,9 @@ module _ (script : Script) (actor : ℕ) (before after : Turns) (goes : TurnGoes
     ends = refl;
     later = goes.later;
     parity = goes.parity;
-    reach = goes.reach;
-    only = goes.only;
+    reach = reach_is;
+    same = λ none. goes.reach;
+    only = only_is;
     out = goes.out;
     listed = λ index item there. subst (λ (l : List Item). slice_get l index ≡ Some item) (sym items)
         (grown_has before.items more index item there);

@@ -28,7 +28,7 @@ use Rattle.schedule.proofs.Theirs.{none_some}
 use Rattle.schedule.proofs.LeavesPool.{LeavesPool, holds_left}
 use Rattle.schedule.proofs.TurnComes.{first_entry, comes_at_once}
 use Rattle.schedule.proofs.Fulls.{put_alone}
-use Rattle.schedule.specs.Running.{calls_under_way}
+use Rattle.schedule.specs.Running.{calls_under_way, setting_now}
 
 -- The pool stays,
 frees_pool : (old new : Core) (id : ℕ) (given : Answer) → FreesBlock old new id given → LeavesPool old new
@@ -101,10 +101,10 @@ module _ {script : Script} {actor : ℕ} {before after : Station} {clients news 
             (subst (λ (held : Option (List ℕ)). IsRightFree held given) (sym (ap (option_and_then map) id_is))
             (frees_right before.state.core after.state.core before.state.disk map id given runs.stands.holds
             frees.frees)),
-        subst (λ (m : Map). Stands world.setting runs.last runs.begun m runs.contents (calls_under_way clients)
+        subst (λ (m : Map). Stands (setting_now runs) runs.last runs.begun m runs.contents (calls_under_way clients)
             runs.commit after.state)
             (sym (frees_map before.state.core after.state.core world.handed map entry id given id_is frees.frees))
-            (subst (λ (d : Disk). Stands world.setting runs.last runs.begun (map_after_free map id given) runs.contents
+            (subst (λ (d : Disk). Stands (setting_now runs) runs.last runs.begun (map_after_free map id given) runs.contents
             (calls_under_way clients) runs.commit (at_disk after.state.core d)) (sym disk)
             (frees_stands id given takes.is frees.frees frees.kept runs.stands)),
       ))

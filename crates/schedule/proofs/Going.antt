@@ -13,29 +13,15 @@ use Rattle.schedule.specs.declared.client.UnderWay.{UnderWay}
 use Rattle.schedule.specs.declared.client.Work.{Work}
 use Rattle.schedule.specs.declared.client.Work.TheVariants as work
 use Rattle.schedule.specs.Clients.{Changes}
-use Rattle.schedule.specs.Running.{AreGoing, IsGoing, IsSync, IsWorkFor, IsWorkOf, calls_under_way}
+use Rattle.schedule.specs.Running.{AreGoing, IsGoing, IsHoldOf, IsWorkFor, IsWorkOf, calls_under_way, commit_in}
 use Rattle.schedule.proofs.LeavesPool.{KeepsCommit}
-use Rattle.schedule.proofs.Theirs.{IsNoSync, OnlyIt, apart_of_sync, each_going, going_on, no_one, some_is, the_one}
-
--- A work is a sync
-pub is_sync : (does : Work) (run : CommitRun) → does ≡ work.Sync run → IsSync does
-is_sync does run is = subst IsSync (sym is) tt
-
--- with its run,
-pub run_of : (does : Work) → IsSync does → (run : CommitRun) × (does ≡ work.Sync run)
-run_of (work.Sync run) sync = (run, refl)
-run_of (work.Put run) sync = absurd sync
-run_of (work.Read run) sync = absurd sync
-
--- which is the only one.
-pub run_is : {one two : CommitRun} → work.Sync one ≡ work.Sync two → one ≡ two
-run_is same = cc
+use Rattle.schedule.proofs.Theirs.{IsNoCommit, OnlyIt, apart_of_commit, each_going, going_on, makes_commit, no_one, run_of, some_is, the_one}
 
 module _ {script : Script} {core now : Core} {clients news : List Client} {index : ℕ} {old client : Client}
     (was : slice_get clients index ≡ Some old) (changes : Changes clients news index client)
     (going : AreGoing script core clients) (are : AreCallsOf now (calls_under_way news)) where
-  -- The commit under way is kept, if there is one: the client's work is and was no sync, or it has none.
-  pub goes : KeepsCommit core now → IsNoSync old.under_way
+  -- The commit under way is kept, if there is one: the client's work makes and made none, or it has no work.
+  pub goes : KeepsCommit core now → IsNoCommit old.under_way
       → ((under : UnderWay) → client.under_way ≡ Some under → IsWorkOf script now index client under.work)
       → AreGoing script now news
   goes keeps none mine = record {
@@ -46,25 +32,25 @@ module _ {script : Script} {core now : Core} {clients news : List Client} {index
           call = work.call;
           there = work.there;
           asked = work.asked;
-          sync = λ run does.
-              let synced = work.sync run does in (keeps.commits run synced.0, keeps.committing ∙ synced.1);
+          commit = λ run does.
+              let its = work.commit run does in (keeps.commits run its.0, keeps.committing ∙ its.1);
         });
     one = λ actor is. ⊎_elim (λ out. inl (keeps.many out))
         (λ found.
-        let apart = apart_of_sync was changes none actor found.0 found.1 found.3
-        (is_sync found.1.work found.2 found.4) in
+        let apart = apart_of_commit was changes none actor found.0 found.1 found.3
+        (makes_commit found.1.work found.2 found.4) in
         inr (found.0, found.1, found.2, going_on was changes actor found.0 found.1 apart found.3, found.4))
         (going.one actor (sym keeps.committing ∙ is));
   }
 
-  -- A sync begins, goes on or ends, and no other client syncs.
-  syncs : OnlyIt clients index
+  -- A commit begins, goes on or ends, and no other client makes one.
+  commits : OnlyIt clients index
       → ((under : UnderWay) → client.under_way ≡ Some under → IsWorkOf script now index client under.work)
       → ((actor : ℕ) → now.committing ≡ Some actor → HasTooManyOut now
       ⊎ ((its : Client) × (under : UnderWay) × (run : CommitRun) × IsGoing news actor its under
-      × (under.work ≡ work.Sync run)))
+      × (commit_in under.work ≡ Some run)))
       → AreGoing script now news
-  syncs only mine one = record {
+  commits only mine one = record {
     are = are;
     each = each_going was changes {T = λ caller its under. IsWorkOf script now caller its under.work} mine
         (λ caller its under apart is. let work = going.each caller its under is in record {
@@ -72,25 +58,24 @@ module _ {script : Script} {core now : Core} {clients news : List Client} {index
           call = work.call;
           there = work.there;
           asked = work.asked;
-          sync = λ run does. absurd (apart (only caller its under is (is_sync under.work run does)));
+          commit = λ run does. absurd (apart (only caller its under is (makes_commit under.work run does)));
         });
     one = one;
   }
 
   -- It is the core's commit,
   pub commits_on : (under : UnderWay) (run : CommitRun) (call : ScriptCall) → OnlyIt clients index
-      → client.under_way ≡ Some under → under.work ≡ work.Sync run
-      → slice_get (calls_of script index) (client.begun - 1) ≡ Some call → IsWorkFor call (work.Sync run)
+      → client.under_way ≡ Some under → commit_in under.work ≡ Some run → IsHoldOf index under.work
+      → slice_get (calls_of script index) (client.begun - 1) ≡ Some call → IsWorkFor call under.work
       → IsCommitOf now run → now.committing ≡ Some index → AreGoing script now news
-  commits_on under run call only client_is does_is is for of committing = syncs only
-      (the_one (λ its. IsWorkOf script now index client its.work) client_is
-      (subst (IsWorkOf script now index client) (sym does_is) (record {
-        hold = tt;
+  commits_on under run call only client_is does_is hold is for of committing = commits only
+      (the_one (λ its. IsWorkOf script now index client its.work) client_is (record {
+        hold = hold;
         call = call;
         there = is;
         asked = for;
-        sync = λ its_run its_does. (subst (IsCommitOf now) (run_is its_does) of, committing);
-      })))
+        commit = λ its_run its_does. (subst (IsCommitOf now) (some_is (sym does_is ∙ its_does)) of, committing);
+      }))
       (λ actor its. inr (
         client,
         under,
@@ -103,14 +88,14 @@ module _ {script : Script} {core now : Core} {clients news : List Client} {index
   -- or has ended.
   pub commit_ends : client.under_way ≡ None → OnlyIt clients index
       → ((actor : ℕ) → now.committing ≡ Some actor → HasTooManyOut now) → AreGoing script now news
-  commit_ends ended only none = syncs only (no_one (λ its. IsWorkOf script now index client its.work) ended)
+  commit_ends ended only none = commits only (no_one (λ its. IsWorkOf script now index client its.work) ended)
       (λ actor its. inl (none actor its))
 
--- There is one sync at most.
-pub one_sync : {script : Script} {core : Core} {clients : List Client} {index : ℕ} {old : Client} {under : UnderWay}
-    {run : CommitRun} → AreGoing script core clients → IsGoing clients index old under → under.work ≡ work.Sync run
+-- There is one commit at most.
+pub one_commit : {script : Script} {core : Core} {clients : List Client} {index : ℕ} {old : Client} {under : UnderWay}
+    {run : CommitRun} → AreGoing script core clients → IsGoing clients index old under → commit_in under.work ≡ Some run
     → OnlyIt clients index
-one_sync {index = index} {old} {under} {run} going is does_is caller its its_under its_going sync =
-    let found = run_of its_under.work sync in
-    some_is (sym ((going.each caller its its_under its_going).sync found.0 found.1).1
-    ∙ ((going.each index old under is).sync run does_is).1)
+one_commit {index = index} {old} {under} {run} going is does_is caller its its_under its_going makes =
+    let found = run_of its_under.work makes in
+    some_is (sym ((going.each caller its its_under its_going).commit found.0 found.1).1
+    ∙ ((going.each index old under is).commit run does_is).1)

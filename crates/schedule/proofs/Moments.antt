@@ -31,6 +31,22 @@ pub record AreLatest (calls : Calls) (handed : PutBytes) (opening : Map) (known 
   pub begun_is : (kept : Kept) → Contains begun kept → IsBegunAfter calls handed opening items item kept
   pub parity : HaveParityOf known (last ∷ begun)
 
+-- Images are judged by how far the pool reached when each was left, so that it is all one how far it does by now.
+pub since_any_reach : (setting : Setting) {groups : List Kept} {time : ℕ} {disk : Disk} (reach other : ℕ)
+    → KeepsSince (record setting { reach = reach }) groups time disk
+    → KeepsSince (record setting { reach = other }) groups time disk
+since_any_reach setting reach other kept = record {
+  each = λ moment image from until might. let some = kept.each moment image from until might in record {
+    before = some.before;
+    first = some.first;
+    later = some.later;
+    after = some.after;
+    row = some.row;
+    reach = some.reach;
+    keeps = some.keeps;
+  };
+}
+
 -- A group and those after it are a row of themselves.
 pub whole_row : (first : Kept) (later : List Kept) → IsRowOf (first ∷ later) first later
 whole_row first later = record { before = []; after = []; row = sym (append-nil (first ∷ later)) }
@@ -67,17 +83,19 @@ module _ {setting : Setting} {calls : Calls} {handed : PutBytes} {opening : Map}
 
 module _ {setting : Setting} {calls : Calls} {handed : PutBytes} {opening : Map} {known : List Kept} {items : List Item}
     {item : GroupItem} {last : Kept} {begun : List Kept} where
-  -- What is certain now the bank keeps, and each image from now on.
-  pub on_now : {now : Disk} → AreLatest calls handed opening known items item last begun → Knows setting last begun now
+  -- What is certain now the bank keeps, in a pool that reaches so far, and each image from now on.
+  pub on_now : {now : Disk} (reach : ℕ) → AreLatest calls handed opening known items item last begun
+      → Knows (record setting { reach = reach }) last begun now
       → KeepsOn setting calls handed opening items item last begun now now
-  on_now {now = now} are knows = record {
+  on_now {now = now} reach are knows = record {
     later = later_refl now;
     first = begun;
     one = are.one;
     first_is = are.begun_is;
-    reach = setting.reach;
-    keeps = knows_keep setting last begun now knows;
-    since = since_now setting (last ∷ begun) last begun now (whole_row last begun) knows;
+    reach = reach;
+    keeps = knows_keep (record setting { reach = reach }) last begun now knows;
+    since = since_any_reach setting reach setting.reach
+        (since_now (record setting { reach = reach }) (last ∷ begun) last begun now (whole_row last begun) knows);
   }
 
   -- So the bank kept the last group until then.

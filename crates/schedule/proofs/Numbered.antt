@@ -139,7 +139,7 @@ module _ (script : Script) (actor : ℕ) (before after : Station) (clients : Lis
   turn_numbers (Went under (Busy by) goes leaves) = absurd leaves
   turn_numbers (Went under (Done given) goes leaves) = elim (works_end before.state after.state is goes.call under.work
       given (λ run does. ((going.each actor before.client under
-      (record { there = was; under_way = goes.going })).sync run does).0) goes.did) [
+      (record { there = was; under_way = goes.going })).commit run does).0) goes.did) [
         | inl plain ↦ lists_entry plain.1.group_is (entry_for goes.call actor before.client.begun under.at given)
             (leaves.0 ∙ plain_listed new before.items under.at
             (entry_for goes.call actor before.client.begun under.at given) given plain.0)

@@ -108,9 +108,10 @@ module _ {setting : Setting} {first : Kept} {later : List Kept} {pool : Pool} {s
     contents = λ actor. [];
     commit = None;
     item = first_item pool;
+    reach = setting.reach;
     recorded = recorded_first calls handed parity begins past origin here opened_later;
     stands = subst (λ (calls : List HoldingCall). Stands setting begins.opened.next [] chosen_map (λ actor. []) calls None
         (at_disk (resting pool) mid)) (sym (none_held count)) (stands_first bank);
-    sync = λ index client under going. absurd (none_of_blank count index client under going);
+    theirs = λ index client under going. absurd (none_of_blank count index client under going);
     each = λ index client under going. absurd (none_of_blank count index client under going);
   }

@@ -26,7 +26,7 @@ use Rattle.core_turns.proofs.PutCalls.{begins_rearranges, put_begins_calls, put_
 use Rattle.core_turns.proofs.PutStands.{put_begins_stands, put_refused_stands}
 use Rattle.schedule.specs.declared.client.Client.{Client}
 use Rattle.schedule.specs.declared.client.Work.TheVariants as work
-use Rattle.schedule.specs.Running.{Runs, calls_under_way}
+use Rattle.schedule.specs.Running.{Runs, calls_under_way, setting_now}
 use Rattle.schedule.specs.Turns.{turns_of}
 use Rattle.schedule.specs.Turned.{Station, LeavesBegun}
 use Rattle.schedule.specs.Comes.{TakesTurn, Comes}
@@ -66,7 +66,7 @@ module _ {script : Script} {actor : ℕ} {before after : Station} {clients news 
       (λ world past runs. (
         content,
         refl,
-        subst (λ (d : Disk). Stands world.setting runs.last runs.begun (map_of world.handed world.opening before.items)
+        subst (λ (d : Disk). Stands (setting_now runs) runs.last runs.begun (map_of world.handed world.opening before.items)
             (with_content runs.contents actor content) (calls_under_way news) runs.commit (at_disk now d)) (sym disk)
             (put_begins_stands begins refl are others (sets_content runs.contents actor content) gains runs.stands),
       ))
@@ -83,10 +83,10 @@ module _ {script : Script} {actor : ℕ} {before after : Station} {clients news 
   -- A refusal leaves what stands.
   refused_stands : LeavesBlocks old now → (world : World) (past : Past)
       → (runs : Runs world script past before.state before.items clients)
-      → Stands world.setting runs.last runs.begun (map_of world.handed world.opening before.items) runs.contents
+      → Stands (setting_now runs) runs.last runs.begun (map_of world.handed world.opening before.items) runs.contents
       (calls_under_way clients) runs.commit after.state
   refused_stands leaves world past runs =
-      subst (λ (d : Disk). Stands world.setting runs.last runs.begun (map_of world.handed world.opening before.items)
+      subst (λ (d : Disk). Stands (setting_now runs) runs.last runs.begun (map_of world.handed world.opening before.items)
       runs.contents (calls_under_way clients) runs.commit (at_disk now d)) (sym disk)
       (put_refused_stands leaves runs.stands)
 
@@ -113,7 +113,7 @@ module _ {script : Script} {actor : ℕ} {before after : Station} {clients news 
       (put_refused_calls (calls_under_way clients) old now refuses.leaves takes.schedule.going.are)
       (λ world past runs. (
         put_right world before.items entry asked (unstored_plain given refuses.unstored),
-        subst (λ (m : Map). Stands world.setting runs.last runs.begun m runs.contents (calls_under_way clients)
+        subst (λ (m : Map). Stands (setting_now runs) runs.last runs.begun m runs.contents (calls_under_way clients)
             runs.commit after.state)
             (sym (unstored_map world.handed (map_of world.handed world.opening before.items) entry given
             refuses.unstored))

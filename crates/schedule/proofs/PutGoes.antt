@@ -29,7 +29,7 @@ use Rattle.core_turns.proofs.PutWrites.{put_writes_stands, put_writes_since}
 use Rattle.schedule.specs.declared.client.Client.{Client}
 use Rattle.schedule.specs.declared.client.UnderWay.{UnderWay}
 use Rattle.schedule.specs.declared.client.Work.TheVariants as work
-use Rattle.schedule.specs.Running.{IsWorkFor, Runs, calls_under_way}
+use Rattle.schedule.specs.Running.{IsWorkFor, Runs, calls_under_way, setting_now}
 use Rattle.schedule.specs.Turned.{Station, EndsPutting, GoesOnPutting, IsFilledIn, LeavesGoing, entry_for, listed_for}
 use Rattle.schedule.specs.Comes.{TakesTurn, Comes}
 use Rattle.schedule.proofs.Fitting.{TellsOut, fits, plain_no_limit, put_no_free}
@@ -121,9 +121,9 @@ module _ {script : Script} {actor : ℕ} {before after : Station} {clients news 
         → EndsHold old.holds now.holds filled.hold → IsPlain given → IsAnswerOf kind.Put given → TellsOut old given → given ≢ answer.Full → AreCallsOf now (calls_under_way news)
         → ((world : World) (past : Past) → world.handed ≡ handed_by script
         → (runs : Runs world script past before.state before.items clients)
-        → Stands world.setting runs.last runs.begun (map_of world.handed world.opening before.items) runs.contents among.nexts
+        → Stands (setting_now runs) runs.last runs.begun (map_of world.handed world.opening before.items) runs.contents among.nexts
         runs.commit before.state
-        → Stands world.setting runs.last runs.begun
+        → Stands (setting_now runs) runs.last runs.begun
         (map_after_answer world.handed (map_of world.handed world.opening before.items) entry given) runs.contents
         (calls_under_way news) runs.commit (at_disk now before.state.disk))
         → Comes script actor before after clients news
@@ -135,7 +135,7 @@ module _ {script : Script} {actor : ℕ} {before after : Station} {clients news 
         other are
         (λ world past handed runs. (
           put_right world before.items entry asked_for.0 plain,
-          subst (λ (d : Disk). Stands world.setting runs.last runs.begun
+          subst (λ (d : Disk). Stands (setting_now runs) runs.last runs.begun
               (map_after_answer world.handed (map_of world.handed world.opening before.items) entry given) runs.contents
               (calls_under_way news) runs.commit (at_disk now d)) (sym disk)
               (stands world past handed runs (among.stands _ _ _ _ _ _ (content_is runs) runs.stands)),
@@ -151,7 +151,7 @@ module _ {script : Script} {actor : ℕ} {before after : Station} {clients news 
         (subst (IsAnswerOf kind.Put) (sym given_is) refl) (λ listed told. absurd (apart listed (sym given_is ∙ told)))
         (λ full. no_full (sym given_is ∙ full)) (put_ends_calls stores among.gains among.are)
         (λ world past handed runs stood.
-        subst (λ (m : Map). Stands world.setting runs.last runs.begun m runs.contents (calls_under_way news) runs.commit
+        subst (λ (m : Map). Stands (setting_now runs) runs.last runs.begun m runs.contents (calls_under_way news) runs.commit
         (at_disk now before.state.disk))
         (sym (map_is world handed (map_of world.handed world.opening before.items) (runs.contents filled.hold.actor)
         (ap (λ (r : PutRun). runs.contents r.hold.actor) same ∙ content_is runs)))
@@ -188,7 +188,7 @@ module _ {script : Script} {actor : ℕ} {before after : Station} {clients news 
         (unstored_answers given given_up.unstored) given_up.tells given_up.other
         (put_gives_up_calls given_up.gives_up among.gains among.are)
         (λ world past handed runs stood.
-        subst (λ (m : Map). Stands world.setting runs.last runs.begun m runs.contents (calls_under_way news) runs.commit
+        subst (λ (m : Map). Stands (setting_now runs) runs.last runs.begun m runs.contents (calls_under_way news) runs.commit
         (at_disk now before.state.disk))
         (sym (unstored_map world.handed (map_of world.handed world.opening before.items) entry given given_up.unstored))
         (put_gives_up_stands given_up.gives_up among.gains among.are stood))

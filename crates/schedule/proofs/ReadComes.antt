@@ -28,7 +28,7 @@ use Rattle.core_turns.proofs.GetStands.{get_begins_calls, get_reads_calls, get_b
 use Rattle.schedule.specs.declared.client.Client.{Client}
 use Rattle.schedule.specs.declared.client.UnderWay.{UnderWay}
 use Rattle.schedule.specs.declared.client.Work.TheVariants as work
-use Rattle.schedule.specs.Running.{IsWorkFor, calls_under_way}
+use Rattle.schedule.specs.Running.{IsWorkFor, calls_under_way, setting_now}
 use Rattle.schedule.specs.Turned.{Station, GoesOnReading, EndsReading, LeavesBegun, LeavesGoing, entry_for}
 use Rattle.schedule.specs.Comes.{TakesTurn, Comes}
 use Rattle.schedule.proofs.Fitting.{fits, read_no_free}
@@ -69,7 +69,7 @@ module _ {script : Script} {actor : ℕ} {before after : Station} {clients news 
         let found = get_begins_stands actor id call.kind takes.is begins others runs.stands in (
           found.0,
           ap (λ (m : Map). m run.entry.id) (map_at_end world.handed world.opening before.items) ∙ ap map entry_id ∙ found.1,
-          subst (λ (d : Disk). Stands world.setting runs.last runs.begun map (with_content runs.contents actor found.0)
+          subst (λ (d : Disk). Stands (setting_now runs) runs.last runs.begun map (with_content runs.contents actor found.0)
               (calls_under_way news) runs.commit (at_disk now d)) (sym disk)
               (found.2 (with_content runs.contents actor found.0) (calls_under_way news)
               (sets_content runs.contents actor found.0) gains),
@@ -112,10 +112,10 @@ module _ {script : Script} {actor : ℕ} {before after : Station} {clients news 
               (λ absent. ap (option_and_then map_now) id_is
               ∙ ap (λ (m : Map). m id) (map_at_end world.handed world.opening before.items) ∙ none absent)
               begins.1),
-          subst (λ (m : Map). Stands world.setting runs.last runs.begun m runs.contents (calls_under_way clients)
+          subst (λ (m : Map). Stands (setting_now runs) runs.last runs.begun m runs.contents (calls_under_way clients)
               runs.commit after.state)
               (sym (map_read world.handed map (first_entry call actor before given) call.kind given is of))
-              (subst (Stands world.setting runs.last runs.begun map runs.contents (calls_under_way clients) runs.commit)
+              (subst (Stands (setting_now runs) runs.last runs.begun map runs.contents (calls_under_way clients) runs.commit)
               (λ i. at_disk (sym begins.0 i) (sym disk i)) runs.stands),
         ))
 
@@ -141,7 +141,7 @@ module _ {script : Script} {actor : ℕ} {before after : Station} {clients news 
         (asked_for.0 ∙ sym (ap (λ (r : GetRun). r.kind) same), asked_for.1 ∙ sym (ap (λ (r : GetRun). Some r.entry.id) same))
         (get_reads_calls reads.reads moves.1 moves.2 takes.schedule.going.are)
         (λ world past runs. (
-          (λ groups time row. since_read world.setting groups time before.state.disk after.state.disk reads.unchanged),
+          (λ groups time row. since_read (setting_now runs) groups time before.state.disk after.state.disk reads.unchanged),
           (λ has. ap (λ (r : GetRun). map_after world.handed world.opening before.items under.at r.entry.id) same ∙ has),
           get_reads_stands takes.is reads.place reads.left reads.reads reads.unchanged goes.out takes.still_lawful moves.1
               moves.2 takes.schedule.going.are runs.stands,
@@ -174,7 +174,7 @@ module _ {script : Script} {actor : ℕ} {before after : Station} {clients news 
               (sym (ap (option_and_then (map_after world.handed world.opening before.items under.at)) asked_for.1 ∙ content))
               (subst (λ (k : Kind). IsReadRight (Some (runs.contents actor)) k given) (sym asked_for.0)
               (subst (λ (index : ℕ). IsReadRight (Some (runs.contents index)) run.kind given) its done.1))),
-          subst (λ (m : Map). Stands world.setting runs.last runs.begun m runs.contents (calls_under_way news)
+          subst (λ (m : Map). Stands (setting_now runs) runs.last runs.begun m runs.contents (calls_under_way news)
               runs.commit after.state) (sym (map_read world.handed map entry call.kind given call_read given_is)) done.0,
         ))
       where

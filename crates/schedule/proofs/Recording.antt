@@ -14,7 +14,7 @@ use Rattle.core_state.specs.Legal.{IsGroupBefore, IsAnswerOf}
 use Rattle.core_state.specs.Journal.{Calls, Follows, IsWidthStep}
 use Rattle.core_state.specs.Keeps.{Kept, Setting}
 use Rattle.core_state.specs.Certain.{Knows}
-use Rattle.core_state.specs.Moment.{IsGroupOf, IsBegunAfter, Groups, IsRowOf, KeepsSince, KeepsThroughout, item_of}
+use Rattle.core_state.specs.Moment.{AwaitsAttach, IsGroupOf, IsBegunAfter, Groups, IsRowOf, KeepsSince, KeepsThroughout, item_of}
 use Rattle.core_state.specs.World.{World}
 use Rattle.core_state.proofs.Keeping.{knows_keep}
 use Rattle.core_state.proofs.Listed.{contains_head, contains_none, contains_tail}
@@ -24,7 +24,7 @@ use Rattle.journal_law.specs.Parity.{HaveParityOf}
 use Rattle.journal_law.proofs.Parity.{parity_with}
 use Rattle.journal_law.proofs.Grown.{map_before}
 use Rattle.journal_law.proofs.GrownAnswers.{answers_grown_call, answers_grown_group}
-use Rattle.journal_law.proofs.GrownGroups.{groups_grown_call, groups_grown_group, latest_grown_call, latest_grown_group, group_of_grown, after_listed}
+use Rattle.journal_law.proofs.GrownGroups.{groups_grown_call, groups_grown_group, latest_grown_call, latest_grown_group, group_of_grown, after_listed, width_step_where}
 use Rattle.journal_law.proofs.GrownRun.{groups_call, groups_end, groups_begun, groups_cut}
 use Rattle.journal_law.proofs.Moments.{contains_one}
 use Rattle.journal_law.proofs.Rows.{row_among}
@@ -32,7 +32,7 @@ use Rattle.journal_law.proofs.GrownAnswers.{each_grown_call, each_grown_group}
 use Rattle.schedule.specs.Recorded.{Recorded, IsRightNext, IsBegunAt, AllBelow}
 use Rattle.schedule.proofs.Counted.{counted_call, counted_group}
 use Rattle.schedule.specs.Moments.{KeepsOn, KeepsTurnByTurn, Past}
-use Rattle.schedule.proofs.Moments.{AreLatest, whole_row, on_goes, on_now, on_wider, kept_more, kept_to_end}
+use Rattle.schedule.proofs.Moments.{AreLatest, whole_row, on_goes, on_now, on_wider, kept_more, kept_to_end, since_any_reach}
 use Rattle.schedule.proofs.RightNext.{sync_right}
 
 -- Where the groups stand as one is begun, and as it is answered.
@@ -101,6 +101,11 @@ on_listed {setting = setting} {calls = calls} {handed = handed} {opening = openi
     subst (λ (d : Disk). KeepsOn setting calls handed opening (items ++ new ∷ []) item last begun d now)
     (sym (ap past.banks (length-append items (new ∷ [])) ∙ here)) on
 
+-- What each image kept since some moment, it keeps once the devices have gone on.
+abbrev pub GoesOnSince : Setting → Kept → List Kept → Disk → Disk → Type 0
+GoesOnSince setting last begun before after = (groups : List Kept) (time : ℕ) → IsRowOf groups last begun
+    → KeepsSince setting groups time before → KeepsSince setting groups time after
+
 abbrev IsSound : Entry → Type 0
 IsSound entry = entry.answer ≢ answer.Damaged
 
@@ -131,11 +136,10 @@ module _ {world : World} {past : Past} {items : List Item} {item : GroupItem} {l
   latest_now = latest_of so_far.groups so_far.begun_are so_far.latest so_far.item_is parity_now
 
   -- The devices go on, and keep what they kept.
-  pub recorded_goes : {next : Disk} → Later now next
-      → ((groups : List Kept) (time : ℕ) → IsRowOf groups last begun → KeepsSince world.setting groups time now
-      → KeepsSince world.setting groups time next)
+  pub recorded_goes : {next : Disk} (reach : ℕ) → Later now next
+      → GoesOnSince (record world.setting { reach = reach }) last begun now next
       → Recorded world past items item last begun next
-  recorded_goes later keeps = record {
+  recorded_goes {next = next} reach later keeps = record {
     groups = so_far.groups;
     earlier = so_far.earlier;
     answered_are = so_far.answered_are;
@@ -146,18 +150,25 @@ module _ {world : World} {past : Past} {items : List Item} {item : GroupItem} {l
     right = so_far.right;
     sound = so_far.sound;
     counted = so_far.counted;
-    since = keeps (world.known ++ so_far.groups.answered ++ so_far.groups.begun) past.origin.clock row_now so_far.since;
+    since = goes_on (world.known ++ so_far.groups.answered ++ so_far.groups.begun) past.origin.clock row_now
+        so_far.since;
     parity = so_far.parity;
     no_older = so_far.no_older;
     kept_on = on_goes so_far.kept_on later
-        (keeps (last ∷ begun) (past.banks (length items)).clock (whole_row last begun));
+        (goes_on (last ∷ begun) (past.banks (length items)).clock (whole_row last begun));
   }
+    where
+      goes_on : GoesOnSince world.setting last begun now next
+      goes_on groups time row kept =
+          since_any_reach world.setting reach world.setting.reach
+          (keeps groups time row (since_any_reach world.setting world.setting.reach reach kept))
 
   -- A call is answered that ends no group.
-  pub recorded_answers : (entry : Entry) → past.banks (length items + 1) ≡ now → Knows world.setting last begun now
+  pub recorded_answers : (reach : ℕ) (entry : Entry) → past.banks (length items + 1) ≡ now
+      → Knows (record world.setting { reach = reach }) last begun now
       → IsRightNext world items entry → IsAnswerOf entry.kind entry.answer
       → Recorded world past (items ++ Call entry ∷ []) item last begun now
-  recorded_answers entry here knows right is_answer =
+  recorded_answers reach entry here knows right is_answer =
       let grown = groups_call world.calls world.handed world.opening world.known items so_far.groups so_far.in_order entry in
       let latest = latest_grown_call items entry item so_far.latest in
       let item_is = group_of_grown world.handed world.opening items item last (Call entry ∷ []) after_few
@@ -178,7 +189,7 @@ module _ {world : World} {past : Past} {items : List Item} {item : GroupItem} {l
         parity = subst (HaveParityOf world.known) (λ i. world.known ++ sym grown.1 i ++ sym grown.2 i) so_far.parity;
         no_older = kept_more so_far.no_older some_items latest_now so_far.kept_on (Call entry) here;
         kept_on = on_listed items (Call entry) past here
-            (on_now (latest_of grown.0 (grown.2 ∙ so_far.begun_are) latest item_is parity_now) knows);
+            (on_now reach (latest_of grown.0 (grown.2 ∙ so_far.begun_are) latest item_is parity_now) knows);
       }
 
   -- What each image of the run keeps,
@@ -192,11 +203,11 @@ module _ {world : World} {past : Past} {items : List Item} {item : GroupItem} {l
   recorded_no_older here = kept_to_end so_far.no_older some_items latest_now so_far.kept_on here
 
   -- and what the bank keeps at its end: groups that are among those.
-  pub recorded_keeps : Knows world.setting last begun now
+  pub recorded_keeps : (reach : ℕ) → Knows (record world.setting { reach = reach }) last begun now
       → (at_end : KeepsLast world.setting world.calls world.handed world.opening items now)
       × ((kept : Kept) → Contains (at_end.last ∷ at_end.begun) kept
       → Contains (world.known ++ so_far.groups.answered ++ so_far.groups.begun) kept)
-  recorded_keeps knows = (
+  recorded_keeps reach knows = (
     record {
       group = item;
       latest = so_far.latest;
@@ -205,60 +216,62 @@ module _ {world : World} {past : Past} {items : List Item} {item : GroupItem} {l
       begun = begun;
       one = latest_now.one;
       begun_is = latest_now.begun_is;
-      reach = world.setting.reach;
-      keeps = knows_keep world.setting last begun now knows;
+      reach = reach;
+      keeps = knows_keep (record world.setting { reach = reach }) last begun now knows;
     },
     row_among row_now,
   )
 
--- A step of widths for which no attach was answered is one where some may be.
-step_without : (attached : Type 0) (before next : GroupItem) → IsWidthStep ⊥ before next → IsWidthStep attached before next
-step_without attached before next (inl same) = inl same
-step_without attached before next (inr (inl ends)) = inr (inl ends)
-step_without attached before next (inr (inr attach)) = absurd attach.0
-
--- A commit begins the next group.
+-- A commit begins the next group, which may begin an expansion where an attach was to be answered.
 module _ {world : World} {past : Past} {items : List Item} {item : GroupItem} {last : Kept} {now : Disk}
-    (so_far : Recorded world past items item last [] now) {after : ℕ} {next : Kept}
-    (is : IsBegunAt world items item after next) where
-  next_after : IsBegunAfter world.calls world.handed world.opening items item next
-  next_after = record { number = is.number; after = after; listed = is.listed; map = is.map; widths = step_without _ item (item_of next after) is.widths }
+    (so_far : Recorded world past items item last [] now) {after : ℕ} {attached : Type 0} {next : Kept}
+    (is : IsBegunAt world items item after attached next) (awaits : attached → AwaitsAttach world.calls items after)
+  where
+    next_after : IsBegunAfter world.calls world.handed world.opening items item next
+    next_after = record {
+      number = is.number;
+      after = after;
+      listed = is.listed;
+      map = is.map;
+      widths = width_step_where item (item_of next after) awaits is.widths;
+    }
 
-  pub recorded_begins : next.uber.parity ≡ last.uber.parity → Recorded world past items item last (next ∷ []) now
-  recorded_begins parity =
-      let grown = groups_cut world.calls world.handed world.opening world.known items so_far.groups so_far.begun_are item
-      so_far.latest (next ∷ []) (omega arith)
-      (λ kept has. subst (IsBegunAfter world.calls world.handed world.opening items item) (sym (contains_one next kept has))
-      next_after) in
-      let all = world.known ++ so_far.groups.answered ++ so_far.groups.begun in
-      let row = begun_row world.known so_far.groups.answered so_far.groups.begun grown.0.answered grown.0.begun next
-      so_far.begun_are grown.1 grown.2 in record {
-        groups = grown.0;
-        earlier = so_far.earlier;
-        answered_are = grown.1 ∙ so_far.answered_are;
-        begun_are = grown.2;
-        latest = so_far.latest;
-        item_is = so_far.item_is;
-        in_order = so_far.in_order;
-        right = so_far.right;
-        sound = so_far.sound;
-        counted = so_far.counted;
-        since = subst (λ (l : List Kept). KeepsSince world.setting l past.origin.clock now) row
-            (since_longer world.setting all (next ∷ []) past.origin.clock now so_far.since);
-        parity = subst (HaveParityOf world.known) row
-            (parity_with world.known all last next (row_among (row_now so_far) last (contains_head last [])) parity
-            so_far.parity);
-        no_older = so_far.no_older;
-        kept_on = on_wider (next ∷ []) so_far.kept_on;
-      }
+    pub recorded_begins : next.uber.parity ≡ last.uber.parity → Recorded world past items item last (next ∷ []) now
+    recorded_begins parity =
+        let grown = groups_cut world.calls world.handed world.opening world.known items so_far.groups so_far.begun_are item
+        so_far.latest (next ∷ []) (omega arith)
+        (λ kept has. subst (IsBegunAfter world.calls world.handed world.opening items item) (sym (contains_one next kept has))
+        next_after) in
+        let all = world.known ++ so_far.groups.answered ++ so_far.groups.begun in
+        let row = begun_row world.known so_far.groups.answered so_far.groups.begun grown.0.answered grown.0.begun next
+        so_far.begun_are grown.1 grown.2 in record {
+          groups = grown.0;
+          earlier = so_far.earlier;
+          answered_are = grown.1 ∙ so_far.answered_are;
+          begun_are = grown.2;
+          latest = so_far.latest;
+          item_is = so_far.item_is;
+          in_order = so_far.in_order;
+          right = so_far.right;
+          sound = so_far.sound;
+          counted = so_far.counted;
+          since = subst (λ (l : List Kept). KeepsSince world.setting l past.origin.clock now) row
+              (since_longer world.setting all (next ∷ []) past.origin.clock now so_far.since);
+          parity = subst (HaveParityOf world.known) row
+              (parity_with world.known all last next (row_among (row_now so_far) last (contains_head last [])) parity
+              so_far.parity);
+          no_older = so_far.no_older;
+          kept_on = on_wider (next ∷ []) so_far.kept_on;
+        }
 
--- A commit has ended the group that was begun.
+-- A commit has ended the group that was begun, which began no expansion.
 module _ {world : World} {past : Past} {items : List Item} {item : GroupItem} {last next : Kept} {now : Disk}
-    (so_far : Recorded world past items item last (next ∷ []) now) {after : ℕ}
-    (is : IsBegunAt world items item after next) (knows : Knows world.setting next [] now)
+    (so_far : Recorded world past items item last (next ∷ []) now) {after : ℕ} {attached : Type 0}
+    (is : IsBegunAt world items item after attached next) (reach : ℕ)
+    (knows : Knows (record world.setting { reach = reach }) next [] now)
     {group : GroupItem} (number : group.group ≡ next.uber.group) (after_is : group.after ≡ after)
     (from_is : group.from ≡ next.uber.reflow.from) (group_to_is : group.to ≡ next.uber.reflow.to)
-    (here : past.banks (length items + 1) ≡ now) where
+    (none : attached → ⊥) (here : past.banks (length items + 1) ≡ now) where
   abbrev with_group : List Item
   with_group = items ++ Group group ∷ []
 
@@ -279,7 +292,7 @@ module _ {world : World} {past : Past} {items : List Item} {item : GroupItem} {l
     number = number ∙ is.number;
     later = (let low = is.listed.0 in omega (arith, low, after_is));
     listed = within;
-    widths = step_without _ item group (subst (IsWidthStep ⊥ item) (λ i. record {
+    widths = width_step_where item group (λ told. absurd (none told)) (subst (IsWidthStep attached item) (λ i. record {
       group = sym number i;
       after = sym after_is i;
       from = sym from_is i;
@@ -290,10 +303,10 @@ module _ {world : World} {past : Past} {items : List Item} {item : GroupItem} {l
   -- Its item is listed,
   pub recorded_group : Recorded world past (items ++ Group group ∷ []) group next [] now
   recorded_group =
-      let none = groups_none so_far.groups in
-      let ended = groups_end world.calls world.handed world.opening world.known items none.0 none.2 group next next_is
+      let left = groups_none so_far.groups in
+      let ended = groups_end world.calls world.handed world.opening world.known items left.0 left.2 group next next_is
       so_far.in_order in
-      let answered_are = ended.1 ∙ ap (λ (l : List Kept). l ++ next ∷ []) none.1 in
+      let answered_are = ended.1 ∙ ap (λ (l : List Kept). l ++ next ∷ []) left.1 in
       let latest = latest_grown_group items group in
       let row = ended_row world.known so_far.groups.answered so_far.groups.begun ended.0.answered ended.0.begun next
       so_far.begun_are answered_are ended.2 in
@@ -314,14 +327,14 @@ module _ {world : World} {past : Past} {items : List Item} {item : GroupItem} {l
         parity = subst (HaveParityOf world.known) row so_far.parity;
         no_older = kept_more so_far.no_older (some_items so_far) (latest_now so_far) so_far.kept_on (Group group) here;
         kept_on = on_listed items (Group group) past here
-            (on_now (latest_of ended.0 ended.2 latest next_is next_parity) knows);
+            (on_now reach (latest_of ended.0 ended.2 latest next_is next_parity) knows);
       }
 
   -- and the sync that asked for it is answered.
   pub recorded_ends : (entry : Entry) → entry.kind ≡ kind.Sync → entry.answer ≡ answer.Synced group.group → 1 ≤ after
       → AllBelow items entry.caller after → past.banks (length with_group + 1) ≡ now
       → Recorded world past ((items ++ Group group ∷ []) ++ Call entry ∷ []) group next [] now
-  recorded_ends entry asked answer_is some below then = recorded_answers recorded_group entry then knows
+  recorded_ends entry asked answer_is some below then = recorded_answers recorded_group reach entry then knows
       (sync_right world items group entry asked answer_is (omega (arith, some, after_is))
       (subst (AllBelow items entry.caller) (sym after_is) below))
       (subst (IsAnswerOf entry.kind) (sym answer_is) asked)

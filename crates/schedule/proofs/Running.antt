@@ -8,17 +8,19 @@ use Rattle.core_state.specs.declared.item.Item.TheVariants.{Group, Call as CallI
 use Rattle.core_state.specs.Map.{Map}
 use Rattle.core_state.specs.Legal.{CallAt}
 use Rattle.core_state.specs.Keeps.{Kept}
+use Rattle.core_state.specs.Moment.{item_of}
 use Rattle.core_state.specs.World.{World}
 use Rattle.client_script.specs.declared.call.ScriptCall.{ScriptCall}
 use Rattle.client_script.specs.Script.{Script}
 use Rattle.journal_law.proofs.Grown.{map_before, new_or_before}
+use Rattle.journal_law.proofs.GrownGroups.{width_step_where}
 use Rattle.core_turns.specs.UnderWay.{SetsContent}
 use Rattle.schedule.specs.declared.client.Client.{Client}
 use Rattle.schedule.specs.declared.client.UnderWay.{UnderWay}
 use Rattle.schedule.specs.declared.client.Work.{Work}
 use Rattle.schedule.specs.declared.client.Work.TheVariants as work
 use Rattle.schedule.specs.Recorded.{IsBegunAt}
-use Rattle.schedule.specs.Running.{IsSync, IsSyncOf, HasContent, IsClient}
+use Rattle.schedule.specs.Running.{HasBegunBy, HasContent, IsClient, MakesCommit}
 
 -- What a call is about stays as the journal grows.
 content_grown : (world : World) (items more : List Item) (call : ScriptCall) (at : ℕ) (content : List ℕ) (does : Work)
@@ -29,44 +31,45 @@ content_grown world items more call at content (work.Read run) low has =
     ap (λ (map : Map). map run.entry.id) (map_before world.handed world.opening items more at low) ∙ has
 content_grown world items more call at content (work.Sync run) low has = has
 
-pub begun_grown : (world : World) (items more : List Item) (item : GroupItem) (after : ℕ) (next : Kept)
-    → IsBegunAt world items item after next → IsBegunAt world (items ++ more) item after next
-begun_grown world items more item after next begun = record {
+pub begun_grown : {attached told : Type 0} (world : World) (items more : List Item) (item : GroupItem) (after : ℕ)
+    (next : Kept) → (attached → told) → IsBegunAt world items item after attached next
+    → IsBegunAt world (items ++ more) item after told next
+begun_grown world items more item after next tells begun = record {
   number = begun.number;
   listed = (begun.listed.0, (let low = begun.listed.1 in omega (arith, low, length-append items more)));
   map = λ id. begun.map id
       ∙ sym (ap (λ (map : Map). map id) (map_before world.handed world.opening items more after begun.listed.1));
-  widths = begun.widths;
+  widths = width_step_where item (item_of next after) tells begun.widths;
 }
 
--- What a sync knows of its group stays as the journal grows.
-pub sync_grown : (world : World) (items more : List Item) (item : GroupItem) (begun : List Kept) (at : ℕ) (does : Work)
-    → IsSyncOf world items item begun at does → IsSyncOf world (items ++ more) item begun at does
-sync_grown world items more item begun at (work.Sync run) (next, is, was) =
-    (next, is, begun_grown world items more item at next was)
-sync_grown world items more item begun at (work.Put run) is = is
-sync_grown world items more item begun at (work.Read run) is = is
+-- What a work knows of its group stays as the journal grows.
+pub group_grown : (world : World) (items more : List Item) (item : GroupItem) (begun : List Kept) (at : ℕ) (does : Work)
+    → HasBegunBy world items item begun at does → HasBegunBy world (items ++ more) item begun at does
+group_grown world items more item begun at (work.Sync run) (next, is, was) =
+    (next, is, begun_grown world items more item at next (λ none. none) was)
+group_grown world items more item begun at (work.Put run) is = is
+group_grown world items more item begun at (work.Read run) is = is
 
--- work that is no sync knows nothing of groups
-pub sync_free : (world : World) (items : List Item) (item : GroupItem) (begun : List Kept) (at : ℕ) (does : Work)
-    → (IsSync does → ⊥) → IsSyncOf world items item begun at does
-sync_free world items item begun at (work.Sync run) not_sync = absurd (not_sync tt)
-sync_free world items item begun at (work.Put run) not_sync = tt
-sync_free world items item begun at (work.Read run) not_sync = tt
+-- Work that makes no commit knows nothing of groups.
+pub group_free : (world : World) (items : List Item) (item : GroupItem) (begun : List Kept) (at : ℕ) (does : Work)
+    → (MakesCommit does → ⊥) → HasBegunBy world items item begun at does
+group_free world items item begun at (work.Sync run) none = absurd (none tt)
+group_free world items item begun at (work.Put run) none = tt
+group_free world items item begun at (work.Read run) none = tt
 
 -- Clients go on as the journal grows by items that are none of theirs.
 pub client_grown : (world : World) (script : Script) (items more : List Item) (item now : GroupItem)
     (begun onward : List Kept) (content : List ℕ) (index : ℕ) (client : Client) (under : UnderWay)
-    → (IsSyncOf world items item begun under.at under.work
-    → IsSyncOf world (items ++ more) now onward under.at under.work)
+    → (HasBegunBy world items item begun under.at under.work
+    → HasBegunBy world (items ++ more) now onward under.at under.work)
     → ((place : ℕ) (entry : Entry) → CallAt (items ++ more) place entry → entry.caller ≡ index
     → CallAt items place entry)
     → IsClient world script items item begun content index client under
     → IsClient world script (items ++ more) now onward content index client under
-client_grown world script items more item now begun onward content index client under sync none is = record {
+client_grown world script items more item now begun onward content index client under group none is = record {
   at = (is.at.0, (let low = is.at.1 in omega (arith, low, length-append items more)));
   after = λ place entry there caller. is.after place entry (none place entry there caller) caller;
-  sync = sync is.sync;
+  group = group is.group;
   content = λ call asked. content_grown world items more call under.at content under.work is.at.1 (is.content call asked);
 }
 

@@ -19,12 +19,11 @@ use Rattle.core_turns.specs.Core.{CoreState}
 use Rattle.core_turns.specs.UnderWay.{Stands}
 use Rattle.schedule.specs.declared.client.Client.{Client}
 use Rattle.schedule.specs.declared.client.UnderWay.{UnderWay}
-use Rattle.schedule.specs.declared.client.Work.TheVariants as work
 use Rattle.schedule.specs.Clients.{Changes}
 use Rattle.schedule.specs.Recorded.{Recorded, IsRightNext, IsBegunAt}
-use Rattle.schedule.specs.Running.{IsClient, IsGoing, IsSync, IsSyncOf, IsTheirs, Runs, calls_under_way}
-use Rattle.schedule.proofs.Theirs.{IsNoSync, OnlyIt, each_going, idle_no_sync, no_one, sync_gone, sync_stays}
-use Rattle.schedule.proofs.Running.{head_is, client_grown, entry_apart, group_apart, sync_grown, sync_free}
+use Rattle.schedule.specs.Running.{HasBegun, IsClient, IsGoing, IsTheirs, MakesCommit, Runs, calls_under_way, setting_now}
+use Rattle.schedule.proofs.Theirs.{IsNoCommit, OnlyIt, each_going, idle_no_commit, no_one, commit_gone, commit_stays}
+use Rattle.schedule.proofs.Running.{head_is, client_grown, entry_apart, group_apart, group_grown, group_free}
 use Rattle.schedule.proofs.Recording.{recorded_answers, recorded_ends}
 use Rattle.schedule.specs.Moments.{Past}
 use Rattle.schedule.specs.Turns.{IsListedWith}
@@ -39,7 +38,7 @@ module _ {world : World} {script : Script} {past : Past} {before : CoreState} {i
   -- A call is answered, and its entry listed: the client has nothing under way then.
   module _ (entry : Entry) (caller : entry.caller ≡ index) (ended : client.under_way ≡ None)
       (disk : after.disk ≡ before.disk)
-      (knows : Knows world.setting runs.last runs.begun before.disk)
+      (knows : Knows (setting_now runs) runs.last runs.begun before.disk)
       (right : IsRightNext world items entry) (answers : IsAnswerOf entry.kind entry.answer)
       (with : IsListedWith past.banks items (items ++ CallItem entry ∷ []) after.disk) where
     abbrev grown : List Item
@@ -47,7 +46,7 @@ module _ {world : World} {script : Script} {past : Past} {before : CoreState} {i
 
     recorded_entry : Recorded world past grown runs.item runs.last runs.begun after.disk
     recorded_entry = subst (Recorded world past grown runs.item runs.last runs.begun) (sym disk)
-        (recorded_answers runs.recorded entry (with (length items + 1) (omega arith)
+        (recorded_answers runs.recorded runs.reach entry (with (length items + 1) (omega arith)
         (omega (arith, length-append items (CallItem entry ∷ []))) ∙ disk) knows right answers)
 
     each_left : (other : ℕ) (its_client : Client) (its_under : UnderWay) → IsGoing news other its_client its_under
@@ -58,7 +57,7 @@ module _ {world : World} {script : Script} {past : Past} {before : CoreState} {i
         (λ other its its_under apart is.
         client_grown world script items (CallItem entry ∷ []) runs.item runs.item runs.begun runs.begun
         (runs.contents other) other its its_under
-        (sync_grown world items (CallItem entry ∷ []) runs.item runs.begun its_under.at its_under.work)
+        (group_grown world items (CallItem entry ∷ []) runs.item runs.begun its_under.at its_under.work)
         (entry_apart items entry other (λ same. apart (sym same ∙ caller)))
         (runs.each other its its_under is))
 
@@ -67,37 +66,38 @@ module _ {world : World} {script : Script} {past : Past} {before : CoreState} {i
 
     -- what stands with this commit under way
     abbrev StandsWith : Option CommitRun → Type 0
-    StandsWith commit = Stands world.setting runs.last runs.begun (map_after_answer world.handed map entry entry.answer)
+    StandsWith commit = Stands (setting_now runs) runs.last runs.begun (map_after_answer world.handed map entry entry.answer)
         runs.contents (calls_under_way news) commit after
 
     answered_with : (commit : Option CommitRun) → IsTheirs news commit → StandsWith commit
         → Runs world script past after grown news
-    answered_with commit sync stands = record {
+    answered_with commit theirs stands = record {
       last = runs.last;
       begun = runs.begun;
       contents = runs.contents;
       commit = commit;
       item = runs.item;
+      reach = runs.reach;
       recorded = recorded_entry;
-      stands = subst (λ (m : Map). Stands world.setting runs.last runs.begun m runs.contents (calls_under_way news) commit
-          after) (sym map_is) stands;
-      sync = sync;
+      stands = subst (λ (m : Map). Stands (setting_now runs) runs.last runs.begun m runs.contents (calls_under_way news)
+          commit after) (sym map_is) stands;
+      theirs = theirs;
       each = each_left;
     }
 
     -- A put or a read ends, or a call is answered in its first turn.
-    pub answers_call : IsNoSync old.under_way → StandsWith runs.commit → Runs world script past after grown news
+    pub answers_call : IsNoCommit old.under_way → StandsWith runs.commit → Runs world script past after grown news
     answers_call was_none =
-        answered_with runs.commit (sync_stays was changes runs.commit was_none (idle_no_sync ended) runs.sync)
+        answered_with runs.commit (commit_stays was changes runs.commit was_none (idle_no_commit ended) runs.theirs)
 
     -- A commit is cut short.
     pub commit_is_cut : OnlyIt clients index → StandsWith None → Runs world script past after grown news
-    commit_is_cut only = answered_with None (sync_gone was changes ended only)
+    commit_is_cut only = answered_with None (commit_gone was changes ended only)
 
-  -- A commit ends its group, whose item is listed before its entry.
-  module _ (under : UnderWay) (run : CommitRun) (next : Kept) (group : GroupItem) (entry : Entry)
-      (caller : entry.caller ≡ index) (ended : client.under_way ≡ None)
-      (old_is : old.under_way ≡ Some under) (does_is : under.work ≡ work.Sync run)
+  -- A commit ends its group, which begins no expansion, and whose item is listed before its entry.
+  module _ {attached : Type 0} (under : UnderWay) (next : Kept) (group : GroupItem) (entry : Entry)
+      (caller : entry.caller ≡ index) (ended : client.under_way ≡ None) (old_is : old.under_way ≡ Some under)
+      (has_begun : HasBegun world items runs.item runs.begun under.at attached) (none : attached → ⊥)
       (begun_is : runs.begun ≡ next ∷ [])
       (only : OnlyIt clients index) (disk : after.disk ≡ before.disk)
       (group_is : group ≡ record {
@@ -107,9 +107,9 @@ module _ {world : World} {script : Script} {past : Past} {before : CoreState} {i
         to = next.uber.reflow.to;
       })
       (asked : entry.kind ≡ kind.Sync) (answer_is : entry.answer ≡ answer.Synced group.group)
-      (knows : Knows world.setting next [] before.disk)
+      (knows : Knows (setting_now runs) next [] before.disk)
       (with : IsListedWith past.banks items ((items ++ Group group ∷ []) ++ CallItem entry ∷ []) after.disk)
-      (stands : Stands world.setting next [] map runs.contents (calls_under_way news) None after) where
+      (stands : Stands (setting_now runs) next [] map runs.contents (calls_under_way news) None after) where
     -- Both were listed with this bank.
     both_with : (count : ℕ) → length items < count → count ≤ length items + 1 + 1 → past.banks count ≡ before.disk
     both_with count from until = with count from (omega (
@@ -122,10 +122,8 @@ module _ {world : World} {script : Script} {past : Past} {before : CoreState} {i
     my_end : IsClient world script items runs.item runs.begun (runs.contents index) index old under
     my_end = runs.each index old under (record { there = was; under_way = old_is })
 
-    is_next : IsBegunAt world items runs.item under.at next
-    is_next =
-        let sync = subst (IsSyncOf world items runs.item runs.begun under.at) does_is my_end.sync in
-        subst (IsBegunAt world items runs.item under.at) (head_is (sym sync.1 ∙ begun_is)) sync.2
+    is_next : IsBegunAt world items runs.item under.at attached next
+    is_next = subst (IsBegunAt world items runs.item under.at attached) (head_is (sym has_begun.1 ∙ begun_is)) has_begun.2
 
     abbrev with_both : List Item
     with_both = (items ++ Group group ∷ []) ++ CallItem entry ∷ []
@@ -134,9 +132,9 @@ module _ {world : World} {script : Script} {past : Past} {before : CoreState} {i
     recorded_end = subst (Recorded world past with_both group next []) (sym disk)
         (recorded_ends
         (subst (λ (l : List Kept). Recorded world past items runs.item runs.last l before.disk) begun_is runs.recorded)
-        is_next knows
+        is_next runs.reach knows
         (ap (λ (g : GroupItem). g.group) group_is) (ap (λ (g : GroupItem). g.after) group_is)
-        (ap (λ (g : GroupItem). g.from) group_is) (ap (λ (g : GroupItem). g.to) group_is)
+        (ap (λ (g : GroupItem). g.from) group_is) (ap (λ (g : GroupItem). g.to) group_is) none
         (both_with (length items + 1) (omega arith) (omega arith)) entry asked answer_is my_end.at.0
         (λ place one there its. my_end.after place one there (its ∙ caller))
         (both_with (length (items ++ Group group ∷ []) + 1) (omega (arith, length-append items (Group group ∷ [])))
@@ -154,14 +152,14 @@ module _ {world : World} {script : Script} {past : Past} {before : CoreState} {i
         IsClient world script with_both group [] (runs.contents other) other its its_under}
         (no_one (IsClient world script with_both group [] (runs.contents index) index client) ended)
         (λ other its its_under apart is.
-        let not_sync : IsSync its_under.work → ⊥ = λ sync. apart (only other its its_under is sync) in
+        let none_its : MakesCommit its_under.work → ⊥ = λ makes. apart (only other its its_under is makes) in
         client_grown world script (items ++ Group group ∷ []) (CallItem entry ∷ []) group group [] []
         (runs.contents other) other its its_under
-        (λ sync. sync_free world with_both group [] its_under.at its_under.work not_sync)
+        (λ was. group_free world with_both group [] its_under.at its_under.work none_its)
         (entry_apart (items ++ Group group ∷ []) entry other (λ same. apart (sym same ∙ caller)))
         (client_grown world script items (Group group ∷ []) runs.item group runs.begun [] (runs.contents other)
         other its its_under
-        (λ sync. sync_free world (items ++ Group group ∷ []) group [] its_under.at its_under.work not_sync)
+        (λ was. group_free world (items ++ Group group ∷ []) group [] its_under.at its_under.work none_its)
         (λ place one there its. group_apart items group place one there)
         (runs.each other its its_under is)))
 
@@ -172,9 +170,10 @@ module _ {world : World} {script : Script} {past : Past} {before : CoreState} {i
       contents = runs.contents;
       commit = None;
       item = group;
+      reach = runs.reach;
       recorded = recorded_end;
-      stands = subst (λ (m : Map). Stands world.setting next [] m runs.contents (calls_under_way news) None after)
+      stands = subst (λ (m : Map). Stands (setting_now runs) next [] m runs.contents (calls_under_way news) None after)
           (sym map_both) stands;
-      sync = sync_gone was changes ended only;
+      theirs = commit_gone was changes ended only;
       each = each_end;
     }

@@ -9,7 +9,7 @@ use Rattle.core_state.specs.Map.{Map, map_of}
 use Rattle.core_state.specs.Legal.{CallAt}
 use Rattle.core_state.specs.declared.item.Entry.{Entry}
 use Rattle.core_state.specs.Keeps.{Kept}
-use Rattle.core_state.specs.Moment.{IsRowOf, KeepsSince}
+use Rattle.core_state.specs.Moment.{AwaitsAttach}
 use Rattle.core_state.specs.World.{World}
 use Rattle.core_commit.specs.CommitTurns.{CommitRun}
 use Rattle.client_script.specs.declared.call.ScriptCall.{ScriptCall}
@@ -19,19 +19,13 @@ use Rattle.core_turns.specs.UnderWay.{Stands}
 use Rattle.schedule.specs.declared.client.Client.{Client}
 use Rattle.schedule.specs.declared.client.UnderWay.{UnderWay}
 use Rattle.schedule.specs.declared.client.Work.{Work}
-use Rattle.schedule.specs.declared.client.Work.TheVariants as work
 use Rattle.schedule.specs.Clients.{Changes}
 use Rattle.schedule.specs.Moments.{Past}
 use Rattle.schedule.specs.Recorded.{Recorded, IsBegunAt}
-use Rattle.schedule.specs.Running.{HasContent, IsClient, IsGoing, IsSync, IsSyncOf, IsTheirs, Runs, calls_under_way}
-use Rattle.schedule.proofs.Recording.{recorded_begins, recorded_goes}
-use Rattle.schedule.proofs.Running.{sync_free, with_content, with_other, with_own}
-use Rattle.schedule.proofs.Theirs.{IsNoSync, each_going, idle_no_sync, no_one, sync_stays, the_one, work_no_sync}
-
--- what each image kept since some moment, it keeps after a turn
-abbrev pub GoesOnSince : World → Kept → List Kept → Disk → Disk → Type 0
-GoesOnSince world last begun before after = (groups : List Kept) (time : ℕ) → IsRowOf groups last begun
-    → KeepsSince world.setting groups time before → KeepsSince world.setting groups time after
+use Rattle.schedule.specs.Running.{HasBegunBy, HasContent, IsClient, IsGoing, IsTheirs, MakesCommit, Runs, calls_under_way, commit_in, setting_now}
+use Rattle.schedule.proofs.Recording.{GoesOnSince, recorded_begins, recorded_goes}
+use Rattle.schedule.proofs.Running.{group_free, with_content, with_other, with_own}
+use Rattle.schedule.proofs.Theirs.{IsNoCommit, each_going, idle_no_commit, no_one, commit_stays, the_one, work_no_commit}
 
 module _ {world : World} {script : Script} {past : Past} {before : CoreState} {items : List Item}
     {clients news : List Client} {index : ℕ} {old client : Client} (after : CoreState)
@@ -58,9 +52,9 @@ module _ {world : World} {script : Script} {past : Past} {before : CoreState} {i
 
   -- The groups are as they were, and so is the commit.
   beside_commit : (nows : ℕ → List ℕ) → ((other : ℕ) → other ≢ index → nows other ≡ runs.contents other)
-      → IsRecorded runs.begun after.disk → IsNoSync old.under_way → IsNoSync client.under_way
+      → IsRecorded runs.begun after.disk → IsNoCommit old.under_way → IsNoCommit client.under_way
       → ((under : UnderWay) → client.under_way ≡ Some under → IsMine runs.begun (nows index) under)
-      → Stands world.setting runs.last runs.begun map nows (calls_under_way news) runs.commit after
+      → Stands (setting_now runs) runs.last runs.begun map nows (calls_under_way news) runs.commit after
       → Runs world script past after items news
   beside_commit nows same recorded was_none is_none mine stands = record {
     last = runs.last;
@@ -68,9 +62,10 @@ module _ {world : World} {script : Script} {past : Past} {before : CoreState} {i
     contents = nows;
     commit = runs.commit;
     item = runs.item;
+    reach = runs.reach;
     recorded = recorded;
     stands = stands;
-    sync = sync_stays was changes runs.commit was_none is_none runs.sync;
+    theirs = commit_stays was changes runs.commit was_none is_none runs.theirs;
     each = each_going was changes
         {T = λ other its under. IsClient world script items runs.item runs.begun (nows other) other its under} mine
         (λ other its under apart is. subst
@@ -80,21 +75,21 @@ module _ {world : World} {script : Script} {past : Past} {before : CoreState} {i
 
   -- A put or a read goes on.
   pub goes_on : (under : UnderWay) (does : Work) → Later before.disk after.disk
-      → GoesOnSince world runs.last runs.begun before.disk after.disk
+      → GoesOnSince (setting_now runs) runs.last runs.begun before.disk after.disk
       → old.under_way ≡ Some under
       → client ≡ record { begun = old.begun; under_way = Some (record { at = under.at; work = does }) }
-      → (IsSync under.work → ⊥) → (IsSync does → ⊥)
+      → (MakesCommit under.work → ⊥) → (MakesCommit does → ⊥)
       → ((asked : ScriptCall) → slice_get (calls_of script index) (old.begun - 1) ≡ Some asked
       → HasContent world items asked under.at (runs.contents index) does)
-      → Stands world.setting runs.last runs.begun map runs.contents (calls_under_way news) runs.commit after
+      → Stands (setting_now runs) runs.last runs.begun map runs.contents (calls_under_way news) runs.commit after
       → Runs world script past after items news
-  goes_on under does later since old_is client_is was_no_sync no_sync has = beside_commit runs.contents
-      (λ other apart. refl) (recorded_goes runs.recorded later since) (work_no_sync old_is was_no_sync)
-      (work_no_sync going no_sync)
+  goes_on under does later since old_is client_is was_no_commit no_commit has = beside_commit runs.contents
+      (λ other apart. refl) (recorded_goes runs.recorded runs.reach later since) (work_no_commit old_is was_no_commit)
+      (work_no_commit going no_commit)
       (the_one (IsMine runs.begun (runs.contents index)) going (record {
         at = mine.at;
         after = mine.after;
-        sync = sync_free world items runs.item runs.begun under.at does no_sync;
+        group = group_free world items runs.item runs.begun under.at does no_commit;
         content = λ asked asked_is. has asked
             (ap (λ (c : Client). slice_get (calls_of script index) (c.begun - 1)) (sym client_is) ∙ asked_is);
       }))
@@ -105,37 +100,41 @@ module _ {world : World} {script : Script} {past : Past} {before : CoreState} {i
       mine : IsClient world script items runs.item runs.begun (runs.contents index) index old under
       mine = runs.each index old under (record { there = was; under_way = old_is })
 
-  -- A commit goes on.
-  pub commit_goes_on : (under : UnderWay) (run next : CommitRun) → Later before.disk after.disk
-      → GoesOnSince world runs.last runs.begun before.disk after.disk
-      → old.under_way ≡ Some under → under.work ≡ work.Sync run
-      → client ≡ record { begun = old.begun; under_way = Some (record { at = under.at; work = work.Sync next }) }
-      → Stands world.setting runs.last runs.begun map runs.contents (calls_under_way news) (Some next) after
+  -- A commit goes on: it is its client's work still, and makes the group that was begun.
+  pub commit_goes_on : (under : UnderWay) (does : Work) (next : CommitRun) → Later before.disk after.disk
+      → GoesOnSince (setting_now runs) runs.last runs.begun before.disk after.disk
+      → old.under_way ≡ Some under → commit_in does ≡ Some next
+      → client ≡ record { begun = old.begun; under_way = Some (record { at = under.at; work = does }) }
+      → (HasBegunBy world items runs.item runs.begun under.at under.work
+      → HasBegunBy world items runs.item runs.begun under.at does)
+      → ((asked : ScriptCall) → HasContent world items asked under.at (runs.contents index) does)
+      → Stands (setting_now runs) runs.last runs.begun map runs.contents (calls_under_way news) (Some next) after
       → Runs world script past after items news
-  commit_goes_on under run next later since old_is does_is client_is stands = record {
+  commit_goes_on under does next later since old_is does_is client_is begun has stands = record {
     last = runs.last;
     begun = runs.begun;
     contents = runs.contents;
     commit = Some next;
     item = runs.item;
-    recorded = recorded_goes runs.recorded later since;
+    reach = runs.reach;
+    recorded = recorded_goes runs.recorded runs.reach later since;
     stands = stands;
-    sync = (index, client, syncing, record { there = changes.there; under_way = going }, refl);
+    theirs = (index, client, now, record { there = changes.there; under_way = going }, does_is);
     each = each_going was changes {T = λ other its its_under.
         IsClient world script items runs.item runs.begun (runs.contents other) other its its_under}
         (the_one (IsMine runs.begun (runs.contents index)) going (record {
           at = mine.at;
           after = mine.after;
-          sync = subst (IsSyncOf world items runs.item runs.begun under.at) does_is mine.sync;
-          content = λ asked is. tt;
+          group = begun mine.group;
+          content = λ asked is. has asked;
         }))
         (λ other its its_under apart is. runs.each other its its_under is);
   }
     where
-      syncing : UnderWay
-      syncing = record { at = under.at; work = work.Sync next }
+      now : UnderWay
+      now = record { at = under.at; work = does }
 
-      going : client.under_way ≡ Some syncing
+      going : client.under_way ≡ Some now
       going = ap (λ (c : Client). c.under_way) client_is
 
       mine : IsClient world script items runs.item runs.begun (runs.contents index) index old under
@@ -150,20 +149,20 @@ module _ {world : World} {script : Script} {past : Past} {before : CoreState} {i
   -- A put or a read begins, with these bytes of its block.
   pub begins : (content : List ℕ) (does : Work) → old.under_way ≡ None → after.disk ≡ before.disk
       → client ≡ record { begun = old.begun + 1; under_way = Some (record { at = length items; work = does }) }
-      → (IsSync does → ⊥)
+      → (MakesCommit does → ⊥)
       → ((asked : ScriptCall) → slice_get (calls_of script index) old.begun ≡ Some asked
       → HasContent world items asked (length items) content does)
-      → Stands world.setting runs.last runs.begun map (with_content runs.contents index content) (calls_under_way news)
+      → Stands (setting_now runs) runs.last runs.begun map (with_content runs.contents index content) (calls_under_way news)
       runs.commit after
       → Runs world script past after items news
-  begins content does idle disk client_is no_sync has = beside_commit (with_content runs.contents index content)
-      (with_other runs.contents index content) (recorded_still disk) (idle_no_sync idle) (work_no_sync going no_sync)
+  begins content does idle disk client_is no_commit has = beside_commit (with_content runs.contents index content)
+      (with_other runs.contents index content) (recorded_still disk) (idle_no_commit idle) (work_no_commit going no_commit)
       (the_one (IsMine runs.begun (with_content runs.contents index content index)) going
       (subst (λ (bytes : List ℕ). IsMine runs.begun bytes (record { at = length items; work = does }))
       (sym (with_own runs.contents index content)) (record {
         at = (some_items, omega arith);
         after = none_after;
-        sync = sync_free world items runs.item runs.begun (length items) does no_sync;
+        group = group_free world items runs.item runs.begun (length items) does no_commit;
         content = λ asked asked_is. has asked (ap (slice_get (calls_of script index))
             (let same = ap (λ (c : Client). c.begun) client_is in omega (arith, same)) ∙ asked_is);
       })))
@@ -173,50 +172,56 @@ module _ {world : World} {script : Script} {past : Past} {before : CoreState} {i
 
   -- A call waits.
   pub waits : old.under_way ≡ None → after.disk ≡ before.disk → client.under_way ≡ None
-      → Stands world.setting runs.last runs.begun map runs.contents (calls_under_way news) runs.commit after
+      → Stands (setting_now runs) runs.last runs.begun map runs.contents (calls_under_way news) runs.commit after
       → Runs world script past after items news
   waits idle disk still = beside_commit runs.contents (λ other apart. refl) (recorded_still disk)
-      (idle_no_sync idle) (idle_no_sync still) (no_one (IsMine runs.begun (runs.contents index)) still)
+      (idle_no_commit idle) (idle_no_commit still) (no_one (IsMine runs.begun (runs.contents index)) still)
 
   -- A commit begins, which calls no device.
-  pub commit_begins : (run : CommitRun) (next : Kept) → runs.begun ≡ [] → runs.commit ≡ None
-      → after.disk ≡ before.disk
-      → client ≡ record { begun = old.begun + 1; under_way = Some (record { at = length items; work = work.Sync run }) }
-      → IsBegunAt world items runs.item (length items) next → next.uber.parity ≡ runs.last.uber.parity
-      → Stands world.setting runs.last (next ∷ []) map runs.contents (calls_under_way news) (Some run) after
+  pub commit_begins : {attached : Type 0} (does : Work) (run : CommitRun) (next : Kept) → runs.begun ≡ []
+      → runs.commit ≡ None → commit_in does ≡ Some run → after.disk ≡ before.disk
+      → client ≡ record { begun = old.begun + 1; under_way = Some (record { at = length items; work = does }) }
+      → IsBegunAt world items runs.item (length items) attached next
+      → (attached → AwaitsAttach world.calls items (length items))
+      → HasBegunBy world items runs.item (next ∷ []) (length items) does
+      → ((asked : ScriptCall) → HasContent world items asked (length items) (runs.contents index) does)
+      → next.uber.parity ≡ runs.last.uber.parity
+      → Stands (setting_now runs) runs.last (next ∷ []) map runs.contents (calls_under_way news) (Some run) after
       → Runs world script past after items news
-  commit_begins run next none_begun no_commit disk client_is is_begun parity stands = record {
+  commit_begins does run next none_begun no_commit does_is disk client_is is_begun awaits begun has parity stands = record {
     last = runs.last;
     begun = next ∷ [];
     contents = runs.contents;
     commit = Some run;
     item = runs.item;
+    reach = runs.reach;
     recorded = subst (IsRecorded (next ∷ [])) (sym disk) (recorded_begins
-        (subst (λ (l : List Kept). IsRecorded l before.disk) none_begun runs.recorded) is_begun parity);
+        (subst (λ (l : List Kept). IsRecorded l before.disk) none_begun runs.recorded) is_begun awaits parity);
     stands = stands;
-    sync = (index, client, syncing, record { there = changes.there; under_way = going }, refl);
+    theirs = (index, client, now, record { there = changes.there; under_way = going }, does_is);
     each = each_going was changes
         {T = λ other its its_under. IsClient world script items runs.item (next ∷ []) (runs.contents other) other its its_under}
         (the_one (IsMine (next ∷ []) (runs.contents index)) going (record {
           at = (some_items, omega arith);
           after = none_after;
-          sync = (next, refl, is_begun);
-          content = λ asked is. tt;
+          group = begun;
+          content = λ asked is. has asked;
         }))
         (λ other its its_under apart is. let was = runs.each other its its_under is in record {
           at = was.at;
           after = was.after;
-          sync = sync_free world items runs.item (next ∷ []) its_under.at its_under.work (no_sync other its its_under is);
+          group = group_free world items runs.item (next ∷ []) its_under.at its_under.work
+              (none_other other its its_under is);
           content = was.content;
         });
   }
     where
-      syncing : UnderWay
-      syncing = record { at = length items; work = work.Sync run }
+      now : UnderWay
+      now = record { at = length items; work = does }
 
-      going : client.under_way ≡ Some syncing
+      going : client.under_way ≡ Some now
       going = ap (λ (c : Client). c.under_way) client_is
 
-      no_sync : (other : ℕ) (its : Client) (its_under : UnderWay) → IsGoing clients other its its_under
-          → IsSync its_under.work → ⊥
-      no_sync = subst (IsTheirs clients) no_commit runs.sync
+      none_other : (other : ℕ) (its : Client) (its_under : UnderWay) → IsGoing clients other its its_under
+          → MakesCommit its_under.work → ⊥
+      none_other = subst (IsTheirs clients) no_commit runs.theirs

@@ -17,7 +17,7 @@ use Rattle.schedule.specs.Using.{HasCopiedNone}
 use Rattle.client_script.specs.Script.{Script, calls_of}
 use Rattle.schedule.specs.Comes.{TakesTurn}
 use Rattle.schedule.proofs.Theirs.{none_some}
-use Rattle.schedule.proofs.Copied.{copied_none, stays_same}
+use Rattle.schedule.proofs.Copied.{stays_same}
 use Rattle.schedule.proofs.UsingTurns.{BeginsWith, answers_with, shared_still, waits_with, works_begin}
 use Rattle.schedule.proofs.UsingEnds.{GoesWith, works_end, works_go}
 use Rattle.schedule.specs.Turned.{Station, Turned, Nothing, Began, Went, Waits}
@@ -29,11 +29,11 @@ IsCalm core = OnlyShared core.holds × HasCopiedNone core
 -- So it is after a first turn,
 calm_begun : {old new : Core} {more : List Run} → BeginsWith old new more → IsCalm old → IsCalm new
 calm_begun {old} {new} begins calm =
-    (begins.shared calm.1 calm.0, copied_none old new (stays_same old new begins.uber begins.done begins.reach) calm.1)
+    (begins.shared calm.1 calm.0, (stays_same old new begins.uber begins.done).still calm.1)
 
 -- after a later one,
 calm_gone : {old new : Core} {group : ℕ} → GoesWith old new group → IsCalm old → IsCalm new
-calm_gone {old} {new} goes calm = (shared_still goes.uses calm.0, copied_none old new (goes.stays calm.1) calm.1)
+calm_gone {old} {new} goes calm = (shared_still goes.uses calm.0, (goes.stays calm.1).still calm.1)
 
 -- and after whatever turn of a client.
 pub turned_shared : {script : Script} {actor : ℕ} {before after : Station} {clients news : List Client}
@@ -53,7 +53,7 @@ turned_shared takes (Went under (Busy by) goes leaves) calm = absurd leaves
 turned_shared {actor = actor} {before} {after} takes (Went under (Done given) goes leaves) calm = elim (works_end
     before.state after.state takes.is goes.call under.work given
     (λ run does. ((takes.schedule.going.each actor before.client under
-    (record { there = takes.was; under_way = goes.going })).sync run does).0) goes.did) [
+    (record { there = takes.was; under_way = goes.going })).commit run does).0) goes.did) [
       | inl plain ↦ calm_gone plain.1 calm
       | inr synced ↦ calm_gone synced.2 calm
     ]

@@ -22,14 +22,14 @@ use Rattle.core_turns.proofs.CommitStands.{commit_begins_calls, commit_begins_st
 use Rattle.schedule.specs.declared.client.Client.{Client}
 use Rattle.schedule.specs.declared.client.UnderWay.{UnderWay}
 use Rattle.schedule.specs.declared.client.Work.TheVariants as work
-use Rattle.schedule.specs.Running.{calls_under_way, held_under}
+use Rattle.schedule.specs.Running.{calls_under_way, held_under, setting_now}
 use Rattle.schedule.specs.Turned.{Station, LeavesBegun}
 use Rattle.schedule.specs.Comes.{TakesTurn, Comes}
 use Rattle.schedule.proofs.Fitting.{sync_no_free}
-use Rattle.schedule.proofs.Theirs.{OnlyIt, none_some, calls_stay}
+use Rattle.schedule.proofs.Theirs.{OnlyIt, none_some, calls_stay, run_of}
 use Rattle.schedule.proofs.Answered.{answered, answered_idle}
 use Rattle.schedule.proofs.Begun.{begun_now}
-use Rattle.schedule.proofs.Going.{commits_on, run_of}
+use Rattle.schedule.proofs.Going.{commits_on}
 use Rattle.schedule.proofs.RunsGoOn.{commit_begins}
 use Rattle.schedule.proofs.Fulls.{put_alone}
 use Rattle.schedule.proofs.LeavesPool.{holds_left, turn_still}
@@ -58,7 +58,7 @@ module _ {script : Script} {actor : ℕ} {before after : Station} {clients news 
       leaves.0 (ap answered leaves.1 ∙ number ∙ sym (answered_idle before.client idle))
       (let low = slice_get_within (calls_of script actor) before.client.begun call next in omega (arith, low, begun_is))
       (λ its_under is. omega (arith, begun_is))
-      (commits_on takes.was takes.changes takes.schedule.going are under run call none_syncs under_is refl
+      (commits_on takes.was takes.changes takes.schedule.going are under run call none_commits under_is refl tt
       (ap (λ (c : Client). slice_get (calls_of script actor) (c.begun - 1)) leaves.1
       ∙ ap (slice_get (calls_of script actor)) number ∙ next)
       (asked, no_id) begins.of (ap (λ (c : Core). c.committing) begins.rest))
@@ -76,12 +76,12 @@ module _ {script : Script} {actor : ℕ} {before after : Station} {clients news 
       number : before.client.begun + 1 - 1 ≡ before.client.begun
       number = omega arith
 
-      -- No client syncs.
-      none_syncs : OnlyIt clients actor
-      none_syncs other its its_under is sync =
-          let its_run = run_of its_under.work sync in
+      -- No client makes a commit.
+      none_commits : OnlyIt clients actor
+      none_commits other its its_under is makes =
+          let its_run = run_of its_under.work makes in
           absurd (none_some (sym begins.none
-          ∙ ((takes.schedule.going.each other its its_under is).sync its_run.0 its_run.1).1))
+          ∙ ((takes.schedule.going.each other its its_under is).commit its_run.0 its_run.1).1))
 
       same_calls : calls_under_way news ≡ calls_under_way clients
       same_calls = calls_stay takes.was takes.changes (ap held_under idle) (ap held_under under_is)
@@ -95,24 +95,25 @@ module _ {script : Script} {actor : ℕ} {before after : Station} {clients news 
           let map : Map = map_of world.handed world.opening before.items in
           let calls = calls_under_way clients in
           let none : runs.commit ≡ None =
-          no_commit world.setting runs.last runs.begun calls runs.commit before.state begins.none runs.stands.groups in
-          let alone : Stands world.setting runs.last runs.begun map runs.contents calls None before.state =
-          subst (λ (c : Option CommitRun). Stands world.setting runs.last runs.begun map runs.contents calls c before.state)
+          no_commit (setting_now runs) runs.last runs.begun calls runs.commit before.state begins.none runs.stands.groups in
+          let alone : Stands (setting_now runs) runs.last runs.begun map runs.contents calls None before.state =
+          subst (λ (c : Option CommitRun). Stands (setting_now runs) runs.last runs.begun map runs.contents calls c before.state)
           none runs.stands in
           let empty : runs.begun ≡ [] = (alone.groups.whole (few_out old begins.few)).0 in
           let made = commit_begins_stands takes.lawful takes.is table begins takes.schedule.going.are alone in
           let last : old.pool.uber.group ≡ runs.last.uber.group = ap (λ (u : Uber). u.group) runs.stands.alike in
           let rest = rests old takes.is begins.none in
           let begun : now.begun ≡ old.begun + 1 = ap (λ (c : Core). c.begun) begins.rest in
-          commit_begins after.state takes.was takes.changes runs run made.0 empty none disk leaves.1
-          (begun_now runs.recorded (let number = made.2 in omega (arith, number, begun, rest, last))
+          let its = begun_now runs.recorded (let number = made.2 in omega (arith, number, begun, rest, last))
           (subst (λ (r : Reflow). KeepsOrEnds r made.0.uber.reflow) (ap (λ (u : Uber). u.reflow) runs.stands.alike) made.3)
-          (λ id. ap (λ (m : Map). m id) made.1))
+          (λ id. ap (λ (m : Map). m id) made.1) in
+          commit_begins after.state takes.was takes.changes runs (work.Sync run) run made.0 empty none refl disk leaves.1 its
+          (λ attached. absurd attached) (made.0, refl, its) (λ asked. tt)
           (made.4 ∙ ap (λ (u : Uber). u.parity) runs.stands.alike)
-          (subst (λ (l : List HoldingCall). Stands world.setting runs.last (made.0 ∷ []) map runs.contents l (Some run)
+          (subst (λ (l : List HoldingCall). Stands (setting_now runs) runs.last (made.0 ∷ []) map runs.contents l (Some run)
           after.state)
           (sym same_calls)
-          (subst (λ (d : Disk). Stands world.setting runs.last (made.0 ∷ []) map runs.contents calls (Some run)
+          (subst (λ (d : Disk). Stands (setting_now runs) runs.last (made.0 ∷ []) map runs.contents calls (Some run)
           (at_disk now d)) (sym disk) made.5))
 
   -- A sync waits for another's.
@@ -141,10 +142,10 @@ module _ {script : Script} {actor : ℕ} {before after : Station} {clients news 
       let last : old.pool.uber.group ≡ runs.last.uber.group = ap (λ (u : Uber). u.group) runs.stands.alike in (
         refused_right world before.items runs.item entry old given asked refl runs.recorded.latest
             (λ none. rests old takes.is none ∙ last ∙ runs.recorded.item_is.number) refused.0,
-        subst (λ (m : Map). Stands world.setting runs.last runs.begun m runs.contents (calls_under_way clients) runs.commit
+        subst (λ (m : Map). Stands (setting_now runs) runs.last runs.begun m runs.contents (calls_under_way clients) runs.commit
             after.state)
             (sym (refused_map world.handed map entry old given refused.0))
-            (subst (Stands world.setting runs.last runs.begun map runs.contents (calls_under_way clients) runs.commit)
+            (subst (Stands (setting_now runs) runs.last runs.begun map runs.contents (calls_under_way clients) runs.commit)
             (λ i. at_disk (sym refused.1 i) (sym disk i)) runs.stands),
       ))
     where

@@ -29,7 +29,7 @@ use Rattle.schedule.specs.declared.client.Client.{Client}
 use Rattle.schedule.specs.declared.client.UnderWay.{UnderWay}
 use Rattle.schedule.specs.declared.client.Work.TheVariants as work
 use Rattle.schedule.specs.Clients.{ClientsAreAnswered}
-use Rattle.schedule.specs.Running.{IsGoing, AreGoing, Runs, call_of_client, calls_under_way, held_by, held_under}
+use Rattle.schedule.specs.Running.{HasBegunBy, IsGoing, AreGoing, Runs, call_of_client, calls_under_way, commit_in, held_by, held_under, setting_now}
 use Rattle.schedule.specs.Turns.{turns_of}
 use Rattle.schedule.specs.Turned.{Station, LeavesGoing, entry_for, group_for}
 use Rattle.schedule.specs.Comes.{TakesTurn, Comes}
@@ -39,7 +39,7 @@ use Rattle.schedule.proofs.Answered.{answered, answers_call, answers_group}
 use Rattle.schedule.specs.Fitting.{FitsCall}
 use Rattle.schedule.proofs.Fitting.{FitSince, fits, sync_no_free}
 use Rattle.schedule.proofs.Fulls.{full_synced}
-use Rattle.schedule.proofs.Going.{commits_on, commit_ends, one_sync}
+use Rattle.schedule.proofs.Going.{commits_on, commit_ends, one_commit}
 use Rattle.schedule.proofs.Running.{group_apart}
 use Rattle.schedule.proofs.RunsGoOn.{commit_goes_on}
 use Rattle.schedule.proofs.RunsEnd.{commit_ends as runs_ends, commit_is_cut}
@@ -61,16 +61,19 @@ module _ {script : Script} {actor : ℕ} {before after : Station} {clients news 
   abbrev ItComes : Type 0
   ItComes = Comes script actor before after clients news
 
+  commit_is : commit_in under.work ≡ Some run
+  commit_is = ap commit_in does_is
+
   syncing : IsGoing clients actor before.client under
   syncing = its_going takes call under (work.Sync run) does_is under_is is
 
-  -- No other client syncs,
+  -- No other client makes a commit,
   only : OnlyIt clients actor
-  only = one_sync takes.schedule.going syncing does_is
+  only = one_commit takes.schedule.going syncing commit_is
 
   -- the commit is the core's,
   of_core : IsCommitOf old run × (old.committing ≡ Some actor)
-  of_core = (its_work takes call under (work.Sync run) does_is under_is is).sync run refl
+  of_core = (its_work takes call under (work.Sync run) does_is under_is is).commit run refl
 
   -- and what the script asks for.
   for_call : (call.kind ≡ kind.Sync) × (call.id ≡ None)
@@ -88,11 +91,11 @@ module _ {script : Script} {actor : ℕ} {before after : Station} {clients news 
 
   -- It is the commit that stands.
   its_stands : {world : World} {past : Past} (runs : Runs world script past before.state before.items clients)
-      → Stands world.setting runs.last runs.begun (map_of world.handed world.opening before.items) runs.contents
+      → Stands (setting_now runs) runs.last runs.begun (map_of world.handed world.opening before.items) runs.contents
       (calls_under_way clients) (Some run) before.state
-  its_stands {world = world} runs = subst (λ (c : Option CommitRun). Stands world.setting runs.last runs.begun
+  its_stands {world = world} runs = subst (λ (c : Option CommitRun). Stands (setting_now runs) runs.last runs.begun
       (map_of world.handed world.opening before.items) runs.contents (calls_under_way clients) c before.state)
-      (its_commit clients actor before.client under run runs.commit syncing does_is only runs.sync) runs.stands
+      (its_commit clients actor before.client under run runs.commit syncing commit_is only runs.theirs) runs.stands
 
   -- It goes on.
   pub sync_goes_on : (next : CommitRun) → StepsCommit before.state run after.state (More next)
@@ -102,14 +105,15 @@ module _ {script : Script} {actor : ℕ} {before after : Station} {clients news 
       (commits_on takes.was takes.changes takes.schedule.going
       (subst (AreCallsOf now) (sym (same_calls none))
       (commit_steps_calls before.state after.state (calls_under_way clients) run next steps takes.schedule.going.are))
-      (record { at = under.at; work = work.Sync next }) next call only next_is refl
+      (record { at = under.at; work = work.Sync next }) next call only next_is refl tt
       (ap (λ (c : Client). slice_get (calls_of script actor) (c.begun - 1)) further.1 ∙ is) for_call steps.3
       (ap (λ (c : Core). c.committing) steps.2 ∙ of_core.1))
       (λ world past handed within listed runs.
       let borne = within (few_out old steps.0) in
-      commit_goes_on after.state takes.was takes.changes runs under run next
-      goes.later (commit_steps_since takes.is steps borne (its_stands runs)) under_is does_is further.1
-      (subst (λ (l : List HoldingCall). Stands world.setting runs.last runs.begun
+      commit_goes_on after.state takes.was takes.changes runs under (work.Sync next) next
+      goes.later (commit_steps_since takes.is steps borne (its_stands runs)) under_is refl further.1
+      (subst (HasBegunBy world before.items runs.item runs.begun under.at) does_is) (λ asked. tt)
+      (subst (λ (l : List HoldingCall). Stands (setting_now runs) runs.last runs.begun
       (map_of world.handed world.opening before.items) runs.contents l (Some next) after.state)
       (sym (same_calls none)) (commit_steps_stands takes.is steps borne (its_stands runs))))
     where
@@ -209,21 +213,24 @@ module _ {script : Script} {actor : ℕ} {before after : Station} {clients news 
           let next : Kept = stands.groups.next in
           let stood = commit_ends_stands takes.is of_core.0 answers takes.schedule.going.are
           (within (few_out old answers.few))
-          (subst (λ (l : List Kept). Stands world.setting runs.last l map runs.contents (calls_under_way clients) (Some run)
+          (subst (λ (l : List Kept). Stands (setting_now runs) runs.last l map runs.contents (calls_under_way clients) (Some run)
           before.state) stands.groups.begun_is stands) in
           let number_is : number ≡ next.uber.group =
           answers.group_is ∙ sym stands.groups.of.number ∙ ap (λ (u : Uber). u.group) stands.groups.come.alike in
           let reflow_is : now.pool.uber.reflow ≡ next.uber.reflow = ap (λ (u : Uber). u.reflow) stood.alike in
-          runs_ends after.state takes.was takes.changes runs under run next group entry refl
-          (idle_now (answer.Synced number) leaves) under_is does_is stands.groups.begun_is only disk
+          runs_ends after.state takes.was takes.changes runs under next group entry refl
+          (idle_now (answer.Synced number) leaves) under_is
+          (subst (HasBegunBy world before.items runs.item runs.begun under.at) does_is
+          (runs.each actor before.client under syncing).group)
+          (λ attached. attached) stands.groups.begun_is only disk
           (λ i. record {
             group = number_is i;
             after = under.at;
             from = (reflow_is i).from;
             to = (reflow_is i).to;
           })
-          for_call.0 refl (subst (Knows world.setting next []) disk stood.groups.knows) listed
-          (subst (λ (l : List HoldingCall). Stands world.setting next [] map runs.contents l None after.state)
+          for_call.0 refl (subst (Knows (setting_now runs) next []) disk stood.groups.knows) listed
+          (subst (λ (l : List HoldingCall). Stands (setting_now runs) next [] map runs.contents l None after.state)
           (sym (ended_calls (answer.Synced number) leaves)) stood)
 
   -- It is cut short.
@@ -241,9 +248,9 @@ module _ {script : Script} {actor : ℕ} {before after : Station} {clients news 
       commit_is_cut after.state takes.was takes.changes runs (entry given leaves) refl (idle_now given leaves)
       (ap (λ (s : CoreState). s.disk) steps.2)
       (stands_know runs.stands) (sync_cut_right world before.items (entry given leaves) for_call.0 tt) tt listed only
-      (subst (λ (l : List HoldingCall). Stands world.setting runs.last runs.begun map runs.contents l None after.state)
+      (subst (λ (l : List HoldingCall). Stands (setting_now runs) runs.last runs.begun map runs.contents l None after.state)
       (sym (ended_calls given leaves))
-      (subst (Stands world.setting runs.last runs.begun map runs.contents (calls_under_way clients) None) (sym steps.2)
+      (subst (Stands (setting_now runs) runs.last runs.begun map runs.contents (calls_under_way clients) None) (sym steps.2)
       (cut_stands steps.0 (its_stands runs)))))
     where
       given : Answer

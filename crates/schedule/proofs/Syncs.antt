@@ -22,12 +22,10 @@ use Rattle.core_turns.specs.Committing.{IsSyncRefused}
 use Rattle.core_turns.specs.UnderWay.{HoldingCall, GroupsStand, Stands}
 use Rattle.schedule.specs.declared.client.Client.{Client}
 use Rattle.schedule.specs.declared.client.UnderWay.{UnderWay}
-use Rattle.schedule.specs.declared.client.Work.TheVariants as work
 use Rattle.schedule.specs.Recorded.{IsRightNext}
-use Rattle.schedule.specs.Running.{IsGoing, IsSync, IsTheirs}
+use Rattle.schedule.specs.Running.{IsGoing, IsTheirs, commit_in}
 use Rattle.schedule.proofs.RightNext.{IsStopped, sync_cut_right, sync_limit_right, same_out}
-use Rattle.schedule.proofs.Theirs.{OnlyIt, some_is, none_some}
-use Rattle.schedule.proofs.Going.{run_is}
+use Rattle.schedule.proofs.Theirs.{OnlyIt, makes_commit, some_is, none_some}
 
 -- ---- the core's commit
 
@@ -50,19 +48,19 @@ pub no_commit : (setting : Setting) (last : Kept) (begun : List Kept) (calls : L
 no_commit setting last begun calls None state none groups = refl
 no_commit setting last begun calls (Some run) state none groups = absurd (none_some (sym none ∙ groups.of.under_way))
 
--- and the one that stands is that of the client who syncs.
+-- and the one that stands is that of the client whose work makes one.
 pub its_commit : (clients : List Client) (index : ℕ) (client : Client) (under : UnderWay) (run : CommitRun)
-    (commit : Option CommitRun) → IsGoing clients index client under → under.work ≡ work.Sync run
+    (commit : Option CommitRun) → IsGoing clients index client under → commit_in under.work ≡ Some run
     → OnlyIt clients index → IsTheirs clients commit → commit ≡ Some run
 its_commit clients index client under run None going does_is only none =
-    absurd (none index client under going (subst IsSync (sym does_is) tt))
+    absurd (none index client under going (makes_commit under.work run does_is))
 its_commit clients index client under run (Some found) going does_is only (other, its, its_under, its_going, its_does) =
-    let here : other ≡ index = only other its its_under its_going (subst IsSync (sym its_does) tt) in
+    let here : other ≡ index = only other its its_under its_going (makes_commit its_under.work found its_does) in
     let same : its ≡ client =
     some_is (sym its_going.there ∙ ap (λ (n : ℕ). slice_get clients n) here ∙ going.there) in
     let same_under : its_under ≡ under =
     some_is (sym its_going.under_way ∙ ap (λ (c : Client). c.under_way) same ∙ going.under_way) in
-    ap Some (run_is (sym its_does ∙ ap (λ (u : UnderWay). u.work) same_under ∙ does_is))
+    sym its_does ∙ ap (λ (u : UnderWay). commit_in u.work) same_under ∙ does_is
 
 -- ---- answers of the first turn
 

@@ -15,7 +15,7 @@ use Rattle.schedule.specs.declared.client.UnderWay.{UnderWay}
 use Rattle.schedule.specs.declared.client.Work.{Work}
 use Rattle.schedule.specs.declared.client.Work.TheVariants as work
 use Rattle.schedule.specs.Clients.{Changes}
-use Rattle.schedule.specs.Running.{AreGoing, IsGoing, IsHoldOf, IsSync, IsTheirs, call_of_client, calls_under_way, held_by, held_under}
+use Rattle.schedule.specs.Running.{AreGoing, IsGoing, IsHoldOf, IsTheirs, IsThere, MakesCommit, call_of_client, calls_under_way, commit_in, held_by, held_under}
 
 pub some_is : {A : Type 0} {one two : A} → Some one ≡ Some two → one ≡ two
 some_is same = cc
@@ -110,9 +110,21 @@ calls_of_others {clients = clients} was idle going call listed its =
     (going.each found.index found.client found.under found.going).hold found.held in
     none_going was idle (subst (λ (n : ℕ). IsGoing clients n found.client found.under) (sym actor ∙ its) found.going)
 
--- No other client syncs.
+-- A work makes a commit where it has one,
+pub makes_commit : (does : Work) (run : CommitRun) → commit_in does ≡ Some run → MakesCommit does
+makes_commit does run is = subst IsThere (sym is) tt
+
+-- and has one where it makes one.
+pub run_of : (does : Work) → MakesCommit does → (run : CommitRun) × (commit_in does ≡ Some run)
+run_of does = by (commit_in does)
+  where
+    by : (commit : Option CommitRun) → IsThere commit → (run : CommitRun) × (commit ≡ Some run)
+    by None none = absurd none
+    by (Some run) there = (run, refl)
+
+-- No other client makes a commit.
 abbrev pub OnlyIt : List Client → ℕ → Type 0
-OnlyIt clients index = (other : ℕ) (its : Client) (under : UnderWay) → IsGoing clients other its under → IsSync under.work
+OnlyIt clients index = (other : ℕ) (its : Client) (under : UnderWay) → IsGoing clients other its under → MakesCommit under.work
     → other ≡ index
 
 -- ---- one client has changed
@@ -209,19 +221,19 @@ pub no_one : (T : UnderWay → Type 0) {its : Option UnderWay} → its ≡ None 
     → T other
 no_one T idle other is = absurd (none_some (sym idle ∙ is))
 
--- No sync is under way.
-abbrev pub IsNoSync : Option UnderWay → Type 0
-IsNoSync None = ⊤
-IsNoSync (Some under) = IsSync under.work → ⊥
+-- No commit is under way.
+abbrev pub IsNoCommit : Option UnderWay → Type 0
+IsNoCommit None = ⊤
+IsNoCommit (Some under) = MakesCommit under.work → ⊥
 
-pub idle_no_sync : {its : Option UnderWay} → its ≡ None → IsNoSync its
-idle_no_sync idle = subst IsNoSync (sym idle) tt
+pub idle_no_commit : {its : Option UnderWay} → its ≡ None → IsNoCommit its
+idle_no_commit idle = subst IsNoCommit (sym idle) tt
 
-pub work_no_sync : {its : Option UnderWay} {under : UnderWay} → its ≡ Some under → (IsSync under.work → ⊥) → IsNoSync its
-work_no_sync is none = subst IsNoSync (sym is) none
+pub work_no_commit : {its : Option UnderWay} {under : UnderWay} → its ≡ Some under → (MakesCommit under.work → ⊥) → IsNoCommit its
+work_no_commit is none = subst IsNoCommit (sym is) none
 
-no_sync_under : {its : Option UnderWay} → IsNoSync its → (under : UnderWay) → its ≡ Some under → IsSync under.work → ⊥
-no_sync_under none under is = subst IsNoSync is none
+no_commit_under : {its : Option UnderWay} → IsNoCommit its → (under : UnderWay) → its ≡ Some under → MakesCommit under.work → ⊥
+no_commit_under none under is = subst IsNoCommit is none
 
 module _ {clients news : List Client} {index : ℕ} {old client : Client} (was : slice_get clients index ≡ Some old)
     (changes : Changes clients news index client) where
@@ -248,28 +260,28 @@ module _ {clients news : List Client} {index : ℕ} {old client : Client} (was :
       }))
       (cases_eq other index)
 
-  -- This one's sync isn't under way.
-  pub apart_of_sync : IsNoSync old.under_way → (other : ℕ) (its : Client) (under : UnderWay)
-      → IsGoing clients other its under → IsSync under.work → other ≢ index
-  apart_of_sync none other its under going sync same =
+  -- This one's commit isn't under way.
+  pub apart_of_commit : IsNoCommit old.under_way → (other : ℕ) (its : Client) (under : UnderWay)
+      → IsGoing clients other its under → MakesCommit under.work → other ≢ index
+  apart_of_commit none other its under going makes same =
       let here = subst (λ (n : ℕ). IsGoing clients n its under) same going in
-      no_sync_under none under (ap (λ (c : Client). c.under_way) (some_is (sym was ∙ here.there)) ∙ here.under_way) sync
+      no_commit_under none under (ap (λ (c : Client). c.under_way) (some_is (sym was ∙ here.there)) ∙ here.under_way) makes
 
-  -- The commit under way is a client's still, where this one's work is and was no sync.
-  pub sync_stays : (commit : Option CommitRun) → IsNoSync old.under_way → IsNoSync client.under_way
+  -- The commit under way is a client's still, where this one's work makes and made none.
+  pub commit_stays : (commit : Option CommitRun) → IsNoCommit old.under_way → IsNoCommit client.under_way
       → IsTheirs clients commit → IsTheirs news commit
-  sync_stays None was_none is_none none = each_going {T = λ other its its_under. IsSync its_under.work → ⊥}
-      (no_sync_under is_none) (λ other its its_under apart its_going. none other its its_under its_going)
-  sync_stays (Some run) was_none is_none (other, its, its_under, its_going, is) = (
+  commit_stays None was_none is_none none = each_going {T = λ other its its_under. MakesCommit its_under.work → ⊥}
+      (no_commit_under is_none) (λ other its its_under apart its_going. none other its its_under its_going)
+  commit_stays (Some run) was_none is_none (other, its, its_under, its_going, is) = (
     other,
     its,
     its_under,
     going_on other its its_under
-        (apart_of_sync was_none other its its_under its_going (subst IsSync (sym is) tt)) its_going,
+        (apart_of_commit was_none other its its_under its_going (makes_commit its_under.work run is)) its_going,
     is,
   )
 
-  -- The one sync has ended.
-  pub sync_gone : client.under_way ≡ None → OnlyIt clients index → IsTheirs news None
-  sync_gone ended only = each_going {T = λ other its under. IsSync under.work → ⊥} (no_one (λ under. IsSync under.work → ⊥) ended)
-      (λ other its under apart its_going sync. apart (only other its under its_going sync))
+  -- The one commit has ended.
+  pub commit_gone : client.under_way ≡ None → OnlyIt clients index → IsTheirs news None
+  commit_gone ended only = each_going {T = λ other its under. MakesCommit under.work → ⊥} (no_one (λ under. MakesCommit under.work → ⊥) ended)
+      (λ other its under apart its_going makes. apart (only other its under its_going makes))

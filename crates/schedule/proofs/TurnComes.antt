@@ -25,16 +25,17 @@ use Rattle.schedule.specs.declared.client.Work.{Work}
 use Rattle.schedule.specs.Clients.{ClientsAreAnswered}
 use Rattle.schedule.specs.Coming.{LeadTo}
 use Rattle.schedule.specs.Turns.{turns_of, Turns, taken_by, IsListedWith}
-use Rattle.schedule.specs.Running.{AreGoing, HasContent, IsGoing, IsHoldOf, IsSync, IsWorkFor, IsWorkOf, Runs, call_of_client, calls_under_way, held_by, held_under}
+use Rattle.schedule.specs.Running.{AreGoing, HasContent, IsGoing, IsHoldOf, IsWorkFor, IsWorkOf, MakesCommit, Runs, call_of_client, calls_under_way, held_by, held_under, setting_now}
 use Rattle.schedule.specs.Recorded.{IsRightNext}
 use Rattle.schedule.specs.Turned.{Station, LeavesBegun, LeavesGoing, entry_for}
 use Rattle.schedule.specs.Comes.{TakesTurn, Comes}
-use Rattle.schedule.proofs.Theirs.{call_begins, call_ends, call_goes, calls_stay, idle_no_sync, no_one, same_list, some_is, the_one, work_no_sync}
+use Rattle.schedule.proofs.Theirs.{call_begins, call_ends, call_goes, calls_stay, idle_no_commit, makes_commit, no_one, same_list, some_is, the_one, work_no_commit}
 use Rattle.schedule.proofs.Answered.{answered, answers_same, answers_call, answered_going, answered_idle}
-use Rattle.schedule.proofs.Going.{goes as going_goes, is_sync}
+use Rattle.schedule.proofs.Going.{goes as going_goes}
 use Rattle.schedule.proofs.Running.{with_content}
 use Rattle.schedule.proofs.RunsEnd.{answers_call as runs_answer}
-use Rattle.schedule.proofs.RunsGoOn.{GoesOnSince, begins as runs_begins, goes_on as runs_goes_on, waits as runs_waits}
+use Rattle.schedule.proofs.Recording.{GoesOnSince}
+use Rattle.schedule.proofs.RunsGoOn.{begins as runs_begins, goes_on as runs_goes_on, waits as runs_waits}
 use Rattle.schedule.proofs.Fulls.{full_same, HasManyAt, full_answer, FullStays}
 use Rattle.schedule.proofs.Coming.{came_nowhere, came_turn}
 use Rattle.schedule.proofs.Fitting.{Fits, FitSince, fit_same, fit_entry}
@@ -76,7 +77,7 @@ module _ {script : Script} {actor : ℕ} {before after : Station} {clients news 
   abbrev StandsNow : (world : World) (past : Past) → Runs world script past before.state before.items clients → (ℕ → List ℕ)
       → Map → Type 0
   StandsNow world past runs contents map =
-      Stands world.setting runs.last runs.begun map contents (calls_under_way news) runs.commit after.state
+      Stands (setting_now runs) runs.last runs.begun map contents (calls_under_way news) runs.commit after.state
 
   -- A turn that does nothing.
   pub comes_nowhere : after ≡ before → ItComes
@@ -167,13 +168,13 @@ module _ {script : Script} {actor : ℕ} {before after : Station} {clients news 
 
       still_going : AreGoing script now news
       still_going = going_goes takes.was takes.changes takes.schedule.going
-          (subst (AreCallsOf now) (sym same_calls) are) (leaves_commit leaves) (idle_no_sync idle)
+          (subst (AreCallsOf now) (sym same_calls) are) (leaves_commit leaves) (idle_no_commit idle)
           (no_one (λ under. IsWorkOf script now actor after.client under.work) rests)
 
     -- A call that waits.
     pub comes_waiting : after.client ≡ before.client → after.items ≡ before.items → AreCallsOf now (calls_under_way clients)
         → ((world : World) (past : Past) → (runs : Runs world script past before.state before.items clients)
-        → Stands world.setting runs.last runs.begun (map_of world.handed world.opening before.items) runs.contents
+        → Stands (setting_now runs) runs.last runs.begun (map_of world.handed world.opening before.items) runs.contents
         (calls_under_way clients) runs.commit after.state)
         → ItComes
     comes_waiting client_is items are stands =
@@ -184,7 +185,7 @@ module _ {script : Script} {actor : ℕ} {before after : Station} {clients news 
         (no_one (λ under. 1 ≤ after.client.begun) rests) (still_going rests are)
         (λ world past handed within listed runs.
         runs_waits after.state takes.was takes.changes runs idle disk rests
-        (subst (λ (calls : List HoldingCall). Stands world.setting runs.last runs.begun
+        (subst (λ (calls : List HoldingCall). Stands (setting_now runs) runs.last runs.begun
         (map_of world.handed world.opening before.items) runs.contents calls runs.commit after.state)
         (sym (same_calls rests are)) (stands world past runs)))
 
@@ -194,7 +195,7 @@ module _ {script : Script} {actor : ℕ} {before after : Station} {clients news 
         → (given ≡ answer.Full → HasManyAt script was) → AreCallsOf now (calls_under_way clients)
         → ((world : World) (past : Past) → (runs : Runs world script past before.state before.items clients)
         → IsRightNext world before.items (first_entry call actor before given)
-        × Stands world.setting runs.last runs.begun
+        × Stands (setting_now runs) runs.last runs.begun
         (map_after_answer world.handed (map_of world.handed world.opening before.items)
         (first_entry call actor before given) given) runs.contents (calls_under_way clients) runs.commit after.state)
         → ItComes
@@ -207,8 +208,8 @@ module _ {script : Script} {actor : ℕ} {before after : Station} {clients news 
         (λ world past handed within with runs.
         let now = stands world past runs in
         runs_answer after.state takes.was takes.changes runs (first_entry call actor before given) refl rests disk
-        (stands_know runs.stands) now.0 fit.of_kind with (idle_no_sync idle)
-        (subst (λ (calls : List HoldingCall). Stands world.setting runs.last runs.begun
+        (stands_know runs.stands) now.0 fit.of_kind with (idle_no_commit idle)
+        (subst (λ (calls : List HoldingCall). Stands (setting_now runs) runs.last runs.begun
         (map_after_answer world.handed (map_of world.handed world.opening before.items)
         (first_entry call actor before given) given) runs.contents calls runs.commit after.state)
         (sym (same_calls rests are)) now.1))
@@ -216,7 +217,7 @@ module _ {script : Script} {actor : ℕ} {before after : Station} {clients news 
     -- A call that holds sectors begins.
     module _ (held : HoldingCall) (does : Work) (next : slice_get (calls_of script actor) before.client.begun ≡ Some call)
         (begins : LeavesBegun actor call before after (More does)) (holds : held_by does ≡ held ∷ [])
-        (no_sync : IsSync does → ⊥) where
+        (no_commit : MakesCommit does → ⊥) where
       abbrev under : UnderWay
       under = record { at = length before.items; work = does }
 
@@ -243,17 +244,17 @@ module _ {script : Script} {actor : ℕ} {before after : Station} {clients news 
           (answered_going after.client under_is ∙ one_less ∙ sym (answered_idle before.client idle))
           (let low = slice_get_within (calls_of script actor) before.client.begun call next in omega (arith, low, begun_is))
           (λ its_under is. omega (arith, begun_is))
-          (going_goes takes.was takes.changes takes.schedule.going are (leaves_commit leaves) (idle_no_sync idle)
+          (going_goes takes.was takes.changes takes.schedule.going are (leaves_commit leaves) (idle_no_commit idle)
           (the_one (λ its_under. IsWorkOf script now actor after.client its_under.work) under_is (record {
             hold = its;
             call = call;
             there = ap (slice_get (calls_of script actor)) one_less ∙ next;
             asked = asked;
-            sync = λ run is. absurd (no_sync (is_sync does run is));
+            commit = λ run is. absurd (no_commit (makes_commit does run is));
           })))
           (λ world past handed within listed runs.
           let now = stands world past runs in
-          runs_begins after.state takes.was takes.changes runs now.0 does idle disk begins.1 no_sync
+          runs_begins after.state takes.was takes.changes runs now.0 does idle disk begins.1 no_commit
           (λ other other_is. subst
           (λ (c : ScriptCall). HasContent world before.items c (length before.items) now.0 does)
           (some_is (sym next ∙ other_is)) now.1)
@@ -304,17 +305,17 @@ module _ {script : Script} {actor : ℕ} {before after : Station} {clients news 
         begun_is = ap (λ (c : Client). c.begun) further.1
 
     -- It holds sectors.
-    module _ (held : HoldingCall) (was_holds : held_by does ≡ held ∷ []) (was_no_sync : IsSync does → ⊥)
+    module _ (held : HoldingCall) (was_holds : held_by does ≡ held ∷ []) (was_no_commit : MakesCommit does → ⊥)
         (goes : TurnGoesOn before.state after.state) where
       was_held : call_of_client before.client ≡ held ∷ []
       was_held = ap held_under under_is ∙ ap held_by does_is ∙ was_holds
 
-      no_sync : IsSync under.work → ⊥
-      no_sync sync = was_no_sync (subst IsSync does_is sync)
+      no_commit : MakesCommit under.work → ⊥
+      no_commit makes = was_no_commit (subst MakesCommit does_is makes)
 
       -- It goes on.
       module _ (held_next : HoldingCall) (next : Work) (further : LeavesGoing actor call before after under (More next))
-          (holds : held_by next ≡ held_next ∷ []) (next_no_sync : IsSync next → ⊥) where
+          (holds : held_by next ≡ held_next ∷ []) (next_no_commit : MakesCommit next → ⊥) where
         next_is : after.client.under_way ≡ Some (record { at = under.at; work = next })
         next_is = ap (λ (c : Client). c.under_way) further.1
 
@@ -326,24 +327,24 @@ module _ {script : Script} {actor : ℕ} {before after : Station} {clients news 
         pub comes_going : KeepsCommit old now → IsHoldOf actor next → IsWorkFor call next
             → AreCallsOf now (calls_under_way news)
             → ((world : World) (past : Past) → (runs : Runs world script past before.state before.items clients)
-            → GoesOnSince world runs.last runs.begun before.state.disk after.state.disk
+            → GoesOnSince (setting_now runs) runs.last runs.begun before.state.disk after.state.disk
             × (HasContent world before.items call under.at (runs.contents actor) does
             → HasContent world before.items call under.at (runs.contents actor) next)
             × StandsNow world past runs runs.contents (map_of world.handed world.opening before.items))
             → ItComes
         comes_going keeps its asked are stands = comes_further next goes further
-            (going_goes takes.was takes.changes takes.schedule.going are keeps (work_no_sync under_is no_sync)
+            (going_goes takes.was takes.changes takes.schedule.going are keeps (work_no_commit under_is no_commit)
             (the_one (λ its_under. IsWorkOf script now actor after.client its_under.work) next_is (record {
               hold = its;
               call = call;
               there = ap (λ (c : Client). slice_get (calls_of script actor) (c.begun - 1)) further.1 ∙ is;
               asked = asked;
-              sync = λ run run_is. absurd (next_no_sync (is_sync next run run_is));
+              commit = λ run run_is. absurd (next_no_commit (makes_commit next run run_is));
             })))
             (λ world past handed within listed runs.
             let now = stands world past runs in
             runs_goes_on after.state takes.was takes.changes runs under next goes.later now.0 under_is further.1
-            no_sync next_no_sync
+            no_commit next_no_commit
             (λ other other_is. subst
             (λ (c : ScriptCall). HasContent world before.items c under.at (runs.contents actor) next)
             (some_is (sym is ∙ other_is)) (now.1 (its_content runs)))
@@ -373,9 +374,9 @@ module _ {script : Script} {actor : ℕ} {before after : Station} {clients news 
         comes_ended listed leaves disk fit other are stands = comes_answered call before.client.begun under.at given its_number
             its_place goes listed ended.1 fit (λ full. absurd (other full))
             (going_goes takes.was takes.changes takes.schedule.going are (leaves_commit leaves)
-            (work_no_sync under_is no_sync)
+            (work_no_commit under_is no_commit)
             (no_one (λ its_under. IsWorkOf script now actor after.client its_under.work) idle_now))
             (λ world past handed within with runs.
             let now = stands world past handed runs in
             runs_answer after.state takes.was takes.changes runs entry refl idle_now disk
-            (stands_know runs.stands) now.0 fit.of_kind with (work_no_sync under_is no_sync) now.1)
+            (stands_know runs.stands) now.0 fit.of_kind with (work_no_commit under_is no_commit) now.1)

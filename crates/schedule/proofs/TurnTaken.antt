@@ -4,8 +4,10 @@ use Rattle.std.specs.Prelude.{All, Contains, filter, slice_get, ◌==◌}
 use Rattle.std.proofs.lemmas.List.Elements.{All-filter, All-map, All-get_or}
 use Rattle.std.proofs.lemmas.Option.{get_or_from_slice_get, slice_get-get_or, slice_get_within}
 use Rattle.bank_trait.specs.Disk.{Lawful}
+use Rattle.core_state.specs.declared.answer.Kind.{Kind}
 use Rattle.client_script.specs.declared.call.ScriptCall.{ScriptCall}
-use Rattle.client_script.specs.Script.{Placed, Script, IsAllowed, calls_of}
+use Rattle.client_script.specs.Lines.{fill_bytes}
+use Rattle.client_script.specs.Script.{MayHave, Placed, Script, IsAllowed, calls_of}
 use Rattle.core_turns.specs.Core.{Core, IsCore}
 use Rattle.core_turns.specs.Getting.{HasTooManyOut}
 use Rattle.core_turns.specs.UnderWay.{HoldingCall, Putting, Reading}
@@ -16,11 +18,11 @@ use Rattle.schedule.specs.declared.client.Work.{Work}
 use Rattle.schedule.specs.declared.client.Work.TheVariants as work
 use Rattle.schedule.specs.Clients.{Changes}
 use Rattle.schedule.specs.Comes.{Comes, TakesTurn}
-use Rattle.schedule.specs.Coming.{IsSchedule}
+use Rattle.schedule.specs.Coming.{AttachesNone, IsSchedule}
 use Rattle.schedule.specs.Turns.{Turns, turns_of, taken_by}
 use Rattle.schedule.specs.Playing.{HasRoomForAnswers, IsReady}
 use Rattle.schedule.specs.Replaying.{AreIdle, HasTurn, OnlyShared, TakesOne}
-use Rattle.schedule.specs.Running.{AreGoing, IsGoing, IsWorkFor, IsWorkOf, calls_under_way, held_by}
+use Rattle.schedule.specs.Running.{AreGoing, IsGoing, IsWorkFor, IsWorkOf, calls_under_way, commit_in, held_by}
 use Rattle.schedule.specs.Turned.{MayGoOn, Station, Turned}
 use Rattle.schedule.specs.Using.{HasCopiedNone}
 use Rattle.schedule.proofs.Coming.{came_nowhere}
@@ -48,6 +50,12 @@ allowed_of script actor allowed number call is = all_at IsAllowed (calls_of scri
     allowed))
     is
 
+-- None of them is an attach.
+pub allowed_attach_none : (script : Script) → All (λ placed. IsAllowed placed.call) script.calls → AttachesNone script
+allowed_attach_none script allowed actor number call is attach =
+    subst (λ (asked : Kind). MayHave asked call.id (fill_bytes call.fill)) attach
+    (allowed_of script actor allowed number call is)
+
 -- A call under way is one of the core, and what the script asks for.
 pub going_may : (script : Script) (core : Core) (clients : List Client) (index : ℕ) (client : Client) (under : UnderWay)
     (call : ScriptCall) → AreGoing script core clients → IsGoing clients index client under
@@ -72,7 +80,7 @@ going_may script core clients index client under call going is asked =
         )
     may (work.Read run) same for = going.are.each (Reading run)
         (among (work.Read run) (Reading run) same (first_listed (Reading run) []))
-    may (work.Sync run) same for = (mine.sync run same).0
+    may (work.Sync run) same for = (mine.commit run (ap commit_in same)).0
 
 -- ---- after a turn
 

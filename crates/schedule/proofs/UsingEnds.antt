@@ -1,5 +1,5 @@
 -- What the later turns of a call leave of the runs of sectors that were taken, and of the pool's group.
-use Rattle.std.proofs.Common.{◌≡◌, ◌⊎◌, inl, inr, ⊎_elim, ℕ, ◌+◌, ◌==◌, if◌then◌else◌, Bool, true, false, List, [], ◌∷◌, ◌++◌, Option, refl, sym, ◌∙◌, ap, subst, arith}
+use Rattle.std.proofs.Common.{◌≡◌, ◌⊎◌, inl, inr, ⊎_elim, ℕ, ◌+◌, ◌==◌, if◌then◌else◌, Bool, true, false, List, [], ◌∷◌, ◌++◌, Option, Some, refl, sym, ◌∙◌, ap, subst, arith}
 use Rattle.std.specs.Prelude.{Contains, filter, nat_lt, ⊤}
 use Rattle.std.proofs.lemmas.Bool.{cases_lt}
 use Rattle.range_locks.specs.declared.hold.Hold.{Hold}
@@ -33,6 +33,7 @@ use Rattle.core_turns.specs.Putting.{EndsPut, GivesUpTurn, IsStoppedPut, WritesT
 use Rattle.core_turns.specs.Committing.{AnswersGroup, IsCommitOf, StepsCommit}
 use Rattle.schedule.specs.declared.client.Work.{Work}
 use Rattle.schedule.specs.declared.client.Work.TheVariants as work
+use Rattle.schedule.specs.Running.{commit_in}
 use Rattle.schedule.specs.Turned.{EndsPutting, EndsReading, GoesOnBy, listed_for}
 use Rattle.schedule.specs.Using.{HasCopiedNone}
 use Rattle.schedule.proofs.Copied.{Stays, answers_stays, stays_same}
@@ -48,12 +49,11 @@ pub record GoesWith (old new : Core) (group : ℕ) : Type 0 where
   pub stays : HasCopiedNone old → Stays old new
 
 goes_still : (old new : Core) → new.pool.uber ≡ old.pool.uber → new.pool.done ≡ old.pool.done
-    → new.reach ≡ old.reach → UsesNoMore old new
-    → GoesWith old new old.pool.uber.group
-goes_still old new uber done reach uses = record {
+    → UsesNoMore old new → GoesWith old new old.pool.uber.group
+goes_still old new uber done uses = record {
   uses = uses;
   group_is = ap (λ (u : Uber). u.group) uber;
-  stays = λ still. stays_same old new uber done reach;
+  stays = λ still. stays_same old new uber done;
 }
 
 -- An answer that neither ends a group nor tells of no space.
@@ -102,12 +102,12 @@ module _ (before after : CoreState) (is : IsCore before.core) where
 
   -- Only devices went out.
   core_goes : (out : ℕ) → new ≡ record old { pool = record old.pool { out = out } } → GoesWith old new old.pool.uber.group
-  core_goes out rest = goes_still old new (ap (λ (c : Core). c.pool.uber) rest) (ap (λ (c : Core). c.pool.done) rest) (ap (λ (c : Core). c.reach) rest)
+  core_goes out rest = goes_still old new (ap (λ (c : Core). c.pool.uber) rest) (ap (λ (c : Core). c.pool.done) rest)
       (same_parts old new (ap (λ (c : Core). c.pool.blocks.space) rest) (ap (λ (c : Core). c.holds) rest))
 
   stopped_goes : (run : PutRun) (given : Answer) → IsStoppedPut old new run given → GoesWith old new old.pool.uber.group
   stopped_goes run given stopped = goes_still old new (ap (λ (c : Core). c.pool.uber) stopped.gives_up.rest)
-      (ap (λ (c : Core). c.pool.done) stopped.gives_up.rest) (ap (λ (c : Core). c.reach) stopped.gives_up.rest) (given_up old new run stopped.gives_up)
+      (ap (λ (c : Core). c.pool.done) stopped.gives_up.rest) (given_up old new run stopped.gives_up)
 
   writes_goes : (run : PutRun) (turn : Turn PutRun) → WritesTurn before run after turn
       → GoesWith old new old.pool.uber.group
@@ -119,7 +119,7 @@ module _ (before after : CoreState) (is : IsCore before.core) where
       → IsPlainEnd given × GoesWith old new old.pool.uber.group
   ended_put run answer.Stored ends = (
     tt,
-    goes_still old new (ap (λ (c : Core). c.pool.uber) ends.rest) (ap (λ (c : Core). c.pool.done) ends.rest) (ap (λ (c : Core). c.reach) ends.rest)
+    goes_still old new (ap (λ (c : Core). c.pool.uber) ends.rest) (ap (λ (c : Core). c.pool.done) ends.rest)
         (stored old new run ends),
   )
   ended_put run (answer.TooManyFailed out) ends = (tt, stopped_goes run (answer.TooManyFailed out) ends)
@@ -129,7 +129,7 @@ module _ (before after : CoreState) (is : IsCore before.core) where
       → IsPlainEnd given × GoesWith old new old.pool.uber.group
   gave_up run answer.NoMemory ends = (
     tt,
-    goes_still old new (ap (λ (c : Core). c.pool.uber) ends.1.rest) (ap (λ (c : Core). c.pool.done) ends.1.rest) (ap (λ (c : Core). c.reach) ends.1.rest)
+    goes_still old new (ap (λ (c : Core). c.pool.uber) ends.1.rest) (ap (λ (c : Core). c.pool.done) ends.1.rest)
         (given_up old new run ends.1),
   )
   gave_up run (answer.TooManyFailed out) ends = (tt, stopped_goes run (answer.TooManyFailed out) ends)
@@ -148,7 +148,7 @@ module _ (before after : CoreState) (is : IsCore before.core) where
   ended_hold : (hold : Hold) → new ≡ record old { holds = new.holds } → EndsHold old.holds new.holds hold
       → GoesWith old new old.pool.uber.group
   ended_hold hold rest ends = goes_still old new (ap (λ (c : Core). c.pool.uber) rest)
-      (ap (λ (c : Core). c.pool.done) rest) (ap (λ (c : Core). c.reach) rest) (record {
+      (ap (λ (c : Core). c.pool.done) rest) (record {
         taken = λ run listed. subst (λ (s : Space). Contains s.taken run)
             (ap (λ (c : Core). c.pool.blocks.space) rest) listed;
         held = λ run listed. inl (subst (λ (s : Space). Contains s.held run)
@@ -217,7 +217,7 @@ module _ (before after : CoreState) (is : IsCore before.core) where
       inl (
         tt,
         goes_still old new (ap (λ (s : CoreState). s.core.pool.uber) steps.2)
-            (ap (λ (s : CoreState). s.core.pool.done) steps.2) (ap (λ (s : CoreState). s.core.reach) steps.2) (same_core old new (ap (λ (s : CoreState). s.core) steps.2)),
+            (ap (λ (s : CoreState). s.core.pool.done) steps.2) (same_core old new (ap (λ (s : CoreState). s.core) steps.2)),
       )
   sync_ends run other of steps = absurd steps
 
@@ -231,7 +231,7 @@ module _ (before after : CoreState) (is : IsCore before.core) where
 
   -- and its last.
   pub works_end : (call : ScriptCall) (does : Work) (given : Answer)
-      → ((run : CommitRun) → does ≡ work.Sync run → IsCommitOf old run)
+      → ((run : CommitRun) → commit_in does ≡ Some run → IsCommitOf old run)
       → GoesOnBy before after call does (Done given) → EndsWith old new given
   works_end call (work.Put run) given commits goes = inl (put_ends call run given goes)
   works_end call (work.Read run) given commits goes = inl (read_ends run given goes)

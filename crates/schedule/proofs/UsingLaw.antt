@@ -1,7 +1,6 @@
 -- A put finds no space only where the blocks and the puts of the script are many, turn by turn.
-use Rattle.std.proofs.Common.{◌≡◌, inl, inr, ℕ, ◌+◌, ◌-◌, List, [], ◌∷◌, ◌++◌, length, Option, Some, None, sym, ◌∙◌, ap, subst, arith}
+use Rattle.std.proofs.Common.{◌≡◌, inl, inr, ℕ, ◌+◌, ◌-◌, ◌*◌, List, [], ◌∷◌, ◌++◌, length, Option, Some, None, sym, ◌∙◌, ap, subst, arith}
 use Rattle.std.specs.Prelude.{option_map, slice_get, unwrap_or}
-use Rattle.reflow_mark.specs.Reflow.{sectors_of}
 use Rattle.reconstruct.specs.Rows.{sectors_for}
 use Rattle.row_layout.specs.Layout.{allocated_of}
 use Rattle.space_alloc.specs.Space.{Run, Gains, HasNoFreeRun}
@@ -28,9 +27,8 @@ use Rattle.journal_law.specs.NoSpace.{length_put, FindsNoSpace, NoSpaceIsCaused}
 use Rattle.journal_law.proofs.NoSpace.{no_space_call, no_space_group}
 use Rattle.schedule.specs.declared.client.Client.{Client}
 use Rattle.schedule.specs.declared.client.UnderWay.{UnderWay}
-use Rattle.schedule.specs.declared.client.Work.TheVariants as work
 use Rattle.schedule.specs.Clients.{Changes}
-use Rattle.schedule.specs.Running.{AreGoing}
+use Rattle.schedule.specs.Running.{AreGoing, commit_in}
 use Rattle.schedule.specs.Turned.{AnswersAtOnce, Station, Turned, Nothing, Began, Went, entry_for, group_for, listed_for}
 use Rattle.schedule.specs.Using.{AreLeft, AreRunsOf, AreUsed, HasUsedRuns, IsOpenSince, sizes_of}
 use Rattle.schedule.proofs.Copied.{opened_stays, stays_same}
@@ -69,9 +67,8 @@ module _ (script : Script) (actor : ℕ) (before after : Station) (clients news 
 
   -- ---- what the pool was opened with
 
-  opened_same : new.pool.uber ≡ old.pool.uber → new.pool.done ≡ old.pool.done → new.reach ≡ old.reach
-      → IsOpenSince uber new
-  opened_same same done reach = opened_stays uber old new (stays_same old new same done reach) stood.opened
+  opened_same : new.pool.uber ≡ old.pool.uber → new.pool.done ≡ old.pool.done → IsOpenSince uber new
+  opened_same same done = opened_stays uber old new (stays_same old new same done) stood.opened
 
   opened_goes : (group : ℕ) → GoesWith old new group → IsOpenSince uber new
   opened_goes group with = opened_stays uber old new (with.stays stood.opened.still) stood.opened
@@ -167,7 +164,7 @@ module _ (script : Script) (actor : ℕ) (before after : Station) (clients news 
         ∙ ap (λ (bytes : List ℕ). sectors_taken uber.parity uber.births (length bytes) (stood.last.group.group + 1))
         (sym handed);
     tight = subst (λ (capacity : ℕ). IsTight capacity (sizes_of uber entries script.calls) size)
-        (is.is.capacity ∙ ap sectors_of stood.opened.reflow)
+        (is.is.capacity ∙ (λ i. stood.opened.rows i * stood.opened.from i))
         (full_by_runs stood.used.runs old _ (sizes_of uber entries script.calls) size stood.used.are stood.used.most
         none);
   }
@@ -186,32 +183,32 @@ module _ (script : Script) (actor : ℕ) (before after : Station) (clients news 
 
   -- ---- a turn
 
-  -- The commit under way is the client's sync.
+  -- The commit under way is the client's.
   its_commit : (under : UnderWay) → before.client.under_way ≡ Some under → (run : CommitRun)
-      → under.work ≡ work.Sync run → IsCommitOf old run
+      → commit_in under.work ≡ Some run → IsCommitOf old run
   its_commit under is_under run does =
-      ((going.each actor before.client under (record { there = was; under_way = is_under })).sync run does).0
+      ((going.each actor before.client under (record { there = was; under_way = is_under })).commit run does).0
 
   -- **What stood between two turns of what was used stands after a turn of a client.**
   pub turn_uses : Turned (calls_of script actor) actor before after
       → HasUsedRuns script uber entries after.state.core after.items news
   turn_uses (Nothing nothing) =
       let core : new ≡ old = ap (λ (s : Station). s.state.core) nothing.same in
-      lists_none (opened_same (ap (λ (c : Core). c.pool.uber) core) (ap (λ (c : Core). c.pool.done) core) (ap (λ (c : Core). c.reach) core))
+      lists_none (opened_same (ap (λ (c : Core). c.pool.uber) core) (ap (λ (c : Core). c.pool.done) core))
       (used_still (runs_still old new (same_core old new core))
       (ap (λ (s : Station). s.client.begun) nothing.same))
       (ap (λ (s : Station). s.items) nothing.same)
   turn_uses (Began (More does) begins leaves) =
       let on = works_begin old new is actor begins.call begins.call.kind begins.call.id does begins.did in
-      lists_none (opened_same on.begins.uber on.begins.done on.begins.reach)
+      lists_none (opened_same on.begins.uber on.begins.done)
       (used_next begins.call begins.next (ap (λ (c : Client). c.begun) leaves.1) on.more on.begins
       (on.fits uber stood.opened)) leaves.0
   turn_uses (Began (Busy by) begins leaves) =
       let with = waits_with old new is actor begins.call begins.call.kind begins.call.id by begins.did in
-      lists_none (opened_same with.uber with.done with.reach) (used_still (with.runs stood.opened.still) (ap (λ (c : Client). c.begun) leaves.1)) leaves.0
+      lists_none (opened_same with.uber with.done) (used_still (with.runs stood.opened.still) (ap (λ (c : Client). c.begun) leaves.1)) leaves.0
   turn_uses (Began (Done given) begins leaves) =
       let with = answers_with old new is actor begins.call begins.call.kind begins.call.id given begins.did in
-      lists_entry (opened_same with.uber with.done with.reach)
+      lists_entry (opened_same with.uber with.done)
       (used_next begins.call begins.next (ap (λ (c : Client). c.begun) leaves.1) [] with
       (none_fits uber (length_put begins.call.kind (fill_bytes begins.call.fill))))
       (entry_for begins.call actor (before.client.begun + 1) (length before.items) given) leaves.0

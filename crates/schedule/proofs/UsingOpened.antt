@@ -83,8 +83,10 @@ module _ (script : Script) (pool : Pool) (disk : Disk) (right : IsRightUber pool
       since = omega arith;
       parity = refl;
       births = refl;
-      reflow = refl;
-      still = record { front = λ expands. front; reach = refl };
+      from = refl;
+      rows = refl;
+      to = omega arith;
+      still = record { front = λ expands. front };
     };
     used = record {
       left = script.calls;

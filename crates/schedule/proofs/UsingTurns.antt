@@ -138,7 +138,6 @@ module _ (old new : Core) where
 pub record BeginsWith (old new : Core) (more : List Run) : Type 0 where
   pub uber : new.pool.uber ≡ old.pool.uber
   pub done : new.pool.done ≡ old.pool.done
-  pub reach : new.reach ≡ old.reach
   pub runs : HasCopiedNone old → (runs : List Run) → AreRunsOf runs old → AreRunsOf (more ++ runs) new
   pub shared : HasCopiedNone old → OnlyShared old.holds → OnlyShared new.holds
 
@@ -155,12 +154,10 @@ shared_more {old} {new} {hold} gains kind_is shared = record {
 }
 
 begins_still : (old new : Core) → new.pool.uber ≡ old.pool.uber → new.pool.done ≡ old.pool.done
-    → new.reach ≡ old.reach
     → (HasCopiedNone old → UsesNoMore old new) → BeginsWith old new []
-begins_still old new uber done reach uses = record {
+begins_still old new uber done uses = record {
   uber = uber;
   done = done;
-  reach = reach;
   runs = λ still. runs_still old new (uses still);
   shared = λ still. shared_still (uses still);
 }
@@ -181,12 +178,12 @@ pub record BeginsOn (old new : Core) (lengths : List ℕ) : Type 0 where
 
 module _ (old new : Core) (is : IsCore old) where
   same_begins : new ≡ old → BeginsWith old new []
-  same_begins same = begins_still old new (ap (λ (c : Core). c.pool.uber) same) (ap (λ (c : Core). c.pool.done) same) (ap (λ (c : Core). c.reach) same)
+  same_begins same = begins_still old new (ap (λ (c : Core). c.pool.uber) same) (ap (λ (c : Core). c.pool.done) same)
       (λ still. same_core old new same)
 
   left_begins : LeavesBlocks old new → BeginsWith old new []
   left_begins leaves = begins_still old new (ap (λ (c : Core). c.pool.uber) leaves.rest)
-      (ap (λ (c : Core). c.pool.done) leaves.rest) (ap (λ (c : Core). c.reach) leaves.rest) (λ still. left_blocks old new leaves)
+      (ap (λ (c : Core). c.pool.done) leaves.rest) (λ still. left_blocks old new leaves)
 
   -- A put takes one run, and holds it.
   put_takes : (actor id len : ℕ) (run : PutRun) → BeginsPutSo old new actor id len run
@@ -194,7 +191,6 @@ module _ (old new : Core) (is : IsCore old) where
   put_takes actor id len run begins = record {
     uber = ap (λ (c : Core). c.pool.uber) begins.rest;
     done = ap (λ (c : Core). c.pool.done) begins.rest;
-    reach = ap (λ (c : Core). c.reach) begins.rest;
     runs = λ still runs are. record {
       taken = λ other listed. ⊎_elim
           (λ same. subst (Contains (put_run run.range ∷ runs)) same (first_listed (put_run run.range) runs))
@@ -248,7 +244,6 @@ module _ (old new : Core) (is : IsCore old) where
   get_begins actor id asked run begins = record {
     uber = ap (λ (c : Core). c.pool.uber) begins.6;
     done = ap (λ (c : Core). c.pool.done) begins.6;
-    reach = ap (λ (c : Core). c.reach) begins.6;
     runs = λ still runs are. record {
       taken = λ other listed. are.taken other
           (subst (λ (c : Core). Contains c.pool.blocks.space.taken other) begins.6 listed);
@@ -289,10 +284,10 @@ module _ (old new : Core) (is : IsCore old) where
 
   free_begins : (id : ℕ) (given : Answer) → FreesBlock old new id given → BeginsWith old new []
   free_begins id answer.Freed frees =
-      begins_still old new (ap (λ (c : Core). c.pool.uber) frees.2.rest) (ap (λ (c : Core). c.pool.done) frees.2.rest) (ap (λ (c : Core). c.reach) frees.2.rest)
+      begins_still old new (ap (λ (c : Core). c.pool.uber) frees.2.rest) (ap (λ (c : Core). c.pool.done) frees.2.rest)
       (λ still. freed old new id answer.Freed frees)
   free_begins id answer.Absent frees =
-      begins_still old new (ap (λ (c : Core). c.pool.uber) frees.1.rest) (ap (λ (c : Core). c.pool.done) frees.1.rest) (ap (λ (c : Core). c.reach) frees.1.rest)
+      begins_still old new (ap (λ (c : Core). c.pool.uber) frees.1.rest) (ap (λ (c : Core). c.pool.done) frees.1.rest)
       (λ still. freed old new id answer.Absent frees)
   free_begins id (answer.TooManyFailed out) frees = same_begins frees.2
   free_begins id other frees = absurd frees
@@ -311,7 +306,7 @@ module _ (old new : Core) (is : IsCore old) where
       on_none [] (get_begins actor id kind.Sum run begins)
   works_begin actor call kind.Sync None (work.Sync run) begins =
       on_none [] (begins_still old new (ap (λ (c : Core). c.pool.uber) begins.rest)
-      (ap (λ (c : Core). c.pool.done) begins.rest) (ap (λ (c : Core). c.reach) begins.rest)
+      (ap (λ (c : Core). c.pool.done) begins.rest)
       (λ still. same_parts old new (ap (λ (c : Core). c.pool.blocks.space) begins.rest)
       (begins_holds old new actor run is still begins)))
   works_begin actor call asked id does begins = absurd begins

@@ -38,7 +38,7 @@ use Rattle.schedule.specs.declared.client.Client.{Client}
 use Rattle.schedule.specs.declared.whole_run.Ended.{Ended}
 use Rattle.schedule.specs.declared.whole_run.Ended.TheVariants.{Whole, NoMemory, Limit}
 use Rattle.schedule.specs.Caused.{FullIsCaused}
-use Rattle.schedule.specs.Coming.{LeadTo}
+use Rattle.schedule.specs.Coming.{AttachesNone, LeadTo}
 use Rattle.schedule.specs.Turns.{turns_of, TurnTaken, Turns, bank_when}
 use Rattle.schedule.specs.InTurn.{Cursor, InOrder, HaveTaken, Replay, replay_at}
 use Rattle.schedule.specs.Moments.{Past}
@@ -93,7 +93,7 @@ module _ (script : Script) (old mid : Disk) (pool : Pool) (silent : ℕ) (items 
     (taken : HaveTaken script (first_turns script (at_disk (resting pool) mid) (first_item pool)) passed)
     (come : LeadTo script (first_turns script (at_disk (resting pool) mid) (first_item pool)) passed
     (turns_of final items clients))
-    (calls : CallsAreRight (asked_by script) items) where
+    (calls : CallsAreRight (asked_by script) items) (none : AttachesNone script) where
   abbrev item : GroupItem
   item = first_item pool
 
@@ -137,8 +137,7 @@ module _ (script : Script) (old mid : Disk) (pool : Pool) (silent : ℕ) (items 
 
     at_end : (kept : KeepsLast setting (asked_by script) (handed_by script) begins.opened.chosen.map items final.disk)
         × ((group : Kept) → Contains (kept.last ∷ kept.begun) group → Contains run_groups group)
-    at_end = recorded_keeps runs.recorded
-        (stands_know runs.stands)
+    at_end = recorded_keeps runs.recorded runs.reach (stands_know runs.stands)
 
     -- The journal begins with the group that renews the chosen one.
     begins_after : BeginsAfter begins.opened.chosen items
@@ -197,7 +196,7 @@ module _ (script : Script) (old mid : Disk) (pool : Pool) (silent : ℕ) (items 
     opened = item;
     there = come.listed 0 (Group item) refl;
     start = at_disk (resting pool) mid;
-    rest = record { holds = refl; committing = refl; blocks = rest; still = record { front = λ expands. front; reach = refl } };
+    rest = record { holds = refl; committing = refl; blocks = rest; still = record { front = λ expands. front } };
     opened_is = refl;
     bank = bank;
     later = opened_later;
@@ -212,7 +211,8 @@ module _ (script : Script) (old mid : Disk) (pool : Pool) (silent : ℕ) (items 
     writes = writes;
     parity = pool.uber.parity;
     only = touches_then (IsOnBelow pool.uber.reflow.to) (IsOnInUse pool.uber.reflow.to pool.out)
-        (IsOnBelow pool.uber.reflow.to) (λ d x here. here) (λ d x here. here.0) opened_only come.only;
+        (IsOnBelow pool.uber.reflow.to) (λ d x here. here) (λ d x here. here.0) opened_only
+        (subst (λ (reach : ℕ). TouchesOnly (IsOnInUse reach pool.out) mid final.disk) (come.same none) come.only);
     each = out_later old mid final.disk pool.uber silent pool.out final.core.pool.out opened_later come.later outs
         come.out;
     calls = calls;

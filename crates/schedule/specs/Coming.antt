@@ -1,10 +1,11 @@
 -- What some turns of a script's clients come to.
-use Rattle.std.specs.Prelude.{◌≡◌, ◌⊎◌, ℕ, ◌≤◌, ◌<◌, List, Some, slice_get}
+use Rattle.std.specs.Prelude.{◌≡◌, ◌≢◌, ◌⊎◌, ℕ, ◌≤◌, ◌<◌, List, Some, slice_get}
 use Rattle.bank_trait.specs.Disk.{Later}
 use Rattle.bank_trait.specs.Regions.{TouchesOnly}
 use Rattle.block_record.specs.declared.entry.IndexEntry.{IndexEntry}
 use Rattle.uberblock_ring.specs.Devices.{count_of, IsWithin}
 use Rattle.uberblock_ring.specs.Uberblock.{Uber}
+use Rattle.core_state.specs.declared.answer.Kind.TheVariants as kind
 use Rattle.core_state.specs.declared.item.Entry.{Entry}
 use Rattle.core_state.specs.declared.item.Item.{Item}
 use Rattle.core_state.specs.Legal.{CallAt}
@@ -12,7 +13,8 @@ use Rattle.core_state.specs.World.{World}
 use Rattle.core_client.specs.Outs.{OnlyFailedGoOut}
 use Rattle.core_state.specs.Committing.{point_of}
 use Rattle.core_commit.specs.Spared.{IsOnInUse}
-use Rattle.client_script.specs.Script.{Script, handed_by}
+use Rattle.client_script.specs.declared.call.ScriptCall.{ScriptCall}
+use Rattle.client_script.specs.Script.{Script, calls_of, handed_by}
 use Rattle.schedule.specs.Caused.{FullIsCaused}
 use Rattle.schedule.specs.Clients.{ClientsAreAnswered}
 use Rattle.schedule.specs.Fitting.{FitsCall}
@@ -35,17 +37,24 @@ KeepsUsing script start now = (uber : Uber) (entries : List IndexEntry)
     → HasUsedRuns script uber entries start.state.core start.items start.clients
     → HasUsedRuns script uber entries now.state.core now.items now.clients
 
--- These turns lead from one state to another, in a pool that reaches to as many devices. Devices went out where they failed, and none was
--- touched but those of the pool that were in use. What was answered fits its call, and groups are numbered. The devices
--- whose failure has to be borne were out when it began, or have failed, and are no more than there are parities; none
--- where too many were out then, since no device is called any more. Where these may fail, what stood stands, and answers
--- that the table is full have their cause.
+-- No call of the script brings the pool a device.
+abbrev pub AttachesNone : Script → Type 0
+AttachesNone script = (actor number : ℕ) (call : ScriptCall) → slice_get (calls_of script actor) number ≡ Some call
+    → call.kind ≢ kind.Attach
+
+-- These turns lead from one state to another, in a pool that reaches to no fewer devices, and to as many where no call
+-- brings it one. Devices went out where they failed, and none was touched but those that the pool then reaches to and
+-- that were in use. What was answered fits its call, and groups are numbered. The devices whose failure has to be borne
+-- were out when it began, or have failed, and are no more than there are parities; none where too many were out then,
+-- since no device is called any more. Where these may fail, what stood stands, and answers that the table is full have
+-- their cause.
 pub record LeadTo (script : Script) (start : Turns) (passed : List TurnTaken) (now : Turns) : Type 0 where
   pub ends : last_left start passed ≡ now
   pub later : Later start.state.disk now.state.disk
   pub parity : now.state.core.pool.uber.parity ≡ start.state.core.pool.uber.parity
-  pub reach : now.state.core.reach ≡ start.state.core.reach
-  pub only : TouchesOnly (IsOnInUse start.state.core.reach start.state.core.pool.out)
+  pub reach : start.state.core.reach ≤ now.state.core.reach
+  pub same : AttachesNone script → now.state.core.reach ≡ start.state.core.reach
+  pub only : TouchesOnly (IsOnInUse now.state.core.reach start.state.core.pool.out)
       start.state.disk now.state.disk
   pub out : OnlyFailedGoOut (point_of start.state.core.pool.out start.state.disk)
       (point_of now.state.core.pool.out now.state.disk)

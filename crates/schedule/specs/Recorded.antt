@@ -50,12 +50,13 @@ pub record IsRightNext (world : World) (items : List Item) (entry : Entry) : Typ
   pub counted : (reached : ℕ) → entry.answer ≡ answer.Limit reached → IsAtLastGroup items (length items) reached
 
 -- A commit of this group began after so many items, those of the last group or later ones. It has that group's widths,
--- or ends its expansion.
-pub record IsBegunAt (world : World) (items : List Item) (item : GroupItem) (after : ℕ) (next : Kept) : Type 0 where
+-- ends its expansion, or begins one where that may be.
+pub record IsBegunAt (world : World) (items : List Item) (item : GroupItem) (after : ℕ) (attached : Type 0)
+    (next : Kept) : Type 0 where
   pub number : next.uber.group ≡ item.group + 1
   pub listed : (item.after ≤ after) × (after ≤ length items)
   pub map : SameMap next.map (map_after world.handed world.opening items after)
-  pub widths : IsWidthStep ⊥ item (item_of next after)
+  pub widths : IsWidthStep attached item (item_of next after)
 
 -- All entries of this caller stand below this index.
 abbrev pub AllBelow : List Item → ℕ → ℕ → Type 0

@@ -6,7 +6,7 @@ use Rattle.core_state.specs.declared.item.Group.{Group as GroupItem}
 use Rattle.core_state.specs.declared.item.Item.{Item}
 use Rattle.core_state.specs.Map.{map_of, map_after}
 use Rattle.core_state.specs.Legal.{CallAt}
-use Rattle.core_state.specs.Keeps.{Kept}
+use Rattle.core_state.specs.Keeps.{Kept, Setting}
 use Rattle.core_state.specs.World.{World}
 use Rattle.core_commit.specs.CommitTurns.{CommitRun}
 use Rattle.client_script.specs.declared.call.ScriptCall.{ScriptCall}
@@ -54,10 +54,18 @@ IsHoldOf index (work.Put run) = run.hold.actor ≡ index
 IsHoldOf index (work.Read run) = run.hold.actor ≡ index
 IsHoldOf index (work.Sync run) = ⊤
 
--- the work that holds no sectors
-abbrev pub IsSync : Work → Type 0
-IsSync (work.Sync run) = ⊤
-IsSync other = ⊥
+-- the commit that a work makes, if it makes one
+abbrev pub commit_in : Work → Option CommitRun
+commit_in (work.Sync run) = Some run
+commit_in other = None
+
+abbrev pub IsThere : Option CommitRun → Type 0
+IsThere None = ⊥
+IsThere (Some run) = ⊤
+
+-- The work makes a commit.
+abbrev pub MakesCommit : Work → Type 0
+MakesCommit does = IsThere (commit_in does)
 
 -- The work is what a call of the script asks for.
 abbrev pub IsWorkFor : ScriptCall → Work → Type 0
@@ -66,14 +74,14 @@ IsWorkFor call (work.Put run) = (call.kind ≡ kind.Put) × (call.id ≡ Some ru
 IsWorkFor call (work.Read run) = (call.kind ≡ run.kind) × (call.id ≡ Some run.entry.id)
 IsWorkFor call (work.Sync run) = (call.kind ≡ kind.Sync) × (call.id ≡ None)
 
--- A client's call under way has the client's hold, if it has one, and is what the script asks for. A sync is the core's
--- commit.
+-- A client's call under way has the client's hold, if it has one, and is what the script asks for. The commit that it
+-- makes is the core's.
 pub record IsWorkOf (script : Script) (core : Core) (index : ℕ) (client : Client) (does : Work) : Type 0 where
   pub hold : IsHoldOf index does
   pub call : ScriptCall
   pub there : slice_get (calls_of script index) (client.begun - 1) ≡ Some call
   pub asked : IsWorkFor call does
-  pub sync : (run : CommitRun) → does ≡ work.Sync run → IsCommitOf core run × (core.committing ≡ Some index)
+  pub commit : (run : CommitRun) → commit_in does ≡ Some run → IsCommitOf core run × (core.committing ≡ Some index)
 
 -- The clients' calls under way are calls of this core, and their clients' works. A commit under way is a client's, or
 -- was cut short.
@@ -83,22 +91,26 @@ pub record AreGoing (script : Script) (core : Core) (clients : List Client) : Ty
       → IsWorkOf script core index client under.work
   pub one : (actor : ℕ) → core.committing ≡ Some actor → HasTooManyOut core
       ⊎ ((client : Client) × (under : UnderWay) × (run : CommitRun) × IsGoing clients actor client under
-      × (under.work ≡ work.Sync run))
+      × (commit_in under.work ≡ Some run))
 
 -- ---- with one
 
 -- The commit under way, if there is one, is a client's work.
 abbrev pub IsTheirs : List Client → Option CommitRun → Type 0
 IsTheirs clients None = (index : ℕ) (client : Client) (under : UnderWay) → IsGoing clients index client under
-    → IsSync under.work → ⊥
+    → MakesCommit under.work → ⊥
 IsTheirs clients (Some run) = (index : ℕ) × (client : Client) × (under : UnderWay)
-    × IsGoing clients index client under × (under.work ≡ work.Sync run)
+    × IsGoing clients index client under × (commit_in under.work ≡ Some run)
 
--- A sync makes the map of the time when it began its group's.
-abbrev pub IsSyncOf : World → List Item → GroupItem → List Kept → ℕ → Work → Type 0
-IsSyncOf world items item begun at (work.Sync run) =
-    (next : Kept) × (begun ≡ next ∷ []) × IsBegunAt world items item at next
-IsSyncOf world items item begun at other = ⊤
+-- The group begun makes the map of the time when its work began, and may begin an expansion where this holds.
+abbrev pub HasBegun : World → List Item → GroupItem → List Kept → ℕ → Type 0 → Type 0
+HasBegun world items item begun at attached =
+    (next : Kept) × (begun ≡ next ∷ []) × IsBegunAt world items item at attached next
+
+-- So it is of a work that makes a commit. The group of a sync begins no expansion.
+abbrev pub HasBegunBy : World → List Item → GroupItem → List Kept → ℕ → Work → Type 0
+HasBegunBy world items item begun at (work.Sync run) = HasBegun world items item begun at ⊥
+HasBegunBy world items item begun at other = ⊤
 
 -- A put has the bytes that the script hands it, a read the block that its id had when the read began.
 abbrev pub HasContent : World → List Item → ScriptCall → ℕ → List ℕ → Work → Type 0
@@ -112,13 +124,13 @@ pub record IsClient (world : World) (script : Script) (items : List Item) (item 
     (bytes : List ℕ) (index : ℕ) (client : Client) (under : UnderWay) : Type 0 where
   pub at : (1 ≤ under.at) × (under.at ≤ length items)
   pub after : (place : ℕ) (entry : Entry) → CallAt items place entry → entry.caller ≡ index → place < under.at
-  pub sync : IsSyncOf world items item begun under.at under.work
+  pub group : HasBegunBy world items item begun under.at under.work
   pub content : (call : ScriptCall) → slice_get (calls_of script index) (client.begun - 1) ≡ Some call
       → HasContent world items call under.at bytes under.work
 
 -- After these items the journal is right, the core stands with the clients' calls under way and holds the
--- journal's map, and each image since the bank was the first one keeps groups of the run in a row, none older than
--- the last one listed by then.
+-- journal's map, in a pool that reaches so far by now; and each image since the bank was the first one keeps groups of
+-- the run in a row, none older than the last one listed by then.
 pub record Runs (world : World) (script : Script) (past : Past) (state : CoreState) (items : List Item)
     (clients : List Client) : Type 0 where
   pub last : Kept
@@ -126,9 +138,15 @@ pub record Runs (world : World) (script : Script) (past : Past) (state : CoreSta
   pub contents : ℕ → List ℕ
   pub commit : Option CommitRun
   pub item : GroupItem
+  pub reach : ℕ
   pub recorded : Recorded world past items item last begun state.disk
-  pub stands : Stands world.setting last begun (map_of world.handed world.opening items) contents
-      (calls_under_way clients) commit state
-  pub sync : IsTheirs clients commit
+  pub stands : Stands (record world.setting { reach = reach }) last begun
+      (map_of world.handed world.opening items) contents (calls_under_way clients) commit state
+  pub theirs : IsTheirs clients commit
   pub each : (index : ℕ) (client : Client) (under : UnderWay) → IsGoing clients index client under
       → IsClient world script items item begun (contents index) index client under
+
+-- the setting of what stands: the pool reaches as far as it does by now
+abbrev pub setting_now : {world : World} {script : Script} {past : Past} {state : CoreState} {items : List Item}
+    {clients : List Client} → Runs world script past state items clients → Setting
+setting_now {world = world} runs = record world.setting { reach = runs.reach }

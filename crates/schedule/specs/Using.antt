@@ -64,20 +64,21 @@ pub record AreAtMost (runs : List Run) (left sizes : List ℕ) : Type 0 where
 
 -- ---- between two turns
 
--- Nothing was copied since the opening: the front is where it was then. No device has joined.
+-- Nothing was copied since the opening: the front is where a stop leaves it.
 pub record HasCopiedNone (core : Core) : Type 0 where
   pub front : Expands core.pool.uber.reflow → core.pool.done ≡ front_after_stop core.pool.uber.reflow
-  pub reach : core.reach ≡ core.pool.uber.reflow.to
 
--- A pool has parity, births and widths of its opening's uberblock, and is of no older group. No birth is above that, and
--- nothing was copied.
+-- A pool has parity and births of its opening's uberblock, and its data rows at the same width, reaches to no fewer
+-- devices, and is of no older group. No birth is above that, and nothing was copied.
 pub record IsOpenSince (uber : Uber) (core : Core) : Type 0 where
   pub right : IsRightUber uber
   pub born : NoneAbove uber.group uber.births
   pub since : uber.group ≤ core.pool.uber.group
   pub parity : core.pool.uber.parity ≡ uber.parity
   pub births : core.pool.uber.births ≡ uber.births
-  pub reflow : core.pool.uber.reflow ≡ uber.reflow
+  pub from : core.pool.uber.reflow.from ≡ uber.reflow.from
+  pub rows : core.pool.uber.reflow.rows ≡ uber.reflow.rows
+  pub to : uber.reflow.to ≤ core.pool.uber.reflow.to
   pub still : HasCopiedNone core
 
 -- Of the space no more was used since the opening than the blocks of its index take, and those that calls put which
