@@ -1,13 +1,10 @@
 -- A commit begins after the last group listed, which is one alone.
-use Rattle.std.proofs.Common.{◌≡◌, inl, inr, ⊎_elim, ℕ, ◌+◌, ◌<◌, ◌≤◌, List, length, Some, sym, ◌∙◌, ap, subst, arith}
-use Rattle.std.proofs.lemmas.Bool.{cases_lt}
+use Rattle.std.proofs.Common.{◌≡◌, inl, inr, ℕ, ◌+◌, List, length, sym, ◌∙◌, ap, arith}
 use Rattle.bank_trait.specs.Disk.{Disk}
 use Rattle.reflow_mark.specs.declared.reflow.Reflow.{Reflow}
 use Rattle.core_state.specs.declared.item.Group.{Group as GroupItem}
 use Rattle.core_state.specs.declared.item.Item.{Item}
-use Rattle.core_state.specs.declared.item.Item.TheVariants.{Group}
 use Rattle.core_state.specs.Map.{Map, SameMap, map_of}
-use Rattle.core_state.specs.Legal.{GroupAt, IsGroupBefore}
 use Rattle.core_state.specs.Journal.{IsWidthStep}
 use Rattle.core_state.specs.Keeps.{Kept}
 use Rattle.core_state.specs.Moment.{item_of}
@@ -17,22 +14,6 @@ use Rattle.journal_law.proofs.Grown.{map_at_end}
 use Rattle.schedule.specs.Recorded.{Recorded, IsBegunAt}
 use Rattle.schedule.proofs.Recording.{after_few}
 use Rattle.schedule.specs.Moments.{Past}
-
--- The last group before an index is one alone.
-pub one_latest : {items : List Item} {index : ℕ} {one other : GroupItem} → IsGroupBefore items index one
-    → IsGroupBefore items index other
-    → one ≡ other
-one_latest {items = items} {one = one} {other = other} first second = ⊎_elim
-    (λ (less : first.place < second.place). absurd (first.latest second.place other less second.before second.there))
-    (λ (not_less : second.place ≤ first.place). ⊎_elim
-    (λ (more : second.place < first.place). absurd (second.latest first.place one more first.before first.there))
-    (λ (not_more : first.place ≤ second.place).
-    let at : first.place ≡ second.place = omega (arith, not_less, not_more) in
-    same (sym (subst (λ (k : ℕ). GroupAt items k one) at first.there) ∙ second.there))
-    (cases_lt second.place first.place)) (cases_lt first.place second.place)
-  where
-    same : Some (Group one) ≡ Some (Group other) → one ≡ other
-    same is = cc
 
 -- A group that keeps the widths of the last one, or ends its expansion, follows it with its widths.
 steps_from : (item : GroupItem) (last next : Kept) (after : ℕ)

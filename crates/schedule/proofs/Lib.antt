@@ -2,6 +2,7 @@ pub mod Moments
 pub mod Below
 pub mod RightNext
 pub mod Counted
+pub mod BothListed
 pub mod Recording
 pub mod Beginning
 pub mod Begun

@@ -11,7 +11,7 @@ use Rattle.core_state.specs.Keeps.{Kept, Setting}
 use Rattle.core_state.specs.Collision.{MightStand}
 use Rattle.client_script.specs.Script.{Script}
 use Rattle.schedule.specs.WholeRun.{RunKeeps}
-use Rattle.schedule.proofs.Begun.{one_latest}
+use Rattle.schedule.proofs.BothListed.{one_latest}
 
 -- A device shows an uberblock of this group.
 abbrev pub IsShown : Setting → Image → GroupItem → Type 0

@@ -17,7 +17,7 @@ use Rattle.schedule.specs.declared.client.Client.{Client}
 use Rattle.schedule.specs.Numbered.{GroupsAreNumbered, IsNumbered}
 use Rattle.schedule.specs.Running.{AreGoing}
 use Rattle.schedule.specs.Turned.{Station, Turned, Nothing, Began, Went, entry_for, group_for, listed_for}
-use Rattle.schedule.proofs.Begun.{one_latest}
+use Rattle.schedule.proofs.BothListed.{one_latest}
 use Rattle.schedule.proofs.Opened.{resting}
 use Rattle.schedule.proofs.UsingEnds.{plain_listed, works_end, works_go}
 use Rattle.schedule.proofs.UsingTurns.{answers_with, waits_with, works_begin}

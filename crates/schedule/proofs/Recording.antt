@@ -4,14 +4,13 @@ use Rattle.std.proofs.lemmas.List.{append-nil}
 use Rattle.std.specs.Prelude.{◌≢◌, Contains}
 use Rattle.bank_trait.specs.Disk.{Disk, Later}
 use Rattle.core_state.specs.declared.answer.Answer.TheVariants as answer
-use Rattle.core_state.specs.declared.answer.Kind.TheVariants as kind
 use Rattle.core_state.specs.declared.item.Entry.{Entry}
 use Rattle.core_state.specs.declared.item.Group.{Group as GroupItem}
 use Rattle.core_state.specs.declared.item.Item.{Item}
 use Rattle.core_state.specs.declared.item.Item.TheVariants.{Group, Call}
 use Rattle.core_state.specs.Map.{Map, PutBytes, map_after}
 use Rattle.core_state.specs.Legal.{IsGroupBefore, IsAnswerOf}
-use Rattle.core_state.specs.Journal.{Calls, Follows, IsWidthStep}
+use Rattle.core_state.specs.Journal.{Calls, Follows, IsAttachOf, IsWidthStep}
 use Rattle.core_state.specs.Keeps.{Kept, Setting}
 use Rattle.core_state.specs.Certain.{Knows}
 use Rattle.core_state.specs.Moment.{AwaitsAttach, IsGroupOf, IsBegunAfter, Groups, IsRowOf, KeepsSince, KeepsThroughout, item_of}
@@ -24,16 +23,16 @@ use Rattle.journal_law.specs.Parity.{HaveParityOf}
 use Rattle.journal_law.proofs.Parity.{parity_with}
 use Rattle.journal_law.proofs.Grown.{map_before}
 use Rattle.journal_law.proofs.GrownAnswers.{answers_grown_call, answers_grown_group}
-use Rattle.journal_law.proofs.GrownGroups.{groups_grown_call, groups_grown_group, latest_grown_call, latest_grown_group, group_of_grown, after_listed, width_step_where}
+use Rattle.journal_law.proofs.GrownGroups.{groups_grown_call, latest_grown_call, latest_grown_group, group_of_grown, after_listed, width_step_where}
 use Rattle.journal_law.proofs.GrownRun.{groups_call, groups_end, groups_begun, groups_cut}
 use Rattle.journal_law.proofs.Moments.{contains_one}
 use Rattle.journal_law.proofs.Rows.{row_among}
 use Rattle.journal_law.proofs.GrownAnswers.{each_grown_call, each_grown_group}
-use Rattle.schedule.specs.Recorded.{Recorded, IsRightNext, IsBegunAt, AllBelow}
+use Rattle.schedule.specs.Recorded.{Recorded, IsRightNext, IsBegunAt}
+use Rattle.schedule.proofs.BothListed.{both_right, groups_both}
 use Rattle.schedule.proofs.Counted.{counted_call, counted_group}
 use Rattle.schedule.specs.Moments.{KeepsOn, KeepsTurnByTurn, Past}
 use Rattle.schedule.proofs.Moments.{AreLatest, whole_row, on_goes, on_now, on_wider, kept_more, kept_to_end, since_any_reach}
-use Rattle.schedule.proofs.RightNext.{sync_right}
 
 -- Where the groups stand as one is begun, and as it is answered.
 in_row : (known earlier begun : List Kept) (last : Kept)
@@ -264,16 +263,19 @@ module _ {world : World} {past : Past} {items : List Item} {item : GroupItem} {l
           kept_on = on_wider (next ∷ []) so_far.kept_on;
         }
 
--- A commit has ended the group that was begun, which began no expansion.
+-- A commit has ended the group that was begun, and the call that asked for it is answered.
 module _ {world : World} {past : Past} {items : List Item} {item : GroupItem} {last next : Kept} {now : Disk}
     (so_far : Recorded world past items item last (next ∷ []) now) {after : ℕ} {attached : Type 0}
     (is : IsBegunAt world items item after attached next) (reach : ℕ)
     (knows : Knows (record world.setting { reach = reach }) next [] now)
     {group : GroupItem} (number : group.group ≡ next.uber.group) (after_is : group.after ≡ after)
     (from_is : group.from ≡ next.uber.reflow.from) (group_to_is : group.to ≡ next.uber.reflow.to)
-    (none : attached → ⊥) (here : past.banks (length items + 1) ≡ now) where
+    (entry : Entry) where
   abbrev with_group : List Item
   with_group = items ++ Group group ∷ []
+
+  abbrev both : List Item
+  both = (items ++ Group group ∷ []) ++ Call entry ∷ []
 
   within : group.after ≤ length items
   within = let few = is.listed.1 in omega (arith, few, after_is)
@@ -287,12 +289,12 @@ module _ {world : World} {past : Past} {items : List Item} {item : GroupItem} {l
         ∙ sym (map_before world.handed world.opening items (Group group ∷ []) group.after within));
   }
 
-  follows : Follows with_group (length items) item group
-  follows = record {
+  follows : (attached → IsAttachOf both (item.from + 1) group.group) → Follows both (length items) item group
+  follows told = record {
     number = number ∙ is.number;
     later = (let low = is.listed.0 in omega (arith, low, after_is));
     listed = within;
-    widths = width_step_where item group (λ told. absurd (none told)) (subst (IsWidthStep attached item) (λ i. record {
+    widths = width_step_where item group told (subst (IsWidthStep attached item) (λ i. record {
       group = sym number i;
       after = sym after_is i;
       from = sym from_is i;
@@ -300,41 +302,45 @@ module _ {world : World} {past : Past} {items : List Item} {item : GroupItem} {l
     }) is.widths);
   }
 
-  -- Its item is listed,
-  pub recorded_group : Recorded world past (items ++ Group group ∷ []) group next [] now
-  recorded_group =
+  -- The group's item is listed before the answer. A group that begins an expansion is answered as an attach's.
+  pub recorded_ends : (attached → IsAttachOf both (item.from + 1) group.group)
+      → IsRightNext world (items ++ Group group ∷ []) entry → IsAnswerOf entry.kind entry.answer
+      → past.banks (length items + 1) ≡ now → past.banks (length with_group + 1) ≡ now
+      → Recorded world past ((items ++ Group group ∷ []) ++ Call entry ∷ []) group next [] now
+  recorded_ends told right is_answer here then =
       let left = groups_none so_far.groups in
       let ended = groups_end world.calls world.handed world.opening world.known items left.0 left.2 group next next_is
       so_far.in_order in
       let answered_are = ended.1 ∙ ap (λ (l : List Kept). l ++ next ∷ []) left.1 in
+      let grown = groups_both items group entry
+      (λ index other there. after_listed items so_far.in_order index other there) within ended.0 ended.2 in
       let latest = latest_grown_group items group in
-      let row = ended_row world.known so_far.groups.answered so_far.groups.begun ended.0.answered ended.0.begun next
-      so_far.begun_are answered_are ended.2 in
+      let latest_both = latest_grown_call with_group entry group latest in
+      let both_is = group_of_grown world.handed world.opening with_group group next (Call entry ∷ [])
+      (omega (arith, within, length-append items (Group group ∷ []))) next_is in
+      let row = ended_row world.known so_far.groups.answered so_far.groups.begun grown.0.answered grown.0.begun next
+      so_far.begun_are (grown.1 ∙ answered_are) grown.2 in
       let next_parity : HaveParityOf world.known (next ∷ []) = λ one known kept has. parity_now so_far one known kept
       (contains_tail last (next ∷ []) kept has) in
+      let now_latest = latest_of ended.0 ended.2 latest next_is next_parity in
       record {
-        groups = ended.0;
+        groups = grown.0;
         earlier = so_far.groups.answered;
-        answered_are = answered_are;
-        begun_are = ended.2;
-        latest = latest;
-        item_is = next_is;
-        in_order = groups_grown_group items group so_far.in_order item so_far.latest follows;
-        right = answers_grown_group world.handed world.opening items group so_far.right;
-        sound = each_grown_group IsSound items group so_far.sound;
-        counted = counted_group items group so_far.counted;
+        answered_are = grown.1 ∙ answered_are;
+        begun_are = grown.2;
+        latest = latest_both;
+        item_is = both_is;
+        in_order = both_right items group entry item so_far.in_order so_far.latest (follows told);
+        right = answers_grown_call world.handed world.opening with_group entry
+            (answers_grown_group world.handed world.opening items group so_far.right) right.right is_answer;
+        sound = each_grown_call IsSound with_group entry (each_grown_group IsSound items group so_far.sound) right.sound;
+        counted = counted_call with_group entry (counted_group items group so_far.counted) right.counted;
         since = subst (λ (l : List Kept). KeepsSince world.setting l past.origin.clock now) row so_far.since;
         parity = subst (HaveParityOf world.known) row so_far.parity;
-        no_older = kept_more so_far.no_older (some_items so_far) (latest_now so_far) so_far.kept_on (Group group) here;
-        kept_on = on_listed items (Group group) past here
-            (on_now reach (latest_of ended.0 ended.2 latest next_is next_parity) knows);
+        no_older = kept_more
+            (kept_more so_far.no_older (some_items so_far) (latest_now so_far) so_far.kept_on (Group group) here)
+            (omega (arith, length-append items (Group group ∷ []))) now_latest
+            (on_listed items (Group group) past here (on_now reach now_latest knows)) (Call entry) then;
+        kept_on = on_listed with_group (Call entry) past then
+            (on_now reach (latest_of grown.0 grown.2 latest_both both_is next_parity) knows);
       }
-
-  -- and the sync that asked for it is answered.
-  pub recorded_ends : (entry : Entry) → entry.kind ≡ kind.Sync → entry.answer ≡ answer.Synced group.group → 1 ≤ after
-      → AllBelow items entry.caller after → past.banks (length with_group + 1) ≡ now
-      → Recorded world past ((items ++ Group group ∷ []) ++ Call entry ∷ []) group next [] now
-  recorded_ends entry asked answer_is some below then = recorded_answers recorded_group reach entry then knows
-      (sync_right world items group entry asked answer_is (omega (arith, some, after_is))
-      (subst (AllBelow items entry.caller) (sym after_is) below))
-      (subst (IsAnswerOf entry.kind) (sym answer_is) asked)

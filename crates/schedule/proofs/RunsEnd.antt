@@ -1,14 +1,13 @@
 -- What stood before a turn of one client stands after it, where its call is answered.
 use Rattle.std.proofs.Common.{◌≡◌, ℕ, List, [], ◌∷◌, ◌++◌, Some, None, sym, ◌∙◌, ap, subst, length, ◌+◌, ◌<◌, arith, ◌≤◌, length-append, Option}
 use Rattle.std.specs.Prelude.{slice_get}
-use Rattle.core_state.specs.declared.answer.Answer.TheVariants as answer
-use Rattle.core_state.specs.declared.answer.Kind.TheVariants as kind
 use Rattle.core_state.specs.declared.item.Entry.{Entry}
 use Rattle.core_state.specs.declared.item.Group.{Group as GroupItem}
 use Rattle.core_state.specs.declared.item.Item.{Item}
 use Rattle.core_state.specs.declared.item.Item.TheVariants.{Group, Call as CallItem}
 use Rattle.core_state.specs.Map.{Map, map_of, map_after_answer}
 use Rattle.core_state.specs.Legal.{IsAnswerOf}
+use Rattle.core_state.specs.Journal.{IsAttachOf}
 use Rattle.core_state.specs.Keeps.{Kept}
 use Rattle.core_state.specs.Certain.{Knows}
 use Rattle.core_state.specs.World.{World}
@@ -94,10 +93,10 @@ module _ {world : World} {script : Script} {past : Past} {before : CoreState} {i
     pub commit_is_cut : OnlyIt clients index → StandsWith None → Runs world script past after grown news
     commit_is_cut only = answered_with None (commit_gone was changes ended only)
 
-  -- A commit ends its group, which begins no expansion, and whose item is listed before its entry.
+  -- A commit ends its group, whose item is listed before its entry.
   module _ {attached : Type 0} (under : UnderWay) (next : Kept) (group : GroupItem) (entry : Entry)
-      (caller : entry.caller ≡ index) (ended : client.under_way ≡ None) (old_is : old.under_way ≡ Some under)
-      (has_begun : HasBegun world items runs.item runs.begun under.at attached) (none : attached → ⊥)
+      (caller : entry.caller ≡ index) (ended : client.under_way ≡ None)
+      (has_begun : HasBegun world items runs.item runs.begun under.at attached)
       (begun_is : runs.begun ≡ next ∷ [])
       (only : OnlyIt clients index) (disk : after.disk ≡ before.disk)
       (group_is : group ≡ record {
@@ -106,7 +105,9 @@ module _ {world : World} {script : Script} {past : Past} {before : CoreState} {i
         from = next.uber.reflow.from;
         to = next.uber.reflow.to;
       })
-      (asked : entry.kind ≡ kind.Sync) (answer_is : entry.answer ≡ answer.Synced group.group)
+      (told : attached → IsAttachOf ((items ++ Group group ∷ []) ++ CallItem entry ∷ []) (runs.item.from + 1) group.group)
+      (right : IsRightNext world (items ++ Group group ∷ []) entry) (answers : IsAnswerOf entry.kind entry.answer)
+      (no_block : map_after_answer world.handed map entry entry.answer ≡ map)
       (knows : Knows (setting_now runs) next [] before.disk)
       (with : IsListedWith past.banks items ((items ++ Group group ∷ []) ++ CallItem entry ∷ []) after.disk)
       (stands : Stands (setting_now runs) next [] map runs.contents (calls_under_way news) None after) where
@@ -118,9 +119,6 @@ module _ {world : World} {script : Script} {past : Past} {before : CoreState} {i
       length-append items (Group group ∷ []),
       length-append (items ++ Group group ∷ []) (CallItem entry ∷ []),
     )) ∙ disk
-
-    my_end : IsClient world script items runs.item runs.begun (runs.contents index) index old under
-    my_end = runs.each index old under (record { there = was; under_way = old_is })
 
     is_next : IsBegunAt world items runs.item under.at attached next
     is_next = subst (IsBegunAt world items runs.item under.at attached) (head_is (sym has_begun.1 ∙ begun_is)) has_begun.2
@@ -134,17 +132,16 @@ module _ {world : World} {script : Script} {past : Past} {before : CoreState} {i
         (subst (λ (l : List Kept). Recorded world past items runs.item runs.last l before.disk) begun_is runs.recorded)
         is_next runs.reach knows
         (ap (λ (g : GroupItem). g.group) group_is) (ap (λ (g : GroupItem). g.after) group_is)
-        (ap (λ (g : GroupItem). g.from) group_is) (ap (λ (g : GroupItem). g.to) group_is) none
-        (both_with (length items + 1) (omega arith) (omega arith)) entry asked answer_is my_end.at.0
-        (λ place one there its. my_end.after place one there (its ∙ caller))
+        (ap (λ (g : GroupItem). g.from) group_is) (ap (λ (g : GroupItem). g.to) group_is) entry told right answers
+        (both_with (length items + 1) (omega arith) (omega arith))
         (both_with (length (items ++ Group group ∷ []) + 1) (omega (arith, length-append items (Group group ∷ [])))
         (omega (arith, length-append items (Group group ∷ [])))))
 
     map_both : map_of world.handed world.opening with_both ≡ map
     map_both = map_grown_call world.handed world.opening (items ++ Group group ∷ []) entry
-        ∙ ap (map_after_answer world.handed (map_of world.handed world.opening (items ++ Group group ∷ [])) entry)
-        answer_is
-        ∙ map_grown_group world.handed world.opening items group
+        ∙ ap (λ (m : Map). map_after_answer world.handed m entry entry.answer)
+        (map_grown_group world.handed world.opening items group)
+        ∙ no_block
 
     each_end : (other : ℕ) (its_client : Client) (its_under : UnderWay) → IsGoing news other its_client its_under
         → IsClient world script with_both group [] (runs.contents other) other its_client its_under

@@ -33,7 +33,7 @@ use Rattle.schedule.specs.Running.{HasBegunBy, IsGoing, AreGoing, Runs, call_of_
 use Rattle.schedule.specs.Turns.{turns_of}
 use Rattle.schedule.specs.Turned.{Station, LeavesGoing, entry_for, group_for}
 use Rattle.schedule.specs.Comes.{TakesTurn, Comes}
-use Rattle.schedule.proofs.RightNext.{sync_cut_right, same_out}
+use Rattle.schedule.proofs.RightNext.{sync_cut_right, sync_right, same_out}
 use Rattle.schedule.proofs.Theirs.{OnlyIt, none_some, calls_stay, no_one}
 use Rattle.schedule.proofs.Answered.{answered, answers_call, answers_group}
 use Rattle.schedule.specs.Fitting.{FitsCall}
@@ -218,18 +218,20 @@ module _ {script : Script} {actor : ℕ} {before after : Station} {clients news 
           let number_is : number ≡ next.uber.group =
           answers.group_is ∙ sym stands.groups.of.number ∙ ap (λ (u : Uber). u.group) stands.groups.come.alike in
           let reflow_is : now.pool.uber.reflow ≡ next.uber.reflow = ap (λ (u : Uber). u.reflow) stood.alike in
+          let mine = runs.each actor before.client under syncing in
           runs_ends after.state takes.was takes.changes runs under next group entry refl
-          (idle_now (answer.Synced number) leaves) under_is
+          (idle_now (answer.Synced number) leaves)
           (subst (HasBegunBy world before.items runs.item runs.begun under.at) does_is
           (runs.each actor before.client under syncing).group)
-          (λ attached. attached) stands.groups.begun_is only disk
+          stands.groups.begun_is only disk
           (λ i. record {
             group = number_is i;
             after = under.at;
             from = (reflow_is i).from;
             to = (reflow_is i).to;
           })
-          for_call.0 refl (subst (Knows (setting_now runs) next []) disk stood.groups.knows) listed
+          (λ attached. absurd attached)
+          (sync_right world before.items group entry for_call.0 refl mine.at.0 mine.after) for_call.0 refl (subst (Knows (setting_now runs) next []) disk stood.groups.knows) listed
           (subst (λ (l : List HoldingCall). Stands (setting_now runs) next [] map runs.contents l None after.state)
           (sym (ended_calls (answer.Synced number) leaves)) stood)
 
