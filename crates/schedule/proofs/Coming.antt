@@ -1,11 +1,11 @@
 -- Turns that go on from where others came to.
-use Rattle.std.proofs.Common.{◌≡◌, ◌⊎◌, inl, inr, ⊎_elim, ℕ, ◌≤◌, ◌<◌, List, [], ◌∷◌, ◌++◌, Some, true, refl, sym, ◌∙◌, ap, subst, arith}
+use Rattle.std.proofs.Common.{◌≡◌, ◌⊎◌, inl, inr, ⊎_elim, ℕ, ◌+◌, ◌≤◌, ◌<◌, List, [], ◌∷◌, ◌++◌, Some, true, refl, sym, ◌∙◌, ap, subst, arith}
 use Rattle.std.specs.Prelude.{slice_get}
 use Rattle.std.proofs.lemmas.Bool.{cases_lt, true≢false}
 use Rattle.bank_trait.specs.Disk.{Disk}
 use Rattle.bank_trait.specs.Regions.{TouchesOnly}
 use Rattle.bank_trait.proofs.Moments.{later_refl, later_trans}
-use Rattle.bank_trait.proofs.Touches.{touches_none, touches_then}
+use Rattle.bank_trait.proofs.Touches.{touches_none, touches_then, touches_widen}
 use Rattle.uberblock_ring.specs.Devices.{count_of, has_device, IsWithin}
 use Rattle.uberblock_ring.proofs.DeviceSets.{none_in}
 use Rattle.core_state.specs.declared.item.Item.{Item}
@@ -19,8 +19,9 @@ use Rattle.core_open.proofs.Written.{none_listed}
 use Rattle.open_pool.proofs.Banks.{count_grows}
 use Rattle.client_script.specs.Script.{Script, handed_by}
 use Rattle.journal_law.proofs.Grown.{grown_has}
+use Rattle.core_turns.specs.Core.{CoreState}
 use Rattle.core_turns.specs.UnderWay.{TurnGoesOn}
-use Rattle.schedule.specs.Coming.{LeadTo, KeepsUsing}
+use Rattle.schedule.specs.Coming.{AttachesNone, LeadTo, KeepsUsing, StaysAsWide}
 use Rattle.schedule.specs.Turns.{Turns, TurnTaken, last_left, AreListedWith, IsListedWith, taken_by}
 use Rattle.schedule.specs.Fitting.{FitsCall}
 use Rattle.schedule.specs.Numbered.{IsNumbered}
@@ -35,6 +36,12 @@ few_or_many out parity = ⊎_elim (λ many. inr many) (λ few. inl few) (cases_l
 none_out : (device : ℕ) → has_device 0 device ≡ true → ⊥
 none_out device out = true≢false (sym out ∙ none_in device)
 
+as_wide_nowhere : (state : CoreState) → StaysAsWide state state
+as_wide_nowhere state = record {
+  reach = refl;
+  only = touches_none (IsOnInUse state.core.reach state.core.pool.out) state.disk;
+}
+
 -- Nothing was done, also where a turn was taken that did nothing.
 pub came_nowhere : (script : Script) (turns : Turns) (passed : List TurnTaken) → last_left turns passed ≡ turns
     → LeadTo script turns passed turns
@@ -47,8 +54,8 @@ came_nowhere script turns passed same = by (few_or_many turns.state.core.pool.ou
       later = later_refl turns.state.disk;
       parity = refl;
       reach = omega arith;
-      same = λ none. refl;
-      only = touches_none (IsOnInUse turns.state.core.reach turns.state.core.pool.out) turns.state.disk;
+      only = touches_none (IsOnInUse (turns.state.core.reach + 1) turns.state.core.pool.out) turns.state.disk;
+      same = λ none. as_wide_nowhere turns.state;
       out = outs_none (point_of turns.state.core.pool.out turns.state.disk);
       listed = λ index item there. there;
       fits = λ index entry there. inl there;
@@ -67,8 +74,8 @@ came_nowhere script turns passed same = by (few_or_many turns.state.core.pool.ou
       later = later_refl turns.state.disk;
       parity = refl;
       reach = omega arith;
-      same = λ none. refl;
-      only = touches_none (IsOnInUse turns.state.core.reach turns.state.core.pool.out) turns.state.disk;
+      only = touches_none (IsOnInUse (turns.state.core.reach + 1) turns.state.core.pool.out) turns.state.disk;
+      same = λ none. as_wide_nowhere turns.state;
       out = outs_none (point_of turns.state.core.pool.out turns.state.disk);
       listed = λ index item there. there;
       fits = λ index entry there. inl there;
@@ -116,17 +123,36 @@ module _ (script : Script) (start middle now : Turns) (one two : List TurnTaken)
   reach_then : start.state.core.reach ≤ now.state.core.reach
   reach_then = let one = first.reach in let two = second.reach in omega (arith, one, two)
 
-  only_then : TouchesOnly (IsOnInUse now.state.core.reach start.state.core.pool.out) start.state.disk now.state.disk
-  only_then = touches_then (IsOnInUse middle.state.core.reach start.state.core.pool.out)
-      (IsOnInUse now.state.core.reach middle.state.core.pool.out)
-      (IsOnInUse now.state.core.reach start.state.core.pool.out)
+  -- Who is in use later was so at the start.
+  in_use_then : (reach device device_sector : ℕ) → IsOnInUse reach middle.state.core.pool.out device device_sector
+      → IsOnInUse reach start.state.core.pool.out device device_sector
+  in_use_then reach device device_sector here = (
+    here.0,
+    in_use_before (point_of start.state.core.pool.out start.state.disk)
+        (point_of middle.state.core.pool.out middle.state.disk) device first.out.still here.1,
+  )
+
+  only_then : TouchesOnly (IsOnInUse (now.state.core.reach + 1) start.state.core.pool.out) start.state.disk
+      now.state.disk
+  only_then = touches_then (IsOnInUse (middle.state.core.reach + 1) start.state.core.pool.out)
+      (IsOnInUse (now.state.core.reach + 1) middle.state.core.pool.out)
+      (IsOnInUse (now.state.core.reach + 1) start.state.core.pool.out)
       (λ d x here. (let below = here.0 in let more = second.reach in omega (arith, below, more), here.1))
-      (λ d x here. (
-        here.0,
-        in_use_before (point_of start.state.core.pool.out start.state.disk)
-            (point_of middle.state.core.pool.out middle.state.disk) d first.out.still here.1,
-      ))
-      first.only second.only
+      (in_use_then (now.state.core.reach + 1)) first.only second.only
+
+  as_wide_then : AttachesNone script → StaysAsWide start.state now.state
+  as_wide_then none =
+      let one = first.same none in
+      let two = second.same none in record {
+        reach = two.reach ∙ one.reach;
+        only = touches_then (IsOnInUse start.state.core.reach start.state.core.pool.out)
+            (IsOnInUse middle.state.core.reach middle.state.core.pool.out)
+            (IsOnInUse start.state.core.reach start.state.core.pool.out)
+            (λ d x here. here)
+            (λ d x here. in_use_then start.state.core.reach d x
+            (subst (λ (reach : ℕ). d < reach) one.reach here.0, here.1))
+            one.only two.only;
+      }
 
   fits_then : FitSince start now
   fits_then index entry there = ⊎_elim
@@ -150,8 +176,8 @@ module _ (script : Script) (start middle now : Turns) (one two : List TurnTaken)
     later = later_trans first.later second.later;
     parity = parity_is;
     reach = reach_then;
-    same = λ none. second.same none ∙ first.same none;
     only = only_then;
+    same = as_wide_then;
     out = outs_then (point_of start.state.core.pool.out start.state.disk)
         (point_of middle.state.core.pool.out middle.state.disk) (point_of now.state.core.pool.out now.state.disk)
         first.later.faults second.later.faults first.out second.out;
@@ -180,8 +206,8 @@ module _ (script : Script) (start middle now : Turns) (one two : List TurnTaken)
     later = later_trans first.later second.later;
     parity = parity_is;
     reach = reach_then;
-    same = λ none. second.same none ∙ first.same none;
     only = only_then;
+    same = as_wide_then;
     out = outs_then (point_of start.state.core.pool.out start.state.disk)
         (point_of middle.state.core.pool.out middle.state.disk) (point_of now.state.core.pool.out now.state.disk)
         first.later.faults second.later.faults first.out second.out;
@@ -223,10 +249,11 @@ module _ (script : Script) (actor : ℕ) (before after : Turns) (goes : TurnGoes
   reach_is : before.state.core.reach ≤ after.state.core.reach
   reach_is = let same = goes.reach in omega (arith, same)
 
-  only_is : TouchesOnly (IsOnInUse after.state.core.reach before.state.core.pool.out) before.state.disk after.state.disk
-  only_is = subst
-      (λ (reach : ℕ). TouchesOnly (IsOnInUse reach before.state.core.pool.out) before.state.disk after.state.disk)
-      (sym goes.reach) goes.only
+  only_is : TouchesOnly (IsOnInUse (after.state.core.reach + 1) before.state.core.pool.out) before.state.disk
+      after.state.disk
+  only_is = touches_widen (IsOnInUse before.state.core.reach before.state.core.pool.out)
+      (IsOnInUse (after.state.core.reach + 1) before.state.core.pool.out)
+      (λ d x here. (let below = here.0 in let more = reach_is in omega (arith, below, more), here.1)) goes.only
 
   turn : (count_of before.state.core.pool.out ≤ before.state.core.pool.uber.parity)
       ⊎ (before.state.core.pool.uber.parity < count_of before.state.core.pool.out) → LeadTo script before (taken_by actor after ∷ []) after
@@ -235,8 +262,8 @@ module _ (script : Script) (actor : ℕ) (before after : Turns) (goes : TurnGoes
     later = goes.later;
     parity = goes.parity;
     reach = reach_is;
-    same = λ none. goes.reach;
     only = only_is;
+    same = λ none. record { reach = goes.reach; only = goes.only };
     out = goes.out;
     listed = λ index item there. subst (λ (l : List Item). slice_get l index ≡ Some item) (sym items)
         (grown_has before.items more index item there);
@@ -256,8 +283,8 @@ module _ (script : Script) (actor : ℕ) (before after : Turns) (goes : TurnGoes
     later = goes.later;
     parity = goes.parity;
     reach = reach_is;
-    same = λ none. goes.reach;
     only = only_is;
+    same = λ none. record { reach = goes.reach; only = goes.only };
     out = goes.out;
     listed = λ index item there. subst (λ (l : List Item). slice_get l index ≡ Some item) (sym items)
         (grown_has before.items more index item there);

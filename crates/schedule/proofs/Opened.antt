@@ -31,6 +31,7 @@ resting pool = record {
   begun = pool.uber.group;
   committing = None;
   copying = None;
+  attaching = None;
   reach = pool.uber.reflow.to;
 }
 

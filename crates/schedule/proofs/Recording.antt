@@ -1,7 +1,7 @@
 -- A journal goes on to tell what it did, turn by turn: the devices go on, a commit begins or ends, a call is answered.
 use Rattle.std.proofs.Common.{◌≡◌, inl, inr, ℕ, ◌≤◌, List, [], ◌∷◌, ◌++◌, length, refl, sym, ◌∙◌, ap, subst, arith, append_assoc, length-append, ◌+◌}
 use Rattle.std.proofs.lemmas.List.{append-nil}
-use Rattle.std.specs.Prelude.{◌≢◌, Contains}
+use Rattle.std.specs.Prelude.{◌≢◌, Contains, ⊤}
 use Rattle.bank_trait.specs.Disk.{Disk, Later}
 use Rattle.core_state.specs.declared.answer.Answer.TheVariants as answer
 use Rattle.core_state.specs.declared.item.Entry.{Entry}
@@ -17,7 +17,10 @@ use Rattle.core_state.specs.Moment.{AwaitsAttach, IsGroupOf, IsBegunAfter, Group
 use Rattle.core_state.specs.World.{World}
 use Rattle.core_state.proofs.Keeping.{knows_keep}
 use Rattle.core_state.proofs.Listed.{contains_head, contains_none, contains_tail}
+use Rattle.core_commit.specs.declared.commit_run.Stage.{Stage}
+use Rattle.core_commit.specs.declared.commit_run.Stage.TheVariants.{Lays, Signs}
 use Rattle.core_open.proofs.Joining.{since_longer}
+use Rattle.core_turns.specs.UnderWay.{shown_in}
 use Rattle.journal_law.specs.Moments.{KeepsLast}
 use Rattle.journal_law.specs.Parity.{HaveParityOf}
 use Rattle.journal_law.proofs.Parity.{parity_with}
@@ -28,6 +31,7 @@ use Rattle.journal_law.proofs.GrownRun.{groups_call, groups_end, groups_begun, g
 use Rattle.journal_law.proofs.Moments.{contains_one}
 use Rattle.journal_law.proofs.Rows.{row_among}
 use Rattle.journal_law.proofs.GrownAnswers.{each_grown_call, each_grown_group}
+use Rattle.schedule.specs.Running.{HasBegun}
 use Rattle.schedule.specs.Recorded.{Recorded, IsRightNext, IsBegunAt}
 use Rattle.schedule.proofs.BothListed.{both_right, groups_both}
 use Rattle.schedule.proofs.Counted.{counted_call, counted_group}
@@ -262,6 +266,38 @@ module _ {world : World} {past : Past} {items : List Item} {item : GroupItem} {l
           no_older = so_far.no_older;
           kept_on = on_wider (next ∷ []) so_far.kept_on;
         }
+
+-- A group has the parity of the last one, whichever it is that was begun.
+abbrev pub HasParityOf : Kept → List Kept → Type 0
+HasParityOf last begun = (kept : Kept) → begun ≡ kept ∷ [] → kept.uber.parity ≡ last.uber.parity
+
+-- A commit's half goes on, or the second one begins.
+abbrev pub HalvesGoOn : Stage → Stage → Type 0
+HalvesGoOn Signs Lays = ⊥
+HalvesGoOn from to = ⊤
+
+module _ {world : World} {past : Past} {items : List Item} {item : GroupItem} {last : Kept} {begun : List Kept}
+    {now : Disk} {after : ℕ} {attached : Type 0} (own : HasBegun world items item begun after attached)
+    (awaits : attached → AwaitsAttach world.calls items after) (parity : HasParityOf last begun) where
+  -- The group that was begun comes into the record,
+  recorded_comes : Recorded world past items item last [] now → Recorded world past items item last begun now
+  recorded_comes so_far = subst (λ (l : List Kept). Recorded world past items item last l now) (sym own.1)
+      (recorded_begins so_far own.2 awaits (parity own.0 own.1))
+
+  -- once images can show it, as from the second half on,
+  pub recorded_halves : (from to : Stage) → HalvesGoOn from to
+      → Recorded world past items item last (shown_in begun from) now
+      → Recorded world past items item last (shown_in begun to) now
+  recorded_halves Lays Lays goes so_far = so_far
+  recorded_halves Lays Signs goes so_far = recorded_comes so_far
+  recorded_halves Signs Signs goes so_far = so_far
+  recorded_halves Signs Lays goes so_far = absurd goes
+
+  -- or as its commit ends or is cut short.
+  pub recorded_whole : (stage : Stage) → Recorded world past items item last (shown_in begun stage) now
+      → Recorded world past items item last begun now
+  recorded_whole Lays so_far = recorded_comes so_far
+  recorded_whole Signs so_far = so_far
 
 -- A commit has ended the group that was begun, and the call that asked for it is answered.
 module _ {world : World} {past : Past} {items : List Item} {item : GroupItem} {last next : Kept} {now : Disk}

@@ -15,7 +15,7 @@ use Rattle.core_commit.specs.CommitTurns.{CommitRun}
 use Rattle.client_script.specs.Script.{Script}
 use Rattle.journal_law.proofs.Grown.{map_grown_call, map_grown_group}
 use Rattle.core_turns.specs.Core.{CoreState}
-use Rattle.core_turns.specs.UnderWay.{Stands}
+use Rattle.core_turns.specs.UnderWay.{Stands, shown_of}
 use Rattle.schedule.specs.declared.client.Client.{Client}
 use Rattle.schedule.specs.declared.client.UnderWay.{UnderWay}
 use Rattle.schedule.specs.Clients.{Changes}
@@ -34,18 +34,20 @@ module _ {world : World} {script : Script} {past : Past} {before : CoreState} {i
   abbrev map : Map
   map = map_of world.handed world.opening items
 
-  -- A call is answered, and its entry listed: the client has nothing under way then.
-  module _ (entry : Entry) (caller : entry.caller ≡ index) (ended : client.under_way ≡ None)
+  -- A call is answered, and its entry listed: the client has nothing under way then, and this commit is under way.
+  module _ (commit : Option CommitRun)
+      (so_far : Recorded world past items runs.item runs.last (shown_of runs.begun commit) before.disk)
+      (entry : Entry) (caller : entry.caller ≡ index) (ended : client.under_way ≡ None)
       (disk : after.disk ≡ before.disk)
-      (knows : Knows (setting_now runs) runs.last runs.begun before.disk)
+      (knows : Knows (setting_now runs) runs.last (shown_of runs.begun commit) before.disk)
       (right : IsRightNext world items entry) (answers : IsAnswerOf entry.kind entry.answer)
       (with : IsListedWith past.banks items (items ++ CallItem entry ∷ []) after.disk) where
     abbrev grown : List Item
     grown = items ++ CallItem entry ∷ []
 
-    recorded_entry : Recorded world past grown runs.item runs.last runs.begun after.disk
-    recorded_entry = subst (Recorded world past grown runs.item runs.last runs.begun) (sym disk)
-        (recorded_answers runs.recorded runs.reach entry (with (length items + 1) (omega arith)
+    recorded_entry : Recorded world past grown runs.item runs.last (shown_of runs.begun commit) after.disk
+    recorded_entry = subst (Recorded world past grown runs.item runs.last (shown_of runs.begun commit)) (sym disk)
+        (recorded_answers so_far runs.reach entry (with (length items + 1) (omega arith)
         (omega (arith, length-append items (CallItem entry ∷ []))) ∙ disk) knows right answers)
 
     each_left : (other : ℕ) (its_client : Client) (its_under : UnderWay) → IsGoing news other its_client its_under
@@ -63,14 +65,12 @@ module _ {world : World} {script : Script} {past : Past} {before : CoreState} {i
     map_is : map_of world.handed world.opening grown ≡ map_after_answer world.handed map entry entry.answer
     map_is = map_grown_call world.handed world.opening items entry
 
-    -- what stands with this commit under way
-    abbrev StandsWith : Option CommitRun → Type 0
-    StandsWith commit = Stands (setting_now runs) runs.last runs.begun (map_after_answer world.handed map entry entry.answer)
+    abbrev StandsNow : Type 0
+    StandsNow = Stands (setting_now runs) runs.last runs.begun (map_after_answer world.handed map entry entry.answer)
         runs.contents (calls_under_way news) commit after
 
-    answered_with : (commit : Option CommitRun) → IsTheirs news commit → StandsWith commit
-        → Runs world script past after grown news
-    answered_with commit theirs stands = record {
+    answered_with : IsTheirs news commit → StandsNow → Runs world script past after grown news
+    answered_with theirs stands = record {
       last = runs.last;
       begun = runs.begun;
       contents = runs.contents;
@@ -85,19 +85,20 @@ module _ {world : World} {script : Script} {past : Past} {before : CoreState} {i
     }
 
     -- A put or a read ends, or a call is answered in its first turn.
-    pub answers_call : IsNoCommit old.under_way → StandsWith runs.commit → Runs world script past after grown news
-    answers_call was_none =
-        answered_with runs.commit (commit_stays was changes runs.commit was_none (idle_no_commit ended) runs.theirs)
+    pub answers_call : IsTheirs clients commit → IsNoCommit old.under_way → StandsNow
+        → Runs world script past after grown news
+    answers_call theirs was_none =
+        answered_with (commit_stays was changes commit was_none (idle_no_commit ended) theirs)
 
-    -- A commit is cut short.
-    pub commit_is_cut : OnlyIt clients index → StandsWith None → Runs world script past after grown news
-    commit_is_cut only = answered_with None (commit_gone was changes ended only)
+    -- A commit is cut short, and none is under way.
+    pub commit_is_cut : commit ≡ None → OnlyIt clients index → StandsNow → Runs world script past after grown news
+    commit_is_cut none only = answered_with (subst (IsTheirs news) (sym none) (commit_gone was changes ended only))
 
   -- A commit ends its group, whose item is listed before its entry.
   module _ {attached : Type 0} (under : UnderWay) (next : Kept) (group : GroupItem) (entry : Entry)
       (caller : entry.caller ≡ index) (ended : client.under_way ≡ None)
       (has_begun : HasBegun world items runs.item runs.begun under.at attached)
-      (begun_is : runs.begun ≡ next ∷ [])
+      (so_far : Recorded world past items runs.item runs.last runs.begun before.disk) (begun_is : runs.begun ≡ next ∷ [])
       (only : OnlyIt clients index) (disk : after.disk ≡ before.disk)
       (group_is : group ≡ record {
         group = next.uber.group;
@@ -129,7 +130,7 @@ module _ {world : World} {script : Script} {past : Past} {before : CoreState} {i
     recorded_end : Recorded world past with_both group next [] after.disk
     recorded_end = subst (Recorded world past with_both group next []) (sym disk)
         (recorded_ends
-        (subst (λ (l : List Kept). Recorded world past items runs.item runs.last l before.disk) begun_is runs.recorded)
+        (subst (λ (l : List Kept). Recorded world past items runs.item runs.last l before.disk) begun_is so_far)
         is_next runs.reach knows
         (ap (λ (g : GroupItem). g.group) group_is) (ap (λ (g : GroupItem). g.after) group_is)
         (ap (λ (g : GroupItem). g.from) group_is) (ap (λ (g : GroupItem). g.to) group_is) entry told right answers

@@ -9,21 +9,21 @@ use Rattle.core_state.specs.Map.{Map, map_of}
 use Rattle.core_state.specs.Legal.{CallAt}
 use Rattle.core_state.specs.declared.item.Entry.{Entry}
 use Rattle.core_state.specs.Keeps.{Kept}
-use Rattle.core_state.specs.Moment.{AwaitsAttach}
 use Rattle.core_state.specs.World.{World}
+use Rattle.core_commit.specs.declared.commit_run.Stage.TheVariants.{Lays}
 use Rattle.core_commit.specs.CommitTurns.{CommitRun}
 use Rattle.client_script.specs.declared.call.ScriptCall.{ScriptCall}
 use Rattle.client_script.specs.Script.{Script, calls_of}
 use Rattle.core_turns.specs.Core.{CoreState}
-use Rattle.core_turns.specs.UnderWay.{Stands}
+use Rattle.core_turns.specs.UnderWay.{Stands, shown_in, shown_of}
 use Rattle.schedule.specs.declared.client.Client.{Client}
 use Rattle.schedule.specs.declared.client.UnderWay.{UnderWay}
 use Rattle.schedule.specs.declared.client.Work.{Work}
 use Rattle.schedule.specs.Clients.{Changes}
 use Rattle.schedule.specs.Moments.{Past}
-use Rattle.schedule.specs.Recorded.{Recorded, IsBegunAt}
+use Rattle.schedule.specs.Recorded.{Recorded}
 use Rattle.schedule.specs.Running.{HasBegunBy, HasContent, IsClient, IsGoing, IsTheirs, MakesCommit, Runs, calls_under_way, commit_in, setting_now}
-use Rattle.schedule.proofs.Recording.{GoesOnSince, recorded_begins, recorded_goes}
+use Rattle.schedule.proofs.Recording.{GoesOnSince, recorded_goes}
 use Rattle.schedule.proofs.Running.{group_free, with_content, with_other, with_own}
 use Rattle.schedule.proofs.Theirs.{IsNoCommit, each_going, idle_no_commit, no_one, commit_stays, the_one, work_no_commit}
 
@@ -38,13 +38,17 @@ module _ {world : World} {script : Script} {past : Past} {before : CoreState} {i
   some_items : 1 ≤ length items
   some_items = let low = runs.recorded.latest.before in omega (arith, low)
 
+  -- what images can show beside the last group
+  abbrev shown : List Kept
+  shown = shown_of runs.begun runs.commit
+
   -- what the journal tells, with this bank
   abbrev IsRecorded : List Kept → Disk → Type 0
   IsRecorded begun now = Recorded world past items runs.item runs.last begun now
 
   -- Where no device was called.
-  recorded_still : after.disk ≡ before.disk → IsRecorded runs.begun after.disk
-  recorded_still disk = subst (IsRecorded runs.begun) (sym disk) runs.recorded
+  recorded_still : after.disk ≡ before.disk → IsRecorded shown after.disk
+  recorded_still disk = subst (IsRecorded shown) (sym disk) runs.recorded
 
   -- what is known of the client's call
   abbrev IsMine : List Kept → List ℕ → UnderWay → Type 0
@@ -52,7 +56,7 @@ module _ {world : World} {script : Script} {past : Past} {before : CoreState} {i
 
   -- The groups are as they were, and so is the commit.
   beside_commit : (nows : ℕ → List ℕ) → ((other : ℕ) → other ≢ index → nows other ≡ runs.contents other)
-      → IsRecorded runs.begun after.disk → IsNoCommit old.under_way → IsNoCommit client.under_way
+      → IsRecorded shown after.disk → IsNoCommit old.under_way → IsNoCommit client.under_way
       → ((under : UnderWay) → client.under_way ≡ Some under → IsMine runs.begun (nows index) under)
       → Stands (setting_now runs) runs.last runs.begun map nows (calls_under_way news) runs.commit after
       → Runs world script past after items news
@@ -75,7 +79,7 @@ module _ {world : World} {script : Script} {past : Past} {before : CoreState} {i
 
   -- A put or a read goes on.
   pub goes_on : (under : UnderWay) (does : Work) → Later before.disk after.disk
-      → GoesOnSince (setting_now runs) runs.last runs.begun before.disk after.disk
+      → GoesOnSince (setting_now runs) runs.last shown before.disk after.disk
       → old.under_way ≡ Some under
       → client ≡ record { begun = old.begun; under_way = Some (record { at = under.at; work = does }) }
       → (MakesCommit under.work → ⊥) → (MakesCommit does → ⊥)
@@ -100,9 +104,11 @@ module _ {world : World} {script : Script} {past : Past} {before : CoreState} {i
       mine : IsClient world script items runs.item runs.begun (runs.contents index) index old under
       mine = runs.each index old under (record { there = was; under_way = old_is })
 
-  -- A commit goes on: it is its client's work still, and makes the group that was begun.
+  -- A commit goes on: it is its client's work still, and makes the group that was begun. What images can show by then is
+  -- recorded.
   pub commit_goes_on : (under : UnderWay) (does : Work) (next : CommitRun) → Later before.disk after.disk
-      → GoesOnSince (setting_now runs) runs.last runs.begun before.disk after.disk
+      → IsRecorded (shown_in runs.begun next.stage) before.disk
+      → GoesOnSince (setting_now runs) runs.last (shown_in runs.begun next.stage) before.disk after.disk
       → old.under_way ≡ Some under → commit_in does ≡ Some next
       → client ≡ record { begun = old.begun; under_way = Some (record { at = under.at; work = does }) }
       → (HasBegunBy world items runs.item runs.begun under.at under.work
@@ -110,14 +116,14 @@ module _ {world : World} {script : Script} {past : Past} {before : CoreState} {i
       → ((asked : ScriptCall) → HasContent world items asked under.at (runs.contents index) does)
       → Stands (setting_now runs) runs.last runs.begun map runs.contents (calls_under_way news) (Some next) after
       → Runs world script past after items news
-  commit_goes_on under does next later since old_is does_is client_is begun has stands = record {
+  commit_goes_on under does next later recorded since old_is does_is client_is begun has stands = record {
     last = runs.last;
     begun = runs.begun;
     contents = runs.contents;
     commit = Some next;
     item = runs.item;
     reach = runs.reach;
-    recorded = recorded_goes runs.recorded runs.reach later since;
+    recorded = recorded_goes recorded runs.reach later since;
     stands = stands;
     theirs = (index, client, now, record { there = changes.there; under_way = going }, does_is);
     each = each_going was changes {T = λ other its its_under.
@@ -177,26 +183,23 @@ module _ {world : World} {script : Script} {past : Past} {before : CoreState} {i
   waits idle disk still = beside_commit runs.contents (λ other apart. refl) (recorded_still disk)
       (idle_no_commit idle) (idle_no_commit still) (no_one (IsMine runs.begun (runs.contents index)) still)
 
-  -- A commit begins, which calls no device.
-  pub commit_begins : {attached : Type 0} (does : Work) (run : CommitRun) (next : Kept) → runs.begun ≡ []
-      → runs.commit ≡ None → commit_in does ≡ Some run → after.disk ≡ before.disk
+  -- A commit begins, which calls no device. No image shows its group.
+  pub commit_begins : (does : Work) (run : CommitRun) (next : Kept) → runs.begun ≡ [] → runs.commit ≡ None
+      → commit_in does ≡ Some run → run.stage ≡ Lays → after.disk ≡ before.disk
       → client ≡ record { begun = old.begun + 1; under_way = Some (record { at = length items; work = does }) }
-      → IsBegunAt world items runs.item (length items) attached next
-      → (attached → AwaitsAttach world.calls items (length items))
       → HasBegunBy world items runs.item (next ∷ []) (length items) does
       → ((asked : ScriptCall) → HasContent world items asked (length items) (runs.contents index) does)
-      → next.uber.parity ≡ runs.last.uber.parity
       → Stands (setting_now runs) runs.last (next ∷ []) map runs.contents (calls_under_way news) (Some run) after
       → Runs world script past after items news
-  commit_begins does run next none_begun no_commit does_is disk client_is is_begun awaits begun has parity stands = record {
+  commit_begins does run next none_begun no_commit does_is stage disk client_is begun has stands = record {
     last = runs.last;
     begun = next ∷ [];
     contents = runs.contents;
     commit = Some run;
     item = runs.item;
     reach = runs.reach;
-    recorded = subst (IsRecorded (next ∷ [])) (sym disk) (recorded_begins
-        (subst (λ (l : List Kept). IsRecorded l before.disk) none_begun runs.recorded) is_begun awaits parity);
+    recorded = subst (λ (l : List Kept). IsRecorded l after.disk)
+        ((λ i. shown_of (none_begun i) (no_commit i)) ∙ sym (ap (shown_in (next ∷ [])) stage)) (recorded_still disk);
     stands = stands;
     theirs = (index, client, now, record { there = changes.there; under_way = going }, does_is);
     each = each_going was changes

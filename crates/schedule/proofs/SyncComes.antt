@@ -107,9 +107,8 @@ module _ {script : Script} {actor : ℕ} {before after : Station} {clients news 
           let its = begun_now runs.recorded (let number = made.2 in omega (arith, number, begun, rest, last))
           (subst (λ (r : Reflow). KeepsOrEnds r made.0.uber.reflow) (ap (λ (u : Uber). u.reflow) runs.stands.alike) made.3)
           (λ id. ap (λ (m : Map). m id) made.1) in
-          commit_begins after.state takes.was takes.changes runs (work.Sync run) run made.0 empty none refl disk leaves.1 its
-          (λ attached. absurd attached) (made.0, refl, its) (λ asked. tt)
-          (made.4 ∙ ap (λ (u : Uber). u.parity) runs.stands.alike)
+          commit_begins after.state takes.was takes.changes runs (work.Sync run) run made.0 empty none refl
+          (ap (λ (r : CommitRun). r.stage) begins.run_is) disk leaves.1 (made.0, refl, its) (λ asked. tt)
           (subst (λ (l : List HoldingCall). Stands (setting_now runs) runs.last (made.0 ∷ []) map runs.contents l (Some run)
           after.state)
           (sym same_calls)

@@ -21,7 +21,7 @@ use Rattle.journal_law.proofs.Grown.{new_or_before}
 use Rattle.core_turns.specs.declared.turn.Turn.TheVariants.{More, Done}
 use Rattle.core_turns.specs.Core.{Core, CoreState}
 use Rattle.core_turns.specs.Committing.{IsCommitOf, StepsCommit, AnswersGroup}
-use Rattle.core_turns.specs.UnderWay.{Stands, TurnGoesOn, AreCallsOf, HoldingCall}
+use Rattle.core_turns.specs.UnderWay.{Stands, TurnGoesOn, AreCallsOf, HoldingCall, shown_in, shown_of}
 use Rattle.core_turns.proofs.Commits.{few_out, turn_bank}
 use Rattle.core_turns.proofs.CommitEnds.{commit_ends_calls, commit_ends_stands}
 use Rattle.core_turns.proofs.CommitStands.{commit_steps_calls, commit_steps_stands, commit_steps_since, commit_is_cut as cut_stands}
@@ -29,7 +29,8 @@ use Rattle.schedule.specs.declared.client.Client.{Client}
 use Rattle.schedule.specs.declared.client.UnderWay.{UnderWay}
 use Rattle.schedule.specs.declared.client.Work.TheVariants as work
 use Rattle.schedule.specs.Clients.{ClientsAreAnswered}
-use Rattle.schedule.specs.Running.{HasBegunBy, IsGoing, AreGoing, Runs, call_of_client, calls_under_way, commit_in, held_by, held_under, setting_now}
+use Rattle.schedule.specs.Recorded.{Recorded}
+use Rattle.schedule.specs.Running.{HasBegun, HasBegunBy, IsGoing, AreGoing, Runs, call_of_client, calls_under_way, commit_in, held_by, held_under, setting_now}
 use Rattle.schedule.specs.Turns.{turns_of}
 use Rattle.schedule.specs.Turned.{Station, LeavesGoing, entry_for, group_for}
 use Rattle.schedule.specs.Comes.{TakesTurn, Comes}
@@ -43,7 +44,8 @@ use Rattle.schedule.proofs.Going.{commits_on, commit_ends, one_commit}
 use Rattle.schedule.proofs.Running.{group_apart}
 use Rattle.schedule.proofs.RunsGoOn.{commit_goes_on}
 use Rattle.schedule.proofs.RunsEnd.{commit_ends as runs_ends, commit_is_cut}
-use Rattle.schedule.proofs.Syncs.{its_commit, stands_know}
+use Rattle.schedule.proofs.Recording.{recorded_halves, recorded_whole}
+use Rattle.schedule.proofs.Syncs.{begun_parity, halves_go, its_commit}
 use Rattle.schedule.proofs.TurnComes.{RunsOn, came_listed, comes_answered, comes_further, its_asked, its_going, its_number, its_place, its_work}
 use Rattle.schedule.specs.Moments.{Past}
 
@@ -97,6 +99,25 @@ module _ {script : Script} {actor : ℕ} {before after : Station} {clients news 
       (map_of world.handed world.opening before.items) runs.contents (calls_under_way clients) c before.state)
       (its_commit clients actor before.client under run runs.commit syncing commit_is only runs.theirs) runs.stands
 
+  -- What the journal tells then is of the groups that images can show,
+  its_recorded : {world : World} {past : Past} (runs : Runs world script past before.state before.items clients)
+      → Recorded world past before.items runs.item runs.last (shown_in runs.begun run.stage) before.state.disk
+  its_recorded {world = world} {past = past} runs = subst (λ (c : Option CommitRun). Recorded world past before.items
+      runs.item runs.last (shown_of runs.begun c) before.state.disk)
+      (its_commit clients actor before.client under run runs.commit syncing commit_is only runs.theirs) runs.recorded
+
+  -- and the group begun is the sync's.
+  its_group : {world : World} {past : Past} (runs : Runs world script past before.state before.items clients)
+      → HasBegun world before.items runs.item runs.begun under.at ⊥
+  its_group {world = world} runs = subst (HasBegunBy world before.items runs.item runs.begun under.at) does_is
+      (runs.each actor before.client under syncing).group
+
+  -- It comes into the record where its commit is cut short or ends.
+  whole_recorded : {world : World} {past : Past} (runs : Runs world script past before.state before.items clients)
+      → Recorded world past before.items runs.item runs.last runs.begun before.state.disk
+  whole_recorded runs = recorded_whole (its_group runs) (λ attached. absurd attached) (begun_parity (its_stands runs))
+      run.stage (its_recorded runs)
+
   -- It goes on.
   pub sync_goes_on : (next : CommitRun) → StepsCommit before.state run after.state (More next)
       → LeavesGoing actor call before after under (More (work.Sync next)) → ItComes
@@ -111,7 +132,8 @@ module _ {script : Script} {actor : ℕ} {before after : Station} {clients news 
       (λ world past handed within listed runs.
       let borne = within (few_out old steps.0) in
       commit_goes_on after.state takes.was takes.changes runs under (work.Sync next) next
-      goes.later (commit_steps_since takes.is steps borne (its_stands runs)) under_is refl further.1
+      goes.later (recorded_halves (its_group runs) (λ attached. absurd attached) (begun_parity (its_stands runs)) run.stage
+      next.stage (halves_go steps.1) (its_recorded runs)) (commit_steps_since takes.is steps borne (its_stands runs)) under_is refl further.1
       (subst (HasBegunBy world before.items runs.item runs.begun under.at) does_is) (λ asked. tt)
       (subst (λ (l : List HoldingCall). Stands (setting_now runs) runs.last runs.begun
       (map_of world.handed world.opening before.items) runs.contents l (Some next) after.state)
@@ -221,9 +243,7 @@ module _ {script : Script} {actor : ℕ} {before after : Station} {clients news 
           let mine = runs.each actor before.client under syncing in
           runs_ends after.state takes.was takes.changes runs under next group entry refl
           (idle_now (answer.Synced number) leaves)
-          (subst (HasBegunBy world before.items runs.item runs.begun under.at) does_is
-          (runs.each actor before.client under syncing).group)
-          stands.groups.begun_is only disk
+          (its_group runs) (whole_recorded runs) stands.groups.begun_is only disk
           (λ i. record {
             group = number_is i;
             after = under.at;
@@ -247,13 +267,14 @@ module _ {script : Script} {actor : ℕ} {before after : Station} {clients news 
       (λ its is. steps.0)))
       (λ world past handed within listed runs.
       let map : Map = map_of world.handed world.opening before.items in
-      commit_is_cut after.state takes.was takes.changes runs (entry given leaves) refl (idle_now given leaves)
-      (ap (λ (s : CoreState). s.disk) steps.2)
-      (stands_know runs.stands) (sync_cut_right world before.items (entry given leaves) for_call.0 tt) tt listed only
+      let stood = cut_stands steps.0 (its_stands runs) in
+      commit_is_cut after.state takes.was takes.changes runs None (whole_recorded runs) (entry given leaves) refl
+      (idle_now given leaves) (ap (λ (s : CoreState). s.disk) steps.2)
+      stood.groups.knows (sync_cut_right world before.items (entry given leaves) for_call.0 tt) tt listed refl only
       (subst (λ (l : List HoldingCall). Stands (setting_now runs) runs.last runs.begun map runs.contents l None after.state)
       (sym (ended_calls given leaves))
       (subst (Stands (setting_now runs) runs.last runs.begun map runs.contents (calls_under_way clients) None) (sym steps.2)
-      (cut_stands steps.0 (its_stands runs)))))
+      stood)))
     where
       given : Answer
       given = answer.TooManyFailed out

@@ -1,5 +1,5 @@
 -- A sync among the calls under way: its commit is the core's, and what it may be answered in its first turn.
-use Rattle.std.proofs.Common.{◌≡◌, ℕ, List, length, Option, Some, None, refl, sym, ◌∙◌, ap, subst, arith}
+use Rattle.std.proofs.Common.{◌≡◌, inl, inr, ℕ, List, [], ◌∷◌, length, Option, Some, None, refl, sym, ◌∙◌, ap, subst, arith}
 use Rattle.std.specs.Prelude.{slice_get}
 use Rattle.core_state.specs.declared.answer.Answer.{Answer}
 use Rattle.core_state.specs.declared.answer.Answer.TheVariants as answer
@@ -13,33 +13,65 @@ use Rattle.core_state.specs.Legal.{IsGroupBefore, IsAnswerOf}
 use Rattle.core_state.specs.Keeps.{Kept, Setting}
 use Rattle.core_state.specs.Certain.{Knows}
 use Rattle.core_state.specs.World.{World}
-use Rattle.core_state.specs.Committing.{point_of}
-use Rattle.core_commit.specs.CommitTurns.{CommitRun}
-use Rattle.core_commit.proofs.Beside.{committing_cut}
+use Rattle.core_state.specs.Committing.{Point, point_of}
+use Rattle.core_commit.specs.declared.commit_run.Stage.{Stage}
+use Rattle.core_commit.specs.declared.commit_run.Stage.TheVariants.{Lays, Signs}
+use Rattle.core_commit.specs.CommitTurns.{CommitRun, HasCalled, IsMadeReady}
+use Rattle.core_commit.proofs.Beside.{committing_knows}
 use Rattle.core_turns.specs.Core.{Core, CoreState}
 use Rattle.core_turns.specs.Getting.{HasTooManyOut}
 use Rattle.core_turns.specs.Committing.{IsSyncRefused}
-use Rattle.core_turns.specs.UnderWay.{HoldingCall, GroupsStand, Stands}
+use Rattle.core_turns.specs.UnderWay.{HoldingCall, GroupsStand, Stands, shown_in, shown_of}
+use Rattle.core_turns.proofs.WritesBeside.{shown_one}
 use Rattle.schedule.specs.declared.client.Client.{Client}
 use Rattle.schedule.specs.declared.client.UnderWay.{UnderWay}
 use Rattle.schedule.specs.Recorded.{IsRightNext}
 use Rattle.schedule.specs.Running.{IsGoing, IsTheirs, commit_in}
+use Rattle.schedule.proofs.Recording.{HalvesGoOn, HasParityOf}
+use Rattle.schedule.proofs.Running.{head_is}
 use Rattle.schedule.proofs.RightNext.{IsStopped, sync_cut_right, sync_limit_right, same_out}
 use Rattle.schedule.proofs.Theirs.{OnlyIt, makes_commit, some_is, none_some}
 
 -- ---- the core's commit
 
--- What is certain of the last group, whether a commit is under way or not.
+-- What is certain of the last group and of those that images can show, whether a commit is under way or not.
 pub stands_know : {setting : Setting} {last : Kept} {begun : List Kept} {map : Map} {contents : ℕ → List ℕ}
     {calls : List HoldingCall} {commit : Option CommitRun} {state : CoreState}
-    → Stands setting last begun map contents calls commit state → Knows setting last begun state.disk
+    → Stands setting last begun map contents calls commit state
+    → Knows setting last (shown_of begun commit) state.disk
 stands_know {setting} {last} {begun} {calls = calls} {commit} {state} stands = by commit stands.groups
   where
     by : (commit : Option CommitRun) → GroupsStand setting last begun calls commit state
-        → Knows setting last begun state.disk
+        → Knows setting last (shown_of begun commit) state.disk
     by None groups = groups.knows
-    by (Some run) groups = subst (λ (l : List Kept). Knows setting last l state.disk) (sym groups.begun_is)
-        (committing_cut setting last groups.next run (point_of state.core.pool.out state.disk) groups.come)
+    by (Some run) groups = subst (λ (l : List Kept). Knows setting last l state.disk)
+        (sym (ap (λ (l : List Kept). shown_in l run.stage) groups.begun_is ∙ shown_one groups.next run.stage))
+        (committing_knows setting last groups.next run (point_of state.core.pool.out state.disk) groups.come)
+
+-- The group of a commit has the parity of the last one.
+pub begun_parity : {setting : Setting} {last : Kept} {begun : List Kept} {map : Map} {contents : ℕ → List ℕ}
+    {calls : List HoldingCall} {run : CommitRun} {state : CoreState}
+    → Stands setting last begun map contents calls (Some run) state → HasParityOf last begun
+begun_parity stands kept is =
+    ap (λ (k : Kept). k.uber.parity) (head_is (sym is ∙ stands.groups.begun_is)) ∙ stands.groups.come.parity_is
+
+halves_stay : (stage : Stage) → HalvesGoOn stage stage
+halves_stay Lays = tt
+halves_stay Signs = tt
+
+-- A call of a commit is in the half that it is in, or in the second one.
+pub halves_go : {run next : CommitRun} {before after : Point} → HasCalled run before next after
+    → HalvesGoOn run.stage next.stage
+halves_go {run} {next} {before} did = by did.is_ready
+  where
+    stage_is : next.stage ≡ did.ready.stage
+    stage_is = ap (λ (r : CommitRun). r.stage) did.left
+
+    by : IsMadeReady before.out run did.ready → HalvesGoOn run.stage next.stage
+    by (inl (goes, same)) = subst (HalvesGoOn run.stage)
+        (sym (stage_is ∙ ap (λ (r : CommitRun). r.stage) same)) (halves_stay run.stage)
+    by (inr (laid, same)) = subst (λ (s : Stage). HalvesGoOn s next.stage) (sym laid.0)
+        (subst (HalvesGoOn Lays) (sym (stage_is ∙ ap (λ (r : CommitRun). r.stage) same)) tt)
 
 -- Where the core has no commit under way, none stands;
 pub no_commit : (setting : Setting) (last : Kept) (begun : List Kept) (calls : List HoldingCall) (commit : Option CommitRun)

@@ -16,7 +16,7 @@ use Rattle.core_state.specs.World.{World}
 use Rattle.client_script.specs.declared.call.ScriptCall.{ScriptCall}
 use Rattle.client_script.specs.Script.{Script, calls_of, handed_by}
 use Rattle.core_turns.specs.Core.{Core}
-use Rattle.core_turns.specs.UnderWay.{HoldingCall, AreCallsOf, Stands, TurnGoesOn}
+use Rattle.core_turns.specs.UnderWay.{HoldingCall, AreCallsOf, Stands, TurnGoesOn, shown_of}
 use Rattle.core_turns.specs.declared.turn.Turn.TheVariants.{More, Done}
 use Rattle.core_turns.proofs.Commits.{turn_bank}
 use Rattle.schedule.specs.declared.client.Client.{Client}
@@ -207,8 +207,8 @@ module _ {script : Script} {actor : ℕ} {before after : Station} {clients news 
         (still_going rests are)
         (λ world past handed within with runs.
         let now = stands world past runs in
-        runs_answer after.state takes.was takes.changes runs (first_entry call actor before given) refl rests disk
-        (stands_know runs.stands) now.0 fit.of_kind with (idle_no_commit idle)
+        runs_answer after.state takes.was takes.changes runs runs.commit runs.recorded (first_entry call actor before given)
+        refl rests disk (stands_know runs.stands) now.0 fit.of_kind with runs.theirs (idle_no_commit idle)
         (subst (λ (calls : List HoldingCall). Stands (setting_now runs) runs.last runs.begun
         (map_after_answer world.handed (map_of world.handed world.opening before.items)
         (first_entry call actor before given) given) runs.contents calls runs.commit after.state)
@@ -327,7 +327,7 @@ module _ {script : Script} {actor : ℕ} {before after : Station} {clients news 
         pub comes_going : KeepsCommit old now → IsHoldOf actor next → IsWorkFor call next
             → AreCallsOf now (calls_under_way news)
             → ((world : World) (past : Past) → (runs : Runs world script past before.state before.items clients)
-            → GoesOnSince (setting_now runs) runs.last runs.begun before.state.disk after.state.disk
+            → GoesOnSince (setting_now runs) runs.last (shown_of runs.begun runs.commit) before.state.disk after.state.disk
             × (HasContent world before.items call under.at (runs.contents actor) does
             → HasContent world before.items call under.at (runs.contents actor) next)
             × StandsNow world past runs runs.contents (map_of world.handed world.opening before.items))
@@ -378,5 +378,5 @@ module _ {script : Script} {actor : ℕ} {before after : Station} {clients news 
             (no_one (λ its_under. IsWorkOf script now actor after.client its_under.work) idle_now))
             (λ world past handed within with runs.
             let now = stands world past handed runs in
-            runs_answer after.state takes.was takes.changes runs entry refl idle_now disk
-            (stands_know runs.stands) now.0 fit.of_kind with (work_no_commit under_is no_commit) now.1)
+            runs_answer after.state takes.was takes.changes runs runs.commit runs.recorded entry refl idle_now disk
+            (stands_know runs.stands) now.0 fit.of_kind with runs.theirs (work_no_commit under_is no_commit) now.1)

@@ -212,7 +212,7 @@ module _ (script : Script) (old mid : Disk) (pool : Pool) (silent : ℕ) (items 
     parity = pool.uber.parity;
     only = touches_then (IsOnBelow pool.uber.reflow.to) (IsOnInUse pool.uber.reflow.to pool.out)
         (IsOnBelow pool.uber.reflow.to) (λ d x here. here) (λ d x here. here.0) opened_only
-        (subst (λ (reach : ℕ). TouchesOnly (IsOnInUse reach pool.out) mid final.disk) (come.same none) come.only);
+        (come.same none).only;
     each = out_later old mid final.disk pool.uber silent pool.out final.core.pool.out opened_later come.later outs
         come.out;
     calls = calls;

@@ -1,5 +1,5 @@
 -- What some turns of a script's clients come to.
-use Rattle.std.specs.Prelude.{◌≡◌, ◌≢◌, ◌⊎◌, ℕ, ◌≤◌, ◌<◌, List, Some, slice_get}
+use Rattle.std.specs.Prelude.{◌≡◌, ◌≢◌, ◌⊎◌, ℕ, ◌+◌, ◌≤◌, ◌<◌, List, Some, slice_get}
 use Rattle.bank_trait.specs.Disk.{Later}
 use Rattle.bank_trait.specs.Regions.{TouchesOnly}
 use Rattle.block_record.specs.declared.entry.IndexEntry.{IndexEntry}
@@ -23,7 +23,7 @@ use Rattle.schedule.specs.Numbered.{IsNumbered}
 use Rattle.schedule.specs.Running.{AreGoing, Runs}
 use Rattle.schedule.specs.Turns.{Turns, TurnTaken, AreListedWith, last_left}
 use Rattle.schedule.specs.Using.{HasUsedRuns}
-use Rattle.core_turns.specs.Core.{HasBankOf}
+use Rattle.core_turns.specs.Core.{CoreState, HasBankOf}
 
 -- What is needed of the calls under way, and which calls the journal answers.
 pub record IsSchedule (script : Script) (turns : Turns) : Type 0 where
@@ -37,25 +37,31 @@ KeepsUsing script start now = (uber : Uber) (entries : List IndexEntry)
     → HasUsedRuns script uber entries start.state.core start.items start.clients
     → HasUsedRuns script uber entries now.state.core now.items now.clients
 
+-- The pool reaches to as many devices, and none was touched but those of them that were in use.
+pub record StaysAsWide (before after : CoreState) : Type 0 where
+  pub reach : after.core.reach ≡ before.core.reach
+  pub only : TouchesOnly (IsOnInUse before.core.reach before.core.pool.out) before.disk after.disk
+
 -- No call of the script brings the pool a device.
 abbrev pub AttachesNone : Script → Type 0
 AttachesNone script = (actor number : ℕ) (call : ScriptCall) → slice_get (calls_of script actor) number ≡ Some call
     → call.kind ≢ kind.Attach
 
--- These turns lead from one state to another, in a pool that reaches to no fewer devices, and to as many where no call
--- brings it one. Devices went out where they failed, and none was touched but those that the pool then reaches to and
--- that were in use. What was answered fits its call, and groups are numbered. The devices whose failure has to be borne
--- were out when it began, or have failed, and are no more than there are parities; none where too many were out then,
--- since no device is called any more. Where these may fail, what stood stands, and answers that the table is full have
--- their cause.
+-- These turns lead from one state to another, in a pool that reaches to no fewer devices. Devices went out where they
+-- failed, and none was touched but those in use that the pool then reaches to, and the one behind them, which an attach
+-- may have laid a group without its joining. Where no call of the script is an attach, the pool reaches to as many
+-- devices as before, and none was touched but these. What was answered fits its call, and groups are numbered. The
+-- devices whose failure has to be borne were out when it began, or have failed, and are no more than there are parities;
+-- none where too many were out then, since no device is called any more. Where these may fail, what stood stands, and
+-- answers that the table is full have their cause.
 pub record LeadTo (script : Script) (start : Turns) (passed : List TurnTaken) (now : Turns) : Type 0 where
   pub ends : last_left start passed ≡ now
   pub later : Later start.state.disk now.state.disk
   pub parity : now.state.core.pool.uber.parity ≡ start.state.core.pool.uber.parity
   pub reach : start.state.core.reach ≤ now.state.core.reach
-  pub same : AttachesNone script → now.state.core.reach ≡ start.state.core.reach
-  pub only : TouchesOnly (IsOnInUse now.state.core.reach start.state.core.pool.out)
+  pub only : TouchesOnly (IsOnInUse (now.state.core.reach + 1) start.state.core.pool.out)
       start.state.disk now.state.disk
+  pub same : AttachesNone script → StaysAsWide start.state now.state
   pub out : OnlyFailedGoOut (point_of start.state.core.pool.out start.state.disk)
       (point_of now.state.core.pool.out now.state.disk)
   pub listed : (index : ℕ) (item : Item) → slice_get start.items index ≡ Some item

@@ -15,7 +15,7 @@ use Rattle.client_script.specs.Script.{Script, calls_of}
 use Rattle.core_turns.specs.Core.{Core, CoreState}
 use Rattle.core_turns.specs.Getting.{HasTooManyOut}
 use Rattle.core_turns.specs.Committing.{IsCommitOf}
-use Rattle.core_turns.specs.UnderWay.{HoldingCall, Putting, Reading, AreCallsOf, Stands}
+use Rattle.core_turns.specs.UnderWay.{HoldingCall, Putting, Reading, AreCallsOf, Stands, shown_of}
 use Rattle.schedule.specs.declared.client.Client.{Client}
 use Rattle.schedule.specs.declared.client.UnderWay.{UnderWay}
 use Rattle.schedule.specs.declared.client.Work.{Work}
@@ -130,7 +130,8 @@ pub record IsClient (world : World) (script : Script) (items : List Item) (item 
 
 -- After these items the journal is right, the core stands with the clients' calls under way and holds the
 -- journal's map, in a pool that reaches so far by now; and each image since the bank was the first one keeps groups of
--- the run in a row, none older than the last one listed by then.
+-- the run in a row, none older than the last one listed by then. Of a group whose commit is in its first half no image
+-- shows anything.
 pub record Runs (world : World) (script : Script) (past : Past) (state : CoreState) (items : List Item)
     (clients : List Client) : Type 0 where
   pub last : Kept
@@ -139,7 +140,7 @@ pub record Runs (world : World) (script : Script) (past : Past) (state : CoreSta
   pub commit : Option CommitRun
   pub item : GroupItem
   pub reach : ℕ
-  pub recorded : Recorded world past items item last begun state.disk
+  pub recorded : Recorded world past items item last (shown_of begun commit) state.disk
   pub stands : Stands (record world.setting { reach = reach }) last begun
       (map_of world.handed world.opening items) contents (calls_under_way clients) commit state
   pub theirs : IsTheirs clients commit
