@@ -34,7 +34,7 @@ fn lengths(alloc: Global, small: u64, others: &[u64]) -> Result<Vec<u64>, Fail> 
 fn a_second_job_waits_for_the_first(rt: HostRuntime) -> Result<(), Fail> {
     let alloc = rt.alloc();
     let lengths = lengths(alloc, 65, &[])?;
-    let mut pool = copied_pool(&rt, alloc, lengths.as_slice(), MOVED)?;
+    let mut pool = copied_pool(alloc, lengths.as_slice(), MOVED)?;
     let JobBegin::More(run) = pool.core.job_begin(COPIER) else {
         return Err("no job is due".into());
     };
@@ -57,7 +57,7 @@ fn a_commit_stops_before_what_a_read_holds(rt: HostRuntime) -> Result<(), Fail> 
     ];
     for (small, others, read, mark) in rows {
         let lengths = lengths(alloc, small, others)?;
-        let mut pool = copied_pool(&rt, alloc, lengths.as_slice(), COPIED)?;
+        let mut pool = copied_pool(alloc, lengths.as_slice(), COPIED)?;
         if let Some(id) = read {
             // The read is never ended.
             let _run = pool.begin_get(alloc, id)?;
@@ -112,7 +112,7 @@ fn a_put_across_the_scratch_area_is_written_where_both_jobs_read_it(
 ) -> Result<(), Fail> {
     let alloc = rt.alloc();
     let lengths = lengths(alloc, 63, &[])?;
-    let mut pool = copied_pool(&rt, alloc, lengths.as_slice(), FILLED)?;
+    let mut pool = copied_pool(alloc, lengths.as_slice(), FILLED)?;
     assert_eq!(rt; pool.core.reflow(), at_mark(128, State::Valid));
     // It takes the sectors 126 to 129, of which the last holds nothing.
     let bytes = block_bytes(alloc, 63, 1024)?;

@@ -14,7 +14,7 @@ const MOVED: u64 = 4;
 fn a_job_is_given_up_where_a_device_fails(rt: HostRuntime) -> Result<(), Fail> {
     let alloc = rt.alloc();
     for failing in 0..4 {
-        let mut pool = copied_pool(&rt, alloc, &MIXED, MOVED)?;
+        let mut pool = copied_pool(alloc, &MIXED, MOVED)?;
         pool.fail(failing)?;
         assert!(rt;
             matches!(pool.round(alloc)?, Round::GivenUp(None)),

@@ -5,6 +5,8 @@
 #![tactic(auto)]
 
 #[cfg(test)]
+mod attach_tests;
+#[cfg(test)]
 mod attached;
 #[cfg(test)]
 mod beside_jobs_tests;

@@ -4,6 +4,7 @@ ghost use Rattle.bank_mem.specs.MemBank.{mem_disk};
 ghost use Rattle.core_blocks.specs.Blocks.{IsUnderWay};
 ghost use Rattle.core_turns.specs.declared.copying.CopyRun.{CopyRun as CopyRunOf};
 ghost use Rattle.core_turns.specs.declared.putting.Filled.{Filled};
+ghost use Rattle.core_turns.specs.Attaching.{HasNewDevice, IsAttachOf};
 ghost use Rattle.core_turns.specs.Committing.{IsCommitOf};
 ghost use Rattle.core_turns.specs.Copying.{IsJobOf};
 ghost use Rattle.core_turns.specs.Getting.{IsGetOf, IsReadKind};
@@ -15,7 +16,7 @@ use crate::stops::copy_of;
 use bank_mem::MemBank;
 use core_commit::CommitRun;
 use core_state::{Answer, Kind};
-use core_turns::{CopyRun, Core, GetRun, JobBegin, PutRun, Turn};
+use core_turns::{AttachRun, CopyRun, Core, GetRun, JobBegin, PutRun, Turn};
 use open_pool::open_pool;
 use reflow_copier::Job;
 use reflow_mark::Reflow;
@@ -27,7 +28,7 @@ use uberblock_ring::{Uber, slot};
 /// The actor whose puts, gets and commits these are.
 pub const CLIENT: u8 = 0;
 
-/// The actor who copies.
+/// The actor who attaches a device, and copies.
 pub const COPIER: u8 = 8;
 
 /// More turns than any call of these pools has.
@@ -199,6 +200,31 @@ impl PoolOnBank {
             };
         }
         Err("a commit has no end".into())
+    }
+
+    /// A whole attach, and what it is answered.
+    pub fn attach(&mut self, alloc: Global) -> Result<Answer, Fail> {
+        match self.core.attach_begin(&self.bank, COPIER) {
+            Turn::More(run) => self.end_attach(alloc, run),
+            Turn::Done(answer) => Ok(answer),
+            Turn::Busy { by: _ } => Err("another call is in the way of an attach".into()),
+        }
+    }
+
+    /// The other turns of an attach, and what it is answered.
+    fn end_attach(&mut self, alloc: Global, run: AttachRun) -> Result<Answer, Fail>
+        requires of { IsAttachOf self.old.core run }
+        requires there { HasNewDevice (mem_disk self.old.bank) run }
+    {
+        let mut run = run;
+        for _ in 0..MOST_TURNS {
+            run = match self.core.attach_step(alloc, &mut self.bank, run) {
+                Turn::More(next) => next,
+                Turn::Done(answer) => return Ok(answer),
+                Turn::Busy { by: _ } => return Err("an attach waits outside of its commit".into()),
+            };
+        }
+        Err("an attach has no end".into())
     }
 
     /// The other turns of a job: until it has copied all its sectors, or a device fails.

@@ -17,7 +17,7 @@ const LENGTHS: [u64; 20] = [
 #[test]
 fn a_pool_is_widened_while_blocks_are_read(rt: HostRuntime) -> Result<(), Fail> {
     let alloc = rt.alloc();
-    let mut pool = attached_pool(&rt, alloc, &LENGTHS)?;
+    let mut pool = attached_pool(alloc, &LENGTHS)?;
     let valid = at_mark(128, State::Valid);
     let moved = at_mark(128, State::Moved);
     // the job of each round, or none where a commit is due, and the reflow behind it

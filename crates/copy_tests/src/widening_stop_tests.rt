@@ -5,7 +5,6 @@ use crate::stops::{all_sectors, bank_at};
 use bank_mem::Tear;
 use bank_trait::Bank;
 use std::alloc::Global;
-use std::process::Abort;
 use std::test::Fail;
 
 /// Where a stop falls: in the round of this number, or before it.
@@ -22,8 +21,8 @@ const PARTS: [&str; 6] = [
 const EVERY: usize = 7;
 
 /// The pool, and the device calls on record before its first round and behind each.
-fn rounds_made(rt: &impl Abort, alloc: Global) -> Result<(PoolOnBank, [u64; 7]), Fail> {
-    let mut pool = attached_pool(rt, alloc, &MIXED)?;
+fn rounds_made(alloc: Global) -> Result<(PoolOnBank, [u64; 7]), Fail> {
+    let mut pool = attached_pool(alloc, &MIXED)?;
     let mut clocks = [pool.bank.clock(); 7];
     for round in 0..6 {
         pool.round(alloc)?;
@@ -35,7 +34,7 @@ fn rounds_made(rt: &impl Abort, alloc: Global) -> Result<(PoolOnBank, [u64; 7]),
 #[test]
 fn blocks_are_read_after_a_stop_on_the_way(rt: HostRuntime) -> Result<(), Fail> {
     let alloc = rt.alloc();
-    let (pool, clocks) = rounds_made(&rt, alloc)?;
+    let (pool, clocks) = rounds_made(alloc)?;
     let none = Vec::new(alloc);
     let kept = all_sectors(alloc, Tear::Kept)?;
     let filled = all_sectors(alloc, Tear::Filled(0xa5))?;
