@@ -36,7 +36,7 @@ use Rattle.core_turns.proofs.AttachTurns.{join_outs, join_touches}
 use Rattle.core_turns.proofs.Commits.{commit_goes}
 
 -- As others' turns do.
-as_attach : (before after : CoreState) → TurnGoesOn before after → AttachGoesOn before after
+pub as_attach : (before after : CoreState) → TurnGoesOn before after → AttachGoesOn before after
 as_attach before after goes = record {
   parity = goes.parity;
   reach = inl goes.reach;

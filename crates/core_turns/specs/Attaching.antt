@@ -67,6 +67,13 @@ IsAttachOf core (Joins join) = IsAttachCommit core join.run × MayReachOn core
 IsAttachOf core (Signs run because) = IsAttachCommit core run
     × IsMadeAt core.pool.uber.reflow because run.uber.reflow
 
+-- the commit that an attach makes, once it has begun one
+abbrev pub attach_commit : AttachRun → Option CommitRun
+attach_commit (Reads ring) = None
+attach_commit (Checked ring) = None
+attach_commit (Joins join) = Some join.run
+attach_commit (Signs run because) = Some run
+
 -- The bank has the device that is to join.
 abbrev pub HasNewDevice : Disk → AttachRun → Type 0
 HasNewDevice disk (Reads ring) = ring.device < disk.devices

@@ -20,8 +20,11 @@ use Rattle.open_pool.proofs.Banks.{count_grows}
 use Rattle.client_script.specs.Script.{Script, handed_by}
 use Rattle.journal_law.proofs.Grown.{grown_has}
 use Rattle.core_turns.specs.Core.{CoreState}
+use Rattle.core_turns.specs.Attaching.{AttachGoesOn}
 use Rattle.core_turns.specs.UnderWay.{TurnGoesOn}
-use Rattle.schedule.specs.Coming.{AttachesNone, LeadTo, KeepsUsing, StaysAsWide}
+use Rattle.core_turns.proofs.AttachGoes.{as_attach}
+use Rattle.core_turns.proofs.Commits.{turn_bank}
+use Rattle.schedule.specs.Coming.{AttachesNone, GoesOnFor, LeadTo, KeepsUsing, StaysAsWide}
 use Rattle.schedule.specs.Turns.{Turns, TurnTaken, last_left, AreListedWith, IsListedWith, taken_by}
 use Rattle.schedule.specs.Fitting.{FitsCall}
 use Rattle.schedule.specs.Numbered.{IsNumbered}
@@ -234,8 +237,16 @@ module _ (script : Script) (start middle now : Turns) (one two : List TurnTaken)
   pub came_on : LeadTo script start (one ++ two) now
   came_on = by (few_or_many middle.state.core.pool.out middle.state.core.pool.uber.parity)
 
+-- A turn of a call that is no attach goes on so.
+pub goes_for : {before after : CoreState} (script : Script) → TurnGoesOn before after → GoesOnFor script before after
+goes_for {before} {after} script goes = record {
+  goes = as_attach before after goes;
+  same = λ none. record { reach = goes.reach; only = goes.only };
+  bank = turn_bank before after goes;
+}
+
 -- One turn, in which these items were listed.
-module _ (script : Script) (actor : ℕ) (before after : Turns) (goes : TurnGoesOn before.state after.state)
+module _ (script : Script) (actor : ℕ) (before after : Turns) (on : GoesOnFor script before.state after.state)
     (space : KeepsUsing script before after)
     (numbers : IsNumbered before.items before.state.core → IsNumbered after.items after.state.core) (more : List Item) (items : after.items ≡ before.items ++ more)
     (fit : FitSince before after)
@@ -246,12 +257,15 @@ module _ (script : Script) (actor : ℕ) (before after : Turns) (goes : TurnGoes
     → Runs world script past before.state before.items before.clients
     → Runs world script past after.state after.items after.clients)
     (full : FullStays script before after) where
+  abbrev goes : AttachGoesOn before.state after.state
+  goes = on.goes
+
   reach_is : before.state.core.reach ≤ after.state.core.reach
-  reach_is = let same = goes.reach in omega (arith, same)
+  reach_is = ⊎_elim (λ same. omega (arith, same)) (λ more. omega (arith, more)) goes.reach
 
   only_is : TouchesOnly (IsOnInUse (after.state.core.reach + 1) before.state.core.pool.out) before.state.disk
       after.state.disk
-  only_is = touches_widen (IsOnInUse before.state.core.reach before.state.core.pool.out)
+  only_is = touches_widen (IsOnInUse (before.state.core.reach + 1) before.state.core.pool.out)
       (IsOnInUse (after.state.core.reach + 1) before.state.core.pool.out)
       (λ d x here. (let below = here.0 in let more = reach_is in omega (arith, below, more), here.1)) goes.only
 
@@ -263,7 +277,7 @@ module _ (script : Script) (actor : ℕ) (before after : Turns) (goes : TurnGoes
     parity = goes.parity;
     reach = reach_is;
     only = only_is;
-    same = λ none. record { reach = goes.reach; only = goes.only };
+    same = on.same;
     out = goes.out;
     listed = λ index item there. subst (λ (l : List Item). slice_get l index ≡ Some item) (sym items)
         (grown_has before.items more index item there);
@@ -284,7 +298,7 @@ module _ (script : Script) (actor : ℕ) (before after : Turns) (goes : TurnGoes
     parity = goes.parity;
     reach = reach_is;
     only = only_is;
-    same = λ none. record { reach = goes.reach; only = goes.only };
+    same = on.same;
     out = goes.out;
     listed = λ index item there. subst (λ (l : List Item). slice_get l index ≡ Some item) (sym items)
         (grown_has before.items more index item there);

@@ -28,6 +28,7 @@ use Rattle.schedule.specs.Comes.{TakesTurn, Comes}
 use Rattle.schedule.proofs.Fitting.{sync_no_free}
 use Rattle.schedule.proofs.Theirs.{OnlyIt, none_some, calls_stay, run_of}
 use Rattle.schedule.proofs.Answered.{answered, answered_idle}
+use Rattle.schedule.proofs.Coming.{goes_for}
 use Rattle.schedule.proofs.Begun.{begun_now}
 use Rattle.schedule.proofs.Going.{commits_on}
 use Rattle.schedule.proofs.RunsGoOn.{commit_begins}
@@ -52,9 +53,9 @@ module _ {script : Script} {actor : ℕ} {before after : Station} {clients news 
       → LeavesBegun actor call before after (More (work.Sync run)) → Comes script actor before after clients news
   sync_begins run table begins leaves =
       comes_on takes
-      (turn_still before.state after.state (ap (λ (c : Core). c.pool.uber) begins.rest)
+      (goes_for script (turn_still before.state after.state (ap (λ (c : Core). c.pool.uber) begins.rest)
       (ap (λ (c : Core). c.reach) begins.rest)
-      (ap (λ (c : Core). c.pool.out) begins.rest) disk)
+      (ap (λ (c : Core). c.pool.out) begins.rest) disk))
       leaves.0 (ap answered leaves.1 ∙ number ∙ sym (answered_idle before.client idle))
       (let low = slice_get_within (calls_of script actor) before.client.begun call next in omega (arith, low, begun_is))
       (λ its_under is. omega (arith, begun_is))

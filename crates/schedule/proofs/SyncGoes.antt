@@ -34,6 +34,7 @@ use Rattle.schedule.specs.Running.{HasBegun, HasBegunBy, IsGoing, AreGoing, Runs
 use Rattle.schedule.specs.Turns.{turns_of}
 use Rattle.schedule.specs.Turned.{Station, LeavesGoing, entry_for, group_for}
 use Rattle.schedule.specs.Comes.{TakesTurn, Comes}
+use Rattle.schedule.proofs.Coming.{goes_for}
 use Rattle.schedule.proofs.RightNext.{sync_cut_right, sync_right, same_out}
 use Rattle.schedule.proofs.Theirs.{OnlyIt, none_some, calls_stay, no_one}
 use Rattle.schedule.proofs.Answered.{answered, answers_call, answers_group}
@@ -121,8 +122,8 @@ module _ {script : Script} {actor : ℕ} {before after : Station} {clients news 
   -- It goes on.
   pub sync_goes_on : (next : CommitRun) → StepsCommit before.state run after.state (More next)
       → LeavesGoing actor call before after under (More (work.Sync next)) → ItComes
-  sync_goes_on next steps further = comes_further takes call under (work.Sync run) does_is under_is is (work.Sync next) goes
-      further
+  sync_goes_on next steps further = comes_further takes call under (work.Sync run) does_is under_is is (work.Sync next)
+      (goes_for script goes) further
       (commits_on takes.was takes.changes takes.schedule.going
       (subst (AreCallsOf now) (sym (same_calls none))
       (commit_steps_calls before.state after.state (calls_under_way clients) run next steps takes.schedule.going.are))
@@ -170,7 +171,7 @@ module _ {script : Script} {actor : ℕ} {before after : Station} {clients news 
   synced : (number : ℕ) → AnswersGroup before.state run after.state number
       → LeavesGoing actor call before after under (Done (answer.Synced number)) → ItComes
   synced number answers leaves = record {
-    come = came_listed takes (Group group ∷ CallItem entry ∷ []) goes (leaves.0 ∙ both) fit
+    come = came_listed takes (Group group ∷ CallItem entry ∷ []) (goes_for script goes) (leaves.0 ∙ both) fit
         (subst (RunsOn script before after clients news) both on)
         (full_synced script (turns_of before.state before.items clients) (turns_of after.state after.items news) group
         entry leaves.0 (λ full. no_full full));
@@ -258,7 +259,8 @@ module _ {script : Script} {actor : ℕ} {before after : Station} {clients news 
   -- It is cut short.
   cut : (out : ℕ) → StepsCommit before.state run after.state (Done (answer.TooManyFailed out))
       → LeavesGoing actor call before after under (Done (answer.TooManyFailed out)) → ItComes
-  cut out steps leaves = comes_answered takes call before.client.begun under.at given its_next its_there goes leaves.0 leaves.1
+  cut out steps leaves = comes_answered takes call before.client.begun under.at given its_next its_there (goes_for script goes) leaves.0
+      leaves.1
       (fits old call.kind given tt (λ listed told. (steps.0, same_out (sym told) ∙ steps.1))
       (λ reached told. no_limit reached told) (sync_no_free call.kind for_call.0)) (λ full. absurd (no_full full))
       (subst (λ (s : CoreState). AreGoing script s.core news) (sym steps.2)

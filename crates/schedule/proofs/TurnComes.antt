@@ -18,12 +18,11 @@ use Rattle.client_script.specs.Script.{Script, calls_of, handed_by}
 use Rattle.core_turns.specs.Core.{Core}
 use Rattle.core_turns.specs.UnderWay.{HoldingCall, AreCallsOf, Stands, TurnGoesOn, shown_of}
 use Rattle.core_turns.specs.declared.turn.Turn.TheVariants.{More, Done}
-use Rattle.core_turns.proofs.Commits.{turn_bank}
 use Rattle.schedule.specs.declared.client.Client.{Client}
 use Rattle.schedule.specs.declared.client.UnderWay.{UnderWay}
 use Rattle.schedule.specs.declared.client.Work.{Work}
 use Rattle.schedule.specs.Clients.{ClientsAreAnswered}
-use Rattle.schedule.specs.Coming.{LeadTo}
+use Rattle.schedule.specs.Coming.{GoesOnFor, LeadTo}
 use Rattle.schedule.specs.Turns.{turns_of, Turns, taken_by, IsListedWith}
 use Rattle.schedule.specs.Running.{AreGoing, HasContent, IsGoing, IsHoldOf, IsWorkFor, IsWorkOf, MakesCommit, Runs, call_of_client, calls_under_way, held_by, held_under, setting_now}
 use Rattle.schedule.specs.Recorded.{IsRightNext}
@@ -37,7 +36,7 @@ use Rattle.schedule.proofs.RunsEnd.{answers_call as runs_answer}
 use Rattle.schedule.proofs.Recording.{GoesOnSince}
 use Rattle.schedule.proofs.RunsGoOn.{begins as runs_begins, goes_on as runs_goes_on, waits as runs_waits}
 use Rattle.schedule.proofs.Fulls.{full_same, HasManyAt, full_answer, FullStays}
-use Rattle.schedule.proofs.Coming.{came_nowhere, came_turn}
+use Rattle.schedule.proofs.Coming.{came_nowhere, came_turn, goes_for}
 use Rattle.schedule.proofs.Fitting.{Fits, FitSince, fit_same, fit_entry}
 use Rattle.schedule.proofs.Syncs.{stands_know}
 use Rattle.schedule.proofs.LeavesPool.{KeepsCommit, LeavesPool, leaves_commit, turn_still}
@@ -95,7 +94,7 @@ module _ {script : Script} {actor : ℕ} {before after : Station} {clients news 
           (cases_eq index actor)
 
   -- A turn that lists these items.
-  pub came_listed : (more : List Item) → TurnGoesOn before.state after.state → after.items ≡ before.items ++ more
+  pub came_listed : (more : List Item) → GoesOnFor script before.state after.state → after.items ≡ before.items ++ more
       → FitSince was left → RunsOn script before after clients news (before.items ++ more) → FullStays script was left
       → LeadTo script was (taken_by actor left ∷ []) left
   came_listed more goes items fit runs full = came_turn script actor was left goes takes.space takes.numbers more items fit
@@ -106,7 +105,7 @@ module _ {script : Script} {actor : ℕ} {before after : Station} {clients news 
       full
 
   -- A turn that lists nothing.
-  pub comes_on : TurnGoesOn before.state after.state → after.items ≡ before.items
+  pub comes_on : GoesOnFor script before.state after.state → after.items ≡ before.items
       → answered after.client ≡ answered before.client → after.client.begun ≤ length (calls_of script actor)
       → ((under : UnderWay) → after.client.under_way ≡ Some under → 1 ≤ after.client.begun)
       → AreGoing script now news → RunsOn script before after clients news before.items → ItComes
@@ -119,21 +118,21 @@ module _ {script : Script} {actor : ℕ} {before after : Station} {clients news 
       answered = subst (ClientsAreAnswered script news) (sym items)
           (answers_same script clients news actor before.client after.client before.items takes.changes takes.was few
           some takes.schedule.answered same);
-      bank = turn_bank before.state after.state goes takes.schedule.bank;
+      bank = goes.bank takes.schedule.bank;
     };
   }
 
   -- A turn that lists the answer of the client's next call. Where that is that the table is full, there are too many
   -- ids.
   pub comes_answered : (call : ScriptCall) (number at : ℕ) (given : Answer) → number ≡ answered before.client + 1
-      → slice_get (calls_of script actor) (answered before.client) ≡ Some call → TurnGoesOn before.state after.state
+      → slice_get (calls_of script actor) (answered before.client) ≡ Some call → GoesOnFor script before.state after.state
       → after.items ≡ before.items ++ CallItem (entry_for call actor number at given) ∷ []
       → after.client ≡ record { begun = number; under_way = None }
       → Fits old call.kind given → (given ≡ answer.Full → HasManyAt script was) → AreGoing script now news
       → RunsOn script before after clients news (before.items ++ CallItem (entry_for call actor number at given) ∷ [])
       → ItComes
   comes_answered call number at given number_is next goes items client_is fit full going runs = record {
-    come = came_listed (CallItem its_entry ∷ []) goes items (fit_entry was left its_entry items fit goes.out.still) runs
+    come = came_listed (CallItem its_entry ∷ []) goes items (fit_entry was left its_entry items fit goes.goes.out.still) runs
         (full_answer script was left its_entry items full);
     schedule = record {
       going = going;
@@ -141,7 +140,7 @@ module _ {script : Script} {actor : ℕ} {before after : Station} {clients news 
           (answers_call script clients news actor before.client after.client before.items takes.changes takes.was few
           (no_one (λ under. 1 ≤ after.client.begun) (ap (λ (c : Client). c.under_way) client_is))
           takes.schedule.answered call its_entry (ap answered client_is ∙ number_is) next refl number_is refl refl);
-      bank = turn_bank before.state after.state goes takes.schedule.bank;
+      bank = goes.bank takes.schedule.bank;
     };
   }
     where
@@ -158,8 +157,8 @@ module _ {script : Script} {actor : ℕ} {before after : Station} {clients news 
 
   module _ (call : ScriptCall) (idle : before.client.under_way ≡ None) (leaves : LeavesPool old now)
       (disk : after.state.disk ≡ before.state.disk) where
-    abbrev still : TurnGoesOn before.state after.state
-    still = turn_still before.state after.state leaves.commit.uber leaves.commit.reach leaves.out disk
+    still : GoesOnFor script before.state after.state
+    still = goes_for script (turn_still before.state after.state leaves.commit.uber leaves.commit.reach leaves.out disk)
 
     -- The client has no call under way still.
     module _ (rests : after.client.under_way ≡ None) (are : AreCallsOf now (calls_under_way clients)) where
@@ -293,7 +292,8 @@ module _ {script : Script} {actor : ℕ} {before after : Station} {clients news 
     its_place = ap (slice_get (calls_of script actor)) (answered_going before.client under_is) ∙ is
 
     -- The turn lists nothing, and the call goes on.
-    pub comes_further : (next : Work) → TurnGoesOn before.state after.state → LeavesGoing actor call before after under (More next)
+    pub comes_further : (next : Work) → GoesOnFor script before.state after.state
+        → LeavesGoing actor call before after under (More next)
         → AreGoing script now news → RunsOn script before after clients news before.items → ItComes
     comes_further next goes further = comes_on goes further.0
         (ap answered further.1 ∙ sym (answered_going before.client under_is))
@@ -332,7 +332,7 @@ module _ {script : Script} {actor : ℕ} {before after : Station} {clients news 
             → HasContent world before.items call under.at (runs.contents actor) next)
             × StandsNow world past runs runs.contents (map_of world.handed world.opening before.items))
             → ItComes
-        comes_going keeps its asked are stands = comes_further next goes further
+        comes_going keeps its asked are stands = comes_further next (goes_for script goes) further
             (going_goes takes.was takes.changes takes.schedule.going are keeps (work_no_commit under_is no_commit)
             (the_one (λ its_under. IsWorkOf script now actor after.client its_under.work) next_is (record {
               hold = its;
@@ -372,7 +372,7 @@ module _ {script : Script} {actor : ℕ} {before after : Station} {clients news 
             (map_after_answer world.handed (map_of world.handed world.opening before.items) entry given))
             → ItComes
         comes_ended listed leaves disk fit other are stands = comes_answered call before.client.begun under.at given its_number
-            its_place goes listed ended.1 fit (λ full. absurd (other full))
+            its_place (goes_for script goes) listed ended.1 fit (λ full. absurd (other full))
             (going_goes takes.was takes.changes takes.schedule.going are (leaves_commit leaves)
             (work_no_commit under_is no_commit)
             (no_one (λ its_under. IsWorkOf script now actor after.client its_under.work) idle_now))

@@ -23,6 +23,7 @@ use Rattle.schedule.specs.Numbered.{IsNumbered}
 use Rattle.schedule.specs.Running.{AreGoing, Runs}
 use Rattle.schedule.specs.Turns.{Turns, TurnTaken, AreListedWith, last_left}
 use Rattle.schedule.specs.Using.{HasUsedRuns}
+use Rattle.core_turns.specs.Attaching.{AttachGoesOn}
 use Rattle.core_turns.specs.Core.{CoreState, HasBankOf}
 
 -- What is needed of the calls under way, and which calls the journal answers.
@@ -46,6 +47,14 @@ pub record StaysAsWide (before after : CoreState) : Type 0 where
 abbrev pub AttachesNone : Script → Type 0
 AttachesNone script = (actor number : ℕ) (call : ScriptCall) → slice_get (calls_of script actor) number ≡ Some call
     → call.kind ≢ kind.Attach
+
+-- What a turn of a call of this script does: as a turn of an attach does, so the device behind those that the pool
+-- reaches to may be called, and may join; and where no call of the script is an attach, as every other turn does. The bank
+-- goes on having what is in use.
+pub record GoesOnFor (script : Script) (before after : CoreState) : Type 0 where
+  pub goes : AttachGoesOn before after
+  pub same : AttachesNone script → StaysAsWide before after
+  pub bank : HasBankOf before.core before.disk → HasBankOf after.core after.disk
 
 -- These turns lead from one state to another, in a pool that reaches to no fewer devices. Devices went out where they
 -- failed, and none was touched but those in use that the pool then reaches to, and the one behind them, which an attach
