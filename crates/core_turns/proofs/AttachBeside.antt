@@ -24,7 +24,7 @@ use Rattle.core_turns.specs.Committing.{AnswersGroup, IsCommitOf}
 use Rattle.core_turns.specs.Attaching.{HasNewDevice, HoldsAttach, IsAttachCommit, IsAttachOf, IsMadeAt, IsNewDevice, MayReachOn}
 use Rattle.core_turns.specs.UnderWay.{HoldingCall, Stands}
 use Rattle.core_turns.proofs.AttachTurns.{rest_records}
-use Rattle.core_turns.proofs.Frames.{LeavesCommit, commit_still}
+use Rattle.core_turns.proofs.StandFrames.{LeavesCommit, commit_still}
 
 -- ---- the attach of a core
 

@@ -33,7 +33,7 @@ use Rattle.core_turns.specs.Getting.{HasTooManyOut}
 use Rattle.core_turns.specs.UnderWay.{TurnGoesOn}
 use Rattle.core_turns.specs.Attaching.{AttachGoesOn, HasNewDevice, IsAttachCommit, IsAttachOf, MayReachOn, StepsAttach, StepsJoin, StopsAttach}
 use Rattle.core_turns.proofs.AttachTurns.{join_outs, join_touches}
-use Rattle.core_turns.proofs.Commits.{commit_goes}
+use Rattle.core_turns.proofs.CommitGoes.{commit_goes}
 
 -- As others' turns do.
 pub as_attach : (before after : CoreState) → TurnGoesOn before after → AttachGoesOn before after

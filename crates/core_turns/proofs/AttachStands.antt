@@ -37,7 +37,8 @@ use Rattle.core_turns.specs.Attaching.{HoldsAttach, IsAttachOf, MayReachOn, Only
 use Rattle.core_turns.specs.Committing.{IsCommitOf}
 use Rattle.core_turns.specs.UnderWay.{HoldingCall, Putting, Reading, Copying, AreCallsOf, CommitStands, LiesInPool, Stands, actor_of}
 use Rattle.core_turns.proofs.AttachTurns.{join_goes_commit}
-use Rattle.core_turns.proofs.Frames.{AreOff, IsCallOff, IsOff, Leaves, OnlyOut, call_off_nowhere, calls_keep, groups_read, leaves_read, off_nowhere, stands_frame}
+use Rattle.core_turns.proofs.Frames.{AreOff, IsCallOff, IsOff, Leaves, OnlyOut, call_off_nowhere, calls_keep, leaves_read, off_nowhere}
+use Rattle.core_turns.proofs.StandFrames.{groups_read, stands_frame}
 use Rattle.core_turns.proofs.GetStands.{stands_held}
 use Rattle.core_turns.proofs.Holds.{keeps_same}
 

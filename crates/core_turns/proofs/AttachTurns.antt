@@ -38,7 +38,7 @@ use Rattle.core_turns.specs.Core.{Core, CoreState, HasBankOf, IsCore, at_disk, r
 use Rattle.core_turns.specs.Committing.{IsCommitOf}
 use Rattle.core_turns.specs.UnderWay.{TurnGoesOn}
 use Rattle.core_turns.specs.Attaching.{AttachGoesOn, Decides, GoOutAndReach, HasNewDevice, IsAttachCommit, IsAttachOf, MayReachOn, OnlyGoOut, StepsAttach, StepsJoin, StopsAttach}
-use Rattle.core_turns.proofs.Commits.{commit_fits, commit_goes, commit_stays, step_touches}
+use Rattle.core_turns.proofs.CommitGoes.{commit_fits, commit_goes, commit_stays, step_touches}
 use Rattle.core_turns.proofs.Cores.{core_out}
 use Rattle.core_turns.proofs.Joining.{joined_commit, joined_core}
 

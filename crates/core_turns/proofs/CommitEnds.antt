@@ -42,7 +42,9 @@ use Rattle.core_turns.specs.Committing.{AnswersGroup, DropsHold, IsCommitOf, hol
 use Rattle.core_turns.specs.Copying.{CopiesCells, IsJobOf, hold_for_job}
 use Rattle.core_turns.proofs.JobBeside.{cells_behind, goes_behind, job_holds_else}
 use Rattle.core_turns.specs.UnderWay.{HoldingCall, Putting, Reading, Copying, AreCallsOf, HoldsCall, IsCallOfCore, LiesInPool, PutsSpare, Stands, actor_of, ranges_of}
-use Rattle.core_turns.proofs.Commits.{begun_pool, commit_stays, core_follows, core_rows}
+use Rattle.core_turns.proofs.Commits.{core_follows, core_rows}
+use Rattle.core_turns.proofs.CommitGoes.{commit_stays}
+use Rattle.core_turns.proofs.CommitAnswers.{begun_pool}
 use Rattle.core_turns.proofs.GetTurns.{get_shared}
 use Rattle.core_turns.proofs.Holds.{others_stay, shared_stay}
 use Rattle.core_turns.proofs.Moved.{put_holds_moves, put_moves}

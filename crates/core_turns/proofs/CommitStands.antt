@@ -44,7 +44,8 @@ use Rattle.core_turns.proofs.Calls.{range_listed}
 use Rattle.core_turns.proofs.Cores.{bank_within}
 use Rattle.mark_advance.proofs.Follows.{choice_widths}
 use Rattle.core_turns.proofs.Commits.{begins_ready, begun_commit, core_follows, few_out, rests, rests_pool}
-use Rattle.core_turns.proofs.Frames.{OnlyOut, call_off_nowhere, off_nowhere, leaves_spared, call_stays, calls_keep, calls_stay, stands_frame}
+use Rattle.core_turns.proofs.Frames.{OnlyOut, call_off_nowhere, off_nowhere, leaves_spared, call_stays, calls_keep, calls_stay}
+use Rattle.core_turns.proofs.StandFrames.{stands_frame}
 use Rattle.core_turns.proofs.Holds.{taken_has}
 use Rattle.core_turns.proofs.WritesBeside.{shown_one}
 

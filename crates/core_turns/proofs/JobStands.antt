@@ -51,7 +51,8 @@ use Rattle.core_turns.specs.Copying.{BeginsJobSo, CopiesCells, DropsJob, IsJobOf
 use Rattle.core_turns.specs.UnderWay.{HoldingCall, Putting, Reading, Copying, AreBeside, AreCallsOf, CommitStands, HoldsCall, IsCallOfCore, NoCommitStands, PutsSpare, Stands, actor_of, shown_of}
 use Rattle.core_turns.proofs.Calls.{beside_turn}
 use Rattle.core_turns.proofs.Cores.{bank_has, bank_within}
-use Rattle.core_turns.proofs.Frames.{AreOff, IsCallOff, IsOff, Leaves, call_stays, leaves_touched, stands_anew}
+use Rattle.core_turns.proofs.Frames.{AreOff, IsCallOff, IsOff, Leaves, call_stays, leaves_touched}
+use Rattle.core_turns.proofs.StandFrames.{stands_anew}
 use Rattle.core_turns.proofs.GetStands.{AddsNoPut, OnlyHeld, stands_held}
 use Rattle.core_turns.proofs.Holds.{alone_beside, alone_passes}
 use Rattle.core_turns.proofs.JobBeside.{off_target}

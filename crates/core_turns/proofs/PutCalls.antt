@@ -19,7 +19,8 @@ use Rattle.core_turns.proofs.Calls.{calls_gain, calls_lose, calls_swap, range_li
 use Rattle.core_turns.proofs.Frames.{KeepsCalls, calls_keep, calls_stay}
 use Rattle.core_turns.proofs.PutRanges.{at_end, ranges_gain, under_moved}
 use Rattle.core_state.specs.Committing.{point_of}
-use Rattle.core_turns.proofs.PutTurns.{fills_of, outs_by_write, written, written_of}
+use Rattle.core_turns.proofs.PutTurns.{fills_of, written, written_of}
+use Rattle.core_turns.proofs.PutGoes.{outs_by_write}
 
 -- A turn that calls no device: blocks and holds are others, but not the widths, and all else is as it was.
 pub record Rearranges (old new : Core) : Type 0 where

@@ -34,7 +34,7 @@ use Rattle.core_turns.specs.Putting.{BeginsPutSo, FillsPut, GivesUp, HoldsPut, I
 use Rattle.core_turns.specs.UnderWay.{HoldingCall, Putting, Reading, Copying, AreCallsOf, GroupsStand, HoldsCall, PutsSpare, SetsContent, Stands, actor_of}
 use Rattle.core_turns.proofs.Beside.{IsWrittenTo}
 use Rattle.core_turns.proofs.Calls.{range_listed}
-use Rattle.core_turns.proofs.Frames.{LeavesCommit, commit_still, lies_still}
+use Rattle.core_turns.proofs.StandFrames.{LeavesCommit, commit_still, lies_still}
 use Rattle.core_turns.proofs.Holds.{KeepsAlone, keeps_ended, keeps_gained, keeps_same}
 use Rattle.core_turns.proofs.PutRanges.{same_put}
 use Rattle.core_turns.proofs.PutTurns.{plan_now}

@@ -59,11 +59,12 @@ use Rattle.core_turns.proofs.Beside.{IsWrittenTo, AreInPool, never_asked, put_be
 use Rattle.core_turns.proofs.CommitEnds.{layout_same}
 use Rattle.core_turns.proofs.Cores.{bank_within}
 use Rattle.core_turns.proofs.Commits.{core_follows}
-use Rattle.core_turns.proofs.Frames.{AreOff, IsCallOff, Leaves, call_stays, leaves_touched, off_written, stands_anew}
+use Rattle.core_turns.proofs.Frames.{AreOff, IsCallOff, Leaves, call_stays, leaves_touched, off_written}
+use Rattle.core_turns.proofs.StandFrames.{stands_anew}
 use Rattle.core_turns.proofs.Calls.{beside_turn, range_listed}
 use Rattle.core_turns.proofs.PutStands.{groups_with, listed_clear, next_spares}
 use Rattle.core_turns.proofs.JobBeside.{job_off_written}
-use Rattle.core_turns.proofs.PutTurns.{outs_by_write}
+use Rattle.core_turns.proofs.PutGoes.{outs_by_write}
 use Rattle.core_turns.proofs.WritesBeside.{AreSpare, groups_written, since_written}
 
 -- ---- where a put writes

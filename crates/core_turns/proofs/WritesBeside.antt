@@ -14,7 +14,7 @@ use Rattle.core_commit.specs.CommitTurns.{CommitRun, IsBeside, shown_at, shown_b
 use Rattle.core_commit.proofs.Beside.{committing_knows, committing_touched}
 use Rattle.core_turns.specs.Core.{CoreState, at_disk}
 use Rattle.core_turns.specs.UnderWay.{HoldingCall, CommitStands, GroupsStand, NoCommitStands, shown_in, shown_of}
-use Rattle.core_turns.proofs.Frames.{commit_still, lies_still, out_leaves}
+use Rattle.core_turns.proofs.StandFrames.{commit_still, lies_still, out_leaves}
 
 -- Of one group that was begun images can show what its commit has come to.
 pub shown_one : (next : Kept) (stage : Stage) → shown_in (next ∷ []) stage ≡ shown_at next stage

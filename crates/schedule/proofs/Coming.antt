@@ -23,7 +23,7 @@ use Rattle.core_turns.specs.Core.{CoreState}
 use Rattle.core_turns.specs.Attaching.{AttachGoesOn}
 use Rattle.core_turns.specs.UnderWay.{TurnGoesOn}
 use Rattle.core_turns.proofs.AttachGoes.{as_attach}
-use Rattle.core_turns.proofs.Commits.{turn_bank}
+use Rattle.core_turns.proofs.CommitGoes.{turn_bank}
 use Rattle.schedule.specs.Coming.{AttachesNone, GoesOnFor, LeadTo, KeepsUsing, StaysAsWide}
 use Rattle.schedule.specs.Turns.{Turns, TurnTaken, last_left, AreListedWith, IsListedWith, taken_by}
 use Rattle.schedule.specs.Fitting.{FitsCall}

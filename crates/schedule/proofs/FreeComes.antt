@@ -18,7 +18,7 @@ use Rattle.core_turns.specs.Core.{Core, at_disk, pool_at}
 use Rattle.core_turns.specs.Freeing.{FreesBlock}
 use Rattle.core_turns.specs.UnderWay.{Stands}
 use Rattle.core_turns.specs.declared.turn.Turn.TheVariants.{Done}
-use Rattle.core_turns.proofs.GetStands.{frees_calls, frees_stands}
+use Rattle.core_turns.proofs.FreeStands.{frees_calls, frees_stands}
 use Rattle.schedule.specs.declared.client.Client.{Client}
 use Rattle.schedule.specs.Turned.{Station, Frees, LeavesBegun}
 use Rattle.schedule.specs.Comes.{TakesTurn, Comes}

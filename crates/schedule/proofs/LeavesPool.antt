@@ -15,8 +15,9 @@ use Rattle.core_turns.specs.Getting.{HasTooManyOut}
 use Rattle.core_turns.specs.Committing.{IsCommitOf}
 use Rattle.core_turns.specs.UnderWay.{TurnGoesOn}
 use Rattle.open_pool.proofs.Banks.{count_grows}
-use Rattle.core_turns.proofs.Commits.{turn_nowhere}
-use Rattle.core_turns.proofs.Frames.{LeavesCommit, OnlyOut, commit_still, out_leaves}
+use Rattle.core_turns.proofs.CommitGoes.{turn_nowhere}
+use Rattle.core_turns.proofs.Frames.{OnlyOut}
+use Rattle.core_turns.proofs.StandFrames.{LeavesCommit, commit_still, out_leaves}
 use Rattle.core_turns.proofs.Holds.{KeepsAlone, keeps_same}
 
 -- A turn leaves the devices that are out, the uberblock, and the commit that is under way.

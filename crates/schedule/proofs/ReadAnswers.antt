@@ -31,7 +31,8 @@ use Rattle.core_turns.specs.Getting.{IsReadKind, HasTooManyOut, IsGetRefused, Re
 use Rattle.core_turns.specs.UnderWay.{HoldingCall, Reading, AreCallsOf, Stands}
 use Rattle.core_blocks.proofs.Lists.{gains_item}
 use Rattle.core_turns.proofs.GetLaws.{get_tells}
-use Rattle.core_turns.proofs.GetStands.{get_ends_calls, get_ends_stands, get_solves_calls, get_solves_stands}
+use Rattle.core_turns.proofs.GetStands.{get_ends_stands, get_solves_stands}
+use Rattle.core_turns.proofs.GetCalls.{get_ends_calls, get_solves_calls}
 use Rattle.core_turns.proofs.GetTurns.{get_shared}
 use Rattle.core_turns.proofs.Holds.{keeps_ended}
 use Rattle.schedule.specs.Recorded.{IsRightNext, AllBelow}

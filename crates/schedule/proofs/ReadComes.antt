@@ -21,10 +21,11 @@ use Rattle.core_turns.specs.declared.turn.Turn.TheVariants.{More, Busy, Done}
 use Rattle.core_turns.specs.Core.{Core, at_disk}
 use Rattle.core_turns.specs.Getting.{IsReadKind, IsGetRefused, BeginsGet}
 use Rattle.core_turns.specs.UnderWay.{HoldingCall, Reading, AreCallsOf, Stands, TurnGoesOn, actor_of}
-use Rattle.core_turns.proofs.Frames.{since_read}
+use Rattle.core_turns.proofs.StandFrames.{since_read}
 use Rattle.core_turns.proofs.GetLaws.{get_finds}
 use Rattle.core_turns.proofs.Holds.{keeps_gained}
-use Rattle.core_turns.proofs.GetStands.{get_begins_calls, get_reads_calls, get_begins_stands, get_reads_stands}
+use Rattle.core_turns.proofs.GetStands.{get_begins_stands, get_reads_stands}
+use Rattle.core_turns.proofs.GetCalls.{get_begins_calls, get_reads_calls}
 use Rattle.schedule.specs.declared.client.Client.{Client}
 use Rattle.schedule.specs.declared.client.UnderWay.{UnderWay}
 use Rattle.schedule.specs.declared.client.Work.TheVariants as work

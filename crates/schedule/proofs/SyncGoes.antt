@@ -22,7 +22,8 @@ use Rattle.core_turns.specs.declared.turn.Turn.TheVariants.{More, Done}
 use Rattle.core_turns.specs.Core.{Core, CoreState}
 use Rattle.core_turns.specs.Committing.{IsCommitOf, StepsCommit, AnswersGroup}
 use Rattle.core_turns.specs.UnderWay.{Stands, TurnGoesOn, AreCallsOf, HoldingCall, shown_in, shown_of}
-use Rattle.core_turns.proofs.Commits.{few_out, turn_bank}
+use Rattle.core_turns.proofs.Commits.{few_out}
+use Rattle.core_turns.proofs.CommitGoes.{turn_bank}
 use Rattle.core_turns.proofs.CommitEnds.{commit_ends_calls, commit_ends_stands}
 use Rattle.core_turns.proofs.CommitStands.{commit_steps_calls, commit_steps_stands, commit_steps_since, commit_is_cut as cut_stands}
 use Rattle.schedule.specs.declared.client.Client.{Client}

@@ -7,7 +7,7 @@ use Rattle.uberblock_ring.specs.Uberblock.{Uber}
 use Rattle.open_pool.proofs.Growing.{MayGrow}
 use Rattle.core_turns.specs.Core.{Core}
 use Rattle.core_turns.specs.Committing.{IsCommitOf, hold_for}
-use Rattle.core_turns.proofs.Commits.{answer_grows, answers_core, held_where}
+use Rattle.core_turns.proofs.CommitAnswers.{answer_grows, answers_core, held_where}
 use Rattle.core_turns.proofs.Cores.{core_with}
 use Rattle.core_turns.proofs.open_core.Core.answer_group.Goals as goal
 

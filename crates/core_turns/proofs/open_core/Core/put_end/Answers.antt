@@ -7,7 +7,7 @@ use Rattle.core_turns.specs.Core.{Core}
 use Rattle.core_turns.specs.Getting.{HasTooManyOut}
 use Rattle.core_turns.specs.Putting.{IsPutOf, StoresBlock}
 use Rattle.core_turns.proofs.Cores.{core_with}
-use Rattle.core_turns.proofs.PutTurns.{put_digest, put_end_core, put_stores}
+use Rattle.core_turns.proofs.PutEnds.{put_digest, put_end_core, put_stores}
 use Rattle.core_turns.proofs.open_core.Core.put_end.Goals as goal
 
 pub into_entry-requires-clause-digest : goal.into_entry-requires-clause-digest

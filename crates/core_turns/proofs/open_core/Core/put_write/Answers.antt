@@ -1,4 +1,4 @@
-use Rattle.core_turns.proofs.PutTurns.{put_bank, put_goes_on, put_more}
+use Rattle.core_turns.proofs.PutGoes.{put_bank, put_goes_on, put_more}
 use Rattle.core_turns.proofs.open_core.Core.put_write.Goals as goal
 
 pub returns-clause-of : goal.returns-clause-of

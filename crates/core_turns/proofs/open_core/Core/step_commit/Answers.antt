@@ -5,7 +5,7 @@ use Rattle.core_turns.specs.declared.turn.Turn.TheVariants.{More}
 use Rattle.core_turns.specs.Core.{Core, at_disk, HasBankOf}
 use Rattle.core_turns.specs.Getting.{HasTooManyOut}
 use Rattle.core_turns.specs.Committing.{IsCommitOf, StepsCommit}
-use Rattle.core_turns.proofs.Commits.{commit_fits, commit_stays, step_core}
+use Rattle.core_turns.proofs.CommitGoes.{commit_fits, commit_stays, step_core}
 use Rattle.core_turns.proofs.Cores.{core_with}
 use Rattle.core_turns.proofs.open_core.Core.step_commit.Goals as goal
 

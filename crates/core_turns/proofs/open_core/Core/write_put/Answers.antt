@@ -4,7 +4,7 @@ use Rattle.core_turns.specs.Core.{Core, at_disk, HasBankOf}
 use Rattle.core_turns.specs.Getting.{HasTooManyOut}
 use Rattle.core_turns.specs.Putting.{IsPutOf, WritesOne}
 use Rattle.core_turns.proofs.Cores.{core_out, core_with}
-use Rattle.core_turns.proofs.PutTurns.{has_left, put_below, put_inside, put_still, put_writes}
+use Rattle.core_turns.proofs.PutGoes.{has_left, put_below, put_inside, put_still, put_writes}
 use Rattle.core_turns.proofs.open_core.Core.write_put.Goals as goal
 
 pub step-requires-clause-inside : goal.step-requires-clause-inside
