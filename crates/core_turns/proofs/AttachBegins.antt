@@ -1,6 +1,5 @@
 -- The commit of an attach begins: its group may be made with the new device, which is free.
-use Rattle.std.specs.Prelude.{Contains, IsSome, slice_index_or}
-use Rattle.std.proofs.Common.{◌≡◌, ℕ, ◌+◌, ◌^◌, ◌<◌, ◌≤◌, List, [], ◌∷◌, All, Option, Some, None, min, refl, sym, ◌∙◌, ap, subst, arith}
+use Rattle.std.proofs.Common.{◌≡◌, ℕ, ◌<◌, ◌≤◌, List, [], ◌∷◌, All, Some, None, refl, sym, ◌∙◌, ap, subst, arith}
 use Rattle.std.proofs.lemmas.List.Elements.{All-cons, All-nil}
 use Rattle.bank_trait.specs.Disk.{Disk, Lawful}
 use Rattle.reflow_mark.specs.declared.reflow.Reflow.{Reflow}
@@ -8,19 +7,15 @@ use Rattle.uberblock_ring.specs.Uberblock.{Uber}
 use Rattle.attach_ring.specs.Ring.{HasReadRing, RingRead}
 use Rattle.core_state.specs.Map.{Map}
 use Rattle.core_state.specs.Shown.{Shape, read_devices}
-use Rattle.core_state.specs.Keeps.{HasWidthIn, Kept, Setting}
-use Rattle.core_state.specs.Certain.{Knows}
-use Rattle.core_state.specs.Committing.{page_part}
+use Rattle.core_state.specs.Keeps.{Kept, Setting}
 use Rattle.core_state.proofs.Joining.{ReadsNoUber}
-use Rattle.core_commit.specs.declared.commit_run.Stage.TheVariants.{Lays}
 use Rattle.core_commit.specs.CommitTurns.{CommitRun}
 use Rattle.core_commit.specs.Widening.{IsWidenable}
 use Rattle.core_open.specs.Holds.{shape_of}
 use Rattle.device_join.proofs.Narrowing.{reach_less}
-use Rattle.join_commit.specs.declared.guest.Guest.{Guest}
 use Rattle.join_commit.specs.declared.guest.Guest.TheVariants.{Laid}
 use Rattle.join_commit.specs.JoinRun.{JoinRun}
-use Rattle.join_commit.specs.Joining.{GuestSoFar, ReadsParts}
+use Rattle.join_commit.specs.Joining.{GuestSoFar}
 use Rattle.join_commit.proofs.Spares.{free_is_blank}
 use Rattle.mark_choice.specs.CommitChoice.{Chooses, MayRecord}
 use Rattle.mark_advance.specs.Behind.{KeepsOrEnds}

@@ -1,27 +1,24 @@
 -- An attach beside others' turns: it stays the one under way, and what is known of it.
-use Rattle.std.proofs.Common.{◌≡◌, ⊎_elim, ℕ, ◌+◌, ◌<◌, ◌≤◌, List, [], ◌∷◌, Option, Some, None, refl, sym, ◌∙◌, ap, subst, arith}
-use Rattle.bank_trait.specs.Disk.{Disk, Later}
+use Rattle.std.proofs.Common.{◌≡◌, ℕ, ◌<◌, List, [], ◌∷◌, Option, Some, refl, sym, ◌∙◌, ap, subst, arith}
+use Rattle.bank_trait.specs.Disk.{Disk}
 use Rattle.bank_trait.specs.Regions.{TouchesOnly}
 use Rattle.reflow_mark.specs.declared.reflow.Reflow.{Reflow}
 use Rattle.uberblock_ring.specs.Uberblock.{Uber}
-use Rattle.attach_ring.specs.Ring.{HasReadRing, RingRead}
 use Rattle.attach_ring.proofs.Rings.{read_beside}
 use Rattle.core_state.specs.Map.{Map}
 use Rattle.core_state.specs.Keeps.{Kept, Setting}
 use Rattle.core_state.specs.Certain.{IsSound}
-use Rattle.core_state.specs.Committing.{point_of}
 use Rattle.core_commit.specs.CommitTurns.{CommitRun}
 use Rattle.core_commit.specs.Spared.{IsOnInUse}
 use Rattle.core_commit.proofs.Halves.{sound_paged}
 use Rattle.core_commit.proofs.Stepping.{ready_keeps}
 use Rattle.join_commit.specs.JoinRun.{JoinRun}
-use Rattle.join_commit.specs.Joining.{LeavesHead}
 use Rattle.join_commit.proofs.Guests.{guest_beside, touched_leaves}
 use Rattle.core_turns.specs.declared.attaching.AttachRun.{AttachRun}
 use Rattle.core_turns.specs.declared.attaching.AttachRun.TheVariants.{Reads, Checked, Joins, Signs}
 use Rattle.core_turns.specs.Core.{Core, CoreState, IsCore}
 use Rattle.core_turns.specs.Committing.{AnswersGroup, IsCommitOf}
-use Rattle.core_turns.specs.Attaching.{HasNewDevice, HoldsAttach, IsAttachCommit, IsAttachOf, IsMadeAt, IsNewDevice, MayReachOn}
+use Rattle.core_turns.specs.Attaching.{HoldsAttach, IsAttachOf, IsMadeAt, IsNewDevice, MayReachOn}
 use Rattle.core_turns.specs.UnderWay.{HoldingCall, Stands}
 use Rattle.core_turns.proofs.AttachTurns.{rest_records}
 use Rattle.core_turns.proofs.StandFrames.{LeavesCommit, commit_still}

@@ -1,10 +1,7 @@
 -- An attach's commit from its first turn to its last one: what stands stands, with the device where it joins.
-use Rattle.std.specs.Prelude.{Contains}
-use Rattle.std.proofs.Common.{◌≡◌, inl, inr, ⊎_elim, ℕ, ◌+◌, ◌<◌, ◌≤◌, List, [], ◌∷◌, Option, Some, None, refl, sym, ◌∙◌, ap, subst, arith}
-use Rattle.bank_trait.specs.Disk.{Continues, Disk, Lawful}
-use Rattle.reflow_mark.specs.declared.reflow.Reflow.{Reflow}
+use Rattle.std.proofs.Common.{◌≡◌, inl, inr, ℕ, ◌+◌, List, [], ◌∷◌, Option, Some, None, sym, subst}
+use Rattle.bank_trait.specs.Disk.{Continues, Lawful}
 use Rattle.uberblock_ring.specs.Devices.{IsWithin}
-use Rattle.uberblock_ring.specs.Uberblock.{Uber}
 use Rattle.core_state.specs.declared.answer.Answer.{Answer}
 use Rattle.core_state.specs.Map.{Map}
 use Rattle.core_state.specs.Keeps.{Kept, Setting}
@@ -14,12 +11,10 @@ use Rattle.core_state.specs.Moment.{IsRowOf, KeepsSince}
 use Rattle.core_state.proofs.Since.{since_more}
 use Rattle.core_commit.specs.declared.commit_run.Stage.{Stage}
 use Rattle.core_commit.specs.declared.commit_run.Stage.TheVariants.{Lays, Signs as Signing}
-use Rattle.core_commit.specs.CommitTurns.{CommitRun, shown_at, shown_by}
+use Rattle.core_commit.specs.CommitTurns.{CommitRun, shown_at}
 use Rattle.core_commit.specs.Widening.{MayWiden, widened_kept, widened_run}
 use Rattle.core_commit.proofs.Beside.{committing_knows}
 use Rattle.core_commit.proofs.Halves.{goes_on}
-use Rattle.join_commit.specs.declared.guest.Guest.{Guest}
-use Rattle.join_commit.specs.declared.guest.Guest.TheVariants.{Settled}
 use Rattle.join_commit.specs.declared.join_run.JoinStep.TheVariants as step
 use Rattle.join_commit.specs.declared.join_run.WhyDropped.{WhyDropped}
 use Rattle.join_commit.specs.JoinRun.{JoinRun}
@@ -30,9 +25,9 @@ use Rattle.core_turns.specs.declared.attaching.AttachRun.TheVariants.{Joins}
 use Rattle.core_turns.specs.Core.{Core, CoreState, HasBankOf, IsCore, at_disk}
 use Rattle.core_turns.specs.Attaching.{EndsAttach, GoOutAndReach, HoldsAttach, MayReachOn, OnlyGoOut, StepsJoin}
 use Rattle.core_turns.specs.Committing.{IsCommitOf}
-use Rattle.core_turns.specs.UnderWay.{HoldingCall, AreCallsOf, CommitStands, Stands, shown_in, shown_of}
+use Rattle.core_turns.specs.UnderWay.{HoldingCall, AreCallsOf, Stands, shown_in, shown_of}
 use Rattle.core_turns.proofs.AttachStands.{attaching_stands, is_joining}
-use Rattle.core_turns.proofs.AttachTurns.{attaching_commit, join_drops_commit, join_joins_commit, reaching_on}
+use Rattle.core_turns.proofs.AttachTurns.{join_drops_commit, join_joins_commit, reaching_on}
 use Rattle.core_turns.proofs.CommitEnds.{commit_ends_stands}
 use Rattle.core_turns.proofs.CommitStands.{commit_moves_since, commit_moves_stands}
 use Rattle.core_turns.proofs.Joining.{joined_core, joined_stands}

@@ -1,43 +1,35 @@
 -- What stands between two turns stands over each turn of an attach, and so does what is known of the attach.
-use Rattle.std.proofs.Common.{◌≡◌, ◌≢◌, inl, inr, ⊎_elim, ℕ, ◌+◌, ◌*◌, ◌%◌, ◌/◌, ◌^◌, ◌<◌, ◌≤◌, List, [], ◌∷◌, Option, Some, None, true, false, refl, sym, ◌∙◌, ap, subst, arith}
-use Rattle.std.specs.Prelude.{Contains, IsSome}
+use Rattle.std.proofs.Common.{◌≡◌, inr, ⊎_elim, ℕ, ◌%◌, ◌<◌, ◌≤◌, List, [], ◌∷◌, Option, Some, None, true, refl, sym, ◌∙◌, ap, subst, arith}
+use Rattle.std.specs.Prelude.{Contains}
 use Rattle.std.proofs.lemmas.Bool.{true≢false, cases_lt}
-use Rattle.bank_trait.specs.Disk.{Disk, Lawful, Later, Unchanged}
-use Rattle.bank_trait.specs.Regions.{Tells, TouchesOnly}
+use Rattle.bank_trait.specs.Disk.{Disk, Lawful, Unchanged}
 use Rattle.reflow_mark.specs.declared.reflow.Reflow.{Reflow}
-use Rattle.block_record.specs.declared.entry.IndexEntry.{IndexEntry}
 use Rattle.uberblock_ring.specs.Devices.{IsWithin, has_device}
-use Rattle.uberblock_ring.specs.Uberblock.{Uber}
-use Rattle.attach_ring.specs.Ring.{HasReadRing, RingRead}
 use Rattle.row_layout.specs.Layout.{Layout}
 use Rattle.shadow_write.specs.Required.{IsRequiredPlace}
 use Rattle.core_state.specs.Map.{Map}
 use Rattle.core_state.specs.Index.{layout_of}
 use Rattle.core_state.specs.Keeps.{Kept, Setting}
-use Rattle.core_state.specs.Certain.{Knows}
 use Rattle.core_state.specs.Committing.{Point, point_of}
 use Rattle.core_state.proofs.Frames.{Nowhere}
 use Rattle.core_blocks.specs.Blocks.{put_run}
 use Rattle.core_blocks.specs.Kept.{NoneFree, SparesAll}
 use Rattle.core_client.specs.Outs.{OnlyFailedGoOut}
 use Rattle.core_commit.specs.CommitTurns.{CommitRun}
-use Rattle.core_commit.specs.Spared.{IsOnInUse}
 use Rattle.core_commit.specs.Widening.{IsWidenable}
 use Rattle.join_commit.specs.declared.join_run.JoinStep.{JoinStep}
 use Rattle.join_commit.specs.declared.join_run.JoinStep.TheVariants as step
 use Rattle.join_commit.specs.JoinRun.{JoinRun}
-use Rattle.join_commit.specs.JoinTurns.{JoinSteps}
 use Rattle.join_commit.specs.Joining.{GuestSoFar, IsJoining, SparesPool}
 use Rattle.join_commit.proofs.Joins.{joining_goes_on}
 use Rattle.join_commit.proofs.Spares.{join_gone, join_spares}
-use Rattle.core_turns.specs.declared.attaching.AttachRun.{AttachRun}
-use Rattle.core_turns.specs.declared.attaching.AttachRun.TheVariants.{Reads, Checked, Joins, Signs}
-use Rattle.core_turns.specs.Core.{Core, CoreState, HasBankOf, IsCore, at_disk}
-use Rattle.core_turns.specs.Attaching.{HoldsAttach, IsAttachOf, MayReachOn, OnlyGoOut, StepsJoin, StopsAttach}
+use Rattle.core_turns.specs.declared.attaching.AttachRun.TheVariants.{Joins}
+use Rattle.core_turns.specs.Core.{Core, CoreState, IsCore, at_disk}
+use Rattle.core_turns.specs.Attaching.{HoldsAttach, MayReachOn, OnlyGoOut, StepsJoin, StopsAttach}
 use Rattle.core_turns.specs.Committing.{IsCommitOf}
-use Rattle.core_turns.specs.UnderWay.{HoldingCall, Putting, Reading, Copying, AreCallsOf, CommitStands, LiesInPool, Stands, actor_of}
+use Rattle.core_turns.specs.UnderWay.{HoldingCall, Putting, Reading, Copying, AreCallsOf, LiesInPool, Stands}
 use Rattle.core_turns.proofs.AttachTurns.{join_goes_commit}
-use Rattle.core_turns.proofs.Frames.{AreOff, IsCallOff, IsOff, Leaves, OnlyOut, call_off_nowhere, calls_keep, leaves_read, off_nowhere}
+use Rattle.core_turns.proofs.Frames.{IsCallOff, IsOff, Leaves, OnlyOut, call_off_nowhere, calls_keep, leaves_read, off_nowhere}
 use Rattle.core_turns.proofs.StandFrames.{groups_read, stands_frame}
 use Rattle.core_turns.proofs.GetStands.{stands_held}
 use Rattle.core_turns.proofs.Holds.{keeps_same}

@@ -1,44 +1,34 @@
 -- Attaches, turn by turn: that a core stays one, and what each turn comes to.
-use Rattle.std.proofs.Common.{◌≡◌, ◌⊎◌, inl, inr, ⊎_elim, ℕ, ◌+◌, ◌^◌, ◌<◌, ◌≤◌, Option, Some, None, length, true, false, refl, sym, ◌∙◌, ap, subst, arith}
+use Rattle.std.proofs.Common.{◌≡◌, inl, inr, ⊎_elim, ℕ, ◌+◌, ◌^◌, ◌<◌, Option, Some, None, length, sym, ◌∙◌, ap, subst, arith}
 use Rattle.std.proofs.lemmas.Bool.{true≢false, cases_lt}
-use Rattle.bank_trait.specs.Disk.{Disk, Lawful, Later, Unchanged}
+use Rattle.bank_trait.specs.Disk.{Disk, Lawful}
 use Rattle.bank_trait.specs.Regions.{TouchesOnly}
-use Rattle.bank_trait.proofs.Moments.{later_refl}
-use Rattle.bank_trait.proofs.Touches.{synced_touches, touches_none, touches_widen, wrote_touches}
+use Rattle.bank_trait.proofs.Touches.{synced_touches, touches_widen, wrote_touches}
 use Rattle.reflow_mark.specs.declared.reflow.Reflow.{Reflow}
-use Rattle.uberblock_ring.specs.Devices.{IsWithin, has_device}
+use Rattle.uberblock_ring.specs.Devices.{IsWithin}
 use Rattle.uberblock_ring.specs.Uberblock.{Uber, area_sector}
 use Rattle.uberblock_ring.proofs.DeviceSets.{none_above}
 use Rattle.reflow_mark.specs.Reflow.{Expands}
-use Rattle.mark_choice.specs.CommitChoice.{Chooses, IsWiderByOne, MayRecord, Widens}
+use Rattle.mark_choice.specs.CommitChoice.{Chooses, MayRecord, Widens}
 use Rattle.mark_choice.proofs.Still.{choice_still}
-use Rattle.core_state.specs.declared.answer.Answer.{Answer}
-use Rattle.core_state.specs.declared.answer.Answer.TheVariants as answer
 use Rattle.core_state.specs.Committing.{Point, point_of}
 use Rattle.core_client.specs.Outs.{OnlyFailedGoOut}
-use Rattle.core_client.proofs.Outs.{outs_none}
 use Rattle.core_commit.specs.declared.commit_run.CommitStep.TheVariants.{Called}
 use Rattle.core_commit.specs.CommitTurns.{CommitRun}
-use Rattle.core_commit.specs.Ran.{FitsBank}
-use Rattle.core_commit.specs.Spared.{HaveGoneOut, IsOnInUse}
-use Rattle.core_commit.specs.Widening.{widened_run, widened_uber}
+use Rattle.core_commit.specs.Spared.{IsOnInUse}
+use Rattle.core_commit.specs.Widening.{widened_run}
 use Rattle.core_commit.proofs.Stepping.{steps_same}
-use Rattle.open_pool.proofs.Banks.{bank_later}
 use Rattle.join_commit.specs.declared.join_run.JoinStep.{JoinStep}
 use Rattle.join_commit.specs.declared.join_run.JoinStep.TheVariants as step
 use Rattle.join_commit.specs.declared.join_run.WhyDropped.{WhyDropped}
 use Rattle.join_commit.specs.JoinRun.{JoinRun}
-use Rattle.join_commit.specs.JoinTurns.{FitsJoin, FitsStep, JoinSteps}
+use Rattle.join_commit.specs.JoinTurns.{FitsJoin, JoinSteps}
 use Rattle.join_commit.proofs.Spares.{join_gone, join_spares}
-use Rattle.core_turns.specs.declared.attaching.AttachRun.{AttachRun}
-use Rattle.core_turns.specs.declared.attaching.AttachRun.TheVariants.{Reads, Checked, Joins, Signs}
-use Rattle.core_turns.specs.declared.turn.Turn.{Turn}
-use Rattle.core_turns.specs.declared.turn.Turn.TheVariants.{More, Busy, Done}
-use Rattle.core_turns.specs.Core.{Core, CoreState, HasBankOf, IsCore, at_disk, reaching}
+use Rattle.core_turns.specs.declared.attaching.AttachRun.TheVariants.{Joins, Signs}
+use Rattle.core_turns.specs.Core.{Core, HasBankOf, IsCore}
 use Rattle.core_turns.specs.Committing.{IsCommitOf}
-use Rattle.core_turns.specs.UnderWay.{TurnGoesOn}
-use Rattle.core_turns.specs.Attaching.{AttachGoesOn, Decides, GoOutAndReach, HasNewDevice, IsAttachCommit, IsAttachOf, MayReachOn, OnlyGoOut, StepsAttach, StepsJoin, StopsAttach}
-use Rattle.core_turns.proofs.CommitGoes.{commit_fits, commit_goes, commit_stays, step_touches}
+use Rattle.core_turns.specs.Attaching.{HasNewDevice, IsAttachOf, MayReachOn}
+use Rattle.core_turns.proofs.CommitGoes.{commit_fits, commit_stays, step_touches}
 use Rattle.core_turns.proofs.Cores.{core_out}
 use Rattle.core_turns.proofs.Joining.{joined_commit, joined_core}
 

@@ -1,5 +1,5 @@
 -- What stands between two turns stands over each turn of a job, and so does what images keep.
-use Rattle.std.proofs.Common.{◌≡◌, ◌⊎◌, inl, inr, ⊎_elim, ℕ, ◌<◌, ◌≤◌, List, [], ◌∷◌, Option, refl, sym, ◌∙◌, ap, subst, arith}
+use Rattle.std.proofs.Common.{◌≡◌, inl, inr, ⊎_elim, ℕ, ◌<◌, ◌≤◌, List, [], ◌∷◌, Option, refl, sym, ◌∙◌, ap, subst, arith}
 use Rattle.std.specs.Prelude.{Contains}
 use Rattle.bank_trait.specs.Disk.{Disk, Lawful}
 use Rattle.bank_trait.specs.Regions.{Tells, TouchesOnly}

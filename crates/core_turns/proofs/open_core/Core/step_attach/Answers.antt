@@ -1,6 +1,5 @@
-use Rattle.std.proofs.Common.{◌≡◌, sym, ◌∙◌, ap, subst}
+use Rattle.std.proofs.Common.{sym, ◌∙◌, ap, subst}
 use Rattle.core_turns.specs.declared.attaching.AttachRun.{AttachRun}
-use Rattle.core_turns.specs.declared.attaching.AttachRun.TheVariants.{Checked}
 use Rattle.core_turns.specs.declared.turn.Turn.TheVariants.{Done}
 use Rattle.core_turns.specs.Core.{Core, at_disk}
 use Rattle.core_turns.specs.Attaching.{HasNewDevice, StepsAttach}

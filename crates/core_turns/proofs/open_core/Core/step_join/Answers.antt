@@ -1,7 +1,7 @@
-use Rattle.std.proofs.Common.{◌≡◌, ◌+◌, ◌^◌, ◌<◌, sym, subst}
+use Rattle.std.proofs.Common.{sym, subst}
 use Rattle.core_turns.specs.declared.attaching.AttachRun.TheVariants.{Joins}
 use Rattle.core_turns.specs.Core.{Core}
-use Rattle.core_turns.specs.Attaching.{HasNewDevice, IsAttachOf}
+use Rattle.core_turns.specs.Attaching.{IsAttachOf}
 use Rattle.core_turns.proofs.AttachTurns.{join_drops_core, join_drops_more, join_goes_core, join_goes_more, join_joins_core, join_joins_more}
 use Rattle.core_turns.proofs.Cores.{core_with}
 use Rattle.core_turns.proofs.open_core.Core.step_join.Goals as goal
