@@ -1,4 +1,6 @@
 // A pool of three devices, and one to which a fourth was attached, before anything was copied.
+ghost use Rattle.std.specs.Prelude.{◌≤◌};
+
 use crate::pool_on_bank::PoolOnBank;
 use bank_mem::MemBank;
 use core_open::create;
@@ -22,7 +24,9 @@ pub fn block_bytes(alloc: Global, id: u64, len: u64) -> Result<Vec<u8>, AllocErr
 /// A new pool of width 3 and parity 1, on the first three of so many devices of 256 sectors, with blocks of these
 /// lengths: the first has the id 0, and each next one the next id. They are put one behind the other from sector 0 on,
 /// and synced.
-pub fn pool_of_three(alloc: Global, devices: u32, lengths: &[u64]) -> Result<PoolOnBank, Fail> {
+pub fn pool_of_three(alloc: Global, devices: u32, lengths: &[u64]) -> Result<PoolOnBank, Fail>
+    requires { 3 ≤ devices }
+{
     let mut bank = MemBank::new(alloc, devices, 256)?;
     create(&mut bank, 1, 3, 9)?;
     let mut pool = PoolOnBank::open(alloc, bank)?;
