@@ -49,17 +49,16 @@ fn pool_without(alloc: Global, device: u32) -> Result<PoolOnBank, Fail> {
     Ok(pool)
 }
 
-/// A pool beside which the fourth device shows the pool's last uberblock, for a device of this number; and its slot.
+/// A pool that was opened beside a fourth device which shows the pool's last uberblock, for a device of this number; and
+/// the slot that shows it.
 fn pool_beside(rt: &impl Abort, alloc: Global, number: u32) -> Result<(PoolOnBank, u32), Fail> {
-    let mut pool = pool_of_three(alloc, 4, &MIXED)?;
+    let pool = pool_of_three(alloc, 4, &MIXED)?;
     let uber = pool.last_uber(rt, alloc)?;
+    assert!(rt; uber.is_right());
     let place = slot(uber.group());
-    put(
-        rt,
-        &mut pool.bank,
-        (NEW, u64::from(place)),
-        &uber.encode(number),
-    )?;
+    let mut bank = pool.bank;
+    put(rt, &mut bank, (NEW, u64::from(place)), &uber.encode(number))?;
+    let pool = PoolOnBank::open(alloc, bank)?;
     Ok((pool, place))
 }
 
