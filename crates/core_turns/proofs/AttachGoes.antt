@@ -13,6 +13,7 @@ use Rattle.core_client.specs.Outs.{OnlyFailedGoOut}
 use Rattle.core_client.proofs.Outs.{outs_none}
 use Rattle.core_commit.specs.Spared.{IsOnInUse}
 use Rattle.core_open.proofs.Others.{read_touches}
+use Rattle.core_open.proofs.Unchanged.{unchanged_none}
 use Rattle.open_pool.specs.Pool.{Pool}
 use Rattle.open_pool.proofs.Banks.{bank_later}
 use Rattle.join_commit.specs.declared.join_run.JoinStep.{JoinStep}
@@ -186,20 +187,9 @@ attach_there before after (Signs run because) (Done given) of there steps more =
     omega (arith, stays, more))
     steps
 
--- Nothing was done to the disk.
-unchanged_same : (disk : Disk) → Unchanged disk disk
-unchanged_same disk = record {
-  goes_on = record {
-    later = later_refl disk;
-    present = λ t after until device sector. absurd (omega (arith, after, until));
-  };
-  clock = refl;
-  reads = λ device sector. refl;
-}
-
 pub stops_attach : (old new : Core) (disk : Disk) → new ≡ record old { attaching = None }
     → StopsAttach (at_disk old disk) (at_disk new disk)
-stops_attach old new disk core = record { core = core; unchanged = unchanged_same disk }
+stops_attach old new disk core = record { core = core; unchanged = unchanged_none disk }
 
 -- Where too many devices are out, each turn says so.
 pub attach_too_many : (before after : CoreState) (run : AttachRun) (out : ℕ) → StopsAttach before after

@@ -73,7 +73,7 @@ each_pushed handed opening items (other ∷ groups) (first ∷ answered) group k
     (each.0, each_pushed handed opening items groups answered group kept each.1 is)
 
 -- An attach that was to be answered then is told so by a journal that has grown.
-awaits_grown : (calls : Calls) (items more : List Item) (after : ℕ) → after ≤ length items
+pub awaits_grown : (calls : Calls) (items more : List Item) (after : ℕ) → after ≤ length items
     → AwaitsAttach calls items after → AwaitsAttach calls (items ++ more) after
 awaits_grown calls items more after within awaits = record {
   caller = awaits.caller;

@@ -18,6 +18,7 @@ use Rattle.schedule.specs.declared.client.Client.{Client}
 use Rattle.schedule.specs.declared.progress.Progress.{Progress}
 use Rattle.schedule.specs.Clients.{ClientsAreAnswered, answered_of}
 use Rattle.schedule.specs.Coming.{IsSchedule}
+use Rattle.schedule.specs.Turned.{HasDeviceUnder}
 use Rattle.schedule.specs.Turns.{turns_of}
 use Rattle.schedule.specs.InTurn.{Cursor, replay_at, replay_by, turns_by}
 use Rattle.schedule.specs.Playing.{IsReady}
@@ -37,6 +38,7 @@ schedule_at_rest script core disk items count rest bank none = record {
     are = subst (AreCallsOf core) (sym (none_held count)) (calls_none core rest.blocks);
     each = λ index client under going. absurd (none_of_blank count index client under going);
     one = λ actor is. absurd (none_some (sym rest.committing ∙ is));
+    attaches = λ actor is. absurd (none_some (sym rest.attaching ∙ is));
   };
   answered = record {
     right = record {
@@ -51,6 +53,8 @@ schedule_at_rest script core disk items count rest bank none = record {
     every = λ caller number client there low. absurd (none_begun caller number client there low);
   };
   bank = bank;
+  there = λ index client there. subst (HasDeviceUnder disk)
+      (sym (ap (λ (c : Client). c.under_way) (blank_is count index client there))) tt;
 }
   where
     none_begun : (caller number : ℕ) (client : Client) → slice_get (blank_clients count) caller ≡ Some client

@@ -1,11 +1,9 @@
 -- The banks with which a run's items were listed: those that its turns left.
-use Rattle.std.proofs.Common.{◌≡◌, ⊎_elim, ℕ, ◌<◌, ◌≤◌, List, [], ◌∷◌, ◌++◌, length, Bool, if◌then◌else◌, sym, ◌∙◌, ap, refl, arith, length-append}
+use Rattle.std.proofs.Common.{◌≡◌, ⊎_elim, ℕ, ◌<◌, ◌≤◌, List, [], ◌∷◌, ◌++◌, length, Option, Some, None, Bool, if◌then◌else◌, sym, ◌∙◌, ap, refl, arith, length-append}
 use Rattle.std.specs.Prelude.{get_or}
 use Rattle.std.proofs.lemmas.Bool.{cases_lt, le-ltb, lt-ltb}
 use Rattle.std.proofs.lemmas.Option.{slice_get-get_or}
 use Rattle.bank_trait.specs.Disk.{Disk}
-use Rattle.core_state.specs.declared.answer.Answer.{Answer}
-use Rattle.core_state.specs.declared.answer.Answer.TheVariants as answer
 use Rattle.core_state.specs.declared.item.Entry.{Entry}
 use Rattle.core_state.specs.declared.item.Item.{Item}
 use Rattle.core_state.specs.declared.item.Item.TheVariants.{Group, Call}
@@ -18,7 +16,8 @@ use Rattle.schedule.specs.declared.client.UnderWay.{UnderWay}
 use Rattle.schedule.specs.declared.client.Work.{Work}
 use Rattle.schedule.specs.InTurn.{HaveTaken, IsTurnOf}
 use Rattle.schedule.specs.Replaying.{blank_client}
-use Rattle.schedule.specs.Turned.{Station, LeavesBegun, LeavesGoing, Turned, Nothing, Began, Went, entry_for, group_with, listed_with}
+use Rattle.schedule.specs.Turned.{Station, LeavesBegun, LeavesGoing, Turned, Nothing, Began, Went, entry_for, group_by, group_with, listed_of}
+use Rattle.schedule.specs.Works.{made_by}
 use Rattle.schedule.specs.Turns.{Turns, TurnTaken, AreListedWith, bank_when, last_left}
 
 -- ---- a turn lists items at the end, or none
@@ -26,14 +25,14 @@ use Rattle.schedule.specs.Turns.{Turns, TurnTaken, AreListedWith, bank_when, las
 one_longer : (items now : List Item) (item : Item) → now ≡ items ++ item ∷ [] → length items ≤ length now
 one_longer items now item is = let same = ap length is in omega (arith, same, length-append items (item ∷ []))
 
-listed_grows : (widths : Reflow) (items now : List Item) (at : ℕ) (entry : Entry) (given : Answer)
-    → now ≡ listed_with widths items at entry given → length items ≤ length now
-listed_grows widths items now at entry (answer.Synced number) is =
+listed_grows : (widths : Reflow) (items now : List Item) (at : ℕ) (entry : Entry) (group : Option ℕ)
+    → now ≡ listed_of widths items at entry group → length items ≤ length now
+listed_grows widths items now at entry (Some number) is =
     let group : Item = Group (group_with widths at number) in
     let one = one_longer items (items ++ group ∷ []) group refl in
     let two = one_longer (items ++ group ∷ []) now (Call entry) is in
     omega (arith, one, two)
-listed_grows widths items now at entry given is = one_longer items now (Call entry) is
+listed_grows widths items now at entry None is = one_longer items now (Call entry) is
 
 begun_grows : (actor : ℕ) (call : ScriptCall) (before after : Station) (turn : Turn Work)
     → LeavesBegun actor call before after turn → length before.items ≤ length after.items
@@ -47,7 +46,7 @@ gone_grows actor call before after under (More does) leaves = let same = ap leng
 gone_grows actor call before after under (Busy by) leaves = absurd leaves
 gone_grows actor call before after under (Done given) leaves =
     listed_grows after.state.core.pool.uber.reflow before.items after.items under.at
-    (entry_for call actor before.client.begun under.at given) given leaves.0
+    (entry_for call actor before.client.begun under.at given) (group_by given (made_by under.work)) leaves.0
 
 turned_grows : (calls : List ScriptCall) (actor : ℕ) (before after : Station) → Turned calls actor before after
     → length before.items ≤ length after.items

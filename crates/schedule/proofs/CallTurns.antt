@@ -14,6 +14,9 @@ use Rattle.core_commit.specs.Spared.{IsOnInUse}
 use Rattle.core_open.proofs.Others.{read_touches}
 use Rattle.client_script.specs.declared.call.ScriptCall.{ScriptCall}
 use Rattle.client_script.specs.Lines.{fill_bytes, pattern_from}
+use Rattle.core_turns.specs.declared.attaching.AttachRun.{AttachRun}
+use Rattle.core_turns.specs.declared.attaching.AttachRun.TheVariants.{Reads, Checked, Joins, Signs}
+use Rattle.core_turns.specs.Attaching.{IsMoreAttach, StepsAttach}
 use Rattle.core_turns.specs.declared.getting.GetRun.{GetRun}
 use Rattle.core_turns.specs.declared.getting.OutOfMemory.{OutOfMemory}
 use Rattle.core_blocks.specs.Blocks.{Blocks, IsUnderWay}
@@ -27,7 +30,8 @@ use Rattle.core_turns.specs.UnderWay.{TurnGoesOn}
 use Rattle.core_turns.proofs.GetTurns.{reads_reaching}
 use Rattle.core_turns.proofs.PutTurns.{fills_of}
 use Rattle.schedule.specs.declared.client.Work.{Work}
-use Rattle.schedule.specs.Turned.{AnswersAtOnce, Waits, BeginsWork, BeginsCall, IsFilledIn, PutGoesOn, ReadGoesOn, read_turn}
+use Rattle.schedule.specs.declared.client.Work.TheVariants as work
+use Rattle.schedule.specs.Turned.{AnswersAtOnce, Waits, BeginsWork, BeginsCall, GoesOnBy, IsFilledIn, PutGoesOn, ReadGoesOn, attach_turn, read_turn}
 use Rattle.schedule.proofs.LeavesPool.{pool_goes}
 
 -- ---- first turns
@@ -38,35 +42,36 @@ pattern_length seed from zero = refl
 pattern_length seed from (suc len) = omega (arith, pattern_length seed (from + 1) len)
 
 -- what a call comes to that was of this kind and id
-abbrev BeginsAs : Core → Core → ℕ → ScriptCall → Kind → Option ℕ → Turn Work → Type 0
-BeginsAs old new actor call asked id (More does) = BeginsWork old new actor call asked id does
-BeginsAs old new actor call asked id (Busy by) = Waits old new actor call asked id by
-BeginsAs old new actor call asked id (Done given) = AnswersAtOnce old new actor call asked id given
+abbrev BeginsAs : Core → Core → ℕ → ℕ → ScriptCall → Kind → Option ℕ → Turn Work → Type 0
+BeginsAs old new devices actor call asked id (More does) = BeginsWork old new devices actor call asked id does
+BeginsAs old new devices actor call asked id (Busy by) = Waits old new devices actor call asked id by
+BeginsAs old new devices actor call asked id (Done given) = AnswersAtOnce old new devices actor call asked id given
 
-read_begun : (old new : Core) (actor id : ℕ) (call : ScriptCall) (asked : Kind) (turn : Turn GetRun) → IsReadKind asked
-    → BeginsGet old new actor asked id turn → BeginsAs old new actor call asked (Some id) (read_turn turn)
-read_begun old new actor id call kind.Get (More run) is begins = begins
-read_begun old new actor id call kind.Get (Busy by) is begins = begins
-read_begun old new actor id call kind.Get (Done given) is begins = begins
-read_begun old new actor id call kind.Sum (More run) is begins = begins
-read_begun old new actor id call kind.Sum (Busy by) is begins = begins
-read_begun old new actor id call kind.Sum (Done given) is begins = begins
-read_begun old new actor id call other turn is begins = absurd is
+read_begun : (old new : Core) (devices actor id : ℕ) (call : ScriptCall) (asked : Kind) (turn : Turn GetRun)
+    → IsReadKind asked → BeginsGet old new actor asked id turn
+    → BeginsAs old new devices actor call asked (Some id) (read_turn turn)
+read_begun old new devices actor id call kind.Get (More run) is begins = begins
+read_begun old new devices actor id call kind.Get (Busy by) is begins = begins
+read_begun old new devices actor id call kind.Get (Done given) is begins = begins
+read_begun old new devices actor id call kind.Sum (More run) is begins = begins
+read_begun old new devices actor id call kind.Sum (Busy by) is begins = begins
+read_begun old new devices actor id call kind.Sum (Done given) is begins = begins
+read_begun old new devices actor id call other turn is begins = absurd is
 
-begins_as : (old new : Core) (actor : ℕ) (call : ScriptCall) (turn : Turn Work)
-    → BeginsAs old new actor call call.kind call.id turn → BeginsCall old new actor call turn
-begins_as old new actor call (More does) begins = begins
-begins_as old new actor call (Busy by) begins = begins
-begins_as old new actor call (Done given) begins = begins
+begins_as : (old new : Core) (devices actor : ℕ) (call : ScriptCall) (turn : Turn Work)
+    → BeginsAs old new devices actor call call.kind call.id turn → BeginsCall old new devices actor call turn
+begins_as old new devices actor call (More does) begins = begins
+begins_as old new devices actor call (Busy by) begins = begins
+begins_as old new devices actor call (Done given) begins = begins
 
 -- The first turn of a read is that of its call.
-pub read_begins : (old new : Core) (actor id : ℕ) (call : ScriptCall) (turn : Turn GetRun) (result : Turn Work)
+pub read_begins : (old new : Core) (devices actor id : ℕ) (call : ScriptCall) (turn : Turn GetRun) (result : Turn Work)
     → IsReadKind call.kind → call.id ≡ Some id → result ≡ read_turn turn → BeginsGet old new actor call.kind id turn
-    → BeginsCall old new actor call result
-read_begins old new actor id call turn result is id_is same begins =
-    subst (BeginsCall old new actor call) (sym same) (begins_as old new actor call (read_turn turn)
-    (subst (λ (i : Option ℕ). BeginsAs old new actor call call.kind i (read_turn turn)) (sym id_is)
-    (read_begun old new actor id call call.kind turn is begins)))
+    → BeginsCall old new devices actor call result
+read_begins old new devices actor id call turn result is id_is same begins =
+    subst (BeginsCall old new devices actor call) (sym same) (begins_as old new devices actor call (read_turn turn)
+    (subst (λ (i : Option ℕ). BeginsAs old new devices actor call call.kind i (read_turn turn)) (sym id_is)
+    (read_begun old new devices actor id call call.kind turn is begins)))
 
 -- ---- turns without a device call
 
@@ -169,3 +174,19 @@ read_ends old new disk run solved result (Done given) ok err done ends =
     record { disk = refl; ends = inr (solved, solved_now run solved result ok err, done, ends) }
 read_ends old new disk run solved result (More next) ok err done ends = absurd ends
 read_ends old new disk run solved result (Busy by) ok err done ends = absurd ends
+
+-- ---- attaches
+
+-- A turn of an attach is that of its call.
+pub attach_by : (before after : CoreState) (call : ScriptCall) (run : AttachRun) (turn : Turn AttachRun)
+    → StepsAttach before run after turn → IsMoreAttach after.core after.disk turn
+    → GoesOnBy before after call (work.Attach run) (attach_turn turn)
+attach_by before after call run (More next) steps of = (steps, of.0)
+attach_by before after call run (Done given) steps of = steps
+attach_by before after call run (Busy by) steps of = never run steps
+  where
+    never : (run : AttachRun) → StepsAttach before run after (Busy by) → ⊥
+    never (Reads ring) steps = steps
+    never (Checked ring) steps = steps
+    never (Joins join) steps = steps
+    never (Signs commit because) steps = steps

@@ -48,7 +48,7 @@ fits core asked given of tells no_limit other = record {
   memory = λ wanting. other;
 }
 
--- No put, read or sync is a free.
+-- No put, read, sync or attach is a free.
 pub put_no_free : (asked : Kind) → asked ≡ kind.Put → asked ≢ kind.Free
 put_no_free asked is free = apart (sym is ∙ free)
   where
@@ -59,6 +59,12 @@ pub sync_no_free : (asked : Kind) → asked ≡ kind.Sync → asked ≢ kind.Fre
 sync_no_free asked is free = apart (sym is ∙ free)
   where
     apart : kind.Sync ≡ kind.Free → ⊥
+    apart same = cc
+
+pub attach_no_free : (asked : Kind) → asked ≡ kind.Attach → asked ≢ kind.Free
+attach_no_free asked is free = apart (sym is ∙ free)
+  where
+    apart : kind.Attach ≡ kind.Free → ⊥
     apart same = cc
 
 pub read_no_free : (asked : Kind) → IsReadKind asked → asked ≢ kind.Free

@@ -95,6 +95,7 @@ put_asked (work.Read other) run call held asked = absurd (apart (only_one (Readi
     apart : Reading other ≡ Putting run → ⊥
     apart same = cc
 put_asked (work.Sync other) run call held asked = absurd (none_listed (Putting run) held)
+put_asked (work.Attach other) run call held asked = absurd (none_listed (Putting run) held)
 
 -- An id that is reserved is one that a call of the script puts.
 reserved_put : (script : Script) (core : Core) (clients : List Client) (opening : Map) (id : ℕ)

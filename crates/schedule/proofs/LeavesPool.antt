@@ -10,19 +10,23 @@ use Rattle.core_client.specs.Outs.{OnlyFailedGoOut}
 use Rattle.core_state.specs.Committing.{point_of}
 use Rattle.core_commit.specs.CommitTurns.{CommitRun}
 use Rattle.core_commit.specs.Spared.{IsOnInUse}
+use Rattle.core_turns.specs.declared.attaching.AttachRun.{AttachRun}
+use Rattle.core_turns.specs.Attaching.{IsAttachOf}
 use Rattle.core_turns.specs.Core.{Core, CoreState, at_disk}
 use Rattle.core_turns.specs.Getting.{HasTooManyOut}
 use Rattle.core_turns.specs.Committing.{IsCommitOf}
 use Rattle.core_turns.specs.UnderWay.{TurnGoesOn}
 use Rattle.open_pool.proofs.Banks.{count_grows}
+use Rattle.core_turns.proofs.AttachBeside.{attach_still}
 use Rattle.core_turns.proofs.CommitGoes.{turn_nowhere}
 use Rattle.core_turns.proofs.Frames.{OnlyOut}
 use Rattle.core_turns.proofs.StandFrames.{LeavesCommit, commit_still, out_leaves}
 use Rattle.core_turns.proofs.Holds.{KeepsAlone, keeps_same}
 
--- A turn leaves the devices that are out, the uberblock, and the commit that is under way.
+-- A turn leaves the devices that are out, the uberblock, and the commit and the attach that are under way.
 pub record LeavesPool (old new : Core) : Type 0 where
   pub out : new.pool.out ≡ old.pool.out
+  pub attaching : new.attaching ≡ old.attaching
   pub commit : LeavesCommit old new
 
 -- So it is where only blocks and holds changed, and what a commit holds is held still.
@@ -31,6 +35,7 @@ pub leaves_pool : (old new : Core) (blocks : Blocks) (holds : List Hold)
     → LeavesPool old new
 leaves_pool old new blocks holds core alone = record {
   out = out;
+  attaching = ap (λ (c : Core). c.attaching) core;
   commit = record {
     uber = ap (λ (c : Core). c.pool.uber) core;
     done = ap (λ (c : Core). c.pool.done) core;
@@ -51,17 +56,21 @@ pub holds_left : (old new : Core) (blocks : Blocks) → new ≡ record old { poo
 holds_left old new blocks core =
     leaves_pool old new blocks old.holds core (keeps_same old.pool.done old.holds new.holds (ap (λ (c : Core). c.holds) core))
 
--- What a turn leaves of the commit that is under way.
+-- What a turn leaves of the commit and of the attach that are under way.
 pub record KeepsCommit (old new : Core) : Type 0 where
   pub committing : new.committing ≡ old.committing
+  pub attaching : new.attaching ≡ old.attaching
   pub commits : (run : CommitRun) → IsCommitOf old run → IsCommitOf new run
+  pub attaches : (run : AttachRun) → IsAttachOf old run → IsAttachOf new run
   pub many : HasTooManyOut old → HasTooManyOut new
 
--- It is kept where it is left,
-keeps_left : {old new : Core} → LeavesCommit old new → KeepsCommit old new
-keeps_left {old} {new} leaves = record {
+-- They are kept where they are left,
+keeps_left : {old new : Core} → LeavesCommit old new → new.attaching ≡ old.attaching → KeepsCommit old new
+keeps_left {old} {new} leaves attaching = record {
   committing = leaves.committing;
+  attaching = attaching;
   commits = λ run. commit_still old new leaves;
+  attaches = λ run. attach_still old new run leaves attaching;
   many = λ many.
       let more = count_grows old.pool.out new.pool.out leaves.within in
       let parity = ap (λ (u : Uber). u.parity) leaves.uber in
@@ -70,11 +79,12 @@ keeps_left {old} {new} leaves = record {
 
 -- as by a turn that leaves the pool,
 pub leaves_commit : {old new : Core} → LeavesPool old new → KeepsCommit old new
-leaves_commit leaves = keeps_left leaves.commit
+leaves_commit leaves = keeps_left leaves.commit leaves.attaching
 
 -- and where only devices go out.
 pub out_keeps : {old new : Core} → OnlyOut old new → IsWithin old.pool.out new.pool.out → KeepsCommit old new
-out_keeps {old} {new} rest within = keeps_left (out_leaves old new rest within)
+out_keeps {old} {new} rest within =
+    keeps_left (out_leaves old new rest within) (ap (λ (c : Core). c.attaching) rest)
 
 -- Where the disk is as it was, no device was called.
 pub turn_still : (before after : CoreState) → after.core.pool.uber ≡ before.core.pool.uber

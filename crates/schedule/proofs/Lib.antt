@@ -17,6 +17,9 @@ pub mod Using
 pub mod Copied
 pub mod UsingTurns
 pub mod UsingEnds
+pub mod AttachUses
+pub mod UsingWorks
+pub mod NewDevices
 pub mod Numbered
 pub mod UsingLaw
 pub mod Fitting
@@ -25,7 +28,12 @@ pub mod Going
 pub mod Syncs
 pub mod LeavesPool
 pub mod TurnComes
+pub mod Refusals
 pub mod SyncComes
+pub mod AttachComes
+pub mod AttachReads
+pub mod AttachJoins
+pub mod AttachCommits
 pub mod SyncGoes
 pub mod Puts
 pub mod PutComes

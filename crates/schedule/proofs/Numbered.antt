@@ -16,10 +16,11 @@ use Rattle.core_turns.specs.Core.{Core, IsCore}
 use Rattle.schedule.specs.declared.client.Client.{Client}
 use Rattle.schedule.specs.Numbered.{GroupsAreNumbered, IsNumbered}
 use Rattle.schedule.specs.Running.{AreGoing}
-use Rattle.schedule.specs.Turned.{Station, Turned, Nothing, Began, Went, entry_for, group_for, listed_for}
+use Rattle.schedule.specs.Turned.{Station, Turned, Nothing, Began, Went, entry_for, group_for}
+use Rattle.schedule.specs.Works.{made_by}
 use Rattle.schedule.proofs.BothListed.{one_latest}
 use Rattle.schedule.proofs.Opened.{resting}
-use Rattle.schedule.proofs.UsingEnds.{plain_listed, works_end, works_go}
+use Rattle.schedule.proofs.UsingWorks.{group_listed, plain_listed, works_end, works_go}
 use Rattle.schedule.proofs.UsingTurns.{answers_with, waits_with, works_begin}
 
 call_no_group : (entry : Entry) (group : GroupItem) → CallItem entry ≡ Group group → ⊥
@@ -125,13 +126,13 @@ module _ (script : Script) (actor : ℕ) (before after : Station) (clients : Lis
   turn_numbers (Nothing nothing) = lists_none (ap (λ (s : Station). s.state.core.pool.uber.group) nothing.same)
       (ap (λ (s : Station). s.items) nothing.same)
   turn_numbers (Began (More does) begins leaves) =
-      let on = works_begin old new is actor begins.call begins.call.kind begins.call.id does begins.did in
+      let on = works_begin old new is before.state.disk.devices actor begins.call begins.call.kind begins.call.id does begins.did in
       lists_none (ap (λ (u : Uber). u.group) on.begins.uber) leaves.0
   turn_numbers (Began (Busy by) begins leaves) =
-      let with = waits_with old new is actor begins.call begins.call.kind begins.call.id by begins.did in
+      let with = waits_with old new is before.state.disk.devices actor begins.call begins.call.kind begins.call.id by begins.did in
       lists_none (ap (λ (u : Uber). u.group) with.uber) leaves.0
   turn_numbers (Began (Done given) begins leaves) =
-      let with = answers_with old new is actor begins.call begins.call.kind begins.call.id given begins.did in
+      let with = answers_with old new is before.state.disk.devices actor begins.call begins.call.kind begins.call.id given begins.did in
       lists_entry (ap (λ (u : Uber). u.group) with.uber)
       (entry_for begins.call actor (before.client.begun + 1) (length before.items) given) leaves.0
   turn_numbers (Went under (More does) goes leaves) =
@@ -142,9 +143,9 @@ module _ (script : Script) (actor : ℕ) (before after : Station) (clients : Lis
       (record { there = was; under_way = goes.going })).commit run does).0) goes.did) [
         | inl plain ↦ lists_entry plain.1.group_is (entry_for goes.call actor before.client.begun under.at given)
             (leaves.0 ∙ plain_listed new before.items under.at
-            (entry_for goes.call actor before.client.begun under.at given) given plain.0)
+            (entry_for goes.call actor before.client.begun under.at given) (made_by under.work) given plain.0)
         | inr synced ↦ lists_group (group_for new under.at synced.0) synced.2.group_is synced.3
             (entry_for goes.call actor before.client.begun under.at given)
-            (leaves.0 ∙ ap (listed_for new before.items under.at
-            (entry_for goes.call actor before.client.begun under.at given)) synced.1)
+            (leaves.0 ∙ group_listed new before.items under.at
+            (entry_for goes.call actor before.client.begun under.at given) (made_by under.work) given synced.0 synced.1)
       ]

@@ -7,12 +7,12 @@ use Rattle.std.proofs.lemmas.Option.{slice_get_within}
 use Rattle.core_state.specs.declared.answer.Answer.{Answer}
 use Rattle.core_state.specs.declared.answer.Answer.TheVariants as answer
 use Rattle.core_state.specs.declared.answer.Kind.{Kind}
-use Rattle.core_state.specs.declared.answer.Kind.TheVariants as kind
 use Rattle.core_state.specs.declared.item.Entry.{Entry}
 use Rattle.core_state.specs.declared.item.Group.{Group as GroupItem}
 use Rattle.core_state.specs.declared.item.Item.{Item}
 use Rattle.core_state.specs.declared.item.Item.TheVariants.{Group, Call}
 use Rattle.core_state.specs.Legal.{CallAt, GroupAt, IsAnswerOf}
+use Rattle.core_commit.specs.CommitTurns.{CommitRun}
 use Rattle.client_script.specs.declared.call.ScriptCall.{ScriptCall}
 use Rattle.client_script.specs.InOrder.{given_of}
 use Rattle.client_script.specs.Script.{Placed, Script, calls_of}
@@ -31,7 +31,8 @@ use Rattle.schedule.specs.InTurn.{Cursor, Goes, InOrder, InRest, InRound, IsCall
 use Rattle.schedule.specs.OfLines.{FollowsLines, actors_in, callers_in}
 use Rattle.schedule.specs.Playing.{EndsAs}
 use Rattle.schedule.specs.Replaying.{AreIdle, blank_client, blank_clients}
-use Rattle.schedule.specs.Turned.{Station, Turned, Nothing, Began, Went, LeavesBegun, LeavesGoing, entry_for, group_for, listed_for}
+use Rattle.schedule.specs.Turned.{Station, Turned, Nothing, Began, Went, LeavesBegun, LeavesGoing, entry_for, group_by, group_for, listed_for, listed_of}
+use Rattle.schedule.specs.Works.{begun_at, commit_in, made_by}
 use Rattle.schedule.specs.Turns.{Turns, TurnTaken}
 use Rattle.schedule.specs.WholeRun.{first_turns}
 use Rattle.schedule.proofs.CallTaken.{given_more, given_own}
@@ -100,6 +101,23 @@ record Follows (script : Script) (items : List Item) : Type 0 where
   reads : (index : ℕ) (entry : Entry) → CallAt items index entry → IsAnswerOf entry.kind entry.answer
       → entry.at ≡ point_after entry.kind index entry.answer
   groups : (index : ℕ) (group : GroupItem) → GroupAt items index group → group.after ≡ index
+
+-- A call with a group speaks of no point.
+no_point : (asked : Kind) (made : Option ℕ) (given : Answer) (number before now : ℕ) → group_by given made ≡ Some number
+    → IsAnswerOf asked given → point_after asked before given ≡ point_after asked now given
+no_point asked made (answer.Synced group) number before now is of =
+    ap (λ (k : Kind). point_after k before (answer.Synced group)) of
+    ∙ sym (ap (λ (k : Kind). point_after k now (answer.Synced group)) of)
+no_point asked made (answer.Attached width group) number before now is of =
+    ap (λ (k : Kind). point_after k before (answer.Attached width group)) of
+    ∙ sym (ap (λ (k : Kind). point_after k now (answer.Attached width group)) of)
+no_point asked made (answer.NewDeviceFailed device) number before now is of =
+    ap (λ (k : Kind). point_after k before (answer.NewDeviceFailed device)) of
+    ∙ sym (ap (λ (k : Kind). point_after k now (answer.NewDeviceFailed device)) of)
+no_point asked made (answer.DeviceOut device) number before now is of =
+    ap (λ (k : Kind). point_after k before (answer.DeviceOut device)) of
+    ∙ sym (ap (λ (k : Kind). point_after k now (answer.DeviceOut device)) of)
+no_point asked made other number before now is of = absurd (none_some is)
 
 module _ (script : Script) (items : List Item) (follows : Follows script items) where
   -- A group that has all items before it answers no call,
@@ -276,33 +294,31 @@ module _ (script : Script) (items : List Item) (clients news : List Client) (giv
         entry = entry_for call placed.actor number (length items) answer
 
     -- or after its group.
-    answers_listed : (core : Core) (call : ScriptCall) (number begun : ℕ) (given_answer : Answer)
+    answers_listed : (core : Core) (call : ScriptCall) (number begun : ℕ) (made : Option ℕ) (given_answer : Answer)
         → now ≡ record { begun = begun; under_way = None } → begun ≡ given_of script answered placed.actor + 1
         → GoesByLines script (listed_for core items (length items)
-        (entry_for call placed.actor number (length items) given_answer) given_answer) news (InRest given)
+        (entry_for call placed.actor number (length items) given_answer) made given_answer) news (InRest given)
     unfolding follows_call follows_group
-    answers_listed core call number begun (answer.Synced group) now_is counted =
-        answers_by (listed ++ Call entry ∷ [])
-        (follows_call script listed (follows_group script items goes.follows made refl) placed entry next refl at_any)
-        refl (ap (λ (c : Client). c.under_way) now_is) (ap (λ (c : Client). c.begun) now_is ∙ counted) at
+    answers_listed core call number begun made given_answer now_is counted = by (group_by given_answer made) refl
       where
-        made : GroupItem
-        made = group_for core (length items) group
-
-        listed : List Item
-        listed = items ++ Group made ∷ []
-
         entry : Entry
-        entry = entry_for call placed.actor number (length items) (answer.Synced group)
+        entry = entry_for call placed.actor number (length items) given_answer
 
-        -- A sync speaks of no point.
-        at_any : call.kind ≡ kind.Sync
-            → point_after call.kind (length items) (answer.Synced group)
-            ≡ point_after call.kind (length listed) (answer.Synced group)
-        at_any is =
-            ap (λ (asked : Kind). point_after asked (length items) (answer.Synced group)) is
-            ∙ sym (ap (λ (asked : Kind). point_after asked (length listed) (answer.Synced group)) is)
-    answers_listed core call number begun other now_is counted = answers_alone call number begun other now_is counted
+        by : (group : Option ℕ) → group_by given_answer made ≡ group
+            → GoesByLines script (listed_of core.pool.uber.reflow items (length items) entry group) news (InRest given)
+        by None is = answers_alone call number begun given_answer now_is counted
+        by (Some group) is = answers_by ((items ++ Group (group_for core (length items) group) ∷ []) ++ Call entry ∷ [])
+            (follows_call script (items ++ Group (group_for core (length items) group) ∷ [])
+            (follows_group script items goes.follows (group_for core (length items) group) refl) placed entry next refl
+            (no_point call.kind made given_answer group (length items)
+            (length (items ++ Group (group_for core (length items) group) ∷ [])) is))
+            refl (ap (λ (c : Client). c.under_way) now_is) (ap (λ (c : Client). c.begun) now_is ∙ counted) at
+
+-- Where nothing was listed meanwhile a group began after all items.
+begun_now : (does was : Option CommitRun) (at now : ℕ) → at ≡ now → begun_at does was at now ≡ now
+begun_now None was at now same = same
+begun_now (Some run) None at now same = refl
+begun_now (Some run) (Some before) at now same = same
 
 -- Whatever the next call's client does, the run goes by the lines.
 module _ (script : Script) (before after : Station) (clients news : List Client) (given : ℕ)
@@ -355,17 +371,17 @@ module _ (script : Script) (before after : Station) (clients news : List Client)
       → LeavesGoing placed.actor call before after under turn → Now after.items
   goes_further (More does) call under going leaves =
       let has = its.under under going in
-      goes_on_from before.client.begun (record { at = under.at; work = does }) leaves.0 leaves.1
-      (counted_by (Some under) going) has.1 has.0
+      goes_on_from before.client.begun _ leaves.0 leaves.1 (counted_by (Some under) going) has.1
+      (begun_now (commit_in does) (commit_in under.work) under.at (length before.items) has.0)
   goes_further (Busy by) call under going leaves = absurd leaves
   goes_further (Done answer) call under going leaves =
       let has = its.under under going in
       let counted = counted_by (Some under) going in
       let some = has.1 in
       subst Now (sym (leaves.0 ∙ ap (λ (n : ℕ). listed_for after.state.core before.items n
-      (entry_for call placed.actor before.client.begun n answer) answer) has.0))
+      (entry_for call placed.actor before.client.begun n answer) (made_by under.work) answer) has.0))
       (answers_listed script before.items clients news given goes placed next after.client changes before.client was at
-      after.state.core call before.client.begun before.client.begun answer leaves.1
+      after.state.core call before.client.begun before.client.begun (made_by under.work) answer leaves.1
       (omega (arith, counted, some)))
 
   turn_by_lines : Turned (calls_of script placed.actor) placed.actor before after → Now after.items

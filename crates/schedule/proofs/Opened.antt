@@ -115,4 +115,5 @@ module _ {setting : Setting} {first : Kept} {later : List Kept} {pool : Pool} {s
         (at_disk (resting pool) mid)) (sym (none_held count)) (stands_first bank);
     theirs = λ index client under going. absurd (none_of_blank count index client under going);
     each = λ index client under going. absurd (none_of_blank count index client under going);
+    attaches = λ index client under run going. absurd (none_of_blank count index client under going);
   }

@@ -31,6 +31,7 @@ use Rattle.schedule.specs.declared.client.UnderWay.{UnderWay}
 use Rattle.schedule.specs.declared.client.Work.TheVariants as work
 use Rattle.schedule.specs.Running.{IsWorkFor, Runs, calls_under_way, setting_now}
 use Rattle.schedule.specs.Turned.{Station, EndsPutting, GoesOnPutting, IsFilledIn, LeavesGoing, entry_for, listed_for}
+use Rattle.schedule.specs.Works.{made_by}
 use Rattle.schedule.specs.Comes.{TakesTurn, Comes}
 use Rattle.schedule.proofs.Fitting.{TellsOut, fits, plain_no_limit, put_no_free}
 use Rattle.schedule.proofs.RightNext.{IsPlain, put_right}
@@ -145,7 +146,7 @@ module _ {script : Script} {actor : ℕ} {before after : Station} {clients news 
     put_stored : given ≡ answer.Stored → StoresBlock old now filled → IsWhole filled
         → Comes script actor before after clients news
     put_stored given_is stores whole = ends_with
-        (ended.0 ∙ subst (λ (a : Answer). listed_for now before.items under.at entry a ≡ before.items ++ CallItem entry ∷ [])
+        (ended.0 ∙ subst (λ (a : Answer). listed_for now before.items under.at entry (made_by under.work) a ≡ before.items ++ CallItem entry ∷ [])
         (sym given_is) refl)
         (ends_rearranges old now filled stores) stores.ends (subst IsPlain (sym given_is) tt)
         (subst (IsAnswerOf kind.Put) (sym given_is) refl) (λ listed told. absurd (apart listed (sym given_is ∙ told)))
@@ -183,7 +184,7 @@ module _ {script : Script} {actor : ℕ} {before after : Station} {clients news 
     -- It is given up: too many devices are out, or memory is wanting.
     put_given_up : IsGivenUp old now filled given → Comes script actor before after clients news
     put_given_up given_up = ends_with
-        (ended.0 ∙ unstored_listed now before.items under.at entry given given_up.unstored)
+        (ended.0 ∙ unstored_listed now before.items under.at entry (made_by under.work) given given_up.unstored)
         (gives_up_rearranges old now filled given_up.gives_up) given_up.gives_up.ends (unstored_plain given given_up.unstored)
         (unstored_answers given given_up.unstored) given_up.tells given_up.other
         (put_gives_up_calls given_up.gives_up among.gains among.are)

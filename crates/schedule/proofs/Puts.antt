@@ -1,5 +1,5 @@
 -- A client's put among the calls under way, what its turns leave of the core, and what its answers mean.
-use Rattle.std.proofs.Common.{◌≡◌, ℕ, List, [], ◌∷◌, ◌++◌, refl, sym, ◌∙◌, subst}
+use Rattle.std.proofs.Common.{◌≡◌, ℕ, List, [], ◌∷◌, ◌++◌, Option, refl, sym, ◌∙◌, subst}
 use Rattle.std.specs.Prelude.{⊤}
 use Rattle.core_state.specs.declared.answer.Answer.{Answer}
 use Rattle.core_state.specs.declared.answer.Answer.TheVariants as answer
@@ -66,13 +66,13 @@ unstored_map handed map entry (answer.NoSpace sectors) unstored = refl
 unstored_map handed map entry other unstored = absurd unstored
 
 -- and its entry alone is listed.
-pub unstored_listed : (core : Core) (items : List Item) (at : ℕ) (entry : Entry) (given : Answer) → IsUnstored given
-    → listed_for core items at entry given ≡ items ++ CallItem entry ∷ []
-unstored_listed core items at entry (answer.TooManyFailed out) unstored = refl
-unstored_listed core items at entry answer.NoMemory unstored = refl
-unstored_listed core items at entry answer.Full unstored = refl
-unstored_listed core items at entry (answer.NoSpace sectors) unstored = refl
-unstored_listed core items at entry other unstored = absurd unstored
+pub unstored_listed : (core : Core) (items : List Item) (at : ℕ) (entry : Entry) (made : Option ℕ) (given : Answer)
+    → IsUnstored given → listed_for core items at entry made given ≡ items ++ CallItem entry ∷ []
+unstored_listed core items at entry made (answer.TooManyFailed out) unstored = refl
+unstored_listed core items at entry made answer.NoMemory unstored = refl
+unstored_listed core items at entry made answer.Full unstored = refl
+unstored_listed core items at entry made (answer.NoSpace sectors) unstored = refl
+unstored_listed core items at entry made other unstored = absurd unstored
 
 -- Where it tells of too many devices and says what is out, it lists those that are.
 pub tells_out : (core : Core) (out : ℕ) → HasTooManyOut core → out ≡ core.pool.out

@@ -63,10 +63,13 @@ point_read kind.Sum at given is = refl
 point_read other at given is = absurd is
 
 -- An answer to a read makes no group,
-pub listed_read : (core : Core) (items : List Item) (at : ℕ) (entry : Entry) (asked : Kind) (given : Answer)
-    → IsReadKind asked → IsAnswerOf asked given → listed_for core items at entry given ≡ items ++ CallItem entry ∷ []
-listed_read core items at entry asked (answer.Synced group) is of = absurd (subst IsReadKind of is)
-listed_read core items at entry asked other is of = refl
+pub listed_read : (core : Core) (items : List Item) (at : ℕ) (entry : Entry) (made : Option ℕ) (asked : Kind)
+    (given : Answer) → IsReadKind asked → IsAnswerOf asked given → listed_for core items at entry made given ≡ items ++ CallItem entry ∷ []
+listed_read core items at entry made asked (answer.Synced group) is of = absurd (subst IsReadKind of is)
+listed_read core items at entry made asked (answer.Attached width group) is of = absurd (subst IsReadKind of is)
+listed_read core items at entry made asked (answer.NewDeviceFailed device) is of = absurd (subst IsReadKind of is)
+listed_read core items at entry made asked (answer.DeviceOut device) is of = absurd (subst IsReadKind of is)
+listed_read core items at entry made asked other is of = refl
 
 -- and leaves the map.
 pub map_read : (handed : PutBytes) (map : Map) (entry : Entry) (asked : Kind) (given : Answer) → IsReadKind asked

@@ -31,6 +31,7 @@ use Rattle.schedule.specs.declared.client.UnderWay.{UnderWay}
 use Rattle.schedule.specs.declared.client.Work.TheVariants as work
 use Rattle.schedule.specs.Running.{IsWorkFor, calls_under_way, setting_now}
 use Rattle.schedule.specs.Turned.{Station, GoesOnReading, EndsReading, LeavesBegun, LeavesGoing, entry_for}
+use Rattle.schedule.specs.Works.{made_by}
 use Rattle.schedule.specs.Comes.{TakesTurn, Comes}
 use Rattle.schedule.proofs.Fitting.{fits, read_no_free}
 use Rattle.schedule.proofs.Below.{below_end}
@@ -161,7 +162,7 @@ module _ {script : Script} {actor : ℕ} {before after : Station} {clients news 
         → LeavesGoing actor call before after under (Done given) → ItComes
     read_ends given ending ended = comes_ended takes call under (work.Read run) does_is under_is is (Reading run) refl
         (λ sync. sync) goes given ended
-        (ended.0 ∙ listed_read now before.items under.at entry call.kind given call_read given_is) ends.leaves ending.disk
+        (ended.0 ∙ listed_read now before.items under.at entry (made_by under.work) call.kind given call_read given_is) ends.leaves ending.disk
         (fits old call.kind given given_is ends.too_many ends.no_limit (read_no_free call.kind call_read))
         (λ full. put_alone call.kind given (read_no_put call.kind call_read) given_is full) ends.calls_are
         (λ world past handed runs.

@@ -10,7 +10,7 @@ use Rattle.core_state.specs.declared.item.Group.{Group as GroupItem}
 use Rattle.core_state.specs.declared.item.Item.{Item}
 use Rattle.core_state.specs.declared.item.Item.TheVariants.{Group, Call}
 use Rattle.core_state.specs.Map.{Map, PutBytes, map_of, map_after}
-use Rattle.core_state.specs.Legal.{IsPrevious, IsGroupBefore, IsReadOf, IsCutShort, IsRightRead, IsRightFree, IsRightSync, IsRightCall}
+use Rattle.core_state.specs.Legal.{IsPrevious, IsGroupBefore, IsReadOf, IsCutShort, IsRightAttach, IsRightRead, IsRightFree, IsRightSync, IsRightCall}
 use Rattle.core_state.specs.World.{World}
 use Rattle.uberblock_ring.specs.Uberblock.{max_group}
 use Rattle.core_turns.specs.Getting.{IsReadKind}
@@ -144,6 +144,13 @@ module _ (world : World) (items : List Item) (entry : Entry) where
 
       same : {one two : ℕ} → answer.Limit one ≡ answer.Limit two → one ≡ two
       same is = cc
+
+  -- An attach, where its answer is right behind whatever entry.
+  pub attach_right : entry.kind ≡ kind.Attach → IsPlain entry.answer
+      → ((listed : List Item) (previous index : ℕ) → IsRightAttach listed previous index entry.answer)
+      → IsRightNext world items entry
+  attach_right asked plain right = next_plain plain
+      (subst IsRightAs (sym asked) (λ previous previous_is. right with_entry previous (length items)))
 
 module _ (world : World) (items : List Item) (group : GroupItem) (entry : Entry) where
   abbrev with_group : List Item

@@ -1,6 +1,6 @@
 -- What stands between two turns stands after a client's next one.
 use Rattle.std.proofs.Common.{◌≡◌, ◌≢◌, inl, inr, ℕ, ◌≤◌, List, [], ◌∷◌, ◌++◌, length, refl, sym, ◌∙◌, ap, arith, length-append, eq-eqb, ne_eqb}
-use Rattle.std.specs.Prelude.{Bool, ◌==◌, if◌then◌else◌}
+use Rattle.std.specs.Prelude.{Bool, Option, Some, None, ◌==◌, if◌then◌else◌}
 use Rattle.core_state.specs.declared.item.Entry.{Entry}
 use Rattle.core_state.specs.declared.item.Group.{Group as GroupItem}
 use Rattle.core_state.specs.declared.item.Item.{Item}
@@ -10,17 +10,20 @@ use Rattle.core_state.specs.Legal.{CallAt}
 use Rattle.core_state.specs.Keeps.{Kept}
 use Rattle.core_state.specs.Moment.{item_of}
 use Rattle.core_state.specs.World.{World}
+use Rattle.core_commit.specs.CommitTurns.{CommitRun}
 use Rattle.client_script.specs.declared.call.ScriptCall.{ScriptCall}
 use Rattle.client_script.specs.Script.{Script}
 use Rattle.journal_law.proofs.Grown.{map_before, new_or_before}
 use Rattle.journal_law.proofs.GrownGroups.{width_step_where}
+use Rattle.journal_law.proofs.GrownRun.{awaits_grown}
+use Rattle.core_turns.specs.Attaching.{attach_commit}
 use Rattle.core_turns.specs.UnderWay.{SetsContent}
 use Rattle.schedule.specs.declared.client.Client.{Client}
 use Rattle.schedule.specs.declared.client.UnderWay.{UnderWay}
 use Rattle.schedule.specs.declared.client.Work.{Work}
 use Rattle.schedule.specs.declared.client.Work.TheVariants as work
 use Rattle.schedule.specs.Recorded.{IsBegunAt}
-use Rattle.schedule.specs.Running.{HasBegunBy, HasContent, IsClient, MakesCommit}
+use Rattle.schedule.specs.Running.{HasBegunBy, HasBegunIn, HasContent, IsClient, IsThere, MakesCommit}
 
 -- What a call is about stays as the journal grows.
 content_grown : (world : World) (items more : List Item) (call : ScriptCall) (at : ℕ) (content : List ℕ) (does : Work)
@@ -30,6 +33,7 @@ content_grown world items more call at content (work.Put run) low has = has
 content_grown world items more call at content (work.Read run) low has =
     ap (λ (map : Map). map run.entry.id) (map_before world.handed world.opening items more at low) ∙ has
 content_grown world items more call at content (work.Sync run) low has = has
+content_grown world items more call at content (work.Attach run) low has = has
 
 pub begun_grown : {attached told : Type 0} (world : World) (items more : List Item) (item : GroupItem) (after : ℕ)
     (next : Kept) → (attached → told) → IsBegunAt world items item after attached next
@@ -42,6 +46,17 @@ begun_grown world items more item after next tells begun = record {
   widths = width_step_where item (item_of next after) tells begun.widths;
 }
 
+-- So it is of the group of an attach, which was to be answered when its commit began.
+in_grown : (world : World) (items more : List Item) (item : GroupItem) (begun : List Kept) (at : ℕ)
+    (commit : Option CommitRun) → HasBegunIn world items item begun at commit
+    → HasBegunIn world (items ++ more) item begun at commit
+in_grown world items more item begun at None is = is
+in_grown world items more item begun at (Some run) (next, is, was) = (
+  next,
+  is,
+  begun_grown world items more item at next (awaits_grown world.calls items more at was.listed.1) was,
+)
+
 -- What a work knows of its group stays as the journal grows.
 pub group_grown : (world : World) (items more : List Item) (item : GroupItem) (begun : List Kept) (at : ℕ) (does : Work)
     → HasBegunBy world items item begun at does → HasBegunBy world (items ++ more) item begun at does
@@ -49,6 +64,8 @@ group_grown world items more item begun at (work.Sync run) (next, is, was) =
     (next, is, begun_grown world items more item at next (λ none. none) was)
 group_grown world items more item begun at (work.Put run) is = is
 group_grown world items more item begun at (work.Read run) is = is
+group_grown world items more item begun at (work.Attach run) is =
+    in_grown world items more item begun at (attach_commit run) is
 
 -- Work that makes no commit knows nothing of groups.
 pub group_free : (world : World) (items : List Item) (item : GroupItem) (begun : List Kept) (at : ℕ) (does : Work)
@@ -56,6 +73,11 @@ pub group_free : (world : World) (items : List Item) (item : GroupItem) (begun :
 group_free world items item begun at (work.Sync run) none = absurd (none tt)
 group_free world items item begun at (work.Put run) none = tt
 group_free world items item begun at (work.Read run) none = tt
+group_free world items item begun at (work.Attach run) none = in_free (attach_commit run) none
+  where
+    in_free : (commit : Option CommitRun) → (IsThere commit → ⊥) → HasBegunIn world items item begun at commit
+    in_free None none = tt
+    in_free (Some made) none = absurd (none tt)
 
 -- Clients go on as the journal grows by items that are none of theirs.
 pub client_grown : (world : World) (script : Script) (items more : List Item) (item now : GroupItem)

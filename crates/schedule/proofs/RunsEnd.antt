@@ -1,6 +1,7 @@
 -- What stood before a turn of one client stands after it, where its call is answered.
 use Rattle.std.proofs.Common.{◌≡◌, ℕ, List, [], ◌∷◌, ◌++◌, Some, None, sym, ◌∙◌, ap, subst, length, ◌+◌, ◌<◌, arith, ◌≤◌, length-append, Option}
 use Rattle.std.specs.Prelude.{slice_get}
+use Rattle.bank_trait.specs.Disk.{Disk}
 use Rattle.core_state.specs.declared.item.Entry.{Entry}
 use Rattle.core_state.specs.declared.item.Group.{Group as GroupItem}
 use Rattle.core_state.specs.declared.item.Item.{Item}
@@ -14,16 +15,20 @@ use Rattle.core_state.specs.World.{World}
 use Rattle.core_commit.specs.CommitTurns.{CommitRun}
 use Rattle.client_script.specs.Script.{Script}
 use Rattle.journal_law.proofs.Grown.{map_grown_call, map_grown_group}
+use Rattle.core_turns.specs.declared.attaching.AttachRun.{AttachRun}
+use Rattle.core_turns.specs.Attaching.{HoldsAttach}
 use Rattle.core_turns.specs.Core.{CoreState}
 use Rattle.core_turns.specs.UnderWay.{Stands, shown_of}
 use Rattle.schedule.specs.declared.client.Client.{Client}
 use Rattle.schedule.specs.declared.client.UnderWay.{UnderWay}
+use Rattle.schedule.specs.declared.client.Work.TheVariants as work
 use Rattle.schedule.specs.Clients.{Changes}
 use Rattle.schedule.specs.Recorded.{Recorded, IsRightNext, IsBegunAt}
 use Rattle.schedule.specs.Running.{HasBegun, IsClient, IsGoing, IsTheirs, MakesCommit, Runs, calls_under_way, setting_now}
-use Rattle.schedule.proofs.Theirs.{IsNoCommit, OnlyIt, each_going, idle_no_commit, no_one, commit_gone, commit_stays}
+use Rattle.schedule.proofs.Theirs.{IsNoCommit, OnlyIt, before_commit, each_going, idle_no_commit, no_one, commit_gone, commit_stays}
 use Rattle.schedule.proofs.Running.{head_is, client_grown, entry_apart, group_apart, group_grown, group_free}
 use Rattle.schedule.proofs.Recording.{recorded_answers, recorded_ends}
+use Rattle.schedule.proofs.RunsGoOn.{early_known}
 use Rattle.schedule.specs.Moments.{Past}
 use Rattle.schedule.specs.Turns.{IsListedWith}
 
@@ -82,6 +87,15 @@ module _ {world : World} {script : Script} {past : Past} {before : CoreState} {i
           commit after) (sym map_is) stands;
       theirs = theirs;
       each = each_left;
+      attaches = λ other its its_under run is. each_going was changes
+          {T = λ other its under. (run : AttachRun) → under.work ≡ work.Attach run
+          → HoldsAttach (setting_now runs) runs.last runs.begun after.disk run}
+          (no_one (λ under. (run : AttachRun) → under.work ≡ work.Attach run
+          → HoldsAttach (setting_now runs) runs.last runs.begun after.disk run) ended)
+          (λ other its under apart going run does.
+          subst (λ (d : Disk). HoldsAttach (setting_now runs) runs.last runs.begun d run) (sym disk)
+          (runs.attaches other its under run going does))
+          other its its_under is run;
     }
 
     -- A put or a read ends, or a call is answered in its first turn.
@@ -174,4 +188,15 @@ module _ {world : World} {script : Script} {past : Past} {before : CoreState} {i
           (sym map_both) stands;
       theirs = commit_gone was changes ended only;
       each = each_end;
+      attaches = λ other its its_under run is. each_going was changes
+          {T = λ other its under. (run : AttachRun) → under.work ≡ work.Attach run
+          → HoldsAttach (setting_now runs) next [] after.disk run}
+          (no_one (λ under. (run : AttachRun) → under.work ≡ work.Attach run
+          → HoldsAttach (setting_now runs) next [] after.disk run) ended)
+          (λ other its under apart going run does.
+          subst (λ (d : Disk). HoldsAttach (setting_now runs) next [] d run) (sym disk)
+          (early_known (setting_now runs) (setting_now runs) runs.last next runs.begun [] before.disk run
+          (before_commit run (λ makes. apart (only other its under going (subst MakesCommit (sym does) makes))))
+          (runs.attaches other its under run going does)))
+          other its its_under is run;
     }

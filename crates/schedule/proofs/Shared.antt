@@ -19,7 +19,8 @@ use Rattle.schedule.specs.Comes.{TakesTurn}
 use Rattle.schedule.proofs.Theirs.{none_some}
 use Rattle.schedule.proofs.Copied.{stays_same}
 use Rattle.schedule.proofs.UsingTurns.{BeginsWith, answers_with, shared_still, waits_with, works_begin}
-use Rattle.schedule.proofs.UsingEnds.{GoesWith, works_end, works_go}
+use Rattle.schedule.proofs.UsingEnds.{GoesWith}
+use Rattle.schedule.proofs.UsingWorks.{works_end, works_go}
 use Rattle.schedule.specs.Turned.{Station, Turned, Nothing, Began, Went, Waits}
 
 -- All holds are shared, and nothing was copied.
@@ -33,7 +34,7 @@ calm_begun {old} {new} begins calm =
 
 -- after a later one,
 calm_gone : {old new : Core} {group : ℕ} → GoesWith old new group → IsCalm old → IsCalm new
-calm_gone {old} {new} goes calm = (shared_still goes.uses calm.0, (goes.stays calm.1).still calm.1)
+calm_gone {old} {new} goes calm = (shared_still {old = old} {new = new} (goes.uses calm.1) calm.0, (goes.stays calm.1).still calm.1)
 
 -- and after whatever turn of a client.
 pub turned_shared : {script : Script} {actor : ℕ} {before after : Station} {clients news : List Client}
@@ -42,11 +43,11 @@ pub turned_shared : {script : Script} {actor : ℕ} {before after : Station} {cl
     → OnlyShared after.state.core.holds × HasCopiedNone after.state.core
 turned_shared takes (Nothing left) calm = subst (λ (s : Station). IsCalm s.state.core) (sym left.same) calm
 turned_shared {actor = actor} {before} {after} takes (Began (More does) begins leaves) calm = calm_begun
-    (works_begin before.state.core after.state.core takes.is actor begins.call begins.call.kind begins.call.id does begins.did).begins calm
+    (works_begin before.state.core after.state.core takes.is before.state.disk.devices actor begins.call begins.call.kind begins.call.id does begins.did).begins calm
 turned_shared {actor = actor} {before} {after} takes (Began (Busy by) begins leaves) calm = calm_begun
-    (waits_with before.state.core after.state.core takes.is actor begins.call begins.call.kind begins.call.id by begins.did) calm
+    (waits_with before.state.core after.state.core takes.is before.state.disk.devices actor begins.call begins.call.kind begins.call.id by begins.did) calm
 turned_shared {actor = actor} {before} {after} takes (Began (Done given) begins leaves) calm = calm_begun
-    (answers_with before.state.core after.state.core takes.is actor begins.call begins.call.kind begins.call.id given begins.did) calm
+    (answers_with before.state.core after.state.core takes.is before.state.disk.devices actor begins.call begins.call.kind begins.call.id given begins.did) calm
 turned_shared {before = before} {after} takes (Went under (More does) goes leaves) calm =
     calm_gone (works_go before.state after.state takes.is goes.call under.work does goes.did) calm
 turned_shared takes (Went under (Busy by) goes leaves) calm = absurd leaves
@@ -70,33 +71,37 @@ none_busy holds lo hi by shared busy = ⊎_elim
     apart : Shared ≡ Exclusive → ⊥
     apart same = cc
 
-none_waits : (old new : Core) (actor : ℕ) (call : ScriptCall) (asked : Kind) (id : Option ℕ) (by : ℕ)
+none_waits : (old new : Core) (devices actor : ℕ) (call : ScriptCall) (asked : Kind) (id : Option ℕ) (by : ℕ)
     → OnlyShared old.holds → ((HasTooManyOut old → ⊥) → (other : ℕ) → old.committing ≡ Some other → ⊥)
-    → Waits old new actor call asked id by → ⊥
-none_waits old new actor call kind.Put (Some id) by shared none waits =
+    → ((other : ℕ) → old.attaching ≡ Some other → ⊥)
+    → Waits old new devices actor call asked id by → ⊥
+none_waits old new devices actor call kind.Put (Some id) by shared none no_attach waits =
     none_busy old.holds _ _ by shared waits.2.busy
-none_waits old new actor call kind.Get (Some id) by shared none waits =
+none_waits old new devices actor call kind.Get (Some id) by shared none no_attach waits =
     none_busy old.holds _ _ by shared waits.2.2
-none_waits old new actor call kind.Sum (Some id) by shared none waits =
+none_waits old new devices actor call kind.Sum (Some id) by shared none no_attach waits =
     none_busy old.holds _ _ by shared waits.2.2
-none_waits old new actor call kind.Sync None by shared none waits = none waits.0 by waits.1
-none_waits old new actor call asked id by shared none waits = absurd waits
+none_waits old new devices actor call kind.Sync None by shared none no_attach waits = none waits.0 by waits.1
+none_waits old new devices actor call kind.Attach None by shared none no_attach waits = ⊎_elim
+    (λ attaches. no_attach by attaches) (λ commits. none waits.0 by commits.1) waits.1
+none_waits old new devices actor call asked id by shared none no_attach waits = absurd waits
 
--- Where no hold is exclusive and no commit is under way, a client's next call begins.
+-- Where no hold is exclusive, and neither a commit nor an attach is under way, a client's next call begins.
 pub turned_begins : (calls : List ScriptCall) (actor : ℕ) (before after : Station)
     → Turned calls actor before after → OnlyShared before.state.core.holds
     → ((HasTooManyOut before.state.core → ⊥) → (other : ℕ) → before.state.core.committing ≡ Some other → ⊥)
+    → ((other : ℕ) → before.state.core.attaching ≡ Some other → ⊥)
     → before.client.under_way ≡ None → before.client.begun < length calls
     → after.client.begun ≡ before.client.begun + 1
-turned_begins calls actor before after (Nothing left) shared none idle low = absurd (omega (arith, left.none, low))
-turned_begins calls actor before after (Began (More does) begins leaves) shared none idle low =
+turned_begins calls actor before after (Nothing left) shared none no_attach idle low = absurd (omega (arith, left.none, low))
+turned_begins calls actor before after (Began (More does) begins leaves) shared none no_attach idle low =
     ap (λ (c : Client). c.begun) leaves.1
-turned_begins calls actor before after (Began (Busy by) begins leaves) shared none idle low =
-    absurd (none_waits before.state.core after.state.core actor begins.call begins.call.kind begins.call.id by shared none
-    begins.did)
-turned_begins calls actor before after (Began (Done given) begins leaves) shared none idle low =
+turned_begins calls actor before after (Began (Busy by) begins leaves) shared none no_attach idle low =
+    absurd (none_waits before.state.core after.state.core before.state.disk.devices actor begins.call begins.call.kind
+    begins.call.id by shared none no_attach begins.did)
+turned_begins calls actor before after (Began (Done given) begins leaves) shared none no_attach idle low =
     ap (λ (c : Client). c.begun) leaves.1
-turned_begins calls actor before after (Went under turn goes leaves) shared none idle low =
+turned_begins calls actor before after (Went under turn goes leaves) shared none no_attach idle low =
     absurd (none_some (sym idle ∙ goes.going))
 
 -- A turn takes back no call,

@@ -10,11 +10,11 @@ use Rattle.core_state.specs.declared.item.Item.TheVariants.{Call}
 use Rattle.client_script.specs.declared.call.ScriptCall.{ScriptCall}
 use Rattle.core_turns.specs.declared.turn.Turn.TheVariants.{More, Busy, Done}
 use Rattle.core_turns.specs.Core.{Core, CoreState}
-use Rattle.core_turns.specs.UnderWay.{TurnGoesOn}
 use Rattle.schedule.specs.declared.client.Client.{Client}
 use Rattle.schedule.specs.declared.client.UnderWay.{UnderWay}
 use Rattle.schedule.specs.declared.client.Work.{Work}
-use Rattle.schedule.specs.Turned.{Station, Turned, Began, Went, BeginsCall, GoesOnBy, HasTableOf, entry_for, listed_with, station_of}
+use Rattle.schedule.specs.Turned.{Station, Turned, Began, Went, BeginsCall, GoesOnBy, HasTableOf, WorkGoesOn, entry_for, listed_with, station_of}
+use Rattle.schedule.specs.Works.{begun_at, commit_in, made_by}
 
 -- A client whose call under way was taken, and none was, is as it was.
 pub idle_turn : (calls : List ScriptCall) (actor : ℕ) (core : Core) (disk : Disk) (items : List Item) (client : Client)
@@ -28,7 +28,7 @@ idle_turn calls actor core disk items client left after none left_is turned =
 -- The client's next call had its first turn.
 module _ (calls : List ScriptCall) (actor : ℕ) (core new : Core) (disk : Disk) (items : List Item) (client : Client)
     (call : ScriptCall) (idle : client.under_way ≡ None) (next : slice_get calls client.begun ≡ Some call) where
-  pub begun_more : (does : Work) (at : ℕ) → BeginsCall core new actor call (More does) → HasTableOf core (More does)
+  pub begun_more : (does : Work) (at : ℕ) → BeginsCall core new disk.devices actor call (More does) → HasTableOf core (More does)
       → at ≡ length items
       → Turned calls actor (station_of core disk items client) (station_of new disk items (record {
         begun = client.begun + 1;
@@ -43,7 +43,7 @@ module _ (calls : List ScriptCall) (actor : ℕ) (core new : Core) (disk : Disk)
     disk = refl;
   }) (refl, λ i. record { begun = client.begun + 1; under_way = Some (record { at = at_is i; work = does }) })
 
-  pub begun_busy : (by : ℕ) → BeginsCall core new actor call (Busy by)
+  pub begun_busy : (by : ℕ) → BeginsCall core new disk.devices actor call (Busy by)
       → Turned calls actor (station_of core disk items client) (station_of new disk items client)
   begun_busy by did = Began (Busy by) (record {
     idle = idle;
@@ -55,7 +55,7 @@ module _ (calls : List ScriptCall) (actor : ℕ) (core new : Core) (disk : Disk)
   }) (refl, refl)
 
   pub begun_done : (given : Answer) (at : ℕ) (entry : Entry) (listed : List Item)
-      → BeginsCall core new actor call (Done given) → at ≡ length items
+      → BeginsCall core new disk.devices actor call (Done given) → at ≡ length items
       → entry ≡ entry_for call actor (client.begun + 1) at given → listed ≡ items ++ Call entry ∷ []
       → Turned calls actor (station_of core disk items client)
       (station_of new disk listed (record { begun = client.begun + 1; under_way = client.under_way }))
@@ -75,41 +75,44 @@ module _ (calls : List ScriptCall) (actor : ℕ) (core new : Core) (disk : Disk)
 -- Its call under way had its next one.
 module _ (calls : List ScriptCall) (actor : ℕ) (before after : CoreState) (items : List Item) (client : Client)
     (under : UnderWay) (call : ScriptCall) (going : client.under_way ≡ Some under)
-    (is : slice_get calls (client.begun - 1) ≡ Some call) (goes : TurnGoesOn before after) where
-  pub went_more : (does : Work) → GoesOnBy before after call under.work (More does)
+    (is : slice_get calls (client.begun - 1) ≡ Some call) (goes : WorkGoesOn under.work before after) where
+  pub went_more : (does : Work) (at : ℕ) → GoesOnBy before after call under.work (More does)
+      → at ≡ begun_at (commit_in does) (commit_in under.work) under.at (length items)
       → Turned calls actor (record { state = before; items = items; client = client }) (record {
         state = after;
         items = items;
         client = record {
           begun = client.begun;
-          under_way = Some (record { at = under.at; work = does });
+          under_way = Some (record { at = at; work = does });
         };
       })
-  went_more does did = Went under (More does) (record {
+  went_more does at did at_is = Went under (More does) (record {
     going = going;
     call = call;
     is = is;
     did = did;
     goes = goes;
-  }) (refl, refl)
+  }) (refl, λ i. record { begun = client.begun; under_way = Some (record { at = at_is i; work = does }) })
 
-  pub went_done : (given : Answer) (widths : Reflow) (entry : Entry) (listed : List Item) (left : Option UnderWay)
+  pub went_done : (given : Answer) (widths : Reflow) (entry : Entry) (listed : List Item) (made : Option ℕ)
+      (left : Option UnderWay)
       → GoesOnBy before after call under.work (Done given) → widths ≡ after.core.pool.uber.reflow
       → entry ≡ entry_for call actor client.begun under.at given
-      → listed ≡ listed_with widths items under.at entry entry.answer → left ≡ None
+      → listed ≡ listed_with widths items under.at entry made entry.answer → made ≡ made_by under.work → left ≡ None
       → Turned calls actor (record { state = before; items = items; client = client }) (record {
         state = after;
         items = listed;
         client = record { begun = client.begun; under_way = left };
       })
-  went_done given widths entry listed left did widths_is entry_is listed_is left_is = Went under (Done given) (record {
+  went_done given widths entry listed made left did widths_is entry_is listed_is made_is left_is = Went under (Done given) (record {
     going = going;
     call = call;
     is = is;
     did = did;
     goes = goes;
   }) (
-    listed_is ∙ ap (λ (e : Entry). listed_with widths items under.at e e.answer) entry_is
-        ∙ ap (λ (w : Reflow). listed_with w items under.at (entry_for call actor client.begun under.at given) given) widths_is,
+    listed_is ∙ ap (λ (e : Entry). listed_with widths items under.at e made e.answer) entry_is
+        ∙ (λ i. listed_with (widths_is i) items under.at (entry_for call actor client.begun under.at given) (made_is i)
+        given),
     λ i. record { begun = client.begun; under_way = left_is i },
   )

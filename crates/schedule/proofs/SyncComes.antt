@@ -26,12 +26,12 @@ use Rattle.schedule.specs.Running.{calls_under_way, held_under, setting_now}
 use Rattle.schedule.specs.Turned.{Station, LeavesBegun}
 use Rattle.schedule.specs.Comes.{TakesTurn, Comes}
 use Rattle.schedule.proofs.Fitting.{sync_no_free}
-use Rattle.schedule.proofs.Theirs.{OnlyIt, none_some, calls_stay, run_of}
+use Rattle.schedule.proofs.Theirs.{OnlyIt, calls_stay, idle_no_attach, none_some, other_no_attach, run_of, sync_no_attach}
 use Rattle.schedule.proofs.Answered.{answered, answered_idle}
 use Rattle.schedule.proofs.Coming.{goes_for}
 use Rattle.schedule.proofs.Begun.{begun_now}
-use Rattle.schedule.proofs.Going.{commits_on}
-use Rattle.schedule.proofs.RunsGoOn.{commit_begins}
+use Rattle.schedule.proofs.Going.{commits_on, keeps_attach}
+use Rattle.schedule.proofs.RunsGoOn.{commit_begins, none_holds}
 use Rattle.schedule.proofs.Fulls.{put_alone}
 use Rattle.schedule.proofs.LeavesPool.{holds_left, turn_still}
 use Rattle.schedule.proofs.TurnComes.{RunsOn, first_entry, comes_nowhere, comes_on, comes_at_once}
@@ -59,7 +59,10 @@ module _ {script : Script} {actor : ℕ} {before after : Station} {clients news 
       leaves.0 (ap answered leaves.1 ∙ number ∙ sym (answered_idle before.client idle))
       (let low = slice_get_within (calls_of script actor) before.client.begun call next in omega (arith, low, begun_is))
       (λ its_under is. omega (arith, begun_is))
-      (commits_on takes.was takes.changes takes.schedule.going are under run call none_commits under_is refl tt
+      (commits_on takes.was takes.changes takes.schedule.going are under run call
+      (keeps_attach old now (ap (λ (c : Core). c.pool.uber.reflow) begins.rest) (ap (λ (c : Core). c.reach) begins.rest)
+      (ap (λ (c : Core). c.attaching) begins.rest))
+      none_commits (idle_no_attach idle) (sync_no_attach run) under_is refl tt
       (ap (λ (c : Client). slice_get (calls_of script actor) (c.begun - 1)) leaves.1
       ∙ ap (slice_get (calls_of script actor)) number ∙ next)
       (asked, no_id) begins.of (ap (λ (c : Core). c.committing) begins.rest))
@@ -108,7 +111,9 @@ module _ {script : Script} {actor : ℕ} {before after : Station} {clients news 
           let its = begun_now runs.recorded (let number = made.2 in omega (arith, number, begun, rest, last))
           (subst (λ (r : Reflow). KeepsOrEnds r made.0.uber.reflow) (ap (λ (u : Uber). u.reflow) runs.stands.alike) made.3)
           (λ id. ap (λ (m : Map). m id) made.1) in
-          commit_begins after.state takes.was takes.changes runs (work.Sync run) run made.0 empty none refl
+          commit_begins after.state takes.was takes.changes runs (work.Sync run) run made.0
+          (none_holds after.state takes.was takes.changes runs (made.0 ∷ [])
+          (other_no_attach under_is refl (sync_no_attach run))) empty none refl
           (ap (λ (r : CommitRun). r.stage) begins.run_is) disk leaves.1 (made.0, refl, its) (λ asked. tt)
           (subst (λ (l : List HoldingCall). Stands (setting_now runs) runs.last (made.0 ∷ []) map runs.contents l (Some run)
           after.state)

@@ -1,5 +1,5 @@
 -- What a sync comes to that goes on or ends, among the other clients' calls.
-use Rattle.std.proofs.Common.{◌≡◌, inl, inr, ℕ, ◌+◌, ◌-◌, ◌≤◌, List, [], ◌∷◌, ◌++◌, Option, Some, None, refl, sym, ◌∙◌, ap, subst, arith, append_assoc}
+use Rattle.std.proofs.Common.{◌≡◌, inl, inr, ℕ, ◌+◌, ◌-◌, ◌≤◌, List, [], ◌∷◌, ◌++◌, length, Option, Some, None, refl, sym, ◌∙◌, ap, subst, arith, append_assoc}
 use Rattle.std.specs.Prelude.{slice_get}
 use Rattle.uberblock_ring.specs.Uberblock.{Uber}
 use Rattle.core_state.specs.declared.answer.Answer.{Answer}
@@ -22,6 +22,7 @@ use Rattle.core_turns.specs.declared.turn.Turn.TheVariants.{More, Done}
 use Rattle.core_turns.specs.Core.{Core, CoreState}
 use Rattle.core_turns.specs.Committing.{IsCommitOf, StepsCommit, AnswersGroup}
 use Rattle.core_turns.specs.UnderWay.{Stands, TurnGoesOn, AreCallsOf, HoldingCall, shown_in, shown_of}
+use Rattle.core_turns.proofs.AttachBeside.{attach_at_answer}
 use Rattle.core_turns.proofs.Commits.{few_out}
 use Rattle.core_turns.proofs.CommitGoes.{turn_bank}
 use Rattle.core_turns.proofs.CommitEnds.{commit_ends_calls, commit_ends_stands}
@@ -32,23 +33,24 @@ use Rattle.schedule.specs.declared.client.Work.TheVariants as work
 use Rattle.schedule.specs.Clients.{ClientsAreAnswered}
 use Rattle.schedule.specs.Recorded.{Recorded}
 use Rattle.schedule.specs.Running.{HasBegun, HasBegunBy, IsGoing, AreGoing, Runs, call_of_client, calls_under_way, commit_in, held_by, held_under, setting_now}
+use Rattle.schedule.specs.Works.{begun_at}
 use Rattle.schedule.specs.Turns.{turns_of}
 use Rattle.schedule.specs.Turned.{Station, LeavesGoing, entry_for, group_for}
 use Rattle.schedule.specs.Comes.{TakesTurn, Comes}
 use Rattle.schedule.proofs.Coming.{goes_for}
 use Rattle.schedule.proofs.RightNext.{sync_cut_right, sync_right, same_out}
-use Rattle.schedule.proofs.Theirs.{OnlyIt, none_some, calls_stay, no_one}
+use Rattle.schedule.proofs.Theirs.{IsNoAttach, OnlyIt, none_some, calls_stay, no_one, other_no_attach, sync_no_attach}
 use Rattle.schedule.proofs.Answered.{answered, answers_call, answers_group}
 use Rattle.schedule.specs.Fitting.{FitsCall}
 use Rattle.schedule.proofs.Fitting.{FitSince, fits, sync_no_free}
 use Rattle.schedule.proofs.Fulls.{full_synced}
-use Rattle.schedule.proofs.Going.{commits_on, commit_ends, one_commit}
+use Rattle.schedule.proofs.Going.{commits_on, commit_ends, keeps_attach, one_commit}
 use Rattle.schedule.proofs.Running.{group_apart}
-use Rattle.schedule.proofs.RunsGoOn.{commit_goes_on}
+use Rattle.schedule.proofs.RunsGoOn.{beside_hold, commit_goes_on, none_holds}
 use Rattle.schedule.proofs.RunsEnd.{commit_ends as runs_ends, commit_is_cut}
 use Rattle.schedule.proofs.Recording.{recorded_halves, recorded_whole}
 use Rattle.schedule.proofs.Syncs.{begun_parity, halves_go, its_commit}
-use Rattle.schedule.proofs.TurnComes.{RunsOn, came_listed, comes_answered, comes_further, its_asked, its_going, its_number, its_place, its_work}
+use Rattle.schedule.proofs.TurnComes.{RunsOn, came_listed, comes_answered, comes_further, its_asked, its_going, its_number, its_place, its_work, there_still}
 use Rattle.schedule.specs.Moments.{Past}
 
 module _ {script : Script} {actor : ℕ} {before after : Station} {clients news : List Client} (call : ScriptCall)
@@ -120,6 +122,9 @@ module _ {script : Script} {actor : ℕ} {before after : Station} {clients news 
   whole_recorded runs = recorded_whole (its_group runs) (λ attached. absurd attached) (begun_parity (its_stands runs))
       run.stage (its_recorded runs)
 
+  was_no_attach : IsNoAttach before.client.under_way
+  was_no_attach = other_no_attach under_is does_is (sync_no_attach run)
+
   -- It goes on.
   pub sync_goes_on : (next : CommitRun) → StepsCommit before.state run after.state (More next)
       → LeavesGoing actor call before after under (More (work.Sync next)) → ItComes
@@ -128,21 +133,37 @@ module _ {script : Script} {actor : ℕ} {before after : Station} {clients news 
       (commits_on takes.was takes.changes takes.schedule.going
       (subst (AreCallsOf now) (sym (same_calls none))
       (commit_steps_calls before.state after.state (calls_under_way clients) run next steps takes.schedule.going.are))
-      (record { at = under.at; work = work.Sync next }) next call only next_is refl tt
+      (record { at = under.at; work = work.Sync next }) next call
+      (keeps_attach old now (ap (λ (c : Core). c.pool.uber.reflow) steps.2) (ap (λ (c : Core). c.reach) steps.2)
+      (ap (λ (c : Core). c.attaching) steps.2))
+      only was_no_attach (sync_no_attach next) next_is refl tt
       (ap (λ (c : Client). slice_get (calls_of script actor) (c.begun - 1)) further.1 ∙ is) for_call steps.3
       (ap (λ (c : Core). c.committing) steps.2 ∙ of_core.1))
       (λ world past handed within listed runs.
       let borne = within (few_out old steps.0) in
       commit_goes_on after.state takes.was takes.changes runs under (work.Sync next) next
-      goes.later (recorded_halves (its_group runs) (λ attached. absurd attached) (begun_parity (its_stands runs)) run.stage
-      next.stage (halves_go steps.1) (its_recorded runs)) (commit_steps_since takes.is steps borne (its_stands runs)) under_is refl further.1
+      (none_holds after.state takes.was takes.changes runs runs.begun
+      (other_no_attach next_is refl (sync_no_attach next)))
+      (beside_hold after.state takes.was takes.changes runs takes.schedule.going goes.only) goes.later (recorded_halves (its_group runs) (λ attached. absurd attached) (begun_parity (its_stands runs)) run.stage
+      next.stage (halves_go steps.1) (its_recorded runs)) (commit_steps_since takes.is steps borne (its_stands runs)) under_is refl client_is
       (subst (HasBegunBy world before.items runs.item runs.begun under.at) does_is) (λ asked. tt)
       (subst (λ (l : List HoldingCall). Stands (setting_now runs) runs.last runs.begun
       (map_of world.handed world.opening before.items) runs.contents l (Some next) after.state)
       (sym (same_calls none)) (commit_steps_stands takes.is steps borne (its_stands runs))))
     where
+      -- The group of its commit was begun when it was told before.
+      at_is : begun_at (Some next) (commit_in under.work) under.at (length before.items) ≡ under.at
+      at_is = ap (λ (was : Option CommitRun). begun_at (Some next) was under.at (length before.items)) commit_is
+
+      client_is : after.client
+          ≡ record { begun = before.client.begun; under_way = Some (record { at = under.at; work = work.Sync next }) }
+      client_is = further.1 ∙ ap (λ (at : ℕ). record {
+        begun = before.client.begun;
+        under_way = Some (record { at = at; work = work.Sync next });
+      }) at_is
+
       next_is : after.client.under_way ≡ Some (record { at = under.at; work = work.Sync next })
-      next_is = ap (λ (c : Client). c.under_way) further.1
+      next_is = ap (λ (c : Client). c.under_way) client_is
 
       none : call_of_client after.client ≡ []
       none = ap held_under next_is
@@ -180,12 +201,18 @@ module _ {script : Script} {actor : ℕ} {before after : Station} {clients news 
       going = commit_ends takes.was takes.changes takes.schedule.going
           (subst (AreCallsOf now) (sym (ended_calls (answer.Synced number) leaves))
           (commit_ends_calls takes.is of_core.0 answers (calls_under_way clients) takes.schedule.going.are))
-          (idle_now (answer.Synced number) leaves) only
+          (record {
+            attaching = ap (λ (c : Core). c.attaching) answers.answers.rest;
+            early = λ its before_it. attach_at_answer before.state after.state run number its before_it takes.is
+                of_core.0 answers;
+          })
+          (idle_now (answer.Synced number) leaves) only was_no_attach
           (λ its is. absurd (none_some (sym (ap (λ (c : Core). c.committing) answers.answers.rest) ∙ is)));
       answered = subst (ClientsAreAnswered script news) (sym leaves.0)
           (answered_end (answer.Synced number) leaves (before.items ++ Group group ∷ [])
           (answers_group script clients before.items group takes.schedule.answered));
       bank = turn_bank before.state after.state goes takes.schedule.bank;
+      there = there_still takes (goes_for script goes);
     };
   }
     where
@@ -266,7 +293,8 @@ module _ {script : Script} {actor : ℕ} {before after : Station} {clients news 
       (λ reached told. no_limit reached told) (sync_no_free call.kind for_call.0)) (λ full. absurd (no_full full))
       (subst (λ (s : CoreState). AreGoing script s.core news) (sym steps.2)
       (commit_ends takes.was takes.changes takes.schedule.going
-      (subst (AreCallsOf old) (sym (ended_calls given leaves)) takes.schedule.going.are) (idle_now given leaves) only
+      (subst (AreCallsOf old) (sym (ended_calls given leaves)) takes.schedule.going.are)
+      (keeps_attach old old refl refl refl) (idle_now given leaves) only was_no_attach
       (λ its is. steps.0)))
       (λ world past handed within listed runs.
       let map : Map = map_of world.handed world.opening before.items in

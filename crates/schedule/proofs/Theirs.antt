@@ -8,14 +8,19 @@ use Rattle.space_alloc.specs.Space.{Gains}
 use Rattle.core_blocks.proofs.Lists.{listed_cases, none_listed}
 use Rattle.core_commit.specs.CommitTurns.{CommitRun}
 use Rattle.client_script.specs.Script.{Script}
+use Rattle.core_turns.specs.declared.attaching.AttachRun.{AttachRun}
+use Rattle.core_turns.specs.declared.attaching.AttachRun.TheVariants.{Reads, Checked, Joins, Signs}
+use Rattle.core_turns.specs.Attaching.{attach_commit}
 use Rattle.core_turns.specs.Core.{Core}
 use Rattle.core_turns.specs.UnderWay.{HoldingCall, Putting, Reading, actor_of}
+use Rattle.core_turns.proofs.AttachBeside.{IsBeforeCommit}
 use Rattle.schedule.specs.declared.client.Client.{Client}
 use Rattle.schedule.specs.declared.client.UnderWay.{UnderWay}
 use Rattle.schedule.specs.declared.client.Work.{Work}
 use Rattle.schedule.specs.declared.client.Work.TheVariants as work
 use Rattle.schedule.specs.Clients.{Changes}
 use Rattle.schedule.specs.Running.{AreGoing, IsGoing, IsHoldOf, IsTheirs, IsThere, MakesCommit, call_of_client, calls_under_way, commit_in, held_by, held_under}
+use Rattle.schedule.specs.Works.{begun_at}
 
 pub some_is : {A : Type 0} {one two : A} → Some one ≡ Some two → one ≡ two
 some_is same = cc
@@ -91,6 +96,7 @@ pub its_actor : (index : ℕ) (does : Work) (call : HoldingCall) → IsHoldOf in
 its_actor index (work.Put run) call its held = ap actor_of (sym (only_one (Putting run) call held)) ∙ its
 its_actor index (work.Read run) call its held = ap actor_of (sym (only_one (Reading run) call held)) ∙ its
 its_actor index (work.Sync run) call its held = absurd (none_listed call held)
+its_actor index (work.Attach run) call its held = absurd (none_listed call held)
 
 -- ---- who has a call under way
 
@@ -221,6 +227,9 @@ pub no_one : (T : UnderWay → Type 0) {its : Option UnderWay} → its ≡ None 
     → T other
 no_one T idle other is = absurd (none_some (sym idle ∙ is))
 
+pub none_there : {commit : Option CommitRun} → commit ≡ None → IsThere commit → ⊥
+none_there none there = subst IsThere none there
+
 -- No commit is under way.
 abbrev pub IsNoCommit : Option UnderWay → Type 0
 IsNoCommit None = ⊤
@@ -234,6 +243,50 @@ work_no_commit is none = subst IsNoCommit (sym is) none
 
 no_commit_under : {its : Option UnderWay} → IsNoCommit its → (under : UnderWay) → its ≡ Some under → MakesCommit under.work → ⊥
 no_commit_under none under is = subst IsNoCommit is none
+
+-- A work that makes none began when it was told before.
+pub begun_before : (does was : Work) (at now : ℕ) → (MakesCommit does → ⊥)
+    → begun_at (commit_in does) (commit_in was) at now ≡ at
+begun_before does was at now none = by (commit_in does) none
+  where
+    by : (commit : Option CommitRun) → (IsThere commit → ⊥) → begun_at commit (commit_in was) at now ≡ at
+    by None none = refl
+    by (Some run) none = absurd (none tt)
+
+-- No attach is under way.
+abbrev pub IsNoAttach : Option UnderWay → Type 0
+IsNoAttach its = (under : UnderWay) (run : AttachRun) → its ≡ Some under → under.work ≡ work.Attach run → ⊥
+
+pub idle_no_attach : {its : Option UnderWay} → its ≡ None → IsNoAttach its
+idle_no_attach idle under run is does = none_some (sym idle ∙ is)
+
+-- So it is where the work is this one, which is none.
+pub other_no_attach : {its : Option UnderWay} {under : UnderWay} {does : Work} → its ≡ Some under → under.work ≡ does
+    → ((run : AttachRun) → does ≡ work.Attach run → ⊥) → IsNoAttach its
+other_no_attach is does_is none under run its_is attach =
+    none run (sym does_is ∙ ap (λ (u : UnderWay). u.work) (some_is (sym is ∙ its_is)) ∙ attach)
+
+-- A work that holds sectors is none.
+pub held_no_attach : {does : Work} {held : HoldingCall} → held_by does ≡ held ∷ [] → (run : AttachRun)
+    → does ≡ work.Attach run → ⊥
+held_no_attach holds run does = apart (sym (ap held_by does) ∙ holds)
+  where
+    apart : {held : HoldingCall} → [] ≡ held ∷ [] → ⊥
+    apart same = cc
+
+pub same_attach : {one other : AttachRun} → work.Attach one ≡ work.Attach other → one ≡ other
+same_attach same = cc
+
+-- A sync is none.
+pub sync_no_attach : (sync : CommitRun) (run : AttachRun) → work.Sync sync ≡ work.Attach run → ⊥
+sync_no_attach sync run same = cc
+
+-- An attach that makes no commit has begun none.
+pub before_commit : (run : AttachRun) → (IsThere (attach_commit run) → ⊥) → IsBeforeCommit run
+before_commit (Reads ring) none = tt
+before_commit (Checked ring) none = tt
+before_commit (Joins join) none = none tt
+before_commit (Signs run because) none = none tt
 
 module _ {clients news : List Client} {index : ℕ} {old client : Client} (was : slice_get clients index ≡ Some old)
     (changes : Changes clients news index client) where

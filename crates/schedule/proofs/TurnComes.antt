@@ -26,15 +26,16 @@ use Rattle.schedule.specs.Coming.{GoesOnFor, LeadTo}
 use Rattle.schedule.specs.Turns.{turns_of, Turns, taken_by, IsListedWith}
 use Rattle.schedule.specs.Running.{AreGoing, HasContent, IsGoing, IsHoldOf, IsWorkFor, IsWorkOf, MakesCommit, Runs, call_of_client, calls_under_way, held_by, held_under, setting_now}
 use Rattle.schedule.specs.Recorded.{IsRightNext}
-use Rattle.schedule.specs.Turned.{Station, LeavesBegun, LeavesGoing, entry_for}
+use Rattle.schedule.specs.Turned.{HasDeviceUnder, Station, LeavesBegun, LeavesGoing, entry_for}
 use Rattle.schedule.specs.Comes.{TakesTurn, Comes}
-use Rattle.schedule.proofs.Theirs.{call_begins, call_ends, call_goes, calls_stay, idle_no_commit, makes_commit, no_one, same_list, some_is, the_one, work_no_commit}
+use Rattle.schedule.proofs.Theirs.{IsNoAttach, begun_before, call_begins, call_ends, call_goes, calls_stay, held_no_attach, idle_no_attach, idle_no_commit, makes_commit, no_one, other_no_attach, same_list, some_is, the_one, work_no_commit}
 use Rattle.schedule.proofs.Answered.{answered, answers_same, answers_call, answered_going, answered_idle}
 use Rattle.schedule.proofs.Going.{goes as going_goes}
+use Rattle.schedule.proofs.NewDevices.{devices_there}
 use Rattle.schedule.proofs.Running.{with_content}
 use Rattle.schedule.proofs.RunsEnd.{answers_call as runs_answer}
 use Rattle.schedule.proofs.Recording.{GoesOnSince}
-use Rattle.schedule.proofs.RunsGoOn.{begins as runs_begins, goes_on as runs_goes_on, waits as runs_waits}
+use Rattle.schedule.proofs.RunsGoOn.{beside_hold, begins as runs_begins, goes_on as runs_goes_on, none_holds, waits as runs_waits}
 use Rattle.schedule.proofs.Fulls.{full_same, HasManyAt, full_answer, FullStays}
 use Rattle.schedule.proofs.Coming.{came_nowhere, came_turn, goes_for}
 use Rattle.schedule.proofs.Fitting.{Fits, FitSince, fit_same, fit_entry}
@@ -78,6 +79,11 @@ module _ {script : Script} {actor : ℕ} {before after : Station} {clients news 
   StandsNow world past runs contents map =
       Stands (setting_now runs) runs.last runs.begun map contents (calls_under_way news) runs.commit after.state
 
+  -- The bank has the devices that attaches are to bring.
+  pub there_still : GoesOnFor script before.state after.state → (index : ℕ) (client : Client)
+      → slice_get news index ≡ Some client → HasDeviceUnder after.state.disk client.under_way
+  there_still on = devices_there before.state.disk after.state.disk on.goes.later.devices takes.changes takes.schedule.there takes.there
+
   -- A turn that does nothing.
   pub comes_nowhere : after ≡ before → ItComes
   comes_nowhere same = subst (λ (s : Station). Comes script actor before s clients news) (sym same)
@@ -119,6 +125,7 @@ module _ {script : Script} {actor : ℕ} {before after : Station} {clients news 
           (answers_same script clients news actor before.client after.client before.items takes.changes takes.was few
           some takes.schedule.answered same);
       bank = goes.bank takes.schedule.bank;
+      there = there_still goes;
     };
   }
 
@@ -141,6 +148,7 @@ module _ {script : Script} {actor : ℕ} {before after : Station} {clients news 
           (no_one (λ under. 1 ≤ after.client.begun) (ap (λ (c : Client). c.under_way) client_is))
           takes.schedule.answered call its_entry (ap answered client_is ∙ number_is) next refl number_is refl refl);
       bank = goes.bank takes.schedule.bank;
+      there = there_still goes;
     };
   }
     where
@@ -167,7 +175,7 @@ module _ {script : Script} {actor : ℕ} {before after : Station} {clients news 
 
       still_going : AreGoing script now news
       still_going = going_goes takes.was takes.changes takes.schedule.going
-          (subst (AreCallsOf now) (sym same_calls) are) (leaves_commit leaves) (idle_no_commit idle)
+          (subst (AreCallsOf now) (sym same_calls) are) (leaves_commit leaves) (idle_no_commit idle) (idle_no_attach idle)
           (no_one (λ under. IsWorkOf script now actor after.client under.work) rests)
 
     -- A call that waits.
@@ -244,16 +252,20 @@ module _ {script : Script} {actor : ℕ} {before after : Station} {clients news 
           (let low = slice_get_within (calls_of script actor) before.client.begun call next in omega (arith, low, begun_is))
           (λ its_under is. omega (arith, begun_is))
           (going_goes takes.was takes.changes takes.schedule.going are (leaves_commit leaves) (idle_no_commit idle)
+          (idle_no_attach idle)
           (the_one (λ its_under. IsWorkOf script now actor after.client its_under.work) under_is (record {
             hold = its;
             call = call;
             there = ap (slice_get (calls_of script actor)) one_less ∙ next;
             asked = asked;
             commit = λ run is. absurd (no_commit (makes_commit does run is));
+            attach = λ run is. absurd (held_no_attach holds run is);
           })))
           (λ world past handed within listed runs.
           let now = stands world past runs in
-          runs_begins after.state takes.was takes.changes runs now.0 does idle disk begins.1 no_commit
+          runs_begins after.state takes.was takes.changes runs now.0 does
+          (none_holds after.state takes.was takes.changes runs runs.begun
+          (other_no_attach under_is refl (held_no_attach holds))) idle disk begins.1 no_commit
           (λ other other_is. subst
           (λ (c : ScriptCall). HasContent world before.items c (length before.items) now.0 does)
           (some_is (sym next ∙ other_is)) now.1)
@@ -313,11 +325,26 @@ module _ {script : Script} {actor : ℕ} {before after : Station} {clients news 
       no_commit : MakesCommit under.work → ⊥
       no_commit makes = was_no_commit (subst MakesCommit does_is makes)
 
+      was_no_attach : IsNoAttach before.client.under_way
+      was_no_attach = other_no_attach under_is does_is (held_no_attach was_holds)
+
       -- It goes on.
       module _ (held_next : HoldingCall) (next : Work) (further : LeavesGoing actor call before after under (More next))
           (holds : held_by next ≡ held_next ∷ []) (next_no_commit : MakesCommit next → ⊥) where
         next_is : after.client.under_way ≡ Some (record { at = under.at; work = next })
         next_is = ap (λ (c : Client). c.under_way) further.1
+            ∙ ap (λ (at : ℕ). Some (record { at = at; work = next })) (begun_before next under.work under.at
+            (length before.items) next_no_commit)
+
+        no_attach : IsNoAttach after.client.under_way
+        no_attach = other_no_attach next_is refl (held_no_attach holds)
+
+        client_is : after.client
+            ≡ record { begun = before.client.begun; under_way = Some (record { at = under.at; work = next }) }
+        client_is = further.1 ∙ ap (λ (at : ℕ). record {
+          begun = before.client.begun;
+          under_way = Some (record { at = at; work = next });
+        }) (begun_before next under.work under.at (length before.items) next_no_commit)
 
         -- Another stands in its place.
         pub held_moves : (rest : List HoldingCall) × Gains rest (calls_under_way clients) held
@@ -334,16 +361,21 @@ module _ {script : Script} {actor : ℕ} {before after : Station} {clients news 
             → ItComes
         comes_going keeps its asked are stands = comes_further next (goes_for script goes) further
             (going_goes takes.was takes.changes takes.schedule.going are keeps (work_no_commit under_is no_commit)
+            was_no_attach
             (the_one (λ its_under. IsWorkOf script now actor after.client its_under.work) next_is (record {
               hold = its;
               call = call;
               there = ap (λ (c : Client). slice_get (calls_of script actor) (c.begun - 1)) further.1 ∙ is;
               asked = asked;
               commit = λ run run_is. absurd (next_no_commit (makes_commit next run run_is));
+              attach = λ run run_is. absurd (held_no_attach holds run run_is);
             })))
             (λ world past handed within listed runs.
             let now = stands world past runs in
-            runs_goes_on after.state takes.was takes.changes runs under next goes.later now.0 under_is further.1
+            runs_goes_on after.state takes.was takes.changes runs under next
+            (none_holds after.state takes.was takes.changes runs runs.begun no_attach)
+            (beside_hold after.state takes.was takes.changes runs takes.schedule.going goes.only) goes.later now.0 under_is
+            client_is
             no_commit next_no_commit
             (λ other other_is. subst
             (λ (c : ScriptCall). HasContent world before.items c under.at (runs.contents actor) next)
@@ -374,7 +406,7 @@ module _ {script : Script} {actor : ℕ} {before after : Station} {clients news 
         comes_ended listed leaves disk fit other are stands = comes_answered call before.client.begun under.at given its_number
             its_place (goes_for script goes) listed ended.1 fit (λ full. absurd (other full))
             (going_goes takes.was takes.changes takes.schedule.going are (leaves_commit leaves)
-            (work_no_commit under_is no_commit)
+            (work_no_commit under_is no_commit) was_no_attach
             (no_one (λ its_under. IsWorkOf script now actor after.client its_under.work) idle_now))
             (λ world past handed within with runs.
             let now = stands world past handed runs in

@@ -13,16 +13,20 @@ use Rattle.client_script.specs.Lines.{fill_bytes}
 use Rattle.client_script.specs.Script.{Script, MayHave, IsAllowed, calls_of}
 use Rattle.core_turns.specs.declared.turn.Turn.{Turn}
 use Rattle.core_turns.specs.declared.turn.Turn.TheVariants.{More, Busy, Done}
+use Rattle.core_turns.specs.declared.attaching.AttachRun.TheVariants.{Reads, Checked, Joins, Signs}
 use Rattle.core_turns.specs.declared.getting.GetRun.{GetRun}
 use Rattle.core_turns.specs.Getting.{IsReadKind, BeginsGet}
-use Rattle.core_turns.specs.UnderWay.{TurnGoesOn}
 use Rattle.schedule.specs.declared.client.Client.{Client}
 use Rattle.schedule.specs.declared.client.UnderWay.{UnderWay}
 use Rattle.schedule.specs.declared.client.Work.{Work}
 use Rattle.schedule.specs.declared.client.Work.TheVariants as work
 use Rattle.schedule.specs.Comes.{TakesTurn, Comes}
-use Rattle.schedule.specs.Turned.{Station, BeginsWork, Waits, AnswersAtOnce, BeginsCall, GoesOnBy, LeavesBegun, LeavesGoing, HasTableOf, Turned, Nothing, Began, Went}
-use Rattle.schedule.proofs.TurnComes.{comes_nowhere}
+use Rattle.schedule.specs.Turned.{Station, BeginsWork, Waits, AnswersAtOnce, BeginsCall, GoesOnBy, LeavesBegun, LeavesGoing, HasTableOf, Turned, WorkGoesOn, Nothing, Began, Went}
+use Rattle.schedule.proofs.TurnComes.{comes_nowhere, its_asked}
+use Rattle.schedule.proofs.AttachComes.{attach_at_once, attach_begins, attach_waits}
+use Rattle.schedule.proofs.AttachCommits.{join_drops, join_goes, signs_on}
+use Rattle.schedule.proofs.AttachJoins.{attach_joins}
+use Rattle.schedule.proofs.AttachReads.{commit_refused, device_refused, finds_free, reads_next, waits_on}
 use Rattle.schedule.proofs.FreeComes.{free_at_once}
 use Rattle.schedule.proofs.PutComes.{put_begins, put_waits, put_at_once}
 use Rattle.schedule.proofs.PutGoes.{put_goes_on, put_ends}
@@ -35,6 +39,10 @@ put_bytes : (id : Option ℕ) (bytes : List ℕ) → MayHave kind.Put id bytes �
 put_bytes id bytes may at = ⊎_elim (λ below. may.1.fit at 0 below)
     (λ above. let past : slice_index bytes at ≡ 0 = get_or_past bytes at 0 above in omega (arith, past))
     (cases_lt at (length bytes))
+
+-- A script asks for no attach.
+no_attach : (call : ScriptCall) → IsAllowed call → call.kind ≡ kind.Attach → ⊥
+no_attach call allowed is = subst (λ (asked : Kind). MayHave asked call.id (fill_bytes call.fill)) is allowed
 
 module _ {script : Script} {actor : ℕ} {before after : Station} {clients news : List Client}
     (takes : TakesTurn script actor before after clients news) where
@@ -56,7 +64,7 @@ module _ {script : Script} {actor : ℕ} {before after : Station} {clients news 
 
     -- one that goes on,
     begins_by : (asked : Kind) (id : Option ℕ) (does : Work) → call.kind ≡ asked → call.id ≡ id
-        → BeginsWork before.state.core after.state.core actor call asked id does
+        → BeginsWork before.state.core after.state.core before.state.disk.devices actor call asked id does
         → HasTableOf before.state.core (More does) → LeavesBegun actor call before after (More does)
         → ItComes
     begins_by kind.Put (Some id) (work.Put run) asked id_is did table leaves =
@@ -72,11 +80,13 @@ module _ {script : Script} {actor : ℕ} {before after : Station} {clients news 
         (as_read kind.Sum id (More run) asked did) leaves
     begins_by kind.Sync None (work.Sync run) asked id_is did table leaves =
         sync_begins call takes asked id_is idle next disk run table did leaves
+    begins_by kind.Attach None (work.Attach run) asked id_is did table leaves =
+        attach_begins call takes asked id_is idle next disk run did leaves
     begins_by asked id does asked_is id_is did table leaves = absurd did
 
     -- one that waits,
     waits_by : (asked : Kind) (id : Option ℕ) (by : ℕ) → call.kind ≡ asked → call.id ≡ id
-        → Waits before.state.core after.state.core actor call asked id by → LeavesBegun actor call before after (Busy by)
+        → Waits before.state.core after.state.core before.state.disk.devices actor call asked id by → LeavesBegun actor call before after (Busy by)
         → ItComes
     waits_by kind.Put (Some id) by asked id_is did leaves =
         put_waits takes call id asked id_is idle next disk by did leaves
@@ -88,11 +98,13 @@ module _ {script : Script} {actor : ℕ} {before after : Station} {clients news 
         (as_read kind.Sum id (Busy by) asked did) leaves
     waits_by kind.Sync None by asked id_is did leaves =
         sync_waits call takes asked id_is idle next disk by did leaves
+    waits_by kind.Attach None by asked id_is did leaves =
+        attach_waits call takes asked id_is idle next disk by did leaves
     waits_by asked id by asked_is id_is did leaves = absurd did
 
     -- and one that is answered at once.
     answers_by : (asked : Kind) (id : Option ℕ) (given : Answer) → call.kind ≡ asked → call.id ≡ id
-        → AnswersAtOnce before.state.core after.state.core actor call asked id given
+        → AnswersAtOnce before.state.core after.state.core before.state.disk.devices actor call asked id given
         → LeavesBegun actor call before after (Done given)
         → ItComes
     answers_by kind.Put (Some id) given asked id_is did leaves =
@@ -107,9 +119,11 @@ module _ {script : Script} {actor : ℕ} {before after : Station} {clients news 
         free_at_once takes call id given asked id_is idle next did disk leaves
     answers_by kind.Sync None given asked id_is did leaves =
         sync_at_once call takes asked id_is idle next disk given did leaves
+    answers_by kind.Attach None given asked id_is did leaves =
+        attach_at_once call takes asked id_is idle next disk given did leaves
     answers_by asked id given asked_is id_is did leaves = absurd did
 
-    began_by : (turn : Turn Work) → BeginsCall before.state.core after.state.core actor call turn
+    began_by : (turn : Turn Work) → BeginsCall before.state.core after.state.core before.state.disk.devices actor call turn
         → HasTableOf before.state.core turn → LeavesBegun actor call before after turn → ItComes
     began_by (More does) did table leaves = begins_by call.kind call.id does refl refl did table leaves
     began_by (Busy by) did table leaves = waits_by call.kind call.id by refl refl did leaves
@@ -118,22 +132,46 @@ module _ {script : Script} {actor : ℕ} {before after : Station} {clients news 
   -- A later turn.
   module _ (under : UnderWay) (call : ScriptCall) (going : before.client.under_way ≡ Some under)
       (is : slice_get (calls_of script actor) (before.client.begun - 1) ≡ Some call)
-      (goes : TurnGoesOn before.state after.state) where
-    went_by : (does : Work) (turn : Turn Work) → under.work ≡ does → GoesOnBy before.state after.state call does turn
+      (allowed : IsAllowed call) where
+    went_by : (does : Work) (turn : Turn Work) → under.work ≡ does → WorkGoesOn does before.state after.state
+        → GoesOnBy before.state after.state call does turn
         → LeavesGoing actor call before after under turn → ItComes
-    went_by (work.Put run) (More (work.Put next)) does_is did leaves =
+    went_by (work.Put run) (More (work.Put next)) does_is goes did leaves =
         put_goes_on takes call under run does_is going is goes next did leaves
-    went_by (work.Put run) (Done given) does_is did leaves =
+    went_by (work.Put run) (Done given) does_is goes did leaves =
         put_ends takes call under run does_is going is goes given did leaves
-    went_by (work.Read run) (More (work.Read next)) does_is did leaves =
+    went_by (work.Read run) (More (work.Read next)) does_is goes did leaves =
         read_goes_on takes call under run does_is going is goes next did leaves
-    went_by (work.Read run) (Done given) does_is did leaves =
+    went_by (work.Read run) (Done given) does_is goes did leaves =
         read_ends takes call under run does_is going is goes given did leaves
-    went_by (work.Sync run) (More (work.Sync next)) does_is did leaves =
+    went_by (work.Sync run) (More (work.Sync next)) does_is goes did leaves =
         sync_goes_on call takes under run does_is going is goes next did leaves
-    went_by (work.Sync run) (Done given) does_is did leaves =
+    went_by (work.Sync run) (Done given) does_is goes did leaves =
         sync_ends call takes under run does_is going is goes given did leaves
-    went_by does turn does_is did leaves = absurd did
+    went_by (work.Attach (Reads ring)) (More (work.Attach (Reads next))) does_is goes did leaves =
+        reads_next call takes under ring going is goes next does_is did.0 did.1 leaves
+    went_by (work.Attach (Reads ring)) (More (work.Attach (Checked next))) does_is goes did leaves =
+        finds_free call takes under ring going is goes next does_is did.0 did.1 leaves
+    went_by (work.Attach (Reads ring)) (Done given) does_is goes did leaves =
+        device_refused call takes under ring going is goes given does_is did.0 did.1 leaves
+    went_by (work.Attach (Checked ring)) (More (work.Attach (Checked next))) does_is goes did leaves =
+        waits_on call takes under ring going is goes next does_is did.0 did.1 leaves
+    went_by (work.Attach (Checked ring)) (More (work.Attach (Joins join))) does_is goes did leaves =
+        attach_joins call takes under ring join does_is going is goes did.0 did.1 leaves
+    went_by (work.Attach (Checked ring)) (Done given) does_is goes did leaves =
+        commit_refused call takes under ring going is goes given does_is did.0 did.1
+        (λ reached told.
+        no_attach call allowed (its_asked takes call under (work.Attach (Checked ring)) does_is going is).0)
+        leaves
+    went_by (work.Attach (Joins join)) (More (work.Attach (Joins next))) does_is goes did leaves =
+        join_goes call takes under going is join next does_is goes did.0.0 did.0.1 did.1 leaves
+    went_by (work.Attach (Joins join)) (More (work.Attach (Signs made (Some because)))) does_is goes did leaves =
+        join_drops call takes under going is join made because does_is goes did.0.0 did.0.1 did.1 leaves
+    went_by (work.Attach (Signs commit because)) (More (work.Attach (Signs next same))) does_is goes did leaves =
+        signs_on call takes under going is commit next because same does_is goes did.0.1 did.1 leaves
+    went_by (work.Attach run) turn does_is goes did leaves =
+        absurd (no_attach call allowed (its_asked takes call under (work.Attach run) does_is going is).0)
+    went_by does turn does_is goes did leaves = absurd did
 
   -- **A turn of a client comes to a state in which the next turn may be taken, and what stood between two turns
   -- stands.**
@@ -145,4 +183,5 @@ module _ {script : Script} {actor : ℕ} {before after : Station} {clients news 
       began_by begins.call (allowed before.client.begun begins.call begins.next) begins.idle begins.next begins.disk turn
       begins.did begins.table leaves
   turned_comes allowed (Went under turn goes leaves) =
-      went_by under goes.call goes.going goes.is goes.goes under.work turn refl goes.did leaves
+      went_by under goes.call goes.going goes.is (allowed (before.client.begun - 1) goes.call goes.is) under.work turn refl
+      goes.goes goes.did leaves

@@ -23,7 +23,7 @@ use Rattle.schedule.specs.Turns.{Turns, turns_of, taken_by}
 use Rattle.schedule.specs.Playing.{HasRoomForAnswers, IsReady}
 use Rattle.schedule.specs.Replaying.{AreIdle, HasTurn, OnlyShared, TakesOne}
 use Rattle.schedule.specs.Running.{AreGoing, IsGoing, IsWorkFor, IsWorkOf, calls_under_way, commit_in, held_by}
-use Rattle.schedule.specs.Turned.{MayGoOn, Station, Turned}
+use Rattle.schedule.specs.Turned.{HasDeviceUnder, MayGoOn, Station, Turned}
 use Rattle.schedule.specs.Using.{HasCopiedNone}
 use Rattle.schedule.proofs.Coming.{came_nowhere}
 use Rattle.schedule.proofs.Shared.{turned_begins, turned_further, turned_shared, turned_still}
@@ -81,6 +81,7 @@ going_may script core clients index client under call going is asked =
     may (work.Read run) same for = going.are.each (Reading run)
         (among (work.Read run) (Reading run) same (first_listed (Reading run) []))
     may (work.Sync run) same for = (mine.commit run (ap commit_in same)).0
+    may (work.Attach run) same for = (mine.attach run same).0
 
 -- ---- after a turn
 
@@ -125,9 +126,10 @@ changes_at clients place actor client same low =
 pub takes_turn : (script : Script) (place actor : ℕ) (before after : Station) (clients : List Client)
     → IsSchedule script (turns_of before.state before.items clients) → slice_get clients actor ≡ Some before.client
     → place ≡ actor → place < length clients → IsCore before.state.core
-    → Lawful before.state.disk × Lawful after.state.disk → Turned (calls_of script actor) actor before after
+    → Lawful before.state.disk × Lawful after.state.disk → HasDeviceUnder after.state.disk after.client.under_way
+    → Turned (calls_of script actor) actor before after
     → TakesTurn script actor before after clients (slice_set clients place after.client)
-takes_turn script place actor before after clients schedule was same low is lawful turned =
+takes_turn script place actor before after clients schedule was same low is lawful there turned =
     let changes = changes_at clients place actor after.client same low in
     let numbers : IsNumbered before.items before.state.core → IsNumbered after.items after.state.core = λ numbered.
     turn_numbers script actor before after clients schedule.going was is numbered turned in record {
@@ -139,6 +141,7 @@ takes_turn script place actor before after clients schedule was same low is lawf
       still_lawful = lawful.1;
       space = λ uber entries stood. turn_uses script actor before after clients (slice_set clients place after.client)
           schedule.going was changes is uber entries stood (numbers stood.last) turned;
+      there = there;
       numbers = numbers;
     }
 
@@ -148,6 +151,13 @@ none_commits : (script : Script) (core : Core) (clients : List Client) → AreGo
 none_commits script core clients going idle few other is = ⊎_elim few
     (λ found. none_some (sym (idle.each other found.0 found.3.there) ∙ found.3.under_way))
     (going.one other is)
+
+-- So it is of an attach.
+none_attaches : (script : Script) (core : Core) (clients : List Client) → AreGoing script core clients → AreIdle clients
+    → (other : ℕ) → core.attaching ≡ Some other → ⊥
+none_attaches script core clients going idle other is =
+    let found = going.attaches other is in
+    none_some (sym (idle.each other found.0 found.3.there) ∙ found.3.under_way)
 
 -- A client of the script took a turn.
 module _ (script : Script) (actor : ℕ) (before after : Station) (clients news : List Client)
@@ -164,6 +174,7 @@ module _ (script : Script) (actor : ℕ) (before after : Station) (clients news 
     still = λ under going. turned_still (calls_of script actor) actor before after under turned going;
     begins = λ idle low. turned_begins (calls_of script actor) actor before after turned shared
         (none_commits script before.state.core clients takes.schedule.going idle)
+        (none_attaches script before.state.core clients takes.schedule.going idle)
         (idle.each actor before.client takes.was) low;
   }
 

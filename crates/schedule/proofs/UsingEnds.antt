@@ -1,5 +1,5 @@
 -- What the later turns of a call leave of the runs of sectors that were taken, and of the pool's group.
-use Rattle.std.proofs.Common.{◌≡◌, ◌⊎◌, inl, inr, ⊎_elim, ℕ, ◌+◌, ◌==◌, if◌then◌else◌, Bool, true, false, List, [], ◌∷◌, ◌++◌, Option, Some, refl, sym, ◌∙◌, ap, subst, arith}
+use Rattle.std.proofs.Common.{◌≡◌, ◌⊎◌, inl, inr, ⊎_elim, ℕ, ◌+◌, ◌==◌, if◌then◌else◌, Bool, true, false, List, Option, Some, None, refl, sym, ◌∙◌, ap, subst, arith}
 use Rattle.std.specs.Prelude.{Contains, filter, nat_lt, ⊤}
 use Rattle.std.proofs.lemmas.Bool.{cases_lt}
 use Rattle.range_locks.specs.declared.hold.Hold.{Hold}
@@ -31,48 +31,65 @@ use Rattle.core_turns.specs.declared.getting.Solved.TheVariants.{NotYet, Bytes, 
 use Rattle.core_turns.specs.Getting.{AnswersSolved, EndsGet, answer_of}
 use Rattle.core_turns.specs.Putting.{EndsPut, GivesUpTurn, IsStoppedPut, WritesTurn}
 use Rattle.core_turns.specs.Committing.{AnswersGroup, IsCommitOf, StepsCommit}
-use Rattle.schedule.specs.declared.client.Work.{Work}
-use Rattle.schedule.specs.declared.client.Work.TheVariants as work
-use Rattle.schedule.specs.Running.{commit_in}
-use Rattle.schedule.specs.Turned.{EndsPutting, EndsReading, GoesOnBy, listed_for}
+use Rattle.schedule.specs.Turned.{EndsPutting, EndsReading, group_by}
 use Rattle.schedule.specs.Using.{HasCopiedNone}
 use Rattle.schedule.proofs.Copied.{Stays, answers_stays, stays_same}
+use Rattle.schedule.proofs.Theirs.{none_some}
 use Rattle.schedule.proofs.UsingTurns.{UsesNoMore, given_up, one_less, same_core, same_parts, stored}
-use Rattle.core_state.specs.declared.item.Item.{Item}
-use Rattle.core_state.specs.declared.item.Item.TheVariants.{Call as CallItem}
-use Rattle.core_state.specs.declared.item.Entry.{Entry}
 
--- A turn goes on with no more runs; the group is this one then. Where nothing was copied the pool stays.
+-- The group is this one after a turn. Where nothing was copied it goes on with no more runs, and the pool stays.
 pub record GoesWith (old new : Core) (group : ℕ) : Type 0 where
-  pub uses : UsesNoMore old new
+  pub uses : HasCopiedNone old → UsesNoMore old new
   pub group_is : new.pool.uber.group ≡ group
   pub stays : HasCopiedNone old → Stays old new
 
-goes_still : (old new : Core) → new.pool.uber ≡ old.pool.uber → new.pool.done ≡ old.pool.done
+pub goes_still : (old new : Core) → new.pool.uber ≡ old.pool.uber → new.pool.done ≡ old.pool.done
     → UsesNoMore old new → GoesWith old new old.pool.uber.group
 goes_still old new uber done uses = record {
-  uses = uses;
+  uses = λ still. uses;
   group_is = ap (λ (u : Uber). u.group) uber;
   stays = λ still. stays_same old new uber done;
 }
 
--- An answer that neither ends a group nor tells of no space.
+-- An answer that neither comes with a group nor tells of no space.
 abbrev pub IsPlainEnd : Answer → Type 0
 IsPlainEnd (answer.Synced group) = ⊥
+IsPlainEnd (answer.Attached width group) = ⊥
+IsPlainEnd (answer.NewDeviceFailed device) = ⊥
+IsPlainEnd (answer.DeviceOut device) = ⊥
 IsPlainEnd (answer.NoSpace sectors) = ⊥
 IsPlainEnd other = ⊤
 
--- A call ends so: with a plain answer in the same group, or with its group.
-abbrev pub EndsWith : Core → Core → Answer → Type 0
-EndsWith old new given = (IsPlainEnd given × GoesWith old new old.pool.uber.group)
-    ⊎ ((number : ℕ) × (given ≡ answer.Synced number) × GoesWith old new number
+-- A call ends with no group, where it had made this one, and tells of no want of space.
+pub record EndsPlainly (given : Answer) (made : Option ℕ) : Type 0 where
+  pub group : group_by given made ≡ None
+  pub space : (size : ℕ) → given ≡ answer.NoSpace size → ⊥
+
+-- So it does with a plain answer.
+pub plain_ends : (given : Answer) (made : Option ℕ) → IsPlainEnd given → EndsPlainly given made
+plain_ends given made plain = record {
+  group = none given plain;
+  space = λ size is. subst IsPlainEnd is plain;
+}
+  where
+    none : (given : Answer) → IsPlainEnd given → group_by given made ≡ None
+    none (answer.Synced group) plain = absurd plain
+    none (answer.Attached width group) plain = absurd plain
+    none (answer.NewDeviceFailed device) plain = absurd plain
+    none (answer.DeviceOut device) plain = absurd plain
+    none other plain = refl
+
+-- A call ends so: with none in the same group, or with its group, which is the next one.
+abbrev pub EndsWith : Core → Core → Answer → Option ℕ → Type 0
+EndsWith old new given made = (EndsPlainly given made × GoesWith old new old.pool.uber.group)
+    ⊎ ((number : ℕ) × (group_by given made ≡ Some number) × GoesWith old new number
     × (number ≡ old.pool.uber.group + 1))
 
--- An end that is plain lists its entry alone.
-pub plain_listed : (core : Core) (items : List Item) (at : ℕ) (entry : Entry) (given : Answer) → IsPlainEnd given
-    → listed_for core items at entry given ≡ items ++ CallItem entry ∷ []
-plain_listed core items at entry (answer.Synced number) plain = absurd plain
-plain_listed core items at entry other plain = refl
+-- With a group no want of space is told.
+pub group_space : (given : Answer) (made : Option ℕ) (number : ℕ) → group_by given made ≡ Some number → (size : ℕ)
+    → given ≡ answer.NoSpace size → ⊥
+group_space given made number is size told =
+    none_some (sym (ap (λ (a : Answer). group_by a made) told) ∙ is)
 
 module _ (blocks : Blocks) (group capacity : ℕ) where
   abbrev grown_if : Bool → Blocks
@@ -101,7 +118,7 @@ module _ (before after : CoreState) (is : IsCore before.core) where
   new = after.core
 
   -- Only devices went out.
-  core_goes : (out : ℕ) → new ≡ record old { pool = record old.pool { out = out } } → GoesWith old new old.pool.uber.group
+  pub core_goes : (out : ℕ) → new ≡ record old { pool = record old.pool { out = out } } → GoesWith old new old.pool.uber.group
   core_goes out rest = goes_still old new (ap (λ (c : Core). c.pool.uber) rest) (ap (λ (c : Core). c.pool.done) rest)
       (same_parts old new (ap (λ (c : Core). c.pool.blocks.space) rest) (ap (λ (c : Core). c.holds) rest))
 
@@ -135,7 +152,7 @@ module _ (before after : CoreState) (is : IsCore before.core) where
   gave_up run (answer.TooManyFailed out) ends = (tt, stopped_goes run (answer.TooManyFailed out) ends)
   gave_up run other ends = absurd ends
 
-  put_ends : (call : ScriptCall) (run : PutRun) (given : Answer) → EndsPutting before after call run given
+  pub put_ends : (call : ScriptCall) (run : PutRun) (given : Answer) → EndsPutting before after call run given
       → IsPlainEnd given × GoesWith old new old.pool.uber.group
   put_ends call run given ends = elim ends.ends [
     | inl writes ↦ (subst IsPlainEnd (sym writes.0.given_is) tt, writes_goes ends.filled (Done given) writes)
@@ -173,7 +190,7 @@ module _ (before after : CoreState) (is : IsCore before.core) where
       (λ few. solved_plain run run.solved given (ends.solved (λ many. omega (arith, few, many))))
       (cases_lt old.pool.uber.parity (count_of old.pool.out))
 
-  read_ends : (run : GetRun) (given : Answer) → EndsReading before after run given
+  pub read_ends : (run : GetRun) (given : Answer) → EndsReading before after run given
       → IsPlainEnd given × GoesWith old new old.pool.uber.group
   read_ends run given ends = elim ends.ends [
     | inl reads ↦ (subst IsPlainEnd (sym reads.0.given_is) tt, ended_hold run.hold reads.0.rest reads.0.ends)
@@ -181,16 +198,16 @@ module _ (before after : CoreState) (is : IsCore before.core) where
   ]
 
   -- The group of a commit is the one after the last that was answered.
-  next_group : (run : CommitRun) (number : ℕ) → IsCommitOf old run → AnswersGroup before run after number
+  pub next_group : (run : CommitRun) (number : ℕ) → IsCommitOf old run → AnswersGroup before run after number
       → number ≡ old.pool.uber.group + 1
   next_group run number of answers =
       answers.group_is ∙ is.begun ∙ ap (λ (c : Option ℕ). old.pool.uber.group + groups_begun c) of.under_way
 
   -- A group is answered: what was held back until it is free, and what its commit held.
-  group_ends : (run : CommitRun) (number : ℕ) → IsCommitOf old run → AnswersGroup before run after number
+  pub group_ends : (run : CommitRun) (number : ℕ) → IsCommitOf old run → AnswersGroup before run after number
       → GoesWith old new number
   group_ends run number of answers = record {
-    uses = record {
+    uses = λ still. record {
       taken = λ other listed. subst (λ (l : List Run). Contains l other)
           (ap (λ (c : Core). c.pool.blocks.space.taken) answers.answers.rest
           ∙ (runs_behind old.pool answers.ended.uber).0) listed;
@@ -210,29 +227,13 @@ module _ (before after : CoreState) (is : IsCore before.core) where
     stays = answers_stays before after run number is of answers;
   }
 
-  sync_ends : (run : CommitRun) (given : Answer) → IsCommitOf old run → StepsCommit before run after (Done given)
-      → EndsWith old new given
+  pub sync_ends : (run : CommitRun) (given : Answer) → IsCommitOf old run → StepsCommit before run after (Done given)
+      → EndsWith old new given None
   sync_ends run (answer.Synced number) of steps = inr (number, refl, group_ends run number of steps, next_group run number of steps)
   sync_ends run (answer.TooManyFailed out) of steps =
       inl (
-        tt,
+        plain_ends (answer.TooManyFailed out) None tt,
         goes_still old new (ap (λ (s : CoreState). s.core.pool.uber) steps.2)
             (ap (λ (s : CoreState). s.core.pool.done) steps.2) (same_core old new (ap (λ (s : CoreState). s.core) steps.2)),
       )
   sync_ends run other of steps = absurd steps
-
-  -- A later turn: one after which the call goes on,
-  pub works_go : (call : ScriptCall) (does next : Work) → GoesOnBy before after call does (More next)
-      → GoesWith old new old.pool.uber.group
-  works_go call (work.Put run) (work.Put next) goes = core_goes new.pool.out goes.writes.rest
-  works_go call (work.Read run) (work.Read next) goes = core_goes new.pool.out goes.reads.2
-  works_go call (work.Sync run) (work.Sync next) goes = core_goes new.pool.out goes.2
-  works_go call does next goes = absurd goes
-
-  -- and its last.
-  pub works_end : (call : ScriptCall) (does : Work) (given : Answer)
-      → ((run : CommitRun) → commit_in does ≡ Some run → IsCommitOf old run)
-      → GoesOnBy before after call does (Done given) → EndsWith old new given
-  works_end call (work.Put run) given commits goes = inl (put_ends call run given goes)
-  works_end call (work.Read run) given commits goes = inl (read_ends run given goes)
-  works_end call (work.Sync run) given commits goes = sync_ends run given (commits run refl) goes

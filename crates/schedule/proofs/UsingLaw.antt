@@ -29,29 +29,28 @@ use Rattle.schedule.specs.declared.client.Client.{Client}
 use Rattle.schedule.specs.declared.client.UnderWay.{UnderWay}
 use Rattle.schedule.specs.Clients.{Changes}
 use Rattle.schedule.specs.Running.{AreGoing, commit_in}
-use Rattle.schedule.specs.Turned.{AnswersAtOnce, Station, Turned, Nothing, Began, Went, entry_for, group_for, listed_for}
+use Rattle.schedule.specs.Turned.{AnswersAtOnce, Station, Turned, Nothing, Began, Went, entry_for, group_for}
+use Rattle.schedule.specs.Works.{made_by}
 use Rattle.schedule.specs.Using.{AreLeft, AreRunsOf, AreUsed, HasUsedRuns, IsOpenSince, sizes_of}
 use Rattle.schedule.proofs.Copied.{opened_stays, stays_same}
 use Rattle.schedule.proofs.Using.{full_by_runs, left_next, left_same, most_next, one_width}
 use Rattle.schedule.proofs.UsingTurns.{BeginsWith, FitsPut, answers_with, none_fits, runs_still, same_core, waits_with, works_begin}
-use Rattle.schedule.proofs.UsingEnds.{GoesWith, IsPlainEnd, works_end, works_go, plain_listed}
+use Rattle.schedule.proofs.UsingEnds.{GoesWith, group_space}
+use Rattle.schedule.proofs.UsingWorks.{group_listed, plain_listed, works_end, works_go}
 use Rattle.schedule.specs.Numbered.{IsNumbered}
 
 -- Only a put tells of no space in its first turn.
-first_none : (old new : Core) (actor : ℕ) (call : ScriptCall) (asked : Kind) (id : Option ℕ) (size : ℕ)
-    → AnswersAtOnce old new actor call asked id (answer.NoSpace size)
+first_none : (old new : Core) (devices actor : ℕ) (call : ScriptCall) (asked : Kind) (id : Option ℕ) (size : ℕ)
+    → AnswersAtOnce old new devices actor call asked id (answer.NoSpace size)
     → (size ≡ sectors_taken old.pool.uber.parity old.pool.uber.births (length (fill_bytes call.fill)) (old.begun + 1))
     × HasNoFreeRun old.pool.blocks.space old.holds size
-first_none old new actor call kind.Put (Some id) size answers = (answers.1, answers.2)
-first_none old new actor call kind.Get (Some id) size answers = absurd answers.1
-first_none old new actor call kind.Sum (Some id) size answers = absurd answers.1
-first_none old new actor call kind.Free (Some id) size answers = absurd answers.frees
-first_none old new actor call kind.Sync None size answers = absurd answers.0
-first_none old new actor call asked id size answers = absurd answers
-
--- An end that is plain tells of no want of space.
-plain_space : (given : Answer) (size : ℕ) → IsPlainEnd given → given ≡ answer.NoSpace size → ⊥
-plain_space given size plain is = subst IsPlainEnd is plain
+first_none old new devices actor call kind.Put (Some id) size answers = (answers.1, answers.2)
+first_none old new devices actor call kind.Get (Some id) size answers = absurd answers.1
+first_none old new devices actor call kind.Sum (Some id) size answers = absurd answers.1
+first_none old new devices actor call kind.Free (Some id) size answers = absurd answers.frees
+first_none old new devices actor call kind.Sync None size answers = absurd answers.0
+first_none old new devices actor call kind.Attach None size answers = absurd answers.0.3
+first_none old new devices actor call asked id size answers = absurd answers
 
 module _ (script : Script) (actor : ℕ) (before after : Station) (clients news : List Client)
     (going : AreGoing script before.state.core clients) (was : slice_get clients actor ≡ Some before.client)
@@ -199,44 +198,41 @@ module _ (script : Script) (actor : ℕ) (before after : Station) (clients news 
       (ap (λ (s : Station). s.client.begun) nothing.same))
       (ap (λ (s : Station). s.items) nothing.same)
   turn_uses (Began (More does) begins leaves) =
-      let on = works_begin old new is actor begins.call begins.call.kind begins.call.id does begins.did in
+      let on = works_begin old new is before.state.disk.devices actor begins.call begins.call.kind begins.call.id does begins.did in
       lists_none (opened_same on.begins.uber on.begins.done)
       (used_next begins.call begins.next (ap (λ (c : Client). c.begun) leaves.1) on.more on.begins
       (on.fits uber stood.opened)) leaves.0
   turn_uses (Began (Busy by) begins leaves) =
-      let with = waits_with old new is actor begins.call begins.call.kind begins.call.id by begins.did in
+      let with = waits_with old new is before.state.disk.devices actor begins.call begins.call.kind begins.call.id by begins.did in
       lists_none (opened_same with.uber with.done) (used_still (with.runs stood.opened.still) (ap (λ (c : Client). c.begun) leaves.1)) leaves.0
   turn_uses (Began (Done given) begins leaves) =
-      let with = answers_with old new is actor begins.call begins.call.kind begins.call.id given begins.did in
+      let with = answers_with old new is before.state.disk.devices actor begins.call begins.call.kind begins.call.id given begins.did in
       lists_entry (opened_same with.uber with.done)
       (used_next begins.call begins.next (ap (λ (c : Client). c.begun) leaves.1) [] with
       (none_fits uber (length_put begins.call.kind (fill_bytes begins.call.fill))))
       (entry_for begins.call actor (before.client.begun + 1) (length before.items) given) leaves.0
       (λ size told.
-      let why = first_none old new actor begins.call begins.call.kind begins.call.id size
-      (subst (λ (a : Answer). AnswersAtOnce old new actor begins.call begins.call.kind begins.call.id a) told begins.did) in
+      let why = first_none old new before.state.disk.devices actor begins.call begins.call.kind begins.call.id size
+      (subst (λ (a : Answer). AnswersAtOnce old new before.state.disk.devices actor begins.call begins.call.kind begins.call.id a) told begins.did) in
       finds begins.call given size begins.next why.0 why.1)
   turn_uses (Went under (More does) goes leaves) =
       let with = works_go before.state after.state is goes.call under.work does goes.did in
       lists_none (opened_goes old.pool.uber.group with)
-      (used_still (runs_still old new with.uses) (ap (λ (c : Client). c.begun) leaves.1)) leaves.0
+      (used_still (runs_still old new (with.uses stood.opened.still)) (ap (λ (c : Client). c.begun) leaves.1)) leaves.0
   turn_uses (Went under (Busy by) goes leaves) = absurd leaves
   turn_uses (Went under (Done given) goes leaves) = elim (works_end before.state after.state is goes.call under.work given
       (its_commit under goes.going) goes.did) [
         | inl plain ↦ lists_entry (opened_goes old.pool.uber.group plain.1)
-            (used_still (runs_still old new plain.1.uses) (ap (λ (c : Client). c.begun) leaves.1))
+            (used_still (runs_still old new (plain.1.uses stood.opened.still)) (ap (λ (c : Client). c.begun) leaves.1))
             (entry_for goes.call actor before.client.begun under.at given)
             (leaves.0 ∙ plain_listed new before.items under.at
-            (entry_for goes.call actor before.client.begun under.at given) given plain.0)
-            (λ size told. absurd (plain_space given size plain.0 told))
+            (entry_for goes.call actor before.client.begun under.at given) (made_by under.work) given plain.0)
+            (λ size told. absurd (plain.0.space size told))
         | inr synced ↦ lists_group (opened_goes synced.0 synced.2)
-            (used_still (runs_still old new synced.2.uses) (ap (λ (c : Client). c.begun) leaves.1))
+            (used_still (runs_still old new (synced.2.uses stood.opened.still)) (ap (λ (c : Client). c.begun) leaves.1))
             (group_for new under.at synced.0)
             (entry_for goes.call actor before.client.begun under.at given)
-            (leaves.0 ∙ ap (listed_for new before.items under.at
-            (entry_for goes.call actor before.client.begun under.at given)) synced.1)
-            (λ size told. absurd (apart (sym synced.1 ∙ told)))
+            (leaves.0 ∙ group_listed new before.items under.at
+            (entry_for goes.call actor before.client.begun under.at given) (made_by under.work) given synced.0 synced.1)
+            (λ size told. absurd (group_space given (made_by under.work) synced.0 synced.1 size told))
       ]
-    where
-      apart : {number size : ℕ} → answer.Synced number ≡ answer.NoSpace size → ⊥
-      apart same = cc

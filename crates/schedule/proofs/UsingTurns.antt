@@ -296,37 +296,44 @@ module _ (old new : Core) (is : IsCore old) where
   on_none lengths begins = record { more = []; begins = begins; fits = λ uber since. none_fits uber lengths }
 
   -- A first turn: one that goes on,
-  pub works_begin : (actor : ℕ) (call : ScriptCall) (asked : Kind) (id : Option ℕ) (does : Work)
-      → BeginsWork old new actor call asked id does → BeginsOn old new (length_put asked (fill_bytes call.fill))
-  works_begin actor call kind.Put (Some id) (work.Put run) begins =
+  pub works_begin : (devices actor : ℕ) (call : ScriptCall) (asked : Kind) (id : Option ℕ) (does : Work)
+      → BeginsWork old new devices actor call asked id does → BeginsOn old new (length_put asked (fill_bytes call.fill))
+  works_begin devices actor call kind.Put (Some id) (work.Put run) begins =
       put_begins actor id (length (fill_bytes call.fill)) run begins
-  works_begin actor call kind.Get (Some id) (work.Read run) begins =
+  works_begin devices actor call kind.Get (Some id) (work.Read run) begins =
       on_none [] (get_begins actor id kind.Get run begins)
-  works_begin actor call kind.Sum (Some id) (work.Read run) begins =
+  works_begin devices actor call kind.Sum (Some id) (work.Read run) begins =
       on_none [] (get_begins actor id kind.Sum run begins)
-  works_begin actor call kind.Sync None (work.Sync run) begins =
+  works_begin devices actor call kind.Sync None (work.Sync run) begins =
       on_none [] (begins_still old new (ap (λ (c : Core). c.pool.uber) begins.rest)
       (ap (λ (c : Core). c.pool.done) begins.rest)
       (λ still. same_parts old new (ap (λ (c : Core). c.pool.blocks.space) begins.rest)
       (begins_holds old new actor run is still begins)))
-  works_begin actor call asked id does begins = absurd begins
+  works_begin devices actor call kind.Attach None (work.Attach run) begins =
+      on_none [] (begins_still old new (ap (λ (c : Core). c.pool.uber) begins.rest)
+      (ap (λ (c : Core). c.pool.done) begins.rest)
+      (λ still. same_parts old new (ap (λ (c : Core). c.pool.blocks.space) begins.rest)
+      (ap (λ (c : Core). c.holds) begins.rest)))
+  works_begin devices actor call asked id does begins = absurd begins
 
   -- one that waits,
-  pub waits_with : (actor : ℕ) (call : ScriptCall) (asked : Kind) (id : Option ℕ) (by : ℕ)
-      → Waits old new actor call asked id by → BeginsWith old new []
-  waits_with actor call kind.Put (Some id) by waits = left_begins waits.1
-  waits_with actor call kind.Get (Some id) by waits = same_begins waits.1
-  waits_with actor call kind.Sum (Some id) by waits = same_begins waits.1
-  waits_with actor call kind.Sync None by waits = same_begins waits.2
-  waits_with actor call asked id by waits = absurd waits
+  pub waits_with : (devices actor : ℕ) (call : ScriptCall) (asked : Kind) (id : Option ℕ) (by : ℕ)
+      → Waits old new devices actor call asked id by → BeginsWith old new []
+  waits_with devices actor call kind.Put (Some id) by waits = left_begins waits.1
+  waits_with devices actor call kind.Get (Some id) by waits = same_begins waits.1
+  waits_with devices actor call kind.Sum (Some id) by waits = same_begins waits.1
+  waits_with devices actor call kind.Sync None by waits = same_begins waits.2
+  waits_with devices actor call kind.Attach None by waits = same_begins waits.2
+  waits_with devices actor call asked id by waits = absurd waits
 
   -- and one that is answered at once.
-  pub answers_with : (actor : ℕ) (call : ScriptCall) (asked : Kind) (id : Option ℕ) (given : Answer)
-      → AnswersAtOnce old new actor call asked id given → BeginsWith old new []
-  answers_with actor call kind.Put (Some id) given answers =
+  pub answers_with : (devices actor : ℕ) (call : ScriptCall) (asked : Kind) (id : Option ℕ) (given : Answer)
+      → AnswersAtOnce old new devices actor call asked id given → BeginsWith old new []
+  answers_with devices actor call kind.Put (Some id) given answers =
       put_refused id (length (fill_bytes call.fill)) given answers
-  answers_with actor call kind.Get (Some id) given answers = same_begins answers.0
-  answers_with actor call kind.Sum (Some id) given answers = same_begins answers.0
-  answers_with actor call kind.Free (Some id) given answers = free_begins id given answers.frees
-  answers_with actor call kind.Sync None given answers = same_begins answers.1
-  answers_with actor call asked id given answers = absurd answers
+  answers_with devices actor call kind.Get (Some id) given answers = same_begins answers.0
+  answers_with devices actor call kind.Sum (Some id) given answers = same_begins answers.0
+  answers_with devices actor call kind.Free (Some id) given answers = free_begins id given answers.frees
+  answers_with devices actor call kind.Sync None given answers = same_begins answers.1
+  answers_with devices actor call kind.Attach None given answers = same_begins answers.1
+  answers_with devices actor call asked id given answers = absurd answers

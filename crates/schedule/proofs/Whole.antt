@@ -196,7 +196,7 @@ module _ (script : Script) (old mid : Disk) (pool : Pool) (silent : ℕ) (items 
     opened = item;
     there = come.listed 0 (Group item) refl;
     start = at_disk (resting pool) mid;
-    rest = record { holds = refl; committing = refl; blocks = rest; still = record { front = λ expands. front } };
+    rest = record { holds = refl; committing = refl; attaching = refl; blocks = rest; still = record { front = λ expands. front } };
     opened_is = refl;
     bank = bank;
     later = opened_later;

@@ -7,7 +7,7 @@ use Rattle.schedule.specs.declared.client.Client.{Client}
 use Rattle.schedule.specs.Clients.{Changes}
 use Rattle.schedule.specs.Coming.{LeadTo, IsSchedule, KeepsUsing}
 use Rattle.schedule.specs.Numbered.{IsNumbered}
-use Rattle.schedule.specs.Turned.{Station}
+use Rattle.schedule.specs.Turned.{HasDeviceUnder, Station}
 use Rattle.schedule.specs.Turns.{taken_by, turns_of}
 
 -- A client takes a turn: the others stay as they are.
@@ -20,6 +20,7 @@ pub record TakesTurn (script : Script) (actor : ℕ) (before after : Station) (c
   pub still_lawful : Lawful after.state.disk
   pub space : KeepsUsing script (turns_of before.state before.items clients)
       (turns_of after.state after.items news)
+  pub there : HasDeviceUnder after.state.disk after.client.under_way
   pub numbers : IsNumbered before.items before.state.core → IsNumbered after.items after.state.core
 
 -- It comes to a state in which the next turn may be taken.

@@ -20,7 +20,9 @@ use Rattle.schedule.specs.Clients.{ClientsAreAnswered}
 use Rattle.schedule.specs.Fitting.{FitsCall}
 use Rattle.schedule.specs.Moments.{Past}
 use Rattle.schedule.specs.Numbered.{IsNumbered}
+use Rattle.schedule.specs.declared.client.Client.{Client}
 use Rattle.schedule.specs.Running.{AreGoing, Runs}
+use Rattle.schedule.specs.Turned.{HasDeviceUnder}
 use Rattle.schedule.specs.Turns.{Turns, TurnTaken, AreListedWith, last_left}
 use Rattle.schedule.specs.Using.{HasUsedRuns}
 use Rattle.core_turns.specs.Attaching.{AttachGoesOn}
@@ -31,6 +33,8 @@ pub record IsSchedule (script : Script) (turns : Turns) : Type 0 where
   pub going : AreGoing script turns.state.core turns.clients
   pub answered : ClientsAreAnswered script turns.clients turns.items
   pub bank : HasBankOf turns.state.core turns.state.disk
+  pub there : (index : ℕ) (client : Client) → slice_get turns.clients index ≡ Some client
+      → HasDeviceUnder turns.state.disk client.under_way
 
 -- What turns have used of a pool's space since its opening goes on being known.
 abbrev pub KeepsUsing : Script → Turns → Turns → Type 0

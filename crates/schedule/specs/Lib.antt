@@ -1,3 +1,4 @@
+pub mod Works
 pub mod Turns
 pub mod Moments
 pub mod Caused

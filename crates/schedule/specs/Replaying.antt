@@ -17,6 +17,7 @@ use Rattle.schedule.specs.Using.{HasCopiedNone}
 pub record IsAtRest (core : Core) : Type 0 where
   pub holds : core.holds ≡ []
   pub committing : core.committing ≡ None
+  pub attaching : core.attaching ≡ None
   pub blocks : AreUnderWay core.pool.blocks []
   pub still : HasCopiedNone core
 

@@ -7,19 +7,23 @@ use Rattle.core_state.specs.declared.item.Item.{Item}
 use Rattle.core_state.specs.Map.{map_of, map_after}
 use Rattle.core_state.specs.Legal.{CallAt}
 use Rattle.core_state.specs.Keeps.{Kept, Setting}
+use Rattle.core_state.specs.Moment.{AwaitsAttach}
 use Rattle.core_state.specs.World.{World}
 use Rattle.core_commit.specs.CommitTurns.{CommitRun}
 use Rattle.client_script.specs.declared.call.ScriptCall.{ScriptCall}
 use Rattle.client_script.specs.Lines.{fill_bytes}
 use Rattle.client_script.specs.Script.{Script, calls_of}
+use Rattle.core_turns.specs.declared.attaching.AttachRun.{AttachRun}
+use Rattle.core_turns.specs.Attaching.{HoldsAttach, IsAttachOf, attach_commit}
 use Rattle.core_turns.specs.Core.{Core, CoreState}
 use Rattle.core_turns.specs.Getting.{HasTooManyOut}
 use Rattle.core_turns.specs.Committing.{IsCommitOf}
-use Rattle.core_turns.specs.UnderWay.{HoldingCall, Putting, Reading, AreCallsOf, Stands, shown_of}
+use Rattle.core_turns.specs.UnderWay.{HoldingCall, AreCallsOf, Stands, shown_of}
 use Rattle.schedule.specs.declared.client.Client.{Client}
 use Rattle.schedule.specs.declared.client.UnderWay.{UnderWay}
 use Rattle.schedule.specs.declared.client.Work.{Work}
 use Rattle.schedule.specs.declared.client.Work.TheVariants as work
+pub use Rattle.schedule.specs.Works.{commit_in, held_by, IsThere, MakesCommit}
 use Rattle.schedule.specs.Moments.{Past}
 use Rattle.schedule.specs.Recorded.{Recorded, IsBegunAt}
 
@@ -29,12 +33,6 @@ use Rattle.schedule.specs.Recorded.{Recorded, IsBegunAt}
 pub record IsGoing (clients : List Client) (index : ℕ) (client : Client) (under : UnderWay) : Type 0 where
   pub there : slice_get clients index ≡ Some client
   pub under_way : client.under_way ≡ Some under
-
--- the call of a work that holds sectors, if it is one
-abbrev pub held_by : Work → List HoldingCall
-held_by (work.Put run) = Putting run ∷ []
-held_by (work.Read run) = Reading run ∷ []
-held_by (work.Sync run) = []
 
 -- the one that a client has under way, if it has one
 abbrev pub held_under : Option UnderWay → List HoldingCall
@@ -53,19 +51,7 @@ abbrev pub IsHoldOf : ℕ → Work → Type 0
 IsHoldOf index (work.Put run) = run.hold.actor ≡ index
 IsHoldOf index (work.Read run) = run.hold.actor ≡ index
 IsHoldOf index (work.Sync run) = ⊤
-
--- the commit that a work makes, if it makes one
-abbrev pub commit_in : Work → Option CommitRun
-commit_in (work.Sync run) = Some run
-commit_in other = None
-
-abbrev pub IsThere : Option CommitRun → Type 0
-IsThere None = ⊥
-IsThere (Some run) = ⊤
-
--- The work makes a commit.
-abbrev pub MakesCommit : Work → Type 0
-MakesCommit does = IsThere (commit_in does)
+IsHoldOf index (work.Attach run) = ⊤
 
 -- The work is what a call of the script asks for.
 abbrev pub IsWorkFor : ScriptCall → Work → Type 0
@@ -73,18 +59,20 @@ IsWorkFor call (work.Put run) = (call.kind ≡ kind.Put) × (call.id ≡ Some ru
     × (length (fill_bytes call.fill) ≡ run.len)
 IsWorkFor call (work.Read run) = (call.kind ≡ run.kind) × (call.id ≡ Some run.entry.id)
 IsWorkFor call (work.Sync run) = (call.kind ≡ kind.Sync) × (call.id ≡ None)
+IsWorkFor call (work.Attach run) = (call.kind ≡ kind.Attach) × (call.id ≡ None)
 
 -- A client's call under way has the client's hold, if it has one, and is what the script asks for. The commit that it
--- makes is the core's.
+-- makes is the core's, and so is an attach.
 pub record IsWorkOf (script : Script) (core : Core) (index : ℕ) (client : Client) (does : Work) : Type 0 where
   pub hold : IsHoldOf index does
   pub call : ScriptCall
   pub there : slice_get (calls_of script index) (client.begun - 1) ≡ Some call
   pub asked : IsWorkFor call does
   pub commit : (run : CommitRun) → commit_in does ≡ Some run → IsCommitOf core run × (core.committing ≡ Some index)
+  pub attach : (run : AttachRun) → does ≡ work.Attach run → IsAttachOf core run × (core.attaching ≡ Some index)
 
 -- The clients' calls under way are calls of this core, and their clients' works. A commit under way is a client's, or
--- was cut short.
+-- was cut short. An attach under way is a client's.
 pub record AreGoing (script : Script) (core : Core) (clients : List Client) : Type 0 where
   pub are : AreCallsOf core (calls_under_way clients)
   pub each : (index : ℕ) (client : Client) (under : UnderWay) → IsGoing clients index client under
@@ -92,6 +80,9 @@ pub record AreGoing (script : Script) (core : Core) (clients : List Client) : Ty
   pub one : (actor : ℕ) → core.committing ≡ Some actor → HasTooManyOut core
       ⊎ ((client : Client) × (under : UnderWay) × (run : CommitRun) × IsGoing clients actor client under
       × (commit_in under.work ≡ Some run))
+  pub attaches : (actor : ℕ) → core.attaching ≡ Some actor
+      → (client : Client) × (under : UnderWay) × (run : AttachRun) × IsGoing clients actor client under
+      × (under.work ≡ work.Attach run)
 
 -- ---- with one
 
@@ -107,10 +98,18 @@ abbrev pub HasBegun : World → List Item → GroupItem → List Kept → ℕ �
 HasBegun world items item begun at attached =
     (next : Kept) × (begun ≡ next ∷ []) × IsBegunAt world items item at attached next
 
--- So it is of a work that makes a commit. The group of a sync begins no expansion.
+-- So it is of an attach that makes a commit. Its group may begin an expansion.
+abbrev pub HasBegunIn : World → List Item → GroupItem → List Kept → ℕ → Option CommitRun → Type 0
+HasBegunIn world items item begun at None = ⊤
+HasBegunIn world items item begun at (Some run) =
+    HasBegun world items item begun at (AwaitsAttach world.calls items at)
+
+-- So it is of each work that makes a commit. The group of a sync begins no expansion.
 abbrev pub HasBegunBy : World → List Item → GroupItem → List Kept → ℕ → Work → Type 0
+HasBegunBy world items item begun at (work.Put run) = ⊤
+HasBegunBy world items item begun at (work.Read run) = ⊤
 HasBegunBy world items item begun at (work.Sync run) = HasBegun world items item begun at ⊥
-HasBegunBy world items item begun at other = ⊤
+HasBegunBy world items item begun at (work.Attach run) = HasBegunIn world items item begun at (attach_commit run)
 
 -- A put has the bytes that the script hands it, a read the block that its id had when the read began.
 abbrev pub HasContent : World → List Item → ScriptCall → ℕ → List ℕ → Work → Type 0
@@ -118,6 +117,7 @@ HasContent world items call at content (work.Put run) = content ≡ fill_bytes c
 HasContent world items call at content (work.Read run) =
     map_after world.handed world.opening items at run.entry.id ≡ Some content
 HasContent world items call at content (work.Sync run) = ⊤
+HasContent world items call at content (work.Attach run) = ⊤
 
 -- A client's call under way began after some items, those of its own calls before it.
 pub record IsClient (world : World) (script : Script) (items : List Item) (item : GroupItem) (begun : List Kept)
@@ -131,7 +131,7 @@ pub record IsClient (world : World) (script : Script) (items : List Item) (item 
 -- After these items the journal is right, the core stands with the clients' calls under way and holds the
 -- journal's map, in a pool that reaches so far by now; and each image since the bank was the first one keeps groups of
 -- the run in a row, none older than the last one listed by then. Of a group whose commit is in its first half no image
--- shows anything.
+-- shows anything. What is known of an attach under way is so.
 pub record Runs (world : World) (script : Script) (past : Past) (state : CoreState) (items : List Item)
     (clients : List Client) : Type 0 where
   pub last : Kept
@@ -146,6 +146,9 @@ pub record Runs (world : World) (script : Script) (past : Past) (state : CoreSta
   pub theirs : IsTheirs clients commit
   pub each : (index : ℕ) (client : Client) (under : UnderWay) → IsGoing clients index client under
       → IsClient world script items item begun (contents index) index client under
+  pub attaches : (index : ℕ) (client : Client) (under : UnderWay) (run : AttachRun) → IsGoing clients index client under
+      → under.work ≡ work.Attach run
+      → HoldsAttach (record world.setting { reach = reach }) last begun state.disk run
 
 -- the setting of what stands: the pool reaches as far as it does by now
 abbrev pub setting_now : {world : World} {script : Script} {past : Past} {state : CoreState} {items : List Item}

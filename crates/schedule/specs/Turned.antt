@@ -25,21 +25,24 @@ use Rattle.core_turns.specs.declared.putting.Filled.{Filled}
 use Rattle.core_turns.specs.declared.putting.PutRun.{PutRun}
 use Rattle.core_turns.specs.declared.turn.Turn.{Turn}
 use Rattle.core_turns.specs.declared.turn.Turn.TheVariants.{More, Busy, Done}
-use Rattle.core_turns.specs.Core.{Core, CoreState, at_disk}
+use Rattle.core_turns.specs.Core.{Core, CoreState, HasBankOf, at_disk}
 use Rattle.core_turns.specs.Getting.{IsReadKind, IsGetOf, BeginsGet, ReadsTurn, SolvesGet, EndsGet}
 use Rattle.core_turns.specs.Freeing.{FreesBlock}
 use Rattle.core_turns.specs.Putting.{IsPutOf, BeginsPutTurn, FillsPut, WritesTurn, EndsPut, GivesUpTurn}
 use Rattle.core_turns.specs.Committing.{IsCommitOf, BeginsCommit, StepsCommit}
+use Rattle.core_turns.specs.declared.attaching.AttachRun.{AttachRun}
+use Rattle.core_turns.specs.Attaching.{AttachGoesOn, BeginsAttach, HasNewDevice, IsAttachOf, StepsAttach}
 use Rattle.core_turns.specs.UnderWay.{TurnGoesOn}
 use Rattle.journal_law.specs.Points.{point_after}
 use Rattle.schedule.specs.declared.client.Client.{Client}
 use Rattle.schedule.specs.declared.client.UnderWay.{UnderWay}
 use Rattle.schedule.specs.declared.client.Work.{Work}
 use Rattle.schedule.specs.declared.client.Work.TheVariants as work
+use Rattle.schedule.specs.Works.{begun_at, commit_in, made_by}
 
 -- ---- the turns of works
 
--- a put's turn, a read's and a commit's, as that of a call
+-- a put's turn, a read's, a commit's and an attach's, as that of a call
 abbrev pub put_turn : Turn PutRun → Turn Work
 put_turn (More run) = More (work.Put run)
 put_turn (Busy by) = Busy by
@@ -55,6 +58,11 @@ sync_turn (More run) = More (work.Sync run)
 sync_turn (Busy by) = Busy by
 sync_turn (Done given) = Done given
 
+abbrev pub attach_turn : Turn AttachRun → Turn Work
+attach_turn (More run) = More (work.Attach run)
+attach_turn (Busy by) = Busy by
+attach_turn (Done given) = Done given
+
 -- ---- first turns
 
 -- A free took a block away; puts under way stay so, and no sector of a block that a group up to now keeps is free.
@@ -65,37 +73,41 @@ pub record Frees (old new : Core) (id : ℕ) (given : Answer) : Type 0 where
       → NoneFree new.pool.blocks past kept
 
 -- what a call that is answered in its first turn comes to
-abbrev pub AnswersAtOnce : Core → Core → ℕ → ScriptCall → Kind → Option ℕ → Answer → Type 0
-AnswersAtOnce old new actor call kind.Put (Some id) given =
+abbrev pub AnswersAtOnce : Core → Core → ℕ → ℕ → ScriptCall → Kind → Option ℕ → Answer → Type 0
+AnswersAtOnce old new devices actor call kind.Put (Some id) given =
     BeginsPutTurn old new actor id (length (fill_bytes call.fill)) (Done given)
-AnswersAtOnce old new actor call kind.Get (Some id) given = BeginsGet old new actor kind.Get id (Done given)
-AnswersAtOnce old new actor call kind.Sum (Some id) given = BeginsGet old new actor kind.Sum id (Done given)
-AnswersAtOnce old new actor call kind.Free (Some id) given = Frees old new id given
-AnswersAtOnce old new actor call kind.Sync None given = BeginsCommit old new actor (Done given)
-AnswersAtOnce old new actor call asked id given = ⊥
+AnswersAtOnce old new devices actor call kind.Get (Some id) given = BeginsGet old new actor kind.Get id (Done given)
+AnswersAtOnce old new devices actor call kind.Sum (Some id) given = BeginsGet old new actor kind.Sum id (Done given)
+AnswersAtOnce old new devices actor call kind.Free (Some id) given = Frees old new id given
+AnswersAtOnce old new devices actor call kind.Sync None given = BeginsCommit old new actor (Done given)
+AnswersAtOnce old new devices actor call kind.Attach None given = BeginsAttach old new devices actor (Done given)
+AnswersAtOnce old new devices actor call asked id given = ⊥
 
 -- what a call that finds another's in its way comes to
-abbrev pub Waits : Core → Core → ℕ → ScriptCall → Kind → Option ℕ → ℕ → Type 0
-Waits old new actor call kind.Put (Some id) by =
+abbrev pub Waits : Core → Core → ℕ → ℕ → ScriptCall → Kind → Option ℕ → ℕ → Type 0
+Waits old new devices actor call kind.Put (Some id) by =
     BeginsPutTurn old new actor id (length (fill_bytes call.fill)) (Busy by)
-Waits old new actor call kind.Get (Some id) by = BeginsGet old new actor kind.Get id (Busy by)
-Waits old new actor call kind.Sum (Some id) by = BeginsGet old new actor kind.Sum id (Busy by)
-Waits old new actor call kind.Sync None by = BeginsCommit old new actor (Busy by)
-Waits old new actor call asked id by = ⊥
+Waits old new devices actor call kind.Get (Some id) by = BeginsGet old new actor kind.Get id (Busy by)
+Waits old new devices actor call kind.Sum (Some id) by = BeginsGet old new actor kind.Sum id (Busy by)
+Waits old new devices actor call kind.Sync None by = BeginsCommit old new actor (Busy by)
+Waits old new devices actor call kind.Attach None by = BeginsAttach old new devices actor (Busy by)
+Waits old new devices actor call asked id by = ⊥
 
 -- what a call that goes on comes to
-abbrev pub BeginsWork : Core → Core → ℕ → ScriptCall → Kind → Option ℕ → Work → Type 0
-BeginsWork old new actor call kind.Put (Some id) (work.Put run) =
+abbrev pub BeginsWork : Core → Core → ℕ → ℕ → ScriptCall → Kind → Option ℕ → Work → Type 0
+BeginsWork old new devices actor call kind.Put (Some id) (work.Put run) =
     BeginsPutTurn old new actor id (length (fill_bytes call.fill)) (More run)
-BeginsWork old new actor call kind.Get (Some id) (work.Read run) = BeginsGet old new actor kind.Get id (More run)
-BeginsWork old new actor call kind.Sum (Some id) (work.Read run) = BeginsGet old new actor kind.Sum id (More run)
-BeginsWork old new actor call kind.Sync None (work.Sync run) = BeginsCommit old new actor (More run)
-BeginsWork old new actor call asked id does = ⊥
+BeginsWork old new devices actor call kind.Get (Some id) (work.Read run) = BeginsGet old new actor kind.Get id (More run)
+BeginsWork old new devices actor call kind.Sum (Some id) (work.Read run) = BeginsGet old new actor kind.Sum id (More run)
+BeginsWork old new devices actor call kind.Sync None (work.Sync run) = BeginsCommit old new actor (More run)
+BeginsWork old new devices actor call kind.Attach None (work.Attach run) =
+    BeginsAttach old new devices actor (More run)
+BeginsWork old new devices actor call asked id does = ⊥
 
-abbrev pub BeginsCall : Core → Core → ℕ → ScriptCall → Turn Work → Type 0
-BeginsCall old new actor call (More does) = BeginsWork old new actor call call.kind call.id does
-BeginsCall old new actor call (Busy by) = Waits old new actor call call.kind call.id by
-BeginsCall old new actor call (Done given) = AnswersAtOnce old new actor call call.kind call.id given
+abbrev pub BeginsCall : Core → Core → ℕ → ℕ → ScriptCall → Turn Work → Type 0
+BeginsCall old new devices actor call (More does) = BeginsWork old new devices actor call call.kind call.id does
+BeginsCall old new devices actor call (Busy by) = Waits old new devices actor call call.kind call.id by
+BeginsCall old new devices actor call (Done given) = AnswersAtOnce old new devices actor call call.kind call.id given
 
 -- The blocks of a commit that begins are those of a table.
 abbrev pub HasTableOf : Core → Turn Work → Type 0
@@ -158,9 +170,12 @@ abbrev pub GoesOnBy : CoreState → CoreState → ScriptCall → Work → Turn W
 GoesOnBy before after call (work.Put run) (More (work.Put next)) = GoesOnPutting before after call run next
 GoesOnBy before after call (work.Read run) (More (work.Read next)) = GoesOnReading before after run next
 GoesOnBy before after call (work.Sync run) (More (work.Sync next)) = StepsCommit before run after (More next)
+GoesOnBy before after call (work.Attach run) (More (work.Attach next)) = StepsAttach before run after (More next)
+    × IsAttachOf after.core next
 GoesOnBy before after call (work.Put run) (Done given) = EndsPutting before after call run given
 GoesOnBy before after call (work.Read run) (Done given) = EndsReading before after run given
 GoesOnBy before after call (work.Sync run) (Done given) = StepsCommit before run after (Done given)
+GoesOnBy before after call (work.Attach run) (Done given) = StepsAttach before run after (Done given)
 GoesOnBy before after call does turn = ⊥
 
 -- ---- what is listed
@@ -184,14 +199,25 @@ group_with widths at number = record { group = number; after = at; from = widths
 abbrev pub group_for : Core → ℕ → ℕ → GroupItem
 group_for core at number = group_with core.pool.uber.reflow at number
 
--- the journal with an answer, and before it the group that the call made
-abbrev pub listed_with : Reflow → List Item → ℕ → Entry → Answer → List Item
-listed_with widths items at entry (answer.Synced number) =
-    (items ++ Group (group_with widths at number) ∷ []) ++ Call entry ∷ []
-listed_with widths items at entry given = items ++ Call entry ∷ []
+-- the group that comes with an answer, if one does: an attach that is refused may have made one, or not
+abbrev pub group_by : Answer → Option ℕ → Option ℕ
+group_by (answer.Synced number) made = Some number
+group_by (answer.Attached width number) made = Some number
+group_by (answer.NewDeviceFailed device) made = made
+group_by (answer.DeviceOut device) made = made
+group_by given made = None
 
-abbrev pub listed_for : Core → List Item → ℕ → Entry → Answer → List Item
-listed_for core items at entry given = listed_with core.pool.uber.reflow items at entry given
+-- the journal with an answer, and before it the group that the call made
+abbrev pub listed_of : Reflow → List Item → ℕ → Entry → Option ℕ → List Item
+listed_of widths items at entry None = items ++ Call entry ∷ []
+listed_of widths items at entry (Some number) =
+    (items ++ Group (group_with widths at number) ∷ []) ++ Call entry ∷ []
+
+abbrev pub listed_with : Reflow → List Item → ℕ → Entry → Option ℕ → Answer → List Item
+listed_with widths items at entry made given = listed_of widths items at entry (group_by given made)
+
+abbrev pub listed_for : Core → List Item → ℕ → Entry → Option ℕ → Answer → List Item
+listed_for core items at entry made given = listed_with core.pool.uber.reflow items at entry made given
 
 -- ---- a turn
 
@@ -215,9 +241,15 @@ pub record BeginsNext (calls : List ScriptCall) (actor : ℕ) (before after : St
   pub idle : before.client.under_way ≡ None
   pub call : ScriptCall
   pub next : slice_get calls before.client.begun ≡ Some call
-  pub did : BeginsCall before.state.core after.state.core actor call turn
+  pub did : BeginsCall before.state.core after.state.core before.state.disk.devices actor call turn
   pub table : HasTableOf before.state.core turn
   pub disk : after.state.disk ≡ before.state.disk
+
+-- what a turn of a work does, whatever it comes to
+abbrev pub WorkGoesOn : Work → CoreState → CoreState → Type 0
+WorkGoesOn (work.Attach run) before after = AttachGoesOn before after × (HasBankOf before.core before.disk
+    → HasBankOf after.core after.disk)
+WorkGoesOn other before after = TurnGoesOn before after
 
 -- The client's call under way goes on, or is answered.
 pub record CallGoesOn (calls : List ScriptCall) (before after : Station) (under : UnderWay) (turn : Turn Work) : Type 0 where
@@ -225,7 +257,7 @@ pub record CallGoesOn (calls : List ScriptCall) (before after : Station) (under 
   pub call : ScriptCall
   pub is : slice_get calls (before.client.begun - 1) ≡ Some call
   pub did : GoesOnBy before.state after.state call under.work turn
-  pub goes : TurnGoesOn before.state after.state
+  pub goes : WorkGoesOn under.work before.state after.state
 
 -- what the client is then, and what the journal has
 abbrev pub LeavesBegun : ℕ → ScriptCall → Station → Station → Turn Work → Type 0
@@ -244,12 +276,15 @@ abbrev pub LeavesGoing : ℕ → ScriptCall → Station → Station → UnderWay
 LeavesGoing actor call before after under (More does) = (after.items ≡ before.items)
     × (after.client ≡ record {
       begun = before.client.begun;
-      under_way = Some (record { at = under.at; work = does });
+      under_way = Some (record {
+        at = begun_at (commit_in does) (commit_in under.work) under.at (length before.items);
+        work = does;
+      });
     })
 LeavesGoing actor call before after under (Busy by) = ⊥
 LeavesGoing actor call before after under (Done given) =
     (after.items ≡ listed_for after.state.core before.items under.at
-    (entry_for call actor before.client.begun under.at given) given)
+    (entry_for call actor before.client.begun under.at given) (made_by under.work) given)
     × (after.client ≡ record { begun = before.client.begun; under_way = None })
 
 -- a turn of a client
@@ -268,3 +303,17 @@ MayGoOn core call (work.Put run) = IsPutOf core run × IsUnderWay core.pool.bloc
     × (length (fill_bytes call.fill) ≡ run.len)
 MayGoOn core call (work.Read run) = IsReadKind run.kind × IsGetOf core run
 MayGoOn core call (work.Sync run) = IsCommitOf core run
+MayGoOn core call (work.Attach run) = IsAttachOf core run
+
+-- The bank has the device that an attach is to bring.
+abbrev pub HasDeviceFor : Disk → Work → Type 0
+HasDeviceFor disk (work.Attach run) = HasNewDevice disk run
+HasDeviceFor disk other = ⊤
+
+abbrev pub HasDeviceForTurn : Disk → Turn Work → Type 0
+HasDeviceForTurn disk (More does) = HasDeviceFor disk does
+HasDeviceForTurn disk other = ⊤
+
+abbrev pub HasDeviceUnder : Disk → Option UnderWay → Type 0
+HasDeviceUnder disk None = ⊤
+HasDeviceUnder disk (Some under) = HasDeviceFor disk under.work

@@ -1,8 +1,9 @@
 // What a client has come to.
-ghost use Rattle.std.specs.Prelude.{◌≡◌, None};
+ghost use Rattle.std.specs.Prelude.{◌≡◌, ◌↔◌, IsTrue, None};
+ghost use Rattle.schedule.specs.Works.{MakesCommit, made_by};
 
 use core_commit::CommitRun;
-use core_turns::{GetRun, PutRun};
+use core_turns::{AttachRun, GetRun, PutRun};
 
 /// What a call under way does.
 #[derive(Drop)]
@@ -10,9 +11,33 @@ pub enum Work {
     Put(PutRun),
     Read(GetRun),
     Sync(CommitRun),
+    Attach(AttachRun),
 }
 
-/// A call under way, and how many items the journal had before its first turn.
+impl Work {
+    /// Whether it makes a commit, which was begun.
+    pub fn makes_commit(&self) -> bool
+        ensures { IsTrue result ↔ MakesCommit self.now }
+    {
+        matches!(
+            self,
+            Work::Sync(_) | Work::Attach(AttachRun::Joins(_) | AttachRun::Signs { .. })
+        )
+    }
+
+    /// The group of an attach's commit, once its uberblocks are written.
+    pub fn group(&self) -> Option<u64>
+        ensures { result ≡ made_by self.now }
+    {
+        match self {
+            Work::Attach(AttachRun::Signs { run, why: _ }) => Some(run.uber().group()),
+            _ => None,
+        }
+    }
+}
+
+/// A call under way, and how many items the journal had before its first turn; of an attach, before the first turn of
+/// its commit, once that was begun.
 #[derive(Drop)]
 pub struct UnderWay {
     pub at: usize,

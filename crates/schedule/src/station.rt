@@ -1,14 +1,16 @@
 // A turn of one client.
-ghost use Rattle.std.specs.Prelude.{◌≡◌, ◌≤◌, ◌<◌, ◌+◌, ◌-◌, ℕ, None, Some, length, slice_get};
+ghost use Rattle.std.specs.Prelude.{◌≡◌, ◌↔◌, ◌≤◌, ◌<◌, ◌+◌, ◌-◌, ℕ, IsTrue, None, Option as OptionOf, Some, length, slice_get};
 ghost use Rattle.bank_trait.specs.Disk.{Disk, Lawful};
 ghost use Rattle.client_script.specs.declared.call.ScriptCall.{ScriptCall as CallOf};
 ghost use Rattle.client_script.specs.Script.{IsAllowed};
+ghost use Rattle.core_commit.specs.CommitTurns.{CommitRun as RunOf};
 ghost use Rattle.core_turns.specs.Core.{IsCore, HasBankOf};
 ghost use Rattle.schedule.specs.declared.client.UnderWay.{UnderWay as UnderWayOf};
 ghost use Rattle.schedule.specs.Playing.{UsesRoom, unanswered};
-ghost use Rattle.schedule.specs.Turned.{MayGoOn, Turned, entry_for, listed_with, station_of};
+ghost use Rattle.schedule.specs.Turned.{HasDeviceUnder, MayGoOn, Turned, entry_for, group_by, listed_with, station_of};
+ghost use Rattle.schedule.specs.Works.{IsThere, begun_at, commit_in};
 
-use crate::client::{Client, UnderWay};
+use crate::client::{Client, UnderWay, Work};
 use crate::turning::{begin_call, go_on};
 use bank_trait::Bank;
 use client_script::ScriptCall;
@@ -32,13 +34,24 @@ fn entry_for(call: &ScriptCall, actor: u8, number: usize, at: usize, answer: Ans
     }
 }
 
+/// The group that comes with an answer, if one does, where this one was made.
+fn group_by(answer: &Answer, made: Option<u64>) -> Option<u64>
+    ensures { result ≡ group_by answer.now made }
+{
+    match answer {
+        Answer::Synced { group } | Answer::Attached { width: _, group } => Some(*group),
+        Answer::NewDeviceFailed { .. } | Answer::DeviceOut { .. } => made,
+        _ => None,
+    }
+}
+
 /// Lists an answer, and before it the group that its call made, if it made one.
-fn list_answer(journal: &mut Journal, widths: &Reflow, at: usize, entry: Entry)
+fn list_answer(journal: &mut Journal, widths: &Reflow, at: usize, made: Option<u64>, entry: Entry)
     requires room { 2 ≤ journal.old.room }
-    ensures items { journal.new.items ≡ listed_with widths.now journal.old.items at entry entry.answer }
+    ensures items { journal.new.items ≡ listed_with widths.now journal.old.items at entry made entry.answer }
     ensures room { journal.old.room ≤ journal.new.room + 2 }
 {
-    if let Answer::Synced { group } = entry.answer {
+    if let Some(group) = group_by(&entry.answer, made) {
         journal.list(Item::Group(Group {
             group,
             after: at as u64,
@@ -49,9 +62,22 @@ fn list_answer(journal: &mut Journal, widths: &Reflow, at: usize, entry: Entry)
     journal.list(Item::Call(entry));
 }
 
+/// How many items the journal had when the group of a work began: as many as it has now, where its commit begins in this
+/// turn.
+fn begun_at(work: &Work, makes: bool, at: usize, now: usize) -> usize
+    ensures { (was : OptionOf RunOf) → (IsTrue makes ↔ IsThere was) → result ≡ begun_at (commit_in work.now) was at now }
+{
+    if work.makes_commit() && !makes {
+        now
+    } else {
+        at
+    }
+}
+
 /// The next call of a client begins, waits, or is answered at once.
-fn begin_next(
+fn begin_next<B: Bank>(
     alloc: Global,
+    bank: &B,
     core: &mut Core,
     journal: &mut Journal,
     calls: &[ScriptCall],
@@ -61,9 +87,10 @@ fn begin_next(
     requires allowed { (number : ℕ) (call : CallOf) → slice_get calls.now number ≡ Some call → IsAllowed call }
     requires room { client.old.begun < length calls.now → 2 ≤ journal.old.room }
     requires idle { client.old.under_way ≡ None }
-    ensures turned { (disk : Disk) → Turned calls.now actor
-        (station_of core.old disk journal.old.items client.old)
-        (station_of core.new disk journal.new.items client.new) }
+    ensures turned { Turned calls.now actor
+        (station_of core.old (B.disk bank.now) journal.old.items client.old)
+        (station_of core.new (B.disk bank.now) journal.new.items client.new) }
+    ensures there { HasDeviceUnder (B.disk bank.now) client.new.under_way }
     ensures bank { (disk : Disk) → HasBankOf core.old disk
         → HasBankOf core.new disk }
     ensures room { UsesRoom journal.old.room journal.new.room client.old client.new }
@@ -72,7 +99,7 @@ fn begin_next(
         return;
     };
     let at = journal.len();
-    match begin_call(alloc, core, actor, call) {
+    match begin_call(alloc, bank, core, actor, call) {
         Turn::More(work) => {
             client.begun += 1;
             client.under_way = Some(UnderWay { at, work });
@@ -104,10 +131,12 @@ pub fn take_turn<B: Bank>(
     requires begun { (under : UnderWayOf) → client.old.under_way ≡ Some under → 1 ≤ client.old.begun }
     requires may { (under : UnderWayOf) (call : CallOf) → client.old.under_way ≡ Some under
         → slice_get calls.now (client.old.begun - 1) ≡ Some call → MayGoOn core.old call under.work }
+    requires there { HasDeviceUnder (B.disk bank.old) client.old.under_way }
     ensures turned { Turned calls.now actor
         (station_of core.old (B.disk bank.old) journal.old.items client.old)
         (station_of core.new (B.disk bank.new) journal.new.items client.new) }
     ensures is { IsCore core.old }
+    ensures there { HasDeviceUnder (B.disk bank.new) client.new.under_way }
     ensures bank { HasBankOf core.new (B.disk bank.new) }
     ensures lawful { Lawful (B.disk bank.old) × Lawful (B.disk bank.new) }
     ensures room { UsesRoom journal.old.room journal.new.room client.old client.new }
@@ -115,17 +144,22 @@ pub fn take_turn<B: Bank>(
     // That the core is one is known by a call of it.
     let _ = core.reflow();
     let Some(under_way) = client.under_way.take() else {
-        return begin_next(alloc, core, journal, calls, actor, client);
+        return begin_next(alloc, bank, core, journal, calls, actor, client);
     };
     let call = &calls[client.begun - 1];
     let UnderWay { at, work } = under_way;
+    let made = work.group();
+    let makes = work.makes_commit();
     match go_on(alloc, bank, core, call, work) {
-        Turn::More(work) => client.under_way = Some(UnderWay { at, work }),
+        Turn::More(work) => {
+            let at = begun_at(&work, makes, at, journal.len());
+            client.under_way = Some(UnderWay { at, work });
+        }
         Turn::Busy { by: _ } => unreachable!(),
         Turn::Done(answer) => {
             let entry = entry_for(call, actor, client.begun, at, answer);
             let widths = core.reflow();
-            list_answer(journal, &widths, at, entry);
+            list_answer(journal, &widths, at, made, entry);
         }
     }
 }

@@ -12,14 +12,14 @@ ghost use Rattle.core_turns.specs.Core.{Core as CoreOf, at_disk, HasBankOf};
 ghost use Rattle.core_turns.specs.Getting.{IsGetOf, IsReadKind};
 ghost use Rattle.core_turns.specs.Putting.{IsPutOf};
 ghost use Rattle.core_turns.specs.UnderWay.{TurnGoesOn};
-ghost use Rattle.schedule.specs.Turned.{BeginsCall, GoesOnBy, HasTableOf, IsFilledIn, MayGoOn, PutGoesOn, ReadGoesOn, WritesOn, put_turn, read_turn, sync_turn};
+ghost use Rattle.schedule.specs.Turned.{BeginsCall, GoesOnBy, HasDeviceFor, HasDeviceForTurn, HasTableOf, IsFilledIn, MayGoOn, PutGoesOn, ReadGoesOn, WorkGoesOn, WritesOn, attach_turn, put_turn, read_turn, sync_turn};
 
 use crate::client::Work;
 use bank_trait::Bank;
 use client_script::{Fill, ScriptCall};
 use core_commit::CommitRun;
 use core_state::Kind;
-use core_turns::{Core, GetRun, PutRun, Turn};
+use core_turns::{AttachRun, Core, GetRun, PutRun, Turn};
 use std::alloc::Global;
 
 /// How many bytes a put is handed.
@@ -64,23 +64,63 @@ fn sync_turn(turn: Turn<CommitRun>) -> Turn<Work>
     }
 }
 
+fn attach_turn(turn: Turn<AttachRun>) -> Turn<Work>
+    ensures { result ≡ attach_turn turn }
+{
+    match turn {
+        Turn::More(run) => Turn::More(Work::Attach(run)),
+        Turn::Busy { by } => Turn::Busy { by },
+        Turn::Done(answer) => Turn::Done(answer),
+    }
+}
+
 /// The first turn of a call.
-pub fn begin_call(alloc: Global, core: &mut Core, actor: u8, call: &ScriptCall) -> Turn<Work>
+pub fn begin_call<B: Bank>(
+    alloc: Global,
+    bank: &B,
+    core: &mut Core,
+    actor: u8,
+    call: &ScriptCall,
+) -> Turn<Work>
     requires allowed { IsAllowed call.now }
-    ensures begins { BeginsCall core.old core.new actor call.now result }
+    ensures begins { BeginsCall core.old core.new (B.disk bank.now).devices actor call.now result }
     ensures table { HasTableOf core.old result }
+    ensures there { HasDeviceForTurn (B.disk bank.now) result }
     ensures bank { (disk : Disk) → HasBankOf core.old disk
         → HasBankOf core.new disk }
 {
     match call.id {
-        Some(id) => begin_block_call(alloc, core, actor, call, id),
-        None => sync_turn(core.commit_begin(alloc, actor)),
+        Some(id) => begin_block_call(alloc, bank, core, actor, call, id),
+        None => begin_pool_call(alloc, bank, core, actor, call),
+    }
+}
+
+/// The first turn of a call that names no block.
+fn begin_pool_call<B: Bank>(
+    alloc: Global,
+    bank: &B,
+    core: &mut Core,
+    actor: u8,
+    call: &ScriptCall,
+) -> Turn<Work>
+    requires allowed { IsAllowed call.now }
+    requires id { call.now.id ≡ None }
+    ensures begins { BeginsCall core.old core.new (B.disk bank.now).devices actor call.now result }
+    ensures table { HasTableOf core.old result }
+    ensures there { HasDeviceForTurn (B.disk bank.now) result }
+    ensures bank { (disk : Disk) → HasBankOf core.old disk
+        → HasBankOf core.new disk }
+{
+    match call.kind {
+        Kind::Attach => attach_turn(core.attach_begin(bank, actor)),
+        _ => sync_turn(core.commit_begin(alloc, actor)),
     }
 }
 
 /// The first turn of a call that names a block.
-fn begin_block_call(
+fn begin_block_call<B: Bank>(
     alloc: Global,
+    bank: &B,
     core: &mut Core,
     actor: u8,
     call: &ScriptCall,
@@ -88,8 +128,9 @@ fn begin_block_call(
 ) -> Turn<Work>
     requires allowed { IsAllowed call.now }
     requires id { call.now.id ≡ Some id }
-    ensures begins { BeginsCall core.old core.new actor call.now result }
+    ensures begins { BeginsCall core.old core.new (B.disk bank.now).devices actor call.now result }
     ensures table { HasTableOf core.old result }
+    ensures there { HasDeviceForTurn (B.disk bank.now) result }
     ensures bank { (disk : Disk) → HasBankOf core.old disk
         → HasBankOf core.new disk }
 {
@@ -190,16 +231,19 @@ pub fn go_on<B: Bank>(
     work: Work,
 ) -> Turn<Work>
     requires may { MayGoOn core.old call.now work }
+    requires there { HasDeviceFor (B.disk bank.old) work }
     requires bank { HasBankOf core.old (B.disk bank.old) }
     ensures goes { GoesOnBy (at_disk core.old (B.disk bank.old)) (at_disk core.new (B.disk bank.new))
         call.now work result }
-    ensures goes_on { TurnGoesOn (at_disk core.old (B.disk bank.old))
+    ensures goes_on { WorkGoesOn work (at_disk core.old (B.disk bank.old))
         (at_disk core.new (B.disk bank.new)) }
+    ensures there { HasDeviceForTurn (B.disk bank.new) result }
     ensures bank { HasBankOf core.new (B.disk bank.new) }
 {
     match work {
         Work::Put(run) => put_turn(go_on_putting(alloc, bank, core, call, run)),
         Work::Read(run) => read_turn(go_on_reading(alloc, bank, core, run)),
         Work::Sync(run) => sync_turn(core.commit_step(bank, run)),
+        Work::Attach(run) => attach_turn(core.attach_step(alloc, bank, run)),
     }
 }

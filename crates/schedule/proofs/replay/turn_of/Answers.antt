@@ -47,6 +47,12 @@ take_turn-requires-clause-may g c = λ under call going is.
     })
     (subst (λ (calls : List CallOf). slice_get calls (client.begun - 1) ≡ Some call) c.calls.ensures is)
 
+pub take_turn-requires-clause-there : goal.take_turn-requires-clause-there
+take_turn-requires-clause-there g c = c.requires.ready.schedule.there c.args.actor c.index_mut-client.result.now
+    (client_there c.args.progress.now.clients.items c.from-place.result c.args.actor c.index_mut-client.result.now
+    c.from-place.ensures (omega (arith, c.if-place-len.true, c.len.ensures, c.args.progress.now.clients.ok))
+    c.index_mut-client.ensures.value)
+
 pub returns-then-place-len-clause-turn : goal.returns-then-place-len-clause-turn
 returns-then-place-len-clause-turn g c =
     let clients = c.args.progress.now.clients.items in
@@ -62,7 +68,7 @@ returns-then-place-len-clause-turn g c =
     subst (λ (calls : List CallOf). Turned calls c.args.actor before after) c.calls.ensures c.take_turn.ensures.turned in
     let takes : TakesTurn c.args.script.now c.args.actor before after clients news =
     takes_turn c.args.script.now c.from-place.result c.args.actor before after clients c.requires.ready.schedule there
-    c.from-place.ensures low c.take_turn.ensures.is c.take_turn.ensures.lawful turned in
+    c.from-place.ensures low c.take_turn.ensures.is c.take_turn.ensures.lawful c.take_turn.ensures.there turned in
     turn_taken c.args.script.now c.args.actor before after clients news takes c.requires.allowed c.requires.ready.shared c.requires.ready.still turned
 
 pub returns-then-place-len-clause-ready : goal.returns-then-place-len-clause-ready
@@ -80,7 +86,7 @@ returns-then-place-len-clause-ready g c =
     subst (λ (calls : List CallOf). Turned calls c.args.actor before after) c.calls.ensures c.take_turn.ensures.turned in
     let takes : TakesTurn c.args.script.now c.args.actor before after clients news =
     takes_turn c.args.script.now c.from-place.result c.args.actor before after clients c.requires.ready.schedule there
-    c.from-place.ensures low c.take_turn.ensures.is c.take_turn.ensures.lawful turned in
+    c.from-place.ensures low c.take_turn.ensures.is c.take_turn.ensures.lawful c.take_turn.ensures.there turned in
     turn_ready c.args.script.now c.args.actor before after clients news takes c.requires.allowed c.requires.ready.shared c.requires.ready.still turned
     c.take_turn.new.journal.room c.requires.ready.counted (length-set clients c.from-place.result c.take_turn.new.client)
     (room_after c.args.script.now c.from-place.result c.args.actor c.args.journal.now.room c.take_turn.new.journal.room

@@ -5,24 +5,24 @@ use Rattle.schedule.proofs.Stations.{begun_more, begun_busy, begun_done}
 use Rattle.schedule.proofs.station.begin_next.Goals as goal
 
 pub returns-in-More-clause-turned : goal.returns-in-More-clause-turned
-returns-in-More-clause-turned c = λ disk.
-    begun_more c.args.calls.now c.args.actor c.args.core.now c.begin_call.new.core disk c.args.journal.now.items
+returns-in-More-clause-turned g c =
+    begun_more c.args.calls.now c.args.actor c.args.core.now c.begin_call.new.core (g.B.Bank.disk c.args.bank.now) c.args.journal.now.items
     c.args.client.now c.in-Some.call.now c.requires.idle
     (slice_get_read c.args.calls.now (length c.args.calls.now) c.args.client.now.begun c.in-Some.call.now refl
     c.in-Some.ensures.lookup.3.0 c.in-Some.ensures.lookup.1)
     c.in-More.work c.len-at.result c.in-More.ensures.begins c.in-More.ensures.table c.len-at.ensures
 
 pub returns-in-Busy-clause-turned : goal.returns-in-Busy-clause-turned
-returns-in-Busy-clause-turned c = λ disk.
-    begun_busy c.args.calls.now c.args.actor c.args.core.now c.begin_call.new.core disk c.args.journal.now.items
+returns-in-Busy-clause-turned g c =
+    begun_busy c.args.calls.now c.args.actor c.args.core.now c.begin_call.new.core (g.B.Bank.disk c.args.bank.now) c.args.journal.now.items
     c.args.client.now c.in-Some.call.now c.requires.idle
     (slice_get_read c.args.calls.now (length c.args.calls.now) c.args.client.now.begun c.in-Some.call.now refl
     c.in-Some.ensures.lookup.3.0 c.in-Some.ensures.lookup.1)
     c.in-Busy.by c.in-Busy.ensures.begins
 
 pub returns-in-Done-clause-turned : goal.returns-in-Done-clause-turned
-returns-in-Done-clause-turned c = λ disk.
-    begun_done c.args.calls.now c.args.actor c.args.core.now c.begin_call.new.core disk c.args.journal.now.items
+returns-in-Done-clause-turned g c =
+    begun_done c.args.calls.now c.args.actor c.args.core.now c.begin_call.new.core (g.B.Bank.disk c.args.bank.now) c.args.journal.now.items
     c.args.client.now c.in-Some.call.now c.requires.idle
     (slice_get_read c.args.calls.now (length c.args.calls.now) c.args.client.now.begun c.in-Some.call.now refl
     c.in-Some.ensures.lookup.3.0 c.in-Some.ensures.lookup.1)
@@ -30,18 +30,18 @@ returns-in-Done-clause-turned c = λ disk.
     c.entry_for.ensures c.list.ensures.items
 
 pub list-requires : goal.list-requires
-list-requires c =
+list-requires g c =
     let low = slice_get_within c.args.calls.now c.args.client.now.begun c.in-Some.call.now
     (slice_get_read c.args.calls.now (length c.args.calls.now) c.args.client.now.begun c.in-Some.call.now refl
     c.in-Some.ensures.lookup.3.0 c.in-Some.ensures.lookup.1) in
     let room = c.requires.room low in omega (arith, room)
 
 pub returns-in-More-clause-room : goal.returns-in-More-clause-room
-returns-in-More-clause-room c =
+returns-in-More-clause-room g c =
     let none = ap (answered_of c.args.client.now.begun) c.requires.idle in omega (arith, none)
 
 pub returns-in-Done-clause-room : goal.returns-in-Done-clause-room
-returns-in-Done-clause-room c =
+returns-in-Done-clause-room g c =
     let none = ap (answered_of c.args.client.now.begun) c.requires.idle in
     let still = ap (answered_of (c.args.client.now.begun + 1)) c.requires.idle in
     let used = c.list.ensures.room in omega (arith, none, still, used)

@@ -1,0 +1,310 @@
+-- What the turns of an attach come to that make no commit, among the other clients' calls: the reads of the new device,
+-- and an attach that ends with them.
+use Rattle.std.proofs.Common.{◌≡◌, ◌≢◌, ℕ, ◌-◌, List, [], ◌∷◌, ◌++◌, length, Some, None, refl, sym, ◌∙◌, ap, subst}
+use Rattle.std.specs.Prelude.{slice_get}
+use Rattle.bank_trait.specs.Disk.{Disk, Lawful, Unchanged}
+use Rattle.bank_trait.proofs.Moments.{later_refl}
+use Rattle.attach_ring.specs.Ring.{HasReadRing, ReadsSlot, RingRead}
+use Rattle.attach_ring.proofs.Rings.{one_more_read}
+use Rattle.core_commit.specs.Spared.{IsOnInUse}
+use Rattle.core_open.proofs.Others.{read_touches}
+use Rattle.core_open.proofs.Unchanged.{unchanged_none}
+use Rattle.core_state.specs.declared.answer.Answer.{Answer}
+use Rattle.core_state.specs.declared.answer.Kind.{Kind}
+use Rattle.core_state.specs.declared.answer.Kind.TheVariants as kind
+use Rattle.core_state.specs.declared.item.Entry.{Entry}
+use Rattle.core_state.specs.declared.item.Item.{Item}
+use Rattle.core_state.specs.declared.item.Item.TheVariants.{Call as CallItem}
+use Rattle.core_state.specs.Legal.{IsAnswerOf}
+use Rattle.core_state.specs.Map.{Map, map_of}
+use Rattle.core_state.specs.World.{World}
+use Rattle.client_script.specs.declared.call.ScriptCall.{ScriptCall}
+use Rattle.client_script.specs.Script.{Script, calls_of}
+use Rattle.core_turns.specs.declared.attaching.AttachRun.{AttachRun}
+use Rattle.core_turns.specs.declared.attaching.AttachRun.TheVariants.{Reads, Checked}
+use Rattle.core_turns.specs.declared.turn.Turn.TheVariants.{More, Done}
+use Rattle.core_turns.specs.Attaching.{AttachGoesOn, FindsFree, HoldsAttach, IsAttachOf, IsDeviceRefused, ReadsNext, StopsAttach, WaitsForCommit, attach_commit}
+use Rattle.core_turns.specs.Committing.{IsCommitOf, IsSyncRefused}
+use Rattle.core_turns.specs.Core.{Core, CoreState, HasBankOf, IsCore, at_disk}
+use Rattle.core_turns.specs.Getting.{HasTooManyOut}
+use Rattle.core_turns.specs.UnderWay.{AreCallsOf, HoldingCall, Stands}
+use Rattle.core_turns.proofs.AttachBeside.{attach_beside}
+use Rattle.core_turns.proofs.AttachStands.{attaching_calls, attaching_stands, look_stands}
+use Rattle.core_turns.proofs.AttachTurns.{attaching_commit}
+use Rattle.core_turns.proofs.StandFrames.{since_read}
+use Rattle.schedule.specs.declared.client.Client.{Client}
+use Rattle.schedule.specs.declared.client.UnderWay.{UnderWay}
+use Rattle.schedule.specs.declared.client.Work.TheVariants as work
+use Rattle.schedule.specs.Comes.{Comes, TakesTurn}
+use Rattle.schedule.specs.Coming.{GoesOnFor}
+use Rattle.schedule.specs.Moments.{Past}
+use Rattle.schedule.specs.Running.{AreGoing, IsGoing, Runs, call_of_client, calls_under_way, commit_in, held_by, held_under, setting_now}
+use Rattle.schedule.specs.Works.{made_by}
+use Rattle.schedule.specs.Turned.{LeavesGoing, Station, WorkGoesOn, entry_for}
+use Rattle.schedule.proofs.Fitting.{NoLimit, TellsOut, attach_no_free, fits}
+use Rattle.schedule.proofs.Going.{attach_goes as going_goes, attach_stops as going_stops, one_commit}
+use Rattle.schedule.proofs.LeavesPool.{KeepsCommit}
+use Rattle.schedule.proofs.Recording.{recorded_goes}
+use Rattle.schedule.proofs.Refusals.{IsRefusal, alone_listed, device_refusal, device_tells, refusal_answers, refusal_map, refusal_right, sync_refusal}
+use Rattle.schedule.proofs.RunsEnd.{answers_call as runs_answer}
+use Rattle.schedule.proofs.RunsGoOn.{goes_on as runs_goes_on, its_holds}
+use Rattle.schedule.proofs.Syncs.{its_commit, refused_tells as sync_tells, stands_know}
+use Rattle.schedule.proofs.Theirs.{begun_before, calls_stay, none_some, none_there, same_attach, some_is, work_no_commit}
+use Rattle.schedule.proofs.TurnComes.{comes_answered, comes_further, its_asked, its_going, its_number, its_place, its_work}
+
+-- A device was read: all stands that stood.
+pub looked : {world : World} {script : Script} {past : Past} {before : CoreState} {items : List Item}
+    {clients : List Client} (after : Disk) → AreGoing script before.core clients → IsCore before.core → Lawful after
+    → Unchanged before.disk after → Runs world script past before items clients
+    → Runs world script past (at_disk before.core after) items clients
+looked {before = before} {clients = clients} after going is lawful unchanged runs = record {
+  last = runs.last;
+  begun = runs.begun;
+  contents = runs.contents;
+  commit = runs.commit;
+  item = runs.item;
+  reach = runs.reach;
+  recorded = recorded_goes runs.recorded runs.reach unchanged.goes_on.later
+      (λ groups time row. since_read (setting_now runs) groups time before.disk after unchanged);
+  stands = look_stands before (at_disk before.core after) is refl unchanged lawful runs.stands;
+  theirs = runs.theirs;
+  each = runs.each;
+  attaches = λ other its under run is does. attach_beside before after run ((going.each other its under is).attach run does).0
+      (λ join is_join.
+      let makes : commit_in under.work ≡ Some join.run = ap commit_in does ∙ ap attach_commit is_join in
+      its_commit clients other its under join.run runs.commit is makes (one_commit going is makes) runs.theirs)
+      (read_touches (IsOnInUse before.core.reach before.core.pool.out) unchanged) runs.stands
+      (runs.attaches other its under run is does);
+}
+
+keeps_same_core : (old now : Core) → now ≡ old → KeepsCommit old now
+keeps_same_core old now same = subst (KeepsCommit old) (sym same) (record {
+  committing = refl;
+  attaching = refl;
+  commits = λ run of. of;
+  attaches = λ run of. of;
+  many = λ many. many;
+})
+
+module _ {script : Script} {actor : ℕ} {before after : Station} {clients news : List Client} (call : ScriptCall)
+    (takes : TakesTurn script actor before after clients news) (under : UnderWay) (run : AttachRun)
+    (does_is : under.work ≡ work.Attach run) (under_is : before.client.under_way ≡ Some under)
+    (is : slice_get (calls_of script actor) (before.client.begun - 1) ≡ Some call)
+    (goes : WorkGoesOn (work.Attach run) before.state after.state) (early : attach_commit run ≡ None) where
+  abbrev old : Core
+  old = before.state.core
+
+  abbrev now : Core
+  now = after.state.core
+
+  abbrev ItComes : Type 0
+  ItComes = Comes script actor before after clients news
+
+  -- It is what the script asks for,
+  for_call : (call.kind ≡ kind.Attach) × (call.id ≡ None)
+  for_call = its_asked takes call under (work.Attach run) does_is under_is is
+
+  -- and the one under way.
+  of_core : IsAttachOf old run × (old.attaching ≡ Some actor)
+  of_core = (its_work takes call under (work.Attach run) does_is under_is is).attach run refl
+
+  on : GoesOnFor script before.state after.state
+  on = record {
+    goes = goes.0;
+    same = λ none. absurd (none actor (before.client.begun - 1) call is for_call.0);
+    bank = goes.1;
+  }
+
+  no_commit : commit_in under.work ≡ None
+  no_commit = ap commit_in does_is ∙ early
+
+  -- Another's is none.
+  alone : (other : ℕ) (its : Client) (its_under : UnderWay) (its_run : AttachRun) → other ≢ actor
+      → IsGoing clients other its its_under → its_under.work ≡ work.Attach its_run → ⊥
+  alone other its its_under its_run apart going attach = apart
+      (some_is (sym ((takes.schedule.going.each other its its_under going).attach its_run attach).1 ∙ of_core.1))
+
+  -- The calls that hold sectors are the same.
+  same_calls : call_of_client after.client ≡ [] → calls_under_way news ≡ calls_under_way clients
+  same_calls = calls_stay takes.was takes.changes (ap held_under under_is ∙ ap held_by does_is)
+
+  -- It goes on, and makes no commit yet.
+  pub attach_looks : (next : AttachRun) → now ≡ old → Unchanged before.state.disk after.state.disk
+      → attach_commit next ≡ None → IsAttachOf now next
+      → ((world : World) (past : Past) (runs : Runs world script past (at_disk old after.state.disk) before.items clients)
+      → HoldsAttach (setting_now runs) runs.last runs.begun after.state.disk next)
+      → LeavesGoing actor call before after under (More (work.Attach next)) → ItComes
+  attach_looks next core unchanged next_early of holds further = comes_further takes call under (work.Attach run) does_is
+      under_is is (work.Attach next) on further
+      (going_goes takes.was takes.changes takes.schedule.going are (keeps_same_core old now core)
+      (work_no_commit under_is (λ makes. none_there no_commit makes))
+      (record { at = under.at; work = work.Attach next }) next next_is refl
+      (ap (λ (c : Core). c.attaching) core ∙ of_core.1) (record {
+        hold = tt;
+        call = call;
+        there = ap (λ (c : Client). slice_get (calls_of script actor) (c.begun - 1)) further.1 ∙ is;
+        asked = for_call;
+        commit = λ commit its. absurd (none_some (sym next_early ∙ its));
+        attach = λ its its_is. (
+          subst (IsAttachOf now) (same_attach its_is) of,
+          ap (λ (c : Core). c.attaching) core ∙ of_core.1,
+        );
+      }))
+      (λ world past handed within listed was.
+      let runs = looked after.state.disk takes.schedule.going takes.is takes.still_lawful unchanged was in
+      runs_goes_on after.state takes.was takes.changes runs under (work.Attach next)
+      (its_holds after.state takes.was takes.changes runs runs.begun under.at next next_is (holds world past runs))
+      (λ other its its_under its_run apart going attach. absurd (alone other its its_under its_run apart going attach))
+      (later_refl after.state.disk) (λ groups time row kept. kept) under_is client_is
+      (λ makes. none_there no_commit makes) (λ makes. none_there next_early makes) (λ asked asked_is. tt)
+      (subst (λ (s : CoreState). Stands (setting_now runs) runs.last runs.begun
+      (map_of world.handed world.opening before.items) runs.contents (calls_under_way news) runs.commit s)
+      (λ i. at_disk (sym core i) after.state.disk)
+      (subst (λ (l : List HoldingCall). Stands (setting_now runs) runs.last runs.begun
+      (map_of world.handed world.opening before.items) runs.contents l runs.commit (at_disk old after.state.disk))
+      (sym (same_calls (ap held_under next_is))) runs.stands)))
+    where
+      client_is : after.client
+          ≡ record { begun = before.client.begun; under_way = Some (record { at = under.at; work = work.Attach next }) }
+      client_is = further.1 ∙ ap (λ (at : ℕ). record {
+        begun = before.client.begun;
+        under_way = Some (record { at = at; work = work.Attach next });
+      }) (begun_before (work.Attach next) under.work under.at (length before.items)
+          (λ makes. none_there next_early makes))
+
+      next_is : after.client.under_way ≡ Some (record { at = under.at; work = work.Attach next })
+      next_is = ap (λ (c : Client). c.under_way) client_is
+
+      are : AreCallsOf now (calls_under_way news)
+      are = subst (λ (c : Core). AreCallsOf c (calls_under_way news)) (sym core)
+          (subst (AreCallsOf old) (sym (same_calls (ap held_under next_is))) takes.schedule.going.are)
+
+  -- It ends, and no device is attached.
+  pub attach_stops : (given : Answer) → StopsAttach before.state after.state → IsRefusal given → TellsOut old given
+      → LeavesGoing actor call before after under (Done given)
+      → after.items ≡ before.items ++ CallItem (entry_for call actor before.client.begun under.at given) ∷ []
+      → ItComes
+  attach_stops given stops refusal tells leaves listed = comes_answered takes call before.client.begun under.at given
+      (its_number takes call under (work.Attach run) does_is under_is is)
+      (its_place takes call under (work.Attach run) does_is under_is is) on listed leaves.1
+      (fits old call.kind given
+      (subst (λ (k : Kind). IsAnswerOf k given) (sym for_call.0) (refusal_answers given refusal)) tells
+      (λ reached told. subst IsRefusal told refusal) (attach_no_free call.kind for_call.0))
+      (λ full. absurd (subst IsRefusal full refusal))
+      (going_stops takes.was takes.changes takes.schedule.going are of_core.1 (ap (λ (c : Core). c.attaching) stops.core)
+      (ap (λ (c : Core). c.committing) stops.core)
+      (λ commit of. subst (λ (c : Core). IsCommitOf c commit) (sym stops.core) (attaching_commit old None of))
+      (λ many. subst HasTooManyOut (sym stops.core) many)
+      (work_no_commit under_is (λ makes. none_there no_commit makes)) idle_now)
+      (λ world past handed within with was.
+      let runs = looked after.state.disk takes.schedule.going takes.is takes.still_lawful stops.unchanged was in
+      let map : Map = map_of world.handed world.opening before.items in
+      runs_answer after.state takes.was takes.changes runs runs.commit runs.recorded entry refl idle_now refl
+      (stands_know runs.stands) (refusal_right world before.items entry for_call.0 refusal)
+      (subst (λ (k : Kind). IsAnswerOf k given) (sym for_call.0) (refusal_answers given refusal)) with runs.theirs
+      (work_no_commit under_is (λ makes. none_there no_commit makes))
+      (subst (λ (m : Map). Stands (setting_now runs) runs.last runs.begun m runs.contents (calls_under_way news)
+      runs.commit after.state)
+      (sym (refusal_map world.handed map entry given refusal))
+      (subst (λ (s : CoreState). Stands (setting_now runs) runs.last runs.begun map runs.contents (calls_under_way news)
+      runs.commit s)
+      (λ i. at_disk (sym stops.core i) after.state.disk)
+      (attaching_stands old None after.state.disk takes.is
+      (subst (λ (l : List HoldingCall). Stands (setting_now runs) runs.last runs.begun map runs.contents l runs.commit
+      (at_disk old after.state.disk))
+      (sym (same_calls (ap held_under idle_now))) runs.stands)))))
+    where
+      entry : Entry
+      entry = entry_for call actor before.client.begun under.at given
+
+      idle_now : after.client.under_way ≡ None
+      idle_now = ap (λ (c : Client). c.under_way) leaves.1
+
+      are : AreCallsOf now (calls_under_way news)
+      are = subst (AreCallsOf now) (sym (same_calls (ap held_under idle_now)))
+          (subst (λ (c : Core). AreCallsOf c (calls_under_way clients)) (sym stops.core)
+          (attaching_calls old None (calls_under_way clients) takes.schedule.going.are))
+
+  -- What is known of the ring that was read so far.
+  known_of : {world : World} {past : Past}
+      (runs : Runs world script past (at_disk old after.state.disk) before.items clients)
+      → HoldsAttach (setting_now runs) runs.last runs.begun after.state.disk run
+  known_of runs = runs.attaches actor before.client under run (its_going takes call under (work.Attach run) does_is under_is is)
+      does_is
+
+-- ---- turn by turn
+
+-- A slot was read of what the device shows still.
+reads_still : (before after : Disk) (ring next : RingRead) → Unchanged before after → ReadsSlot before ring next
+    → ReadsSlot after ring next
+reads_still before after ring next unchanged reads = record {
+  bytes = reads.bytes;
+  told = λ known is. reads.told known (sym (unchanged.reads ring.device ring.slots) ∙ is);
+  taken = reads.taken;
+  rest = reads.rest;
+}
+
+module _ {script : Script} {actor : ℕ} {before after : Station} {clients news : List Client} (call : ScriptCall)
+    (takes : TakesTurn script actor before after clients news) (under : UnderWay) (ring : RingRead)
+    (under_is : before.client.under_way ≡ Some under)
+    (is : slice_get (calls_of script actor) (before.client.begun - 1) ≡ Some call)
+    (goes : (AttachGoesOn before.state after.state)
+    × (HasBankOf before.state.core before.state.disk → HasBankOf after.state.core after.state.disk)) where
+  abbrev TurnComes : Type 0
+  TurnComes = Comes script actor before after clients news
+
+  -- One more slot of the ring is read,
+  pub reads_next : (next : RingRead) → under.work ≡ work.Attach (Reads ring)
+      → ReadsNext before.state ring after.state next → IsAttachOf after.state.core (Reads next)
+      → LeavesGoing actor call before after under (More (work.Attach (Reads next))) → TurnComes
+  reads_next next does_is did of leaves = attach_looks call takes under (Reads ring) does_is under_is is goes refl
+      (Reads next) did.core did.unchanged refl of
+      (λ world past runs. one_more_read after.state.disk ring next
+      (reads_still before.state.disk after.state.disk ring next did.unchanged did.reads)
+      (known_of call takes under (Reads ring) does_is under_is is goes refl runs))
+      leaves
+
+  -- it is found free,
+  pub finds_free : (next : RingRead) → under.work ≡ work.Attach (Reads ring)
+      → FindsFree before.state ring after.state next → IsAttachOf after.state.core (Checked next)
+      → LeavesGoing actor call before after under (More (work.Attach (Checked next))) → TurnComes
+  finds_free next does_is did of leaves = attach_looks call takes under (Reads ring) does_is under_is is goes refl
+      (Checked next) did.core did.unchanged refl of
+      (λ world past runs. subst (HasReadRing after.state.disk) (sym did.same)
+      (known_of call takes under (Reads ring) does_is under_is is goes refl runs))
+      leaves
+
+  -- or the attach waits for another's commit.
+  pub waits_on : (next : RingRead) → under.work ≡ work.Attach (Checked ring)
+      → WaitsForCommit before.state ring after.state next → IsAttachOf after.state.core (Checked next)
+      → LeavesGoing actor call before after under (More (work.Attach (Checked next))) → TurnComes
+  waits_on next does_is did of leaves = attach_looks call takes under (Checked ring) does_is under_is is goes refl
+      (Checked next) (ap (λ (s : CoreState). s.core) did.state)
+      (subst (Unchanged before.state.disk) (sym (ap (λ (s : CoreState). s.disk) did.state))
+      (unchanged_none before.state.disk))
+      refl of
+      (λ world past runs. subst (HasReadRing after.state.disk) (sym did.same)
+      (known_of call takes under (Checked ring) does_is under_is is goes refl runs))
+      leaves
+
+  -- It ends without a device: that one is not to be had,
+  pub device_refused : (given : Answer) → under.work ≡ work.Attach (Reads ring)
+      → StopsAttach before.state after.state → IsDeviceRefused before.state ring after.state given
+      → LeavesGoing actor call before after under (Done given) → TurnComes
+  device_refused given does_is stops refused leaves = attach_stops call takes under (Reads ring) does_is under_is is goes
+      refl given stops (device_refusal before.state ring after.state given refused)
+      (device_tells before.state ring after.state given refused) leaves
+      (leaves.0 ∙ alone_listed after.state.core before.items under.at
+      (entry_for call actor before.client.begun under.at given) given (made_by under.work) (ap made_by does_is)
+      (device_refusal before.state ring after.state given refused))
+
+  -- or its commit is not begun.
+  pub commit_refused : (given : Answer) → under.work ≡ work.Attach (Checked ring)
+      → StopsAttach before.state after.state → IsSyncRefused before.state.core given → NoLimit given
+      → LeavesGoing actor call before after under (Done given) → TurnComes
+  commit_refused given does_is stops refused no_limit leaves = attach_stops call takes under (Checked ring) does_is
+      under_is is goes refl given stops (sync_refusal before.state.core given refused no_limit)
+      (sync_tells before.state.core given refused) leaves
+      (leaves.0 ∙ alone_listed after.state.core before.items under.at
+      (entry_for call actor before.client.begun under.at given) given (made_by under.work) (ap made_by does_is)
+      (sync_refusal before.state.core given refused no_limit))
