@@ -36,7 +36,7 @@ use Rattle.schedule.specs.Recorded.{Recorded}
 use Rattle.schedule.specs.Running.{HasBegun, HasBegunBy, HasBegunIn, IsGoing, Runs, call_of_client, calls_under_way, commit_in, held_by, held_under, setting_now}
 use Rattle.schedule.specs.Turned.{LeavesGoing, Station, WorkGoesOn}
 use Rattle.schedule.specs.Works.{begun_at}
-use Rattle.schedule.proofs.Going.{attach_commits, keeps_attach, one_commit}
+use Rattle.schedule.proofs.Going.{attach_commits, one_commit}
 use Rattle.schedule.proofs.Recording.{GoesOnSince, HalvesGoOn, recorded_halves}
 use Rattle.schedule.proofs.RunsGoOn.{commit_goes_on, its_holds}
 use Rattle.schedule.proofs.Syncs.{begun_parity, halves_go, its_commit}
@@ -44,7 +44,7 @@ use Rattle.schedule.proofs.Theirs.{OnlyIt, calls_stay, some_is}
 use Rattle.schedule.proofs.TurnComes.{comes_further, its_asked, its_going, its_work}
 
 -- The first half may go on, or the second one begin.
-from_first : (to : Stage) → HalvesGoOn Lays to
+pub from_first : (to : Stage) → HalvesGoOn Lays to
 from_first Lays = tt
 from_first Signing = tt
 
@@ -67,50 +67,50 @@ module _ {script : Script} {actor : ℕ} {before after : Station} {clients news 
   attaching = its_going takes call under (work.Attach run) does_is under_is is
 
   -- No other client makes a commit,
-  only : OnlyIt clients actor
+  pub only : OnlyIt clients actor
   only = one_commit takes.schedule.going attaching commit_is
 
   -- the commit and the attach are the core's,
-  of_core : (IsCommitOf old commit × (old.committing ≡ Some actor)) × (IsAttachOf old run × (old.attaching ≡ Some actor))
+  pub of_core : (IsCommitOf old commit × (old.committing ≡ Some actor)) × (IsAttachOf old run × (old.attaching ≡ Some actor))
   of_core = let its = its_work takes call under (work.Attach run) does_is under_is is in
       (its.commit commit makes, its.attach run refl)
 
   -- and what the script asks for.
-  for_call : (call.kind ≡ kind.Attach) × (call.id ≡ None)
+  pub for_call : (call.kind ≡ kind.Attach) × (call.id ≡ None)
   for_call = its_asked takes call under (work.Attach run) does_is under_is is
 
   -- Another's attach is none.
-  alone : (other : ℕ) (its : Client) (its_under : UnderWay) (its_run : AttachRun) → other ≢ actor
+  pub alone : (other : ℕ) (its : Client) (its_under : UnderWay) (its_run : AttachRun) → other ≢ actor
       → IsGoing clients other its its_under → its_under.work ≡ work.Attach its_run → ⊥
   alone other its its_under its_run apart going attach = apart
       (some_is (sym ((takes.schedule.going.each other its its_under going).attach its_run attach).1 ∙ of_core.1.1))
 
-  same_calls : call_of_client after.client ≡ [] → calls_under_way news ≡ calls_under_way clients
+  pub same_calls : call_of_client after.client ≡ [] → calls_under_way news ≡ calls_under_way clients
   same_calls = calls_stay takes.was takes.changes (ap held_under under_is ∙ ap held_by does_is)
 
   -- It is the commit that stands.
-  its_stands : {world : World} {past : Past} (runs : Runs world script past before.state before.items clients)
+  pub its_stands : {world : World} {past : Past} (runs : Runs world script past before.state before.items clients)
       → Stands (setting_now runs) runs.last runs.begun (map_of world.handed world.opening before.items) runs.contents
       (calls_under_way clients) (Some commit) before.state
   its_stands {world = world} runs = subst (λ (c : Option CommitRun). Stands (setting_now runs) runs.last runs.begun
       (map_of world.handed world.opening before.items) runs.contents (calls_under_way clients) c before.state)
       (its_commit clients actor before.client under commit runs.commit attaching commit_is only runs.theirs) runs.stands
 
-  its_recorded : {world : World} {past : Past} (runs : Runs world script past before.state before.items clients)
+  pub its_recorded : {world : World} {past : Past} (runs : Runs world script past before.state before.items clients)
       → Recorded world past before.items runs.item runs.last (shown_in runs.begun commit.stage) before.state.disk
   its_recorded {world = world} {past = past} runs = subst (λ (c : Option CommitRun). Recorded world past before.items
       runs.item runs.last (shown_of runs.begun c) before.state.disk)
       (its_commit clients actor before.client under commit runs.commit attaching commit_is only runs.theirs) runs.recorded
 
   -- The group begun is the attach's.
-  its_group : {world : World} {past : Past} (runs : Runs world script past before.state before.items clients)
+  pub its_group : {world : World} {past : Past} (runs : Runs world script past before.state before.items clients)
       → HasBegun world before.items runs.item runs.begun under.at (AwaitsAttach world.calls before.items under.at)
   its_group {world = world} runs = subst (HasBegunIn world before.items runs.item runs.begun under.at) makes
       (subst (HasBegunBy world before.items runs.item runs.begun under.at) does_is
       (runs.each actor before.client under attaching).group)
 
   -- what is known of it before the turn
-  its_known : {world : World} {past : Past} (runs : Runs world script past before.state before.items clients)
+  pub its_known : {world : World} {past : Past} (runs : Runs world script past before.state before.items clients)
       → HoldsAttach (setting_now runs) runs.last runs.begun before.state.disk run
   its_known runs = runs.attaches actor before.client under run attaching does_is
 
@@ -141,9 +141,7 @@ module _ {script : Script} {actor : ℕ} {before after : Station} {clients news 
       (attach_commits takes.was takes.changes takes.schedule.going
       (subst (AreCallsOf now) (sym (same_calls (ap held_under next_is)))
       (core_calls old now (calls_under_way clients) core goes.0.out.still takes.schedule.going.are))
-      (record { at = under.at; work = work.Attach next }) next made call
-      (keeps_attach old now (ap (λ (c : Core). c.pool.uber.reflow) core) (ap (λ (c : Core). c.reach) core)
-      (ap (λ (c : Core). c.attaching) core))
+      (record { at = under.at; work = work.Attach next }) next made call alone
       only refl of (ap (λ (c : Core). c.attaching) core ∙ of_core.1.1) next_is next_makes tt
       (ap (λ (c : Client). slice_get (calls_of script actor) (c.begun - 1)) further.1 ∙ is) for_call of_commit
       (ap (λ (c : Core). c.committing) core ∙ of_core.0.1))

@@ -34,7 +34,7 @@ use Rattle.schedule.specs.Running.{IsGoing, calls_under_way, commit_in, held_by,
 use Rattle.schedule.specs.Turned.{HasDeviceFor, HasDeviceUnder, LeavesGoing, Station, WorkGoesOn}
 use Rattle.schedule.specs.Works.{begun_at}
 use Rattle.schedule.proofs.Begun.{begun_now}
-use Rattle.schedule.proofs.Going.{attach_commits, keeps_attach}
+use Rattle.schedule.proofs.Going.{attach_commits}
 use Rattle.schedule.proofs.RunsGoOn.{attach_joins as runs_joins}
 use Rattle.schedule.proofs.Syncs.{no_commit}
 use Rattle.schedule.proofs.Theirs.{OnlyIt, calls_stay, none_some, run_of, some_is}
@@ -104,9 +104,7 @@ module _ {script : Script} {actor : ℕ} {before after : Station} {clients news 
       })
       further
       (attach_commits takes.was takes.changes takes.schedule.going are now_under (Joins join) join.run call
-      (keeps_attach old now (ap (λ (c : Core). c.pool.uber.reflow) joins.begins.rest)
-      (ap (λ (c : Core). c.reach) joins.begins.rest) (ap (λ (c : Core). c.attaching) joins.begins.rest))
-      none_commits refl of attaching next_is refl tt
+      alone none_commits refl of attaching next_is refl tt
       (ap (λ (c : Client). slice_get (calls_of script actor) (c.begun - 1)) further.1 ∙ is) for_call joins.begins.of
       committing)
       on

@@ -53,7 +53,7 @@ use Rattle.schedule.proofs.Theirs.{begun_before, calls_stay, none_some, none_the
 use Rattle.schedule.proofs.TurnComes.{comes_answered, comes_further, its_asked, its_going, its_number, its_place, its_work}
 
 -- A device was read: all stands that stood.
-pub looked : {world : World} {script : Script} {past : Past} {before : CoreState} {items : List Item}
+abbrev pub looked : {world : World} {script : Script} {past : Past} {before : CoreState} {items : List Item}
     {clients : List Client} (after : Disk) → AreGoing script before.core clients → IsCore before.core → Lawful after
     → Unchanged before.disk after → Runs world script past before items clients
     → Runs world script past (at_disk before.core after) items clients

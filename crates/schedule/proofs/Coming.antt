@@ -17,14 +17,14 @@ use Rattle.core_commit.specs.Spared.{IsOnInUse}
 use Rattle.core_commit.proofs.Going.{in_use_before}
 use Rattle.core_open.proofs.Written.{none_listed}
 use Rattle.open_pool.proofs.Banks.{count_grows}
-use Rattle.client_script.specs.Script.{Script, handed_by}
+use Rattle.client_script.specs.Script.{Script}
 use Rattle.journal_law.proofs.Grown.{grown_has}
 use Rattle.core_turns.specs.Core.{CoreState}
 use Rattle.core_turns.specs.Attaching.{AttachGoesOn}
 use Rattle.core_turns.specs.UnderWay.{TurnGoesOn}
 use Rattle.core_turns.proofs.AttachGoes.{as_attach}
 use Rattle.core_turns.proofs.CommitGoes.{turn_bank}
-use Rattle.schedule.specs.Coming.{AttachesNone, GoesOnFor, LeadTo, KeepsUsing, StaysAsWide}
+use Rattle.schedule.specs.Coming.{AttachesNone, GoesOnFor, IsWorldOf, LeadTo, KeepsUsing, StaysAsWide}
 use Rattle.schedule.specs.Turns.{Turns, TurnTaken, last_left, AreListedWith, IsListedWith, taken_by}
 use Rattle.schedule.specs.Fitting.{FitsCall}
 use Rattle.schedule.specs.Numbered.{IsNumbered}
@@ -250,7 +250,7 @@ module _ (script : Script) (actor : ℕ) (before after : Turns) (on : GoesOnFor 
     (space : KeepsUsing script before after)
     (numbers : IsNumbered before.items before.state.core → IsNumbered after.items after.state.core) (more : List Item) (items : after.items ≡ before.items ++ more)
     (fit : FitSince before after)
-    (runs : (world : World) (past : Past) → world.handed ≡ handed_by script
+    (runs : (world : World) (past : Past) → IsWorldOf script world
     → (count_of before.state.core.pool.out ≤ before.state.core.pool.uber.parity
     → IsWithin before.state.core.pool.out world.setting.failed)
     → IsListedWith past.banks before.items after.items after.state.disk

@@ -20,7 +20,7 @@ use Rattle.core_state.specs.World.{World}
 use Rattle.core_blocks.specs.Blocks.{puts_of}
 use Rattle.core_blocks.proofs.Lists.{first_listed, rest_listed, none_listed}
 use Rattle.client_script.specs.declared.call.ScriptCall.{ScriptCall}
-use Rattle.client_script.specs.Script.{Script, calls_of, handed_by}
+use Rattle.client_script.specs.Script.{Script, calls_of}
 use Rattle.journal_law.specs.Caused.{IsHeldOrPut, HasTooManyIds}
 use Rattle.journal_law.proofs.Distinct.{unique_among, unique_distinct}
 use Rattle.open_pool.proofs.Holding.{entry_held}
@@ -34,7 +34,7 @@ use Rattle.schedule.specs.declared.client.Client.{Client}
 use Rattle.schedule.specs.declared.client.Work.{Work}
 use Rattle.schedule.specs.declared.client.Work.TheVariants as work
 use Rattle.schedule.specs.Caused.{FullIsCaused}
-use Rattle.schedule.specs.Coming.{IsSchedule}
+use Rattle.schedule.specs.Coming.{IsSchedule, IsWorldOf}
 use Rattle.schedule.specs.Turns.{Turns}
 use Rattle.schedule.specs.Running.{AreGoing, IsWorkFor, Runs, calls_under_way, held_by}
 use Rattle.schedule.specs.Moments.{Past}
@@ -114,7 +114,7 @@ reserved_put script core clients opening id going there =
 
 -- Where these turns have come to what stands, the map that the run began with and the script's puts have too many ids.
 abbrev pub HasManyAt : Script → Turns → Type 0
-HasManyAt script turns = (world : World) (past : Past) → world.handed ≡ handed_by script
+HasManyAt script turns = (world : World) (past : Past) → IsWorldOf script world
     → Runs world script past turns.state turns.items turns.clients → HasTooManyIds script world.opening
 
 module _ (script : Script) (turns : Turns) (schedule : IsSchedule script turns) (world : World) (past : Past)
@@ -153,7 +153,7 @@ full_put script turns schedule actor number call id next asked id_is full world 
 
 -- Answers that the table is full have their cause after the turn, if they had it before.
 abbrev pub FullStays : Script → Turns → Turns → Type 0
-FullStays script before after = (world : World) (past : Past) → world.handed ≡ handed_by script
+FullStays script before after = (world : World) (past : Past) → IsWorldOf script world
     → Runs world script past before.state before.items before.clients
     → FullIsCaused script world.opening before.items → FullIsCaused script world.opening after.items
 

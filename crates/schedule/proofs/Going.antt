@@ -171,14 +171,31 @@ module _ {script : Script} {core now : Core} {clients news : List Client} {index
   still_theirs : KeepsAttach core now → IsNoAttach old.under_way → TheirAttach
   still_theirs keeps none actor is = its_attach none actor (going.attaches actor (sym keeps.attaching ∙ is))
 
-  -- A commit begins, goes on or ends, and no other client makes one: another's attach has begun none.
-  commits : KeepsAttach core now → OnlyIt clients index → TheirAttach
+  -- Another's has begun no commit,
+  others_early : KeepsAttach core now → OnlyIt clients index → OthersAttach
+  others_early keeps only caller its under run apart is does =
+      let was = (going.each caller its under is).attach run does in (
+        keeps.early run (before_commit run (λ makes. apart (only caller its under is (subst MakesCommit (sym does) makes))))
+            was.0,
+        keeps.attaching ∙ was.1,
+      )
+
+  -- or there is none.
+  abbrev IsAlone : Type 0
+  IsAlone = (caller : ℕ) (its : Client) (under : UnderWay) (run : AttachRun) → caller ≢ index
+      → IsGoing clients caller its under → under.work ≡ work.Attach run → ⊥
+
+  others_none : IsAlone → OthersAttach
+  others_none alone caller its under run apart is does = absurd (alone caller its under run apart is does)
+
+  -- A commit begins, goes on or ends, and no other client makes one.
+  commits : OthersAttach → OnlyIt clients index → TheirAttach
       → ((under : UnderWay) → client.under_way ≡ Some under → IsWorkOf script now index client under.work)
       → ((actor : ℕ) → now.committing ≡ Some actor → HasTooManyOut now
       ⊎ ((its : Client) × (under : UnderWay) × (run : CommitRun) × IsGoing news actor its under
       × (commit_in under.work ≡ Some run)))
       → AreGoing script now news
-  commits keeps only attaches mine one = record {
+  commits others only attaches mine one = record {
     are = are;
     each = each_going was changes {T = λ caller its under. IsWorkOf script now caller its under.work} mine
         (λ caller its under apart is. let work = going.each caller its under is in record {
@@ -187,25 +204,21 @@ module _ {script : Script} {core now : Core} {clients news : List Client} {index
           there = work.there;
           asked = work.asked;
           commit = λ run does. absurd (apart (only caller its under is (makes_commit under.work run does)));
-          attach = λ run does. let was = work.attach run does in (
-            keeps.early run (before_commit run (λ makes. apart (only caller its under is
-                (subst MakesCommit (sym does) makes)))) was.0,
-            keeps.attaching ∙ was.1,
-          );
+          attach = λ run does. others caller its under run apart is does;
         });
     one = one;
     attaches = attaches;
   }
 
   -- The client's work makes the core's commit,
-  commits_as : (under : UnderWay) (run : CommitRun) (call : ScriptCall) → KeepsAttach core now
+  commits_as : (under : UnderWay) (run : CommitRun) (call : ScriptCall) → OthersAttach
       → OnlyIt clients index → TheirAttach
       → ((its : AttachRun) → under.work ≡ work.Attach its → IsAttachOf now its × (now.attaching ≡ Some index))
       → client.under_way ≡ Some under → commit_in under.work ≡ Some run → IsHoldOf index under.work
       → slice_get (calls_of script index) (client.begun - 1) ≡ Some call → IsWorkFor call under.work
       → IsCommitOf now run → now.committing ≡ Some index → AreGoing script now news
-  commits_as under run call keeps only attaches its_attaches client_is does_is hold is for of committing =
-      commits keeps only attaches
+  commits_as under run call others only attaches its_attaches client_is does_is hold is for of committing =
+      commits others only attaches
       (the_one (λ its. IsWorkOf script now index client its.work) client_is (record {
         hold = hold;
         call = call;
@@ -230,25 +243,32 @@ module _ {script : Script} {core now : Core} {clients news : List Client} {index
       → slice_get (calls_of script index) (client.begun - 1) ≡ Some call → IsWorkFor call under.work
       → IsCommitOf now run → now.committing ≡ Some index → AreGoing script now news
   commits_on under run call keeps only no_attach none =
-      commits_as under run call keeps only (still_theirs keeps no_attach) (λ its is_attach. absurd (none its is_attach))
+      commits_as under run call (others_early keeps only) only (still_theirs keeps no_attach) (λ its is_attach. absurd (none its is_attach))
 
   -- or an attach;
-  pub attach_commits : (under : UnderWay) (run : AttachRun) (commit : CommitRun) (call : ScriptCall) → KeepsAttach core now
+  pub attach_commits : (under : UnderWay) (run : AttachRun) (commit : CommitRun) (call : ScriptCall) → IsAlone
       → OnlyIt clients index → under.work ≡ work.Attach run → IsAttachOf now run → now.attaching ≡ Some index
       → client.under_way ≡ Some under → commit_in under.work ≡ Some commit → IsHoldOf index under.work
       → slice_get (calls_of script index) (client.begun - 1) ≡ Some call → IsWorkFor call under.work
       → IsCommitOf now commit → now.committing ≡ Some index → AreGoing script now news
-  attach_commits under run commit call keeps only does of attaching client_is =
-      commits_as under commit call keeps only (attach_is under run client_is does attaching)
+  attach_commits under run commit call alone only does of attaching client_is =
+      commits_as under commit call (others_none alone) only (attach_is under run client_is does attaching)
       (λ its is_attach. (subst (IsAttachOf now) (same_attach (sym does ∙ is_attach)) of, attaching)) client_is
 
   -- or it has ended.
   pub commit_ends : KeepsAttach core now → client.under_way ≡ None → OnlyIt clients index → IsNoAttach old.under_way
       → ((actor : ℕ) → now.committing ≡ Some actor → HasTooManyOut now) → AreGoing script now news
   commit_ends keeps ended only no_attach none =
-      commits keeps only (still_theirs keeps no_attach)
+      commits (others_early keeps only) only (still_theirs keeps no_attach)
       (no_one (λ its. IsWorkOf script now index client its.work) ended)
       (λ actor its. inl (none actor its))
+
+  -- An attach ends with its commit.
+  pub attach_ends : IsAlone → now.attaching ≡ None → client.under_way ≡ None → OnlyIt clients index
+      → ((actor : ℕ) → now.committing ≡ Some actor → HasTooManyOut now) → AreGoing script now news
+  attach_ends alone ended none only many = commits (others_none alone) only (λ actor is. absurd (none_some (sym ended ∙ is)))
+      (no_one (λ its. IsWorkOf script now index client its.work) none)
+      (λ actor its. inl (many actor its))
 
 -- There is one commit at most.
 pub one_commit : {script : Script} {core : Core} {clients : List Client} {index : ℕ} {old : Client} {under : UnderWay}

@@ -34,6 +34,8 @@ pub mod AttachComes
 pub mod AttachReads
 pub mod AttachJoins
 pub mod AttachCommits
+pub mod AttachWidens
+pub mod AttachCut
 pub mod SyncGoes
 pub mod Puts
 pub mod PutComes

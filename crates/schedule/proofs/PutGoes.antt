@@ -32,6 +32,7 @@ use Rattle.schedule.specs.declared.client.Work.TheVariants as work
 use Rattle.schedule.specs.Running.{IsWorkFor, Runs, calls_under_way, setting_now}
 use Rattle.schedule.specs.Turned.{Station, EndsPutting, GoesOnPutting, IsFilledIn, LeavesGoing, entry_for, listed_for}
 use Rattle.schedule.specs.Works.{made_by}
+use Rattle.schedule.specs.Coming.{IsWorldOf}
 use Rattle.schedule.specs.Comes.{TakesTurn, Comes}
 use Rattle.schedule.proofs.Fitting.{TellsOut, fits, plain_no_limit, put_no_free}
 use Rattle.schedule.proofs.RightNext.{IsPlain, put_right}
@@ -120,7 +121,7 @@ module _ {script : Script} {actor : ℕ} {before after : Station} {clients news 
     -- It ends, and its entry alone is listed.
     ends_with : after.items ≡ before.items ++ CallItem entry ∷ [] → Rearranges old now
         → EndsHold old.holds now.holds filled.hold → IsPlain given → IsAnswerOf kind.Put given → TellsOut old given → given ≢ answer.Full → AreCallsOf now (calls_under_way news)
-        → ((world : World) (past : Past) → world.handed ≡ handed_by script
+        → ((world : World) (past : Past) → IsWorldOf script world
         → (runs : Runs world script past before.state before.items clients)
         → Stands (setting_now runs) runs.last runs.begun (map_of world.handed world.opening before.items) runs.contents among.nexts
         runs.commit before.state
@@ -154,7 +155,7 @@ module _ {script : Script} {actor : ℕ} {before after : Station} {clients news 
         (λ world past handed runs stood.
         subst (λ (m : Map). Stands (setting_now runs) runs.last runs.begun m runs.contents (calls_under_way news) runs.commit
         (at_disk now before.state.disk))
-        (sym (map_is world handed (map_of world.handed world.opening before.items) (runs.contents filled.hold.actor)
+        (sym (map_is world handed.handed (map_of world.handed world.opening before.items) (runs.contents filled.hold.actor)
         (ap (λ (r : PutRun). runs.contents r.hold.actor) same ∙ content_is runs)))
         (put_ends_stands takes.is stores whole among.gains among.are stood))
       where

@@ -34,7 +34,7 @@ use Rattle.schedule.proofs.Going.{one_commit}
 use Rattle.schedule.proofs.Syncs.{its_commit}
 use Rattle.schedule.proofs.Recording.{GoesOnSince, recorded_goes}
 use Rattle.schedule.proofs.Running.{group_free, with_content, with_other, with_own}
-use Rattle.schedule.proofs.Theirs.{IsNoAttach, IsNoCommit, before_commit, each_going, idle_no_attach, idle_no_commit, no_one, commit_stays, same_attach, some_is, the_one, work_no_commit}
+use Rattle.schedule.proofs.Theirs.{IsNoAttach, IsNoCommit, OnlyIt, before_commit, each_going, idle_no_attach, idle_no_commit, no_one, commit_stays, same_attach, some_is, the_one, work_no_commit}
 
 -- Of an attach that makes no commit it is known on the devices alone.
 pub early_known : (setting now : Setting) (last next : Kept) (begun onward : List Kept) (disk : Disk) (run : AttachRun)
@@ -397,3 +397,69 @@ module _ {world : World} {script : Script} {past : Past} {before : CoreState} {i
       none_other : (other : ℕ) (its : Client) (its_under : UnderWay) → IsGoing clients other its its_under
           → MakesCommit its_under.work → ⊥
       none_other = subst (IsTheirs clients) no_commit runs.theirs
+
+  -- Its device joins, so the pool reaches so far from now on, and the group begun is a device wider. What images can show
+  -- by then is recorded.
+  pub attach_widens : (under : UnderWay) (reach : ℕ) (next : AttachRun) (made : CommitRun) (wider : Kept)
+      → Later before.disk after.disk
+      → IsRecorded (shown_in (wider ∷ []) made.stage) before.disk
+      → GoesOnSince (record world.setting { reach = reach }) runs.last (shown_in (wider ∷ []) made.stage) before.disk
+      after.disk
+      → old.under_way ≡ Some under → attach_commit next ≡ Some made
+      → ((other : ℕ) (its : Client) (its_under : UnderWay) (its_run : AttachRun) → other ≢ index
+      → IsGoing clients other its its_under → its_under.work ≡ work.Attach its_run → ⊥)
+      → OnlyIt clients index
+      → client ≡ record {
+        begun = old.begun;
+        under_way = Some (record { at = under.at; work = work.Attach next });
+      }
+      → HasBegunBy world items runs.item (wider ∷ []) under.at (work.Attach next)
+      → HoldsAttach (record world.setting { reach = reach }) runs.last (wider ∷ []) after.disk next
+      → Stands (record world.setting { reach = reach }) runs.last (wider ∷ []) map runs.contents (calls_under_way news)
+      (Some made) after
+      → Runs world script past after items news
+  attach_widens under reach next made wider later recorded since old_is does_is alone only client_is begun holds stands =
+      record {
+        last = runs.last;
+        begun = wider ∷ [];
+        contents = runs.contents;
+        commit = Some made;
+        item = runs.item;
+        reach = reach;
+        recorded = recorded_goes recorded reach later since;
+        stands = stands;
+        theirs = (index, client, now, record { there = changes.there; under_way = going }, does_is);
+        each = each_going was changes {T = λ other its its_under.
+            IsClient world script items runs.item (wider ∷ []) (runs.contents other) other its its_under}
+            (the_one (IsMine (wider ∷ []) (runs.contents index)) going (record {
+              at = mine.at;
+              after = mine.after;
+              group = begun;
+              content = λ asked is. tt;
+            }))
+            (λ other its its_under apart is. let was = runs.each other its its_under is in record {
+              at = was.at;
+              after = was.after;
+              group = group_free world items runs.item (wider ∷ []) its_under.at its_under.work
+                  (λ makes. apart (only other its its_under is makes));
+              content = was.content;
+            });
+        attaches = λ other its its_under its_run is. each_going was changes
+            {T = λ other its its_under. (its_run : AttachRun) → its_under.work ≡ work.Attach its_run
+            → HoldsAttach (record world.setting { reach = reach }) runs.last (wider ∷ []) after.disk its_run}
+            (the_one (λ its_under. (its_run : AttachRun) → its_under.work ≡ work.Attach its_run
+            → HoldsAttach (record world.setting { reach = reach }) runs.last (wider ∷ []) after.disk its_run) going
+            (λ its_run does. subst (HoldsAttach (record world.setting { reach = reach }) runs.last (wider ∷ []) after.disk)
+            (same_attach does) holds))
+            (λ other its its_under apart going its_run does. absurd (alone other its its_under its_run apart going does))
+            other its its_under is its_run;
+      }
+    where
+      now : UnderWay
+      now = record { at = under.at; work = work.Attach next }
+
+      going : client.under_way ≡ Some now
+      going = ap (λ (c : Client). c.under_way) client_is
+
+      mine : IsClient world script items runs.item runs.begun (runs.contents index) index old under
+      mine = runs.each index old under (record { there = was; under_way = old_is })

@@ -14,7 +14,7 @@ use Rattle.core_state.specs.declared.item.Item.TheVariants.{Call as CallItem}
 use Rattle.core_state.specs.Map.{Map, map_of, map_after_answer}
 use Rattle.core_state.specs.World.{World}
 use Rattle.client_script.specs.declared.call.ScriptCall.{ScriptCall}
-use Rattle.client_script.specs.Script.{Script, calls_of, handed_by}
+use Rattle.client_script.specs.Script.{Script, calls_of}
 use Rattle.core_turns.specs.Core.{Core}
 use Rattle.core_turns.specs.UnderWay.{HoldingCall, AreCallsOf, Stands, TurnGoesOn, shown_of}
 use Rattle.core_turns.specs.declared.turn.Turn.TheVariants.{More, Done}
@@ -22,7 +22,7 @@ use Rattle.schedule.specs.declared.client.Client.{Client}
 use Rattle.schedule.specs.declared.client.UnderWay.{UnderWay}
 use Rattle.schedule.specs.declared.client.Work.{Work}
 use Rattle.schedule.specs.Clients.{ClientsAreAnswered}
-use Rattle.schedule.specs.Coming.{GoesOnFor, LeadTo}
+use Rattle.schedule.specs.Coming.{GoesOnFor, IsWorldOf, LeadTo}
 use Rattle.schedule.specs.Turns.{turns_of, Turns, taken_by, IsListedWith}
 use Rattle.schedule.specs.Running.{AreGoing, HasContent, IsGoing, IsHoldOf, IsWorkFor, IsWorkOf, MakesCommit, Runs, call_of_client, calls_under_way, held_by, held_under, setting_now}
 use Rattle.schedule.specs.Recorded.{IsRightNext}
@@ -45,7 +45,7 @@ use Rattle.schedule.specs.Moments.{Past}
 
 -- What stood between two turns stands after this one with these items.
 abbrev pub RunsOn : Script → Station → Station → List Client → List Client → List Item → Type 0
-RunsOn script before after clients news items = (world : World) (past : Past) → world.handed ≡ handed_by script
+RunsOn script before after clients news items = (world : World) (past : Past) → IsWorldOf script world
     → (count_of before.state.core.pool.out ≤ before.state.core.pool.uber.parity
     → IsWithin before.state.core.pool.out world.setting.failed)
     → IsListedWith past.banks before.items items after.state.disk
@@ -397,7 +397,7 @@ module _ {script : Script} {actor : ℕ} {before after : Station} {clients news 
         pub comes_ended : after.items ≡ before.items ++ CallItem entry ∷ [] → LeavesPool old now
             → after.state.disk ≡ before.state.disk → Fits old call.kind given → given ≢ answer.Full
             → AreCallsOf now (calls_under_way news)
-            → ((world : World) (past : Past) → world.handed ≡ handed_by script
+            → ((world : World) (past : Past) → IsWorldOf script world
             → (runs : Runs world script past before.state before.items clients)
             → IsRightNext world before.items entry
             × StandsNow world past runs runs.contents

@@ -25,7 +25,9 @@ use Rattle.schedule.specs.Turned.{Station, BeginsWork, Waits, AnswersAtOnce, Beg
 use Rattle.schedule.proofs.TurnComes.{comes_nowhere, its_asked}
 use Rattle.schedule.proofs.AttachComes.{attach_at_once, attach_begins, attach_waits}
 use Rattle.schedule.proofs.AttachCommits.{join_drops, join_goes, signs_on}
+use Rattle.schedule.proofs.AttachCut.{attach_cut}
 use Rattle.schedule.proofs.AttachJoins.{attach_joins}
+use Rattle.schedule.proofs.AttachWidens.{join_joins}
 use Rattle.schedule.proofs.AttachReads.{commit_refused, device_refused, finds_free, reads_next, waits_on}
 use Rattle.schedule.proofs.FreeComes.{free_at_once}
 use Rattle.schedule.proofs.PutComes.{put_begins, put_waits, put_at_once}
@@ -165,10 +167,14 @@ module _ {script : Script} {actor : ℕ} {before after : Station} {clients news 
         leaves
     went_by (work.Attach (Joins join)) (More (work.Attach (Joins next))) does_is goes did leaves =
         join_goes call takes under going is join next does_is goes did.0.0 did.0.1 did.1 leaves
+    went_by (work.Attach (Joins join)) (More (work.Attach (Signs made None))) does_is goes did leaves =
+        join_joins call takes under join made does_is going is goes did.0.0 did.0.1 did.1 leaves
     went_by (work.Attach (Joins join)) (More (work.Attach (Signs made (Some because)))) does_is goes did leaves =
         join_drops call takes under going is join made because does_is goes did.0.0 did.0.1 did.1 leaves
     went_by (work.Attach (Signs commit because)) (More (work.Attach (Signs next same))) does_is goes did leaves =
         signs_on call takes under going is commit next because same does_is goes did.0.1 did.1 leaves
+    went_by (work.Attach (Joins join)) (Done given) does_is goes did leaves =
+        attach_cut call takes under (Joins join) join.run refl does_is going is goes did.0 given did.1 leaves
     went_by (work.Attach run) turn does_is goes did leaves =
         absurd (no_attach call allowed (its_asked takes call under (work.Attach run) does_is going is).0)
     went_by does turn does_is goes did leaves = absurd did

@@ -125,11 +125,11 @@ module _ (script : Script) (old mid : Disk) (pool : Pool) (silent : ℕ) (items 
         (at_start first_state passed 1 (omega arith)) opened_later bank script script.clients
 
     runs : Runs world script past final items clients
-    runs = come.runs world past refl first_runs borne_in (are_listed script first_state passed taken)
+    runs = come.runs world past (record { calls = refl; handed = refl }) first_runs borne_in (are_listed script first_state passed taken)
 
     -- The journal that the opening left has no answers.
     full : FullIsCaused script begins.opened.chosen.map items
-    full = come.full world past refl first_runs borne_in (are_listed script first_state passed taken)
+    full = come.full world past (record { calls = refl; handed = refl }) first_runs borne_in (are_listed script first_state passed taken)
         (record { each = λ index entry there is. absurd (no_call item index entry there) })
 
     abbrev run_groups : List Kept

@@ -14,7 +14,7 @@ use Rattle.core_client.specs.Outs.{OnlyFailedGoOut}
 use Rattle.core_state.specs.Committing.{point_of}
 use Rattle.core_commit.specs.Spared.{IsOnInUse}
 use Rattle.client_script.specs.declared.call.ScriptCall.{ScriptCall}
-use Rattle.client_script.specs.Script.{Script, calls_of, handed_by}
+use Rattle.client_script.specs.Script.{Script, asked_by, calls_of, handed_by}
 use Rattle.schedule.specs.Caused.{FullIsCaused}
 use Rattle.schedule.specs.Clients.{ClientsAreAnswered}
 use Rattle.schedule.specs.Fitting.{FitsCall}
@@ -60,6 +60,11 @@ pub record GoesOnFor (script : Script) (before after : CoreState) : Type 0 where
   pub same : AttachesNone script → StaysAsWide before after
   pub bank : HasBankOf before.core before.disk → HasBankOf after.core after.disk
 
+-- The world's calls and the bytes that they hand over are the script's.
+pub record IsWorldOf (script : Script) (world : World) : Type 0 where
+  pub calls : world.calls ≡ asked_by script
+  pub handed : world.handed ≡ handed_by script
+
 -- These turns lead from one state to another, in a pool that reaches to no fewer devices. Devices went out where they
 -- failed, and none was touched but those in use that the pool then reaches to, and the one behind them, which an attach
 -- may have laid a group without its joining. Where no call of the script is an attach, the pool reaches to as many
@@ -88,11 +93,11 @@ pub record LeadTo (script : Script) (start : Turns) (passed : List TurnTaken) (n
       → IsWithin start.state.core.pool.out borne
   pub stopped : start.state.core.pool.uber.parity < count_of start.state.core.pool.out → IsWithin borne 0
   pub within : IsWithin borne now.state.core.pool.out
-  pub runs : (world : World) (past : Past) → world.handed ≡ handed_by script
+  pub runs : (world : World) (past : Past) → IsWorldOf script world
       → Runs world script past start.state start.items start.clients
       → IsWithin borne world.setting.failed → AreListedWith past.banks start passed
       → Runs world script past now.state now.items now.clients
-  pub full : (world : World) (past : Past) → world.handed ≡ handed_by script
+  pub full : (world : World) (past : Past) → IsWorldOf script world
       → Runs world script past start.state start.items start.clients
       → IsWithin borne world.setting.failed → AreListedWith past.banks start passed
       → FullIsCaused script world.opening start.items → FullIsCaused script world.opening now.items
