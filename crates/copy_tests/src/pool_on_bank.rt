@@ -4,7 +4,7 @@ ghost use Rattle.bank_mem.specs.MemBank.{mem_disk};
 ghost use Rattle.core_blocks.specs.Blocks.{IsUnderWay};
 ghost use Rattle.core_turns.specs.declared.copying.CopyRun.{CopyRun as CopyRunOf};
 ghost use Rattle.core_turns.specs.declared.putting.Filled.{Filled};
-ghost use Rattle.core_turns.specs.Attaching.{HasNewDevice, IsAttachOf};
+ghost use Rattle.core_turns.specs.Attaching.{HasNewDevice, IsAttachRunOf};
 ghost use Rattle.core_turns.specs.Committing.{IsCommitOf};
 ghost use Rattle.core_turns.specs.Copying.{IsJobOf};
 ghost use Rattle.core_turns.specs.Getting.{IsGetOf, IsReadKind};
@@ -213,7 +213,7 @@ impl PoolOnBank {
 
     /// The other turns of an attach, and what it is answered.
     fn end_attach(&mut self, alloc: Global, run: AttachRun) -> Result<Answer, Fail>
-        requires of { IsAttachOf self.old.core run }
+        requires of { IsAttachRunOf self.old.core run }
         requires there { HasNewDevice (mem_disk self.old.bank) run }
     {
         let mut run = run;

@@ -21,7 +21,7 @@ use Rattle.mark_choice.specs.CommitChoice.{Chooses, MayRecord}
 use Rattle.mark_advance.specs.Behind.{KeepsOrEnds}
 use Rattle.core_turns.specs.declared.attaching.AttachRun.TheVariants.{Checked, Joins}
 use Rattle.core_turns.specs.Core.{Core, CoreState, IsCore, at_disk}
-use Rattle.core_turns.specs.Attaching.{BeginsJoining, HasNewDevice, HoldsAttach, IsAttachOf}
+use Rattle.core_turns.specs.Attaching.{BeginsJoining, HasNewDevice, HoldsAttach, IsAttachRunOf}
 use Rattle.core_turns.specs.UnderWay.{HoldingCall, AreCallsOf, Stands}
 use Rattle.core_turns.proofs.AttachTurns.{rest_records}
 use Rattle.core_turns.proofs.Commits.{few_out, rests}
@@ -70,7 +70,7 @@ narrow_stands {setting} {last} {state = state} stands = record {
 
 module _ {setting : Setting} {last : Kept} {begun : List Kept} {map : Map} {contents : ℕ → List ℕ}
     {calls : List HoldingCall} {before after : CoreState} {join : JoinRun} (ring : RingRead) (is : IsCore before.core)
-    (lawful : Lawful before.disk) (of : IsAttachOf before.core (Checked ring))
+    (lawful : Lawful before.disk) (of : IsAttachRunOf before.core (Checked ring))
     (there : HasNewDevice before.disk (Checked ring)) (joins : BeginsJoining before after join)
     (are : AreCallsOf before.core calls) (stands : Stands setting last begun map contents calls None before)
     (read : HasReadRing before.disk ring) where

@@ -18,7 +18,7 @@ use Rattle.core_turns.specs.declared.attaching.AttachRun.{AttachRun}
 use Rattle.core_turns.specs.declared.attaching.AttachRun.TheVariants.{Reads, Checked, Joins, Signs}
 use Rattle.core_turns.specs.Core.{Core, CoreState, IsCore}
 use Rattle.core_turns.specs.Committing.{AnswersGroup, IsCommitOf}
-use Rattle.core_turns.specs.Attaching.{HoldsAttach, IsAttachOf, IsMadeAt, IsNewDevice, MayReachOn}
+use Rattle.core_turns.specs.Attaching.{HoldsAttach, IsAttachRunOf, IsMadeAt, IsJoiningDevice, MayReachOn}
 use Rattle.core_turns.specs.UnderWay.{HoldingCall, Stands}
 use Rattle.core_turns.proofs.AttachTurns.{rest_records}
 use Rattle.core_turns.proofs.StandFrames.{LeavesCommit, commit_still}
@@ -36,7 +36,7 @@ may_reach_still old new reflow reach was = record {
 
 -- the new one stays the one behind the pool's,
 new_device_still : (old new : Core) (device : ℕ) → new.pool.uber.reflow ≡ old.pool.uber.reflow → new.reach ≡ old.reach
-    → new.attaching ≡ old.attaching → IsNewDevice old device → IsNewDevice new device
+    → new.attaching ≡ old.attaching → IsJoiningDevice old device → IsJoiningDevice new device
 new_device_still old new device reflow reach attaching was = record {
   actor = was.actor;
   under_way = attaching ∙ was.under_way;
@@ -46,7 +46,7 @@ new_device_still old new device reflow reach attaching was = record {
 
 -- and the attach the one under way, where the commit that is under way is left.
 pub attach_still : (old new : Core) (run : AttachRun) → LeavesCommit old new → new.attaching ≡ old.attaching
-    → IsAttachOf old run → IsAttachOf new run
+    → IsAttachRunOf old run → IsAttachRunOf new run
 attach_still old new (Reads ring) leaves attaching was =
     new_device_still old new ring.device (ap (λ (u : Uber). u.reflow) leaves.uber) leaves.reach attaching was
 attach_still old new (Checked ring) leaves attaching was = (
@@ -78,7 +78,7 @@ IsBeforeCommit other = ⊥
 -- Another's commit begins, which leaves all but holds and who commits.
 pub attach_at_begin : (old new : Core) (run : AttachRun) → IsBeforeCommit run
     → new.pool.uber.reflow ≡ old.pool.uber.reflow → new.reach ≡ old.reach → new.attaching ≡ old.attaching
-    → IsAttachOf old run → IsAttachOf new run
+    → IsAttachRunOf old run → IsAttachRunOf new run
 attach_at_begin old new (Reads ring) before reflow reach attaching was =
     new_device_still old new ring.device reflow reach attaching was
 attach_at_begin old new (Checked ring) before reflow reach attaching was =
@@ -89,19 +89,19 @@ attach_at_begin old new (Signs commit because) before reflow reach attaching was
 -- So another's group may be answered beside the reads of an attach.
 pub attach_at_answer : (before after : CoreState) (commit : CommitRun) (number : ℕ) (run : AttachRun) → IsBeforeCommit run
     → IsCore before.core → IsCommitOf before.core commit → AnswersGroup before commit after number
-    → IsAttachOf before.core run → IsAttachOf after.core run
+    → IsAttachRunOf before.core run → IsAttachRunOf after.core run
 attach_at_answer before after commit number run not_yet is of answers was =
     attach_at_begin before.core after.core run not_yet (reflow (device_of run not_yet was))
     (ap (λ (c : Core). c.reach) answers.answers.rest) (ap (λ (c : Core). c.attaching) answers.answers.rest) was
   where
-    device_of : (run : AttachRun) → IsBeforeCommit run → IsAttachOf before.core run
-        → (device : ℕ) × IsNewDevice before.core device
+    device_of : (run : AttachRun) → IsBeforeCommit run → IsAttachRunOf before.core run
+        → (device : ℕ) × IsJoiningDevice before.core device
     device_of (Reads ring) not_yet was = (ring.device, was)
     device_of (Checked ring) not_yet was = (ring.device, was.0)
     device_of (Joins join) not_yet was = absurd not_yet
     device_of (Signs commit because) not_yet was = absurd not_yet
 
-    reflow : (device : ℕ) × IsNewDevice before.core device → after.core.pool.uber.reflow ≡ before.core.pool.uber.reflow
+    reflow : (device : ℕ) × IsJoiningDevice before.core device → after.core.pool.uber.reflow ≡ before.core.pool.uber.reflow
     reflow new = ap (λ (c : Core). c.pool.uber.reflow) answers.answers.rest
         ∙ ap (λ (u : Uber). u.reflow)
         (ready_keeps before.core.pool.out commit answers.ended answers.ends.is_ready).uber
@@ -112,7 +112,7 @@ attach_at_answer before after commit number run not_yet is of answers was =
 -- Its device stays as it is where others touch the pool's devices alone.
 pub attach_beside : {setting : Setting} {last : Kept} {begun : List Kept} {map : Map} {contents : ℕ → List ℕ}
     {calls : List HoldingCall} {commit : Option CommitRun} (before : CoreState) (after : Disk) (run : AttachRun)
-    → IsAttachOf before.core run → ((join : JoinRun) → run ≡ Joins join → commit ≡ Some join.run)
+    → IsAttachRunOf before.core run → ((join : JoinRun) → run ≡ Joins join → commit ≡ Some join.run)
     → TouchesOnly (IsOnInUse before.core.reach before.core.pool.out) before.disk after
     → Stands setting last begun map contents calls commit before
     → HoldsAttach setting last begun before.disk run → HoldsAttach setting last begun after run

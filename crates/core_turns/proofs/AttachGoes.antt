@@ -27,7 +27,7 @@ use Rattle.core_turns.specs.declared.turn.Turn.TheVariants.{More, Busy, Done}
 use Rattle.core_turns.specs.Core.{Core, CoreState, HasBankOf, IsCore, at_disk, reaching}
 use Rattle.core_turns.specs.Getting.{HasTooManyOut}
 use Rattle.core_turns.specs.UnderWay.{TurnGoesOn}
-use Rattle.core_turns.specs.Attaching.{AttachGoesOn, HasNewDevice, IsAttachCommit, IsAttachOf, MayReachOn, StepsAttach, StepsJoin, StopsAttach}
+use Rattle.core_turns.specs.Attaching.{AttachGoesOn, HasNewDevice, IsAttachCommit, IsAttachRunOf, MayReachOn, StepsAttach, StepsJoin, StopsAttach}
 use Rattle.core_turns.proofs.AttachTurns.{join_outs, join_touches}
 use Rattle.core_turns.proofs.CommitGoes.{commit_goes}
 
@@ -95,7 +95,7 @@ joining before after join result is lawful commit may did uber reach = record {
 
 -- What a turn does, whatever it comes to.
 pub attach_goes : (before after : CoreState) (run : AttachRun) (turn : Turn AttachRun) → IsCore before.core
-    → Lawful before.disk → IsAttachOf before.core run → StepsAttach before run after turn → AttachGoesOn before after
+    → Lawful before.disk → IsAttachRunOf before.core run → StepsAttach before run after turn → AttachGoesOn before after
 attach_goes before after (Reads ring) (More (Reads next)) is lawful of steps =
     looked before after (ap (λ (c : Core). c.pool) steps.core) (ap (λ (c : Core). c.reach) steps.core) steps.unchanged
 attach_goes before after (Reads ring) (More (Checked next)) is lawful of steps =
@@ -165,7 +165,7 @@ attach_bank before after goes bank there =
     }
 
 -- One that joins was there.
-pub attach_there : (before after : CoreState) (run : AttachRun) (turn : Turn AttachRun) → IsAttachOf before.core run
+pub attach_there : (before after : CoreState) (run : AttachRun) (turn : Turn AttachRun) → IsAttachRunOf before.core run
     → HasNewDevice before.disk run → StepsAttach before run after turn → after.core.reach ≡ before.core.reach + 1
     → before.core.reach < before.disk.devices
 attach_there before after (Reads ring) turn of there steps more =

@@ -29,7 +29,7 @@ use Rattle.core_turns.specs.Attaching.{HoldsAttach, MayReachOn, OnlyGoOut, Steps
 use Rattle.core_turns.specs.Committing.{IsCommitOf}
 use Rattle.core_turns.specs.UnderWay.{HoldingCall, Putting, Reading, Copying, AreCallsOf, LiesInPool, Stands}
 use Rattle.core_turns.proofs.AttachTurns.{join_goes_commit}
-use Rattle.core_turns.proofs.Frames.{IsCallOff, IsOff, Leaves, OnlyOut, call_off_nowhere, calls_keep, leaves_read, off_nowhere}
+use Rattle.core_turns.proofs.Frames.{IsCallOff, IsOff, Leaves, OnlyOut, call_off_nowhere, calls_beside, leaves_read, off_nowhere}
 use Rattle.core_turns.proofs.StandFrames.{groups_read, stands_frame}
 use Rattle.core_turns.proofs.GetStands.{stands_held}
 use Rattle.core_turns.proofs.Holds.{keeps_same}
@@ -39,19 +39,8 @@ use Rattle.core_turns.proofs.Holds.{keeps_same}
 -- Whose attach is under way is nothing to the others.
 pub attaching_calls : (core : Core) (by : Option ℕ) (calls : List HoldingCall) → AreCallsOf core calls
     → AreCallsOf (record core { attaching = by }) calls
-attaching_calls core by calls are = calls_keep core (record core { attaching = by }) calls (record {
-  widths = record {
-    parity = refl;
-    births = refl;
-    reflow = refl;
-    done = refl;
-    block_parity = refl;
-    block_births = refl;
-    begun = omega arith;
-  };
-  copying = refl;
-  within = λ device has. has;
-}) (λ hold has. has) are.under are
+attaching_calls core by calls are =
+    calls_beside core core.holds core.begun core.reach core.committing by calls (omega arith) (λ hold has. has) are
 
 module _ {setting : Setting} {last : Kept} {begun : List Kept} {map : Map} {contents : ℕ → List ℕ}
     {calls : List HoldingCall} {commit : Option CommitRun} where

@@ -27,7 +27,7 @@ use Rattle.join_commit.proofs.Spares.{join_gone, join_spares}
 use Rattle.core_turns.specs.declared.attaching.AttachRun.TheVariants.{Joins, Signs}
 use Rattle.core_turns.specs.Core.{Core, HasBankOf, IsCore}
 use Rattle.core_turns.specs.Committing.{IsCommitOf}
-use Rattle.core_turns.specs.Attaching.{HasNewDevice, IsAttachOf, MayReachOn}
+use Rattle.core_turns.specs.Attaching.{HasNewDevice, IsAttachRunOf, MayReachOn}
 use Rattle.core_turns.proofs.CommitGoes.{commit_fits, commit_stays, step_touches}
 use Rattle.core_turns.proofs.Cores.{core_out}
 use Rattle.core_turns.proofs.Joining.{joined_commit, joined_core}
@@ -203,7 +203,7 @@ module _ (core : Core) (join : JoinRun) (out : ℕ) (old new : Disk) (is : IsCor
 
   pub join_goes_more : (next : JoinRun) → core.attaching ≡ core.committing → join.run.uber.reflow.to < old.devices
       → JoinSteps join before (step.GoesOn next) after
-      → IsAttachOf (with_out core out) (Joins next) × HasNewDevice new (Joins next)
+      → IsAttachRunOf (with_out core out) (Joins next) × HasNewDevice new (Joins next)
   join_goes_more next attaching there did =
       let its = join_goes_commit next did in (
         (
@@ -217,7 +217,7 @@ module _ (core : Core) (join : JoinRun) (out : ℕ) (old new : Disk) (is : IsCor
 
   pub join_drops_more : (run : CommitRun) (because : WhyDropped) → core.attaching ≡ core.committing
       → JoinSteps join before (step.Dropped run because) after
-      → IsAttachOf (with_out core out) (Signs run (Some because))
+      → IsAttachRunOf (with_out core out) (Signs run (Some because))
   join_drops_more run because attaching did = (
     record { of = join_drops_commit run because did; under_way = attaching },
     (may.rest, ap (λ (u : Uber). u.reflow) (steps_same did.result join.run run before after did.steps).0 ∙ kept),
@@ -225,7 +225,7 @@ module _ (core : Core) (join : JoinRun) (out : ℕ) (old new : Disk) (is : IsCor
 
   pub join_joins_more : (run : CommitRun) → core.attaching ≡ core.committing
       → JoinSteps join before (step.Joined run) after
-      → IsAttachOf (with_out (reaching_on core) out) (Signs run None)
+      → IsAttachRunOf (with_out (reaching_on core) out) (Signs run None)
   join_joins_more run attaching did = (
     record { of = join_joins_commit run did; under_way = attaching },
     record {

@@ -44,7 +44,7 @@ use Rattle.core_turns.proofs.Calls.{range_listed}
 use Rattle.core_turns.proofs.Cores.{bank_within}
 use Rattle.mark_advance.proofs.Follows.{choice_widths}
 use Rattle.core_turns.proofs.Commits.{begins_ready, begun_commit, core_follows, few_out, rests, rests_pool}
-use Rattle.core_turns.proofs.Frames.{OnlyOut, call_off_nowhere, off_nowhere, leaves_spared, call_stays, calls_keep, calls_stay}
+use Rattle.core_turns.proofs.Frames.{OnlyOut, call_off_nowhere, off_nowhere, leaves_spared, call_stays, calls_beside, calls_stay}
 use Rattle.core_turns.proofs.StandFrames.{stands_frame}
 use Rattle.core_turns.proofs.Holds.{taken_has}
 use Rattle.core_turns.proofs.WritesBeside.{shown_one}
@@ -66,21 +66,8 @@ begun_by core holds actor = record core { holds = holds; begun = core.begun + 1;
 pub commit_begins_calls : (old new : Core) (calls : List HoldingCall) (actor : ℕ) (run : CommitRun)
     → BeginsCommit old new actor (More run) → AreCallsOf old calls → AreCallsOf new calls
 commit_begins_calls old new calls actor run begins are = subst (λ (core : Core). AreCallsOf core calls) (sym begins.rest)
-    (calls_keep old (begun_by old new.holds actor) calls (record {
-      widths = record {
-        parity = refl;
-        births = refl;
-        reflow = refl;
-        done = refl;
-        block_parity = refl;
-        block_births = refl;
-        begun = omega arith;
-      };
-      copying = refl;
-      within = λ device has. has;
-    })
-    (λ hold has. taken_has old.holds new.holds (hold_for old.pool.uber.reflow run.uber.reflow actor) hold begins.holds has)
-    are.under are)
+    (calls_beside old new.holds (old.begun + 1) old.reach (Some actor) old.attaching calls (omega arith)
+    (λ hold has. taken_has old.holds new.holds (hold_for old.pool.uber.reflow run.uber.reflow actor) hold begins.holds has) are)
 
 module _ (setting : Setting) (last : Kept) (map : Map) (contents : ℕ → List ℕ) (calls : List HoldingCall) (old new : Core)
     (disk : Disk) (actor : ℕ) (run : CommitRun) (lawful : Lawful disk) (is : IsCore old)

@@ -1,5 +1,5 @@
 -- What a turn leaves of the calls that are under way beside it.
-use Rattle.std.proofs.Common.{◌≡◌, ◌≢◌, ⊎_elim, ℕ, ◌+◌, ◌≤◌, List, [], false, sym, ◌∙◌, ap, subst, arith}
+use Rattle.std.proofs.Common.{◌≡◌, ◌≢◌, ⊎_elim, ℕ, ◌+◌, ◌≤◌, List, [], Option, false, refl, sym, ◌∙◌, ap, subst, arith}
 use Rattle.std.specs.Prelude.{Contains}
 use Rattle.bank_trait.specs.Disk.{Unchanged}
 use Rattle.bank_trait.specs.Regions.{TouchesOnly}
@@ -320,6 +320,36 @@ calls_keep old new calls keeps kept under are = record {
   under = under;
   beside = are.beside;
 }
+
+-- so where a hold was taken, a commit or an attach begun or ended, or the pool reaches further,
+pub calls_beside : (core : Core) (holds : List Hold) (begun reach : ℕ) (committing attaching : Option ℕ)
+    (calls : List HoldingCall) → core.begun ≤ begun → ((hold : Hold) → Contains core.holds hold → Contains holds hold)
+    → AreCallsOf core calls → AreCallsOf (record core {
+      holds = holds;
+      begun = begun;
+      reach = reach;
+      committing = committing;
+      attaching = attaching;
+    }) calls
+calls_beside core holds begun reach committing attaching calls more kept are = calls_keep core (record core {
+  holds = holds;
+  begun = begun;
+  reach = reach;
+  committing = committing;
+  attaching = attaching;
+}) calls (record {
+  widths = record {
+    parity = refl;
+    births = refl;
+    reflow = refl;
+    done = refl;
+    block_parity = refl;
+    block_births = refl;
+    begun = more;
+  };
+  copying = refl;
+  within = λ device has. has;
+}) kept are.under are
 
 -- and so where only devices went out.
 pub calls_stay : (old new : Core) (calls : List HoldingCall) → OnlyOut old new → IsWithin old.pool.out new.pool.out

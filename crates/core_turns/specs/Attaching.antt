@@ -53,18 +53,18 @@ pub record MayReachOn (core : Core) : Type 0 where
   pub reach : core.reach ≡ core.pool.uber.reflow.to
 
 -- The device is the one behind those of a pool that may have one more; an attach is under way.
-pub record IsNewDevice (core : Core) (device : ℕ) : Type 0 where
+pub record IsJoiningDevice (core : Core) (device : ℕ) : Type 0 where
   pub actor : ℕ
   pub under_way : core.attaching ≡ Some actor
   pub may : MayReachOn core
   pub behind : device ≡ core.pool.uber.reflow.to
 
 -- The attach is the one under way in this core.
-abbrev pub IsAttachOf : Core → AttachRun → Type 0
-IsAttachOf core (Reads ring) = IsNewDevice core ring.device
-IsAttachOf core (Checked ring) = IsNewDevice core ring.device × (ring.slots ≡ 32) × (ring.taken ≡ None)
-IsAttachOf core (Joins join) = IsAttachCommit core join.run × MayReachOn core
-IsAttachOf core (Signs run because) = IsAttachCommit core run
+abbrev pub IsAttachRunOf : Core → AttachRun → Type 0
+IsAttachRunOf core (Reads ring) = IsJoiningDevice core ring.device
+IsAttachRunOf core (Checked ring) = IsJoiningDevice core ring.device × (ring.slots ≡ 32) × (ring.taken ≡ None)
+IsAttachRunOf core (Joins join) = IsAttachCommit core join.run × MayReachOn core
+IsAttachRunOf core (Signs run because) = IsAttachCommit core run
     × IsMadeAt core.pool.uber.reflow because run.uber.reflow
 
 -- the commit that an attach makes, once it has begun one
@@ -128,7 +128,7 @@ pub record BeginsAttachSo (old new : Core) (devices actor : ℕ) (run : AttachRu
   pub may : IsAttachable old devices
   pub run_is : run ≡ Reads (record { device = old.pool.uber.reflow.to; slots = 0; taken = None })
   pub rest : new ≡ record old { attaching = Some actor }
-  pub of : IsAttachOf new run
+  pub of : IsAttachRunOf new run
 
 -- what the first turn of an attach comes to
 abbrev pub BeginsAttach : Core → Core → ℕ → ℕ → Turn AttachRun → Type 0
@@ -251,7 +251,7 @@ StepsAttach before run after turn = ⊥
 
 -- An attach that goes on is the one under way, and its device is there.
 abbrev pub IsMoreAttach : Core → Disk → Turn AttachRun → Type 0
-IsMoreAttach core disk (More run) = IsAttachOf core run × HasNewDevice disk run
+IsMoreAttach core disk (More run) = IsAttachRunOf core run × HasNewDevice disk run
 IsMoreAttach core disk other = ⊤
 
 -- What each turn of an attach does: as each turn, but that the device behind the pool's may be called too, and may join.

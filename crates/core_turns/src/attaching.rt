@@ -7,7 +7,7 @@ ghost use Rattle.core_turns.specs.declared.attaching.AttachRun.TheVariants.{Read
 ghost use Rattle.core_turns.specs.declared.turn.Turn.TheVariants.{Done};
 ghost use Rattle.core_turns.specs.Core.{IsCore, at_disk, HasBankOf};
 ghost use Rattle.core_turns.specs.Getting.{HasTooManyOut};
-ghost use Rattle.core_turns.specs.Attaching.{AttachGoesOn, BeginsAttach, HasNewDevice, IsAttachable, IsAttachOf, IsMoreAttach, IsNotAttachable, StepsAttach, attach_answer};
+ghost use Rattle.core_turns.specs.Attaching.{AttachGoesOn, BeginsAttach, HasNewDevice, IsAttachable, IsAttachRunOf, IsMoreAttach, IsNotAttachable, StepsAttach, attach_answer};
 
 use crate::turn::too_many;
 use crate::{Core, Turn};
@@ -101,7 +101,7 @@ impl Core {
         bank: &mut B,
         run: AttachRun,
     ) -> Turn<AttachRun>
-        requires of { IsAttachOf self.old run }
+        requires of { IsAttachRunOf self.old run }
         requires there { HasNewDevice (B.disk bank.old) run }
         requires bank { HasBankOf self.old (B.disk bank.old) }
         ensures steps { StepsAttach (at_disk self.old (B.disk bank.old)) run
@@ -122,7 +122,7 @@ impl Core {
         bank: &mut B,
         run: AttachRun,
     ) -> Turn<AttachRun>
-        requires of { IsAttachOf self.old run }
+        requires of { IsAttachRunOf self.old run }
         requires there { HasNewDevice (B.disk bank.old) run }
         requires bank { HasBankOf self.old (B.disk bank.old) }
         ensures is { IsCore self.old }
@@ -160,7 +160,7 @@ impl Core {
 
     /// Reads the next slot of the new device's ring.
     fn read_slot<B: Bank>(&mut self, bank: &mut B, ring: RingRead) -> Turn<AttachRun>
-        requires of { IsAttachOf self.old (ReadsOf ring) }
+        requires of { IsAttachRunOf self.old (ReadsOf ring) }
         requires there { HasNewDevice (B.disk bank.old) (ReadsOf ring) }
         requires bank { HasBankOf self.old (B.disk bank.old) }
         requires few { HasTooManyOut self.old → ⊥ }
@@ -181,7 +181,7 @@ impl Core {
     /// Looks whether the ring shows an uberblock; else reads the new device's last data sector, which one that is too
     /// small has not.
     fn check_device<B: Bank>(&mut self, bank: &mut B, ring: RingRead) -> Turn<AttachRun>
-        requires of { IsAttachOf self.old (ReadsOf ring) }
+        requires of { IsAttachRunOf self.old (ReadsOf ring) }
         requires there { HasNewDevice (B.disk bank.old) (ReadsOf ring) }
         requires bank { HasBankOf self.old (B.disk bank.old) }
         requires few { HasTooManyOut self.old → ⊥ }
@@ -204,7 +204,7 @@ impl Core {
 
     /// Begins the commit that the new device may join, unless another is under way.
     fn begin_joining(&mut self, alloc: Global, ring: RingRead) -> Turn<AttachRun>
-        requires of { IsAttachOf self.old (CheckedOf ring) }
+        requires of { IsAttachRunOf self.old (CheckedOf ring) }
         requires few { HasTooManyOut self.old → ⊥ }
         ensures steps { (disk : Disk) → StepsAttach (at_disk self.old disk) (CheckedOf ring) (at_disk self.new disk)
             result }
@@ -223,7 +223,7 @@ impl Core {
     /// The next call of the first half. Where it is done, it is decided whether the device joins, and the first
     /// uberblock write is made.
     fn step_join<B: Bank>(&mut self, bank: &mut B, join: JoinRun) -> Turn<AttachRun>
-        requires of { IsAttachOf self.old (JoinsOf join) }
+        requires of { IsAttachRunOf self.old (JoinsOf join) }
         requires there { HasNewDevice (B.disk bank.old) (JoinsOf join) }
         requires bank { HasBankOf self.old (B.disk bank.old) }
         requires few { HasTooManyOut self.old → ⊥ }
@@ -251,7 +251,7 @@ impl Core {
         run: CommitRun,
         why: Option<WhyDropped>,
     ) -> Turn<AttachRun>
-        requires of { IsAttachOf self.old (SignsOf run why) }
+        requires of { IsAttachRunOf self.old (SignsOf run why) }
         requires bank { HasBankOf self.old (B.disk bank.old) }
         requires few { HasTooManyOut self.old → ⊥ }
         ensures steps { StepsAttach (at_disk self.old (B.disk bank.old)) (SignsOf run why)

@@ -1,8 +1,9 @@
 -- What the first turn of an attach comes to, among the other clients' calls.
-use Rattle.std.proofs.Common.{◌≡◌, ℕ, ◌+◌, ◌-◌, List, length, Some, None, refl, sym, ◌∙◌, ap, subst, arith}
-use Rattle.std.specs.Prelude.{slice_get}
+use Rattle.std.proofs.Common.{◌≡◌, ℕ, ◌+◌, ◌-◌, List, length, Some, None, refl, sym, ◌∙◌, ap, subst, arith, inl}
+use Rattle.std.specs.Prelude.{slice_get, true}
 use Rattle.std.proofs.lemmas.Option.{slice_get_within}
 use Rattle.attach_ring.proofs.Rings.{none_read}
+use Rattle.uberblock_ring.specs.Devices.{has_device}
 use Rattle.core_state.specs.declared.answer.Answer.{Answer}
 use Rattle.core_state.specs.declared.answer.Kind.{Kind}
 use Rattle.core_state.specs.declared.answer.Kind.TheVariants as kind
@@ -12,10 +13,12 @@ use Rattle.client_script.specs.declared.call.ScriptCall.{ScriptCall}
 use Rattle.client_script.specs.Script.{Script, calls_of}
 use Rattle.core_turns.specs.declared.attaching.AttachRun.{AttachRun}
 use Rattle.core_turns.specs.declared.turn.Turn.TheVariants.{More, Busy, Done}
-use Rattle.core_turns.specs.Attaching.{BeginsAttach, BeginsAttachSo, HoldsAttach, IsAttachOf, attach_commit}
+use Rattle.core_turns.specs.Attaching.{BeginsAttach, BeginsAttachSo, HoldsAttach, IsAttachRunOf, attach_commit}
 use Rattle.core_turns.specs.Core.{Core, at_disk}
 use Rattle.core_turns.specs.UnderWay.{AreCallsOf, HoldingCall, Stands}
 use Rattle.core_turns.proofs.AttachStands.{attaching_calls, attaching_stands}
+use Rattle.schedule.specs.Dropping.{HasDropCause}
+use Rattle.schedule.specs.Turns.{turns_of}
 use Rattle.schedule.specs.declared.client.Client.{Client}
 use Rattle.schedule.specs.declared.client.UnderWay.{UnderWay}
 use Rattle.schedule.specs.declared.client.Work.TheVariants as work
@@ -24,10 +27,10 @@ use Rattle.schedule.specs.Turned.{Station, LeavesBegun}
 use Rattle.schedule.specs.Comes.{TakesTurn, Comes}
 use Rattle.schedule.proofs.Answered.{answered, answered_idle}
 use Rattle.schedule.proofs.Coming.{goes_for}
-use Rattle.schedule.proofs.Fitting.{attach_no_free, fits}
+use Rattle.schedule.proofs.Fitting.{attach_fits}
 use Rattle.schedule.proofs.Going.{attach_begins as going_begins}
 use Rattle.schedule.proofs.LeavesPool.{holds_left, turn_still}
-use Rattle.schedule.proofs.Refusals.{IsRefusal, refusal_answers, refusal_map, refusal_right, refused_is, refused_tells}
+use Rattle.schedule.proofs.Refusals.{IsRefusal, refusal_answers, refusal_map, refusal_right, refused_cause, refused_is, refused_tells}
 use Rattle.schedule.proofs.RunsGoOn.{attach_begins as runs_begins}
 use Rattle.schedule.proofs.Theirs.{calls_stay, none_some, same_attach}
 use Rattle.schedule.proofs.TurnComes.{RunsOn, comes_at_once, comes_nowhere, comes_on, first_entry}
@@ -62,7 +65,7 @@ module _ {script : Script} {actor : ℕ} {before after : Station} {clients news 
         asked = (asked, no_id);
         commit = λ commit is. absurd (none_some (sym no_commit ∙ is));
         attach = λ its is. (
-          subst (IsAttachOf now) (same_attach is) begins.of,
+          subst (IsAttachRunOf now) (same_attach is) begins.of,
           ap (λ (c : Core). c.attaching) begins.rest,
         );
       }))
@@ -115,9 +118,12 @@ module _ {script : Script} {actor : ℕ} {before after : Station} {clients news 
       → LeavesBegun actor call before after (Done given) → Comes script actor before after clients news
   attach_at_once given refused leaves =
       comes_at_once takes call idle (holds_left old now old.pool.blocks refused.1) disk given next leaves
-      (fits old call.kind given (subst (λ (k : Kind). IsAnswerOf k given) (sym asked) (refusal_answers given refusal))
-      (refused_tells old before.state.disk.devices given refused.0)
-      (λ reached told. subst IsRefusal told refusal) (attach_no_free call.kind asked))
+      (attach_fits old call.kind given asked (refusal_answers given refusal)
+      (refused_tells old before.state.disk.devices given refused.0) (λ reached told. absurd (subst IsRefusal told refusal))
+      (refused_cause before.state.disk.devices
+      (HasDropCause (turns_of before.state before.items clients) (turns_of after.state after.items news)) old given
+      refused.0
+      (λ device out. inl (subst (λ (c : Core). has_device c.pool.out device ≡ true) (sym refused.1) out))))
       (λ full. absurd (subst IsRefusal full refusal))
       (subst (λ (c : Core). AreCallsOf c (calls_under_way clients)) (sym refused.1) takes.schedule.going.are)
       (λ world past runs.

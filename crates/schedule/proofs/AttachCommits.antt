@@ -17,7 +17,7 @@ use Rattle.client_script.specs.Script.{Script, calls_of}
 use Rattle.core_turns.specs.declared.attaching.AttachRun.{AttachRun}
 use Rattle.core_turns.specs.declared.attaching.AttachRun.TheVariants.{Joins, Signs}
 use Rattle.core_turns.specs.declared.turn.Turn.TheVariants.{More}
-use Rattle.core_turns.specs.Attaching.{HoldsAttach, IsAttachOf, OnlyGoOut, StepsJoin, attach_commit}
+use Rattle.core_turns.specs.Attaching.{HoldsAttach, IsAttachRunOf, OnlyGoOut, StepsJoin, attach_commit}
 use Rattle.core_turns.specs.Committing.{IsCommitOf, StepsCommit}
 use Rattle.core_turns.specs.Core.{Core}
 use Rattle.core_turns.specs.Getting.{HasTooManyOut}
@@ -36,6 +36,7 @@ use Rattle.schedule.specs.Recorded.{Recorded}
 use Rattle.schedule.specs.Running.{HasBegun, HasBegunBy, HasBegunIn, IsGoing, Runs, call_of_client, calls_under_way, commit_in, held_by, held_under, setting_now}
 use Rattle.schedule.specs.Turned.{LeavesGoing, Station, WorkGoesOn}
 use Rattle.schedule.specs.Works.{begun_at}
+use Rattle.schedule.proofs.Coming.{goes_for_attach}
 use Rattle.schedule.proofs.Going.{attach_commits, one_commit}
 use Rattle.schedule.proofs.Recording.{GoesOnSince, HalvesGoOn, recorded_halves}
 use Rattle.schedule.proofs.RunsGoOn.{commit_goes_on, its_holds}
@@ -71,7 +72,7 @@ module _ {script : Script} {actor : ℕ} {before after : Station} {clients news 
   only = one_commit takes.schedule.going attaching commit_is
 
   -- the commit and the attach are the core's,
-  pub of_core : (IsCommitOf old commit × (old.committing ≡ Some actor)) × (IsAttachOf old run × (old.attaching ≡ Some actor))
+  pub of_core : (IsCommitOf old commit × (old.committing ≡ Some actor)) × (IsAttachRunOf old run × (old.attaching ≡ Some actor))
   of_core = let its = its_work takes call under (work.Attach run) does_is under_is is in
       (its.commit commit makes, its.attach run refl)
 
@@ -126,17 +127,13 @@ module _ {script : Script} {actor : ℕ} {before after : Station} {clients news 
   -- The commit goes on.
   attach_steps : (next : AttachRun) (made : CommitRun) → attach_commit next ≡ Some made
       → (HasTooManyOut old → ⊥) → now ≡ record old { pool = record old.pool { out = now.pool.out } }
-      → IsAttachOf now next → IsCommitOf now made
+      → IsAttachRunOf now next → IsCommitOf now made
       → ((world : World) (past : Past) (runs : Runs world script past before.state before.items clients)
       → IsWithin old.pool.out world.setting.failed → StandsOn next made world past runs)
       → LeavesGoing actor call before after under (More (work.Attach next))
       → Comes script actor before after clients news
   attach_steps next made next_makes few core of of_commit stands further = comes_further takes call under (work.Attach run)
-      does_is under_is is (work.Attach next) (record {
-        goes = goes.0;
-        same = λ none. absurd (none actor (before.client.begun - 1) call is for_call.0);
-        bank = goes.1;
-      })
+      does_is under_is is (work.Attach next) (goes_for_attach script actor (before.client.begun - 1) call is for_call.0 goes)
       further
       (attach_commits takes.was takes.changes takes.schedule.going
       (subst (AreCallsOf now) (sym (same_calls (ap held_under next_is)))
@@ -183,7 +180,7 @@ module _ {script : Script} {actor : ℕ} {before after : Station} {clients news 
   pub join_goes : (join next : JoinRun) → under.work ≡ work.Attach (Joins join)
       → WorkGoesOn (work.Attach (Joins join)) before.state after.state
       → StepsJoin before.state join after.state (step.GoesOn next) → OnlyGoOut before.state after.state
-      → IsAttachOf after.state.core (Joins next)
+      → IsAttachRunOf after.state.core (Joins next)
       → LeavesGoing actor call before after under (More (work.Attach (Joins next)))
       → Comes script actor before after clients news
   join_goes join next does_is goes did core of = attach_steps call takes under (Joins join) join.run refl does_is under_is is
@@ -205,7 +202,7 @@ module _ {script : Script} {actor : ℕ} {before after : Station} {clients news 
   pub join_drops : (join : JoinRun) (made : CommitRun) (because : WhyDropped) → under.work ≡ work.Attach (Joins join)
       → WorkGoesOn (work.Attach (Joins join)) before.state after.state
       → StepsJoin before.state join after.state (step.Dropped made because) → OnlyGoOut before.state after.state
-      → IsAttachOf after.state.core (Signs made (Some because))
+      → IsAttachRunOf after.state.core (Signs made (Some because))
       → LeavesGoing actor call before after under (More (work.Attach (Signs made (Some because))))
       → Comes script actor before after clients news
   join_drops join made because does_is goes did core of = attach_steps call takes under (Joins join) join.run refl does_is
@@ -226,7 +223,7 @@ module _ {script : Script} {actor : ℕ} {before after : Station} {clients news 
   pub signs_on : (commit next : CommitRun) (because same : Option WhyDropped)
       → under.work ≡ work.Attach (Signs commit because)
       → WorkGoesOn (work.Attach (Signs commit because)) before.state after.state
-      → StepsCommit before.state commit after.state (More next) → IsAttachOf after.state.core (Signs next same)
+      → StepsCommit before.state commit after.state (More next) → IsAttachRunOf after.state.core (Signs next same)
       → LeavesGoing actor call before after under (More (work.Attach (Signs next same)))
       → Comes script actor before after clients news
   signs_on commit next because same does_is goes steps of = attach_steps call takes under (Signs commit because) commit refl

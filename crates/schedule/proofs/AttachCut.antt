@@ -26,7 +26,8 @@ use Rattle.schedule.specs.Running.{calls_under_way, held_under, setting_now}
 use Rattle.schedule.specs.Turned.{LeavesGoing, Station, WorkGoesOn, entry_for}
 use Rattle.schedule.proofs.AttachCommits.{alone, for_call, its_group, its_recorded, its_stands, only, same_calls}
 use Rattle.schedule.proofs.AttachReads.{looked}
-use Rattle.schedule.proofs.Fitting.{attach_no_free, fits}
+use Rattle.schedule.proofs.Coming.{goes_for_attach}
+use Rattle.schedule.proofs.Fitting.{attach_fits}
 use Rattle.schedule.proofs.Going.{attach_ends as going_ends}
 use Rattle.schedule.proofs.Recording.{recorded_goes, recorded_whole}
 use Rattle.schedule.proofs.Refusals.{refusal_right}
@@ -55,14 +56,10 @@ module _ {script : Script} {actor : ℕ} {before after : Station} {clients news 
   cut out many out_is leaves = comes_answered takes call before.client.begun under.at given
       (its_number takes call under (work.Attach run) does_is under_is is)
       (its_place takes call under (work.Attach run) does_is under_is is)
-      (record {
-        goes = goes.0;
-        same = λ none. absurd (none actor (before.client.begun - 1) call is asked.0);
-        bank = goes.1;
-      })
+      (goes_for_attach script actor (before.client.begun - 1) call is asked.0 goes)
       leaves.0 leaves.1
-      (fits old call.kind given tt (λ listed told. (many, same_out (sym told) ∙ out_is))
-      (λ reached told. no_limit reached told) (attach_no_free call.kind asked.0))
+      (attach_fits old call.kind given asked.0 tt (λ listed told. (many, same_out (sym told) ∙ out_is))
+      (λ reached told. absurd (no_limit reached told)) tt)
       (λ full. absurd (no_full full))
       (going_ends takes.was takes.changes takes.schedule.going are
       (alone call takes under run commit makes does_is under_is is goes) (ap (λ (c : Core). c.attaching) stops.core)

@@ -19,7 +19,7 @@ use Rattle.journal_law.proofs.GrownGroups.{width_step_where}
 use Rattle.core_turns.specs.declared.attaching.AttachRun.{AttachRun}
 use Rattle.core_turns.specs.declared.attaching.AttachRun.TheVariants.{Checked, Joins}
 use Rattle.core_turns.specs.declared.turn.Turn.TheVariants.{More}
-use Rattle.core_turns.specs.Attaching.{BeginsJoining, IsAttachOf}
+use Rattle.core_turns.specs.Attaching.{BeginsJoining, IsAttachRunOf}
 use Rattle.core_turns.specs.Core.{Core}
 use Rattle.core_turns.specs.UnderWay.{AreCallsOf, HoldingCall, Stands}
 use Rattle.core_turns.proofs.AttachBegins.{attach_joins_stands}
@@ -34,6 +34,7 @@ use Rattle.schedule.specs.Running.{IsGoing, calls_under_way, commit_in, held_by,
 use Rattle.schedule.specs.Turned.{HasDeviceFor, HasDeviceUnder, LeavesGoing, Station, WorkGoesOn}
 use Rattle.schedule.specs.Works.{begun_at}
 use Rattle.schedule.proofs.Begun.{begun_now}
+use Rattle.schedule.proofs.Coming.{goes_for_attach}
 use Rattle.schedule.proofs.Going.{attach_commits}
 use Rattle.schedule.proofs.RunsGoOn.{attach_joins as runs_joins}
 use Rattle.schedule.proofs.Syncs.{no_commit}
@@ -55,7 +56,7 @@ module _ {script : Script} {actor : ℕ} {before after : Station} {clients news 
     (does_is : under.work ≡ work.Attach (Checked ring)) (under_is : before.client.under_way ≡ Some under)
     (is : slice_get (calls_of script actor) (before.client.begun - 1) ≡ Some call)
     (goes : WorkGoesOn (work.Attach (Checked ring)) before.state after.state)
-    (joins : BeginsJoining before.state after.state join) (of : IsAttachOf after.state.core (Joins join)) where
+    (joins : BeginsJoining before.state after.state join) (of : IsAttachRunOf after.state.core (Joins join)) where
   abbrev old : Core
   old = before.state.core
 
@@ -68,7 +69,7 @@ module _ {script : Script} {actor : ℕ} {before after : Station} {clients news 
   for_call : (call.kind ≡ kind.Attach) × (call.id ≡ None)
   for_call = its_asked takes call under (work.Attach (Checked ring)) does_is under_is is
 
-  of_core : IsAttachOf old (Checked ring) × (old.attaching ≡ Some actor)
+  of_core : IsAttachRunOf old (Checked ring) × (old.attaching ≡ Some actor)
   of_core = (its_work takes call under (work.Attach (Checked ring)) does_is under_is is).attach (Checked ring) refl
 
   its_actor : joins.actor ≡ actor
@@ -97,11 +98,7 @@ module _ {script : Script} {actor : ℕ} {before after : Station} {clients news 
   pub attach_joins : LeavesGoing actor call before after under (More (work.Attach (Joins join)))
       → Comes script actor before after clients news
   attach_joins further = comes_further takes call under (work.Attach (Checked ring)) does_is under_is is
-      (work.Attach (Joins join)) (record {
-        goes = goes.0;
-        same = λ none. absurd (none actor (before.client.begun - 1) call is for_call.0);
-        bank = goes.1;
-      })
+      (work.Attach (Joins join)) (goes_for_attach script actor (before.client.begun - 1) call is for_call.0 goes)
       further
       (attach_commits takes.was takes.changes takes.schedule.going are now_under (Joins join) join.run call
       alone none_commits refl of attaching next_is refl tt

@@ -1,29 +1,32 @@
 -- What the turns of an attach come to that make no commit, among the other clients' calls: the reads of the new device,
 -- and an attach that ends with them.
-use Rattle.std.proofs.Common.{◌≡◌, ◌≢◌, ℕ, ◌-◌, List, [], ◌∷◌, ◌++◌, length, Some, None, refl, sym, ◌∙◌, ap, subst}
+use Rattle.std.proofs.Common.{◌≡◌, ◌≢◌, inl, ℕ, ◌-◌, List, [], ◌∷◌, ◌++◌, length, Some, None, refl, sym, ◌∙◌, ap, subst}
 use Rattle.std.specs.Prelude.{slice_get}
 use Rattle.bank_trait.specs.Disk.{Disk, Lawful, Unchanged}
 use Rattle.bank_trait.proofs.Moments.{later_refl}
+use Rattle.uberblock_ring.specs.Uberblock.{Uber, max_group}
 use Rattle.attach_ring.specs.Ring.{HasReadRing, ReadsSlot, RingRead}
 use Rattle.attach_ring.proofs.Rings.{one_more_read}
 use Rattle.core_commit.specs.Spared.{IsOnInUse}
 use Rattle.core_open.proofs.Others.{read_touches}
 use Rattle.core_open.proofs.Unchanged.{unchanged_none}
 use Rattle.core_state.specs.declared.answer.Answer.{Answer}
+use Rattle.core_state.specs.declared.answer.Answer.TheVariants as answer
 use Rattle.core_state.specs.declared.answer.Kind.{Kind}
 use Rattle.core_state.specs.declared.answer.Kind.TheVariants as kind
 use Rattle.core_state.specs.declared.item.Entry.{Entry}
 use Rattle.core_state.specs.declared.item.Item.{Item}
 use Rattle.core_state.specs.declared.item.Item.TheVariants.{Call as CallItem}
 use Rattle.core_state.specs.Legal.{IsAnswerOf}
-use Rattle.core_state.specs.Map.{Map, map_of}
+use Rattle.core_state.specs.Map.{Map, PutBytes, map_after_answer, map_of}
 use Rattle.core_state.specs.World.{World}
+use Rattle.join_commit.specs.declared.join_run.WhyDropped.{WhyDropped}
 use Rattle.client_script.specs.declared.call.ScriptCall.{ScriptCall}
 use Rattle.client_script.specs.Script.{Script, calls_of}
 use Rattle.core_turns.specs.declared.attaching.AttachRun.{AttachRun}
-use Rattle.core_turns.specs.declared.attaching.AttachRun.TheVariants.{Reads, Checked}
+use Rattle.core_turns.specs.declared.attaching.AttachRun.TheVariants.{Reads, Checked, Joins, Signs}
 use Rattle.core_turns.specs.declared.turn.Turn.TheVariants.{More, Done}
-use Rattle.core_turns.specs.Attaching.{AttachGoesOn, FindsFree, HoldsAttach, IsAttachOf, IsDeviceRefused, ReadsNext, StopsAttach, WaitsForCommit, attach_commit}
+use Rattle.core_turns.specs.Attaching.{AttachGoesOn, FindsFree, HoldsAttach, IsAttachRunOf, IsDeviceRefused, ReadsNext, StopsAttach, WaitsForCommit, attach_commit}
 use Rattle.core_turns.specs.Committing.{IsCommitOf, IsSyncRefused}
 use Rattle.core_turns.specs.Core.{Core, CoreState, HasBankOf, IsCore, at_disk}
 use Rattle.core_turns.specs.Getting.{HasTooManyOut}
@@ -31,25 +34,34 @@ use Rattle.core_turns.specs.UnderWay.{AreCallsOf, HoldingCall, Stands}
 use Rattle.core_turns.proofs.AttachBeside.{attach_beside}
 use Rattle.core_turns.proofs.AttachStands.{attaching_calls, attaching_stands, look_stands}
 use Rattle.core_turns.proofs.AttachTurns.{attaching_commit}
+use Rattle.core_turns.proofs.Commits.{rests}
 use Rattle.core_turns.proofs.StandFrames.{since_read}
 use Rattle.schedule.specs.declared.client.Client.{Client}
 use Rattle.schedule.specs.declared.client.UnderWay.{UnderWay}
 use Rattle.schedule.specs.declared.client.Work.TheVariants as work
 use Rattle.schedule.specs.Comes.{Comes, TakesTurn}
 use Rattle.schedule.specs.Coming.{GoesOnFor}
+use Rattle.schedule.specs.Dropping.{HasDropCause}
+use Rattle.schedule.specs.Fitting.{IsAttachCause, IsGroupKind}
 use Rattle.schedule.specs.Moments.{Past}
+use Rattle.schedule.specs.Recorded.{IsRightNext}
 use Rattle.schedule.specs.Running.{AreGoing, IsGoing, Runs, call_of_client, calls_under_way, commit_in, held_by, held_under, setting_now}
+use Rattle.schedule.specs.Turns.{turns_of}
 use Rattle.schedule.specs.Works.{made_by}
 use Rattle.schedule.specs.Turned.{LeavesGoing, Station, WorkGoesOn, entry_for}
-use Rattle.schedule.proofs.Fitting.{NoLimit, TellsOut, attach_no_free, fits}
+use Rattle.schedule.proofs.AttachUses.{refused_plain, sync_plain}
+use Rattle.schedule.proofs.Coming.{goes_for_attach}
+use Rattle.schedule.proofs.Fitting.{TellsOut, attach_fits}
 use Rattle.schedule.proofs.Going.{attach_goes as going_goes, attach_stops as going_stops, one_commit}
 use Rattle.schedule.proofs.LeavesPool.{KeepsCommit}
 use Rattle.schedule.proofs.Recording.{recorded_goes}
-use Rattle.schedule.proofs.Refusals.{IsRefusal, alone_listed, device_refusal, device_tells, refusal_answers, refusal_map, refusal_right, sync_refusal}
+use Rattle.schedule.proofs.Refusals.{IsRefusal, device_cause, device_refusal, device_tells, refusal_answers, refusal_map, refusal_right, sync_cause}
 use Rattle.schedule.proofs.RunsEnd.{answers_call as runs_answer}
 use Rattle.schedule.proofs.RunsGoOn.{goes_on as runs_goes_on, its_holds}
-use Rattle.schedule.proofs.Syncs.{its_commit, refused_tells as sync_tells, stands_know}
+use Rattle.schedule.proofs.Syncs.{its_commit, refused_answers as sync_answers, refused_map as sync_map, refused_right as sync_refused_right, refused_tells as sync_tells, stands_know}
 use Rattle.schedule.proofs.Theirs.{begun_before, calls_stay, none_some, none_there, same_attach, some_is, work_no_commit}
+use Rattle.schedule.proofs.UsingEnds.{EndsPlainly}
+use Rattle.schedule.proofs.UsingWorks.{plain_listed}
 use Rattle.schedule.proofs.TurnComes.{comes_answered, comes_further, its_asked, its_going, its_number, its_place, its_work}
 
 -- A device was read: all stands that stood.
@@ -86,11 +98,18 @@ keeps_same_core old now same = subst (KeepsCommit old) (sym same) (record {
   many = λ many. many;
 })
 
+-- One that makes no commit made no group.
+made_none : (run : AttachRun) → attach_commit run ≡ None → made_by (work.Attach run) ≡ None
+made_none (Reads ring) none = refl
+made_none (Checked ring) none = refl
+made_none (Joins join) none = refl
+made_none (Signs commit because) none = absurd (none_some (sym none))
+
 module _ {script : Script} {actor : ℕ} {before after : Station} {clients news : List Client} (call : ScriptCall)
     (takes : TakesTurn script actor before after clients news) (under : UnderWay) (run : AttachRun)
     (does_is : under.work ≡ work.Attach run) (under_is : before.client.under_way ≡ Some under)
     (is : slice_get (calls_of script actor) (before.client.begun - 1) ≡ Some call)
-    (goes : WorkGoesOn (work.Attach run) before.state after.state) (early : attach_commit run ≡ None) where
+    (goes : WorkGoesOn (work.Attach run) before.state after.state) (none : attach_commit run ≡ None) where
   abbrev old : Core
   old = before.state.core
 
@@ -105,18 +124,14 @@ module _ {script : Script} {actor : ℕ} {before after : Station} {clients news 
   for_call = its_asked takes call under (work.Attach run) does_is under_is is
 
   -- and the one under way.
-  of_core : IsAttachOf old run × (old.attaching ≡ Some actor)
+  of_core : IsAttachRunOf old run × (old.attaching ≡ Some actor)
   of_core = (its_work takes call under (work.Attach run) does_is under_is is).attach run refl
 
   on : GoesOnFor script before.state after.state
-  on = record {
-    goes = goes.0;
-    same = λ none. absurd (none actor (before.client.begun - 1) call is for_call.0);
-    bank = goes.1;
-  }
+  on = goes_for_attach script actor (before.client.begun - 1) call is for_call.0 goes
 
   no_commit : commit_in under.work ≡ None
-  no_commit = ap commit_in does_is ∙ early
+  no_commit = ap commit_in does_is ∙ none
 
   -- Another's is none.
   alone : (other : ℕ) (its : Client) (its_under : UnderWay) (its_run : AttachRun) → other ≢ actor
@@ -130,7 +145,7 @@ module _ {script : Script} {actor : ℕ} {before after : Station} {clients news 
 
   -- It goes on, and makes no commit yet.
   pub attach_looks : (next : AttachRun) → now ≡ old → Unchanged before.state.disk after.state.disk
-      → attach_commit next ≡ None → IsAttachOf now next
+      → attach_commit next ≡ None → IsAttachRunOf now next
       → ((world : World) (past : Past) (runs : Runs world script past (at_disk old after.state.disk) before.items clients)
       → HoldsAttach (setting_now runs) runs.last runs.begun after.state.disk next)
       → LeavesGoing actor call before after under (More (work.Attach next)) → ItComes
@@ -146,7 +161,7 @@ module _ {script : Script} {actor : ℕ} {before after : Station} {clients news 
         asked = for_call;
         commit = λ commit its. absurd (none_some (sym next_early ∙ its));
         attach = λ its its_is. (
-          subst (IsAttachOf now) (same_attach its_is) of,
+          subst (IsAttachRunOf now) (same_attach its_is) of,
           ap (λ (c : Core). c.attaching) core ∙ of_core.1,
         );
       }))
@@ -179,18 +194,26 @@ module _ {script : Script} {actor : ℕ} {before after : Station} {clients news 
       are = subst (λ (c : Core). AreCallsOf c (calls_under_way news)) (sym core)
           (subst (AreCallsOf old) (sym (same_calls (ap held_under next_is))) takes.schedule.going.are)
 
+  -- what an answer is with which it ends before its commit
+  pub record EndsEarly (given : Answer) : Type 0 where
+    pub answers : IsAnswerOf kind.Attach given
+    pub tells : TellsOut old given
+    pub limit : (reached : ℕ) → given ≡ answer.Limit reached → reached ≡ max_group
+    pub cause : IsAttachCause before.state.disk.devices
+        (HasDropCause (turns_of before.state before.items clients) (turns_of after.state after.items news)) given
+    pub no_full : given ≢ answer.Full
+    pub no_block : (handed : PutBytes) (map : Map) (entry : Entry) → map_after_answer handed map entry given ≡ map
+    pub right : (world : World) (past : Past) → Runs world script past before.state before.items clients
+        → IsRightNext world before.items (entry_for call actor before.client.begun under.at given)
+
   -- It ends, and no device is attached.
-  pub attach_stops : (given : Answer) → StopsAttach before.state after.state → IsRefusal given → TellsOut old given
-      → LeavesGoing actor call before after under (Done given)
-      → after.items ≡ before.items ++ CallItem (entry_for call actor before.client.begun under.at given) ∷ []
-      → ItComes
-  attach_stops given stops refusal tells leaves listed = comes_answered takes call before.client.begun under.at given
+  pub attach_stops : (given : Answer) → EndsEarly given → StopsAttach before.state after.state
+      → EndsPlainly given None → LeavesGoing actor call before after under (Done given) → ItComes
+  attach_stops given early stops plain leaves = comes_answered takes call before.client.begun under.at given
       (its_number takes call under (work.Attach run) does_is under_is is)
       (its_place takes call under (work.Attach run) does_is under_is is) on listed leaves.1
-      (fits old call.kind given
-      (subst (λ (k : Kind). IsAnswerOf k given) (sym for_call.0) (refusal_answers given refusal)) tells
-      (λ reached told. subst IsRefusal told refusal) (attach_no_free call.kind for_call.0))
-      (λ full. absurd (subst IsRefusal full refusal))
+      (attach_fits old call.kind given for_call.0 early.answers early.tells early.limit early.cause)
+      (λ full. absurd (early.no_full full))
       (going_stops takes.was takes.changes takes.schedule.going are of_core.1 (ap (λ (c : Core). c.attaching) stops.core)
       (ap (λ (c : Core). c.committing) stops.core)
       (λ commit of. subst (λ (c : Core). IsCommitOf c commit) (sym stops.core) (attaching_commit old None of))
@@ -200,12 +223,11 @@ module _ {script : Script} {actor : ℕ} {before after : Station} {clients news 
       let runs = looked after.state.disk takes.schedule.going takes.is takes.still_lawful stops.unchanged was in
       let map : Map = map_of world.handed world.opening before.items in
       runs_answer after.state takes.was takes.changes runs runs.commit runs.recorded entry refl idle_now refl
-      (stands_know runs.stands) (refusal_right world before.items entry for_call.0 refusal)
-      (subst (λ (k : Kind). IsAnswerOf k given) (sym for_call.0) (refusal_answers given refusal)) with runs.theirs
+      (stands_know runs.stands) (early.right world past was) answers with runs.theirs
       (work_no_commit under_is (λ makes. none_there no_commit makes))
       (subst (λ (m : Map). Stands (setting_now runs) runs.last runs.begun m runs.contents (calls_under_way news)
       runs.commit after.state)
-      (sym (refusal_map world.handed map entry given refusal))
+      (sym (early.no_block world.handed map entry))
       (subst (λ (s : CoreState). Stands (setting_now runs) runs.last runs.begun map runs.contents (calls_under_way news)
       runs.commit s)
       (λ i. at_disk (sym stops.core i) after.state.disk)
@@ -216,6 +238,13 @@ module _ {script : Script} {actor : ℕ} {before after : Station} {clients news 
     where
       entry : Entry
       entry = entry_for call actor before.client.begun under.at given
+
+      answers : IsAnswerOf call.kind given
+      answers = subst (λ (k : Kind). IsAnswerOf k given) (sym for_call.0) early.answers
+
+      listed : after.items ≡ before.items ++ CallItem entry ∷ []
+      listed = leaves.0 ∙ plain_listed now before.items under.at entry (made_by under.work) given
+          (subst (EndsPlainly given) (sym (ap made_by does_is ∙ made_none run none)) plain)
 
       idle_now : after.client.under_way ≡ None
       idle_now = ap (λ (c : Client). c.under_way) leaves.1
@@ -250,12 +279,15 @@ module _ {script : Script} {actor : ℕ} {before after : Station} {clients news 
     (is : slice_get (calls_of script actor) (before.client.begun - 1) ≡ Some call)
     (goes : (AttachGoesOn before.state after.state)
     × (HasBankOf before.state.core before.state.disk → HasBankOf after.state.core after.state.disk)) where
+  abbrev dropped : WhyDropped → Type 0
+  dropped = HasDropCause (turns_of before.state before.items clients) (turns_of after.state after.items news)
+
   abbrev TurnComes : Type 0
   TurnComes = Comes script actor before after clients news
 
   -- One more slot of the ring is read,
   pub reads_next : (next : RingRead) → under.work ≡ work.Attach (Reads ring)
-      → ReadsNext before.state ring after.state next → IsAttachOf after.state.core (Reads next)
+      → ReadsNext before.state ring after.state next → IsAttachRunOf after.state.core (Reads next)
       → LeavesGoing actor call before after under (More (work.Attach (Reads next))) → TurnComes
   reads_next next does_is did of leaves = attach_looks call takes under (Reads ring) does_is under_is is goes refl
       (Reads next) did.core did.unchanged refl of
@@ -266,7 +298,7 @@ module _ {script : Script} {actor : ℕ} {before after : Station} {clients news 
 
   -- it is found free,
   pub finds_free : (next : RingRead) → under.work ≡ work.Attach (Reads ring)
-      → FindsFree before.state ring after.state next → IsAttachOf after.state.core (Checked next)
+      → FindsFree before.state ring after.state next → IsAttachRunOf after.state.core (Checked next)
       → LeavesGoing actor call before after under (More (work.Attach (Checked next))) → TurnComes
   finds_free next does_is did of leaves = attach_looks call takes under (Reads ring) does_is under_is is goes refl
       (Checked next) did.core did.unchanged refl of
@@ -276,7 +308,7 @@ module _ {script : Script} {actor : ℕ} {before after : Station} {clients news 
 
   -- or the attach waits for another's commit.
   pub waits_on : (next : RingRead) → under.work ≡ work.Attach (Checked ring)
-      → WaitsForCommit before.state ring after.state next → IsAttachOf after.state.core (Checked next)
+      → WaitsForCommit before.state ring after.state next → IsAttachRunOf after.state.core (Checked next)
       → LeavesGoing actor call before after under (More (work.Attach (Checked next))) → TurnComes
   waits_on next does_is did of leaves = attach_looks call takes under (Checked ring) does_is under_is is goes refl
       (Checked next) (ap (λ (s : CoreState). s.core) did.state)
@@ -292,19 +324,39 @@ module _ {script : Script} {actor : ℕ} {before after : Station} {clients news 
       → StopsAttach before.state after.state → IsDeviceRefused before.state ring after.state given
       → LeavesGoing actor call before after under (Done given) → TurnComes
   device_refused given does_is stops refused leaves = attach_stops call takes under (Reads ring) does_is under_is is goes
-      refl given stops (device_refusal before.state ring after.state given refused)
-      (device_tells before.state ring after.state given refused) leaves
-      (leaves.0 ∙ alone_listed after.state.core before.items under.at
-      (entry_for call actor before.client.begun under.at given) given (made_by under.work) (ap made_by does_is)
-      (device_refusal before.state ring after.state given refused))
+      refl given (record {
+        answers = refusal_answers given refusal;
+        tells = device_tells before.state ring after.state given refused;
+        limit = λ reached told. absurd (subst IsRefusal told refusal);
+        cause = device_cause before.state.disk.devices dropped before.state ring after.state given refused (λ device rose. inl rose);
+        no_full = λ full. subst IsRefusal full refusal;
+        no_block = λ handed map entry. refusal_map handed map entry given refusal;
+        right = λ world past runs. refusal_right world before.items
+            (entry_for call actor before.client.begun under.at given)
+            (its_asked takes call under (work.Attach (Reads ring)) does_is under_is is).0 refusal;
+      })
+      stops (refused_plain before.state after.state takes.is ring given refused) leaves
+    where
+      refusal : IsRefusal given
+      refusal = device_refusal before.state ring after.state given refused
 
-  -- or its commit is not begun.
+  -- or its commit is not begun, as that of a sync.
   pub commit_refused : (given : Answer) → under.work ≡ work.Attach (Checked ring)
-      → StopsAttach before.state after.state → IsSyncRefused before.state.core given → NoLimit given
+      → StopsAttach before.state after.state → IsSyncRefused before.state.core given
       → LeavesGoing actor call before after under (Done given) → TurnComes
-  commit_refused given does_is stops refused no_limit leaves = attach_stops call takes under (Checked ring) does_is
-      under_is is goes refl given stops (sync_refusal before.state.core given refused no_limit)
-      (sync_tells before.state.core given refused) leaves
-      (leaves.0 ∙ alone_listed after.state.core before.items under.at
-      (entry_for call actor before.client.begun under.at given) given (made_by under.work) (ap made_by does_is)
-      (sync_refusal before.state.core given refused no_limit))
+  commit_refused given does_is stops refused leaves = attach_stops call takes under (Checked ring) does_is under_is is
+      goes refl given (record {
+        answers = sync_answers kind.Attach before.state.core given refused;
+        tells = sync_tells before.state.core given refused;
+        limit = λ reached told. (subst (IsSyncRefused before.state.core) told refused).2;
+        cause = sync_cause before.state.disk.devices dropped before.state.core given refused;
+        no_full = λ full. subst (IsSyncRefused before.state.core) full refused;
+        no_block = λ handed map entry. sync_map handed map entry before.state.core given refused;
+        right = λ world past runs. sync_refused_right world before.items runs.item
+            (entry_for call actor before.client.begun under.at given) before.state.core given
+            (subst IsGroupKind (sym (its_asked takes call under (work.Attach (Checked ring)) does_is under_is is).0) tt)
+            refl runs.recorded.latest
+            (λ none. rests before.state.core takes.is none ∙ ap (λ (u : Uber). u.group) runs.stands.alike
+            ∙ runs.recorded.item_is.number) refused;
+      })
+      stops (sync_plain before.state after.state takes.is given refused) leaves

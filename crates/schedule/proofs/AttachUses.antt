@@ -84,20 +84,20 @@ module _ (before after : CoreState) (is : IsCore before.core) where
   too_many_plain (answer.TooManyFailed out) made many = plain_ends (answer.TooManyFailed out) made tt
   too_many_plain other made many = absurd many
 
-  refused_plain : (ring : RingRead) (given : Answer) → IsDeviceRefused before ring after given → EndsPlainly given None
+  pub refused_plain : (ring : RingRead) (given : Answer) → IsDeviceRefused before ring after given → EndsPlainly given None
   refused_plain ring (answer.NewDeviceFailed device) refused = record { group = refl; space = λ size same. cc }
   refused_plain ring (answer.Taken slot) refused = plain_ends (answer.Taken slot) None tt
   refused_plain ring (answer.TooManyFailed out) refused = plain_ends (answer.TooManyFailed out) None tt
   refused_plain ring other refused = absurd refused
 
-  sync_plain : (given : Answer) → IsSyncRefused old given → EndsPlainly given None
+  pub sync_plain : (given : Answer) → IsSyncRefused old given → EndsPlainly given None
   sync_plain (answer.TooManyFailed out) refused = plain_ends (answer.TooManyFailed out) None tt
   sync_plain (answer.Limit reached) refused = plain_ends (answer.Limit reached) None tt
   sync_plain answer.NoMemory refused = plain_ends answer.NoMemory None tt
   sync_plain other refused = absurd refused
 
   -- or with the group of its commit.
-  answered_by : (because : Option WhyDropped) (width group number : ℕ) → group ≡ number
+  pub answered_by : (because : Option WhyDropped) (width group number : ℕ) → group ≡ number
       → group_by (attach_answer because width number) (Some group) ≡ Some number
   answered_by None width group number same = refl
   answered_by (Some (why.NewDeviceFailed device)) width group number same = ap (λ (n : ℕ). Some n) same

@@ -22,13 +22,13 @@ use Rattle.client_script.specs.declared.call.ScriptCall.{ScriptCall}
 use Rattle.client_script.specs.Script.{Script, calls_of}
 use Rattle.core_turns.specs.declared.attaching.AttachRun.TheVariants.{Joins, Signs}
 use Rattle.core_turns.specs.declared.turn.Turn.TheVariants.{More}
-use Rattle.core_turns.specs.Attaching.{GoOutAndReach, IsAttachOf, StepsJoin}
+use Rattle.core_turns.specs.Attaching.{GoOutAndReach, IsAttachRunOf, StepsJoin}
 use Rattle.core_turns.specs.Core.{Core, HasBankOf}
 use Rattle.core_turns.specs.UnderWay.{AreCallsOf, HoldingCall, Stands, shown_in}
 use Rattle.core_turns.proofs.AttachSigns.{join_joins_since, join_joins_stands}
 use Rattle.core_turns.proofs.AttachTurns.{reaching_on}
 use Rattle.core_turns.proofs.Commits.{few_out}
-use Rattle.core_turns.proofs.Frames.{calls_keep, calls_stay as core_calls}
+use Rattle.core_turns.proofs.Frames.{calls_beside, calls_stay as core_calls}
 use Rattle.schedule.specs.declared.client.Client.{Client}
 use Rattle.schedule.specs.declared.client.UnderWay.{UnderWay}
 use Rattle.schedule.specs.declared.client.Work.TheVariants as work
@@ -41,6 +41,7 @@ use Rattle.schedule.specs.Running.{Runs, calls_under_way, held_under, setting_no
 use Rattle.schedule.specs.Turned.{HasDeviceFor, HasDeviceUnder, LeavesGoing, Station, WorkGoesOn}
 use Rattle.schedule.specs.Works.{begun_at, commit_in}
 use Rattle.schedule.proofs.AttachCommits.{alone, for_call, from_first, its_group, its_known, its_recorded, its_stands, of_core, only, same_calls}
+use Rattle.schedule.proofs.Coming.{goes_for_attach}
 use Rattle.schedule.proofs.Going.{attach_commits}
 use Rattle.schedule.proofs.Recording.{recorded_halves}
 use Rattle.schedule.proofs.Running.{head_is}
@@ -78,19 +79,8 @@ awaits_attach {script} {actor} {before} {clients = clients} call takes under und
 
 -- A pool that reaches to one device more has the same calls under way,
 reaching_calls : (core : Core) (calls : List HoldingCall) → AreCallsOf core calls → AreCallsOf (reaching_on core) calls
-reaching_calls core calls are = calls_keep core (reaching_on core) calls (record {
-  widths = record {
-    parity = refl;
-    births = refl;
-    reflow = refl;
-    done = refl;
-    block_parity = refl;
-    block_births = refl;
-    begun = omega arith;
-  };
-  copying = refl;
-  within = λ device has. has;
-}) (λ hold has. has) are.under are
+reaching_calls core calls are = calls_beside core core.holds core.begun (core.reach + 1) core.committing core.attaching calls
+    (omega arith) (λ hold has. has) are
 
 -- and its bank where the device is there.
 reaching_bank : (core : Core) (disk : Disk) → HasBankOf core disk → core.reach < disk.devices
@@ -107,14 +97,14 @@ module _ {script : Script} {actor : ℕ} {before after : Station} {clients news 
     (is : slice_get (calls_of script actor) (before.client.begun - 1) ≡ Some call)
     (goes : WorkGoesOn (work.Attach (Joins join)) before.state after.state)
     (did : StepsJoin before.state join after.state (step.Joined made)) (core : GoOutAndReach before.state after.state)
-    (of : IsAttachOf after.state.core (Signs made None)) where
+    (of : IsAttachRunOf after.state.core (Signs made None)) where
   abbrev old : Core
   old = before.state.core
 
   abbrev now : Core
   now = after.state.core
 
-  attach_of : IsAttachOf old (Joins join) × (old.attaching ≡ Some actor)
+  attach_of : IsAttachRunOf old (Joins join) × (old.attaching ≡ Some actor)
   attach_of = (of_core call takes under (Joins join) join.run refl does_is under_is is goes).1
 
   asked : (call.kind ≡ kind.Attach) × (call.id ≡ None)
@@ -163,11 +153,7 @@ module _ {script : Script} {actor : ℕ} {before after : Station} {clients news 
   pub join_joins : LeavesGoing actor call before after under (More (work.Attach (Signs made None)))
       → Comes script actor before after clients news
   join_joins further = comes_further takes call under (work.Attach (Joins join)) does_is under_is is
-      (work.Attach (Signs made None)) (record {
-        goes = goes.0;
-        same = λ none. absurd (none actor (before.client.begun - 1) call is asked.0);
-        bank = goes.1;
-      })
+      (work.Attach (Signs made None)) (goes_for_attach script actor (before.client.begun - 1) call is asked.0 goes)
       further
       (attach_commits takes.was takes.changes takes.schedule.going
       (subst (AreCallsOf now) (sym same)

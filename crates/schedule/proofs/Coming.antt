@@ -8,6 +8,7 @@ use Rattle.bank_trait.proofs.Moments.{later_refl, later_trans}
 use Rattle.bank_trait.proofs.Touches.{touches_none, touches_then, touches_widen}
 use Rattle.uberblock_ring.specs.Devices.{count_of, has_device, IsWithin}
 use Rattle.uberblock_ring.proofs.DeviceSets.{none_in}
+use Rattle.core_state.specs.declared.answer.Kind.TheVariants as kind
 use Rattle.core_state.specs.declared.item.Item.{Item}
 use Rattle.core_state.specs.Legal.{CallAt}
 use Rattle.core_state.specs.World.{World}
@@ -17,19 +18,23 @@ use Rattle.core_commit.specs.Spared.{IsOnInUse}
 use Rattle.core_commit.proofs.Going.{in_use_before}
 use Rattle.core_open.proofs.Written.{none_listed}
 use Rattle.open_pool.proofs.Banks.{count_grows}
-use Rattle.client_script.specs.Script.{Script}
+use Rattle.join_commit.specs.declared.join_run.WhyDropped.{WhyDropped}
+use Rattle.join_commit.specs.declared.join_run.WhyDropped.TheVariants as why
+use Rattle.client_script.specs.declared.call.ScriptCall.{ScriptCall}
+use Rattle.client_script.specs.Script.{Script, calls_of}
 use Rattle.journal_law.proofs.Grown.{grown_has}
-use Rattle.core_turns.specs.Core.{CoreState}
+use Rattle.core_turns.specs.Core.{CoreState, HasBankOf}
 use Rattle.core_turns.specs.Attaching.{AttachGoesOn}
 use Rattle.core_turns.specs.UnderWay.{TurnGoesOn}
 use Rattle.core_turns.proofs.AttachGoes.{as_attach}
 use Rattle.core_turns.proofs.CommitGoes.{turn_bank}
 use Rattle.schedule.specs.Coming.{AttachesNone, GoesOnFor, IsWorldOf, LeadTo, KeepsUsing, StaysAsWide}
 use Rattle.schedule.specs.Turns.{Turns, TurnTaken, last_left, AreListedWith, IsListedWith, taken_by}
-use Rattle.schedule.specs.Fitting.{FitsCall}
+use Rattle.schedule.specs.Dropping.{HasDropCause, IsDropCause, IsToBeTold}
+use Rattle.schedule.specs.Fitting.{IsAttachCause}
 use Rattle.schedule.specs.Numbered.{IsNumbered}
 use Rattle.schedule.specs.Running.{Runs}
-use Rattle.schedule.proofs.Fitting.{FitSince}
+use Rattle.schedule.proofs.Fitting.{FitSince, attach_cause}
 use Rattle.schedule.proofs.Fulls.{FullStays}
 use Rattle.schedule.specs.Moments.{Past}
 
@@ -62,6 +67,7 @@ came_nowhere script turns passed same = by (few_or_many turns.state.core.pool.ou
       out = outs_none (point_of turns.state.core.pool.out turns.state.disk);
       listed = λ index item there. there;
       fits = λ index entry there. inl there;
+      dropped = λ cause told. inr told;
       borne = turns.state.core.pool.out;
       few = few;
       from_start = λ still device out. out;
@@ -82,6 +88,7 @@ came_nowhere script turns passed same = by (few_or_many turns.state.core.pool.ou
       out = outs_none (point_of turns.state.core.pool.out turns.state.disk);
       listed = λ index item there. there;
       fits = λ index entry there. inl there;
+      dropped = λ cause told. inr told;
       borne = 0;
       few = none_listed turns.state.core.pool.uber.parity;
       from_start = λ few. absurd (omega (arith, few, many));
@@ -157,6 +164,29 @@ module _ (script : Script) (start middle now : Turns) (one two : List TurnTaken)
             one.only two.only;
       }
 
+  -- Why no device was attached that was known so far, or came to be known,
+  dropped_before : (cause : WhyDropped) → HasDropCause start middle cause → HasDropCause start now cause
+  dropped_before cause = ⊎_elim (λ since. inl (by cause since)) (λ earlier. inr earlier)
+    where
+      by : (cause : WhyDropped)
+          → IsDropCause start.state.disk middle.state.disk middle.state.core.pool.out cause
+          → IsDropCause start.state.disk now.state.disk now.state.core.pool.out cause
+      by (why.NewDeviceFailed device) rose =
+          let more = second.later.faults device in omega (arith, rose, more)
+      by (why.DeviceOut device) out = second.out.still device out
+
+  dropped_since : (cause : WhyDropped) → HasDropCause middle now cause → HasDropCause start now cause
+  dropped_since cause = ⊎_elim (λ since. inl (by cause since)) (λ earlier. dropped_before cause (first.dropped cause earlier))
+    where
+      by : (cause : WhyDropped) → IsDropCause middle.state.disk now.state.disk now.state.core.pool.out cause
+          → IsDropCause start.state.disk now.state.disk now.state.core.pool.out cause
+      by (why.NewDeviceFailed device) rose =
+          let more = first.later.faults device in omega (arith, rose, more)
+      by (why.DeviceOut device) out = out
+
+  dropped_then : (cause : WhyDropped) → IsToBeTold now.clients cause → HasDropCause start now cause
+  dropped_then cause told = dropped_since cause (second.dropped cause told)
+
   fits_then : FitSince start now
   fits_then index entry there = ⊎_elim
       (λ (was : CallAt middle.items index entry). ⊎_elim (λ at. inl at)
@@ -166,9 +196,20 @@ module _ (script : Script) (start middle now : Turns) (one two : List TurnTaken)
             (many.0, λ device out. second.out.still device (many.1 device out));
         limit = fit.limit;
         memory = fit.memory;
+        attach = attach_cause start.state.disk.devices (HasDropCause start middle) (HasDropCause start now)
+            entry.answer dropped_before fit.attach;
       }))
       (first.fits index entry was))
-      (λ fit. inr (subst (λ (n : ℕ). FitsCall n now.state.core.pool.out entry) first.parity fit))
+      (λ fit. inr (record {
+        of_kind = fit.of_kind;
+        too_many = λ listed is. let many = fit.too_many listed is in
+            (subst (λ (n : ℕ). n < count_of listed) first.parity many.0, many.1);
+        limit = fit.limit;
+        memory = fit.memory;
+        attach = subst (λ (n : ℕ). IsAttachCause n (HasDropCause start now) entry.answer) first.later.devices
+            (attach_cause middle.state.disk.devices (HasDropCause middle now) (HasDropCause start now) entry.answer
+            dropped_since fit.attach);
+      }))
       (second.fits index entry there)
 
   -- the devices that have to be borne in both
@@ -186,6 +227,7 @@ module _ (script : Script) (start middle now : Turns) (one two : List TurnTaken)
         first.later.faults second.later.faults first.out second.out;
     listed = λ index item there. second.listed index item (first.listed index item there);
     fits = fits_then;
+    dropped = dropped_then;
     borne = second.borne;
     few = (let low = second.few in let same = first.parity in omega (arith, low, same));
     from_start = λ still device out. second.from_start few device (first.out.still device out);
@@ -216,6 +258,7 @@ module _ (script : Script) (start middle now : Turns) (one two : List TurnTaken)
         first.later.faults second.later.faults first.out second.out;
     listed = λ index item there. second.listed index item (first.listed index item there);
     fits = fits_then;
+    dropped = dropped_then;
     borne = first.borne;
     few = first.few;
     from_start = first.from_start;
@@ -237,7 +280,7 @@ module _ (script : Script) (start middle now : Turns) (one two : List TurnTaken)
   pub came_on : LeadTo script start (one ++ two) now
   came_on = by (few_or_many middle.state.core.pool.out middle.state.core.pool.uber.parity)
 
--- A turn of a call that is no attach goes on so.
+-- A turn of a call that is no attach goes on so,
 pub goes_for : {before after : CoreState} (script : Script) → TurnGoesOn before after → GoesOnFor script before after
 goes_for {before} {after} script goes = record {
   goes = as_attach before after goes;
@@ -245,11 +288,19 @@ goes_for {before} {after} script goes = record {
   bank = turn_bank before after goes;
 }
 
+-- and one of an attach as attaches do.
+pub goes_for_attach : {before after : CoreState} (script : Script) (actor number : ℕ) (call : ScriptCall)
+    → slice_get (calls_of script actor) number ≡ Some call → call.kind ≡ kind.Attach
+    → AttachGoesOn before after × (HasBankOf before.core before.disk → HasBankOf after.core after.disk)
+    → GoesOnFor script before after
+goes_for_attach script actor number call is asked goes =
+    record { goes = goes.0; same = λ none. absurd (none actor number call is asked); bank = goes.1 }
+
 -- One turn, in which these items were listed.
 module _ (script : Script) (actor : ℕ) (before after : Turns) (on : GoesOnFor script before.state after.state)
     (space : KeepsUsing script before after)
-    (numbers : IsNumbered before.items before.state.core → IsNumbered after.items after.state.core) (more : List Item) (items : after.items ≡ before.items ++ more)
-    (fit : FitSince before after)
+    (numbers : IsNumbered before.items before.state.core → IsNumbered after.items after.state.core) (dropped : (cause : WhyDropped) → IsToBeTold after.clients cause → HasDropCause before after cause)
+    (more : List Item) (items : after.items ≡ before.items ++ more) (fit : FitSince before after)
     (runs : (world : World) (past : Past) → IsWorldOf script world
     → (count_of before.state.core.pool.out ≤ before.state.core.pool.uber.parity
     → IsWithin before.state.core.pool.out world.setting.failed)
@@ -282,6 +333,7 @@ module _ (script : Script) (actor : ℕ) (before after : Turns) (on : GoesOnFor 
     listed = λ index item there. subst (λ (l : List Item). slice_get l index ≡ Some item) (sym items)
         (grown_has before.items more index item there);
     fits = fit;
+    dropped = dropped;
     borne = before.state.core.pool.out;
     few = few;
     from_start = λ still device out. out;
@@ -303,6 +355,7 @@ module _ (script : Script) (actor : ℕ) (before after : Turns) (on : GoesOnFor 
     listed = λ index item there. subst (λ (l : List Item). slice_get l index ≡ Some item) (sym items)
         (grown_has before.items more index item there);
     fits = fit;
+    dropped = dropped;
     borne = 0;
     few = none_listed before.state.core.pool.uber.parity;
     from_start = λ few. absurd (omega (arith, few, many));

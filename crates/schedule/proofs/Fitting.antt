@@ -1,6 +1,6 @@
 -- What a call is answered in a turn, and that what is listed then fits it.
 use Rattle.std.proofs.Common.{◌≡◌, ◌⊎◌, inl, inr, ℕ, ◌<◌, List, [], ◌∷◌, ◌++◌, Some, true, sym, ◌∙◌, subst}
-use Rattle.std.specs.Prelude.{◌≢◌, slice_get}
+use Rattle.std.specs.Prelude.{◌≢◌, slice_get, ⊤}
 use Rattle.uberblock_ring.specs.Devices.{count_of, has_device, IsWithin}
 use Rattle.uberblock_ring.specs.Uberblock.{max_group}
 use Rattle.core_state.specs.declared.answer.Answer.{Answer}
@@ -8,15 +8,20 @@ use Rattle.core_state.specs.declared.answer.Answer.TheVariants as answer
 use Rattle.core_state.specs.declared.answer.Kind.{Kind}
 use Rattle.core_state.specs.declared.answer.Kind.TheVariants as kind
 use Rattle.core_state.specs.declared.item.Entry.{Entry}
+use Rattle.core_state.specs.declared.item.Group.{Group as GroupItem}
 use Rattle.core_state.specs.declared.item.Item.{Item}
-use Rattle.core_state.specs.declared.item.Item.TheVariants.{Call as CallItem}
+use Rattle.core_state.specs.declared.item.Item.TheVariants.{Group, Call as CallItem}
 use Rattle.core_state.specs.Legal.{CallAt, IsAnswerOf}
+use Rattle.join_commit.specs.declared.join_run.WhyDropped.{WhyDropped}
+use Rattle.join_commit.specs.declared.join_run.WhyDropped.TheVariants as why
 use Rattle.journal_law.proofs.Grown.{new_or_before}
 use Rattle.core_turns.specs.Core.{Core}
 use Rattle.core_turns.specs.Getting.{HasTooManyOut, IsReadKind}
-use Rattle.schedule.specs.Fitting.{FitsCall}
+use Rattle.schedule.specs.Dropping.{HasDropCause}
+use Rattle.schedule.specs.Fitting.{FitsSince, IsAttachCause, IsGroupKind}
 use Rattle.schedule.specs.Turns.{Turns}
 use Rattle.schedule.proofs.RightNext.{IsPlain}
+use Rattle.schedule.proofs.Running.{group_apart}
 
 -- Where an answer tells of too many devices, it lists those that are out.
 abbrev pub TellsOut : Core → Answer → Type 0
@@ -24,11 +29,12 @@ TellsOut core given = (listed : ℕ) → given ≡ answer.TooManyFailed listed
     → HasTooManyOut core × (listed ≡ core.pool.out)
 
 -- what a call of this kind is answered, where the core was this one
-pub record Fits (core : Core) (asked : Kind) (given : Answer) : Type 0 where
+pub record Fits (core : Core) (devices : ℕ) (dropped : WhyDropped → Type 0) (asked : Kind) (given : Answer) : Type 0 where
   pub of_kind : IsAnswerOf asked given
   pub tells : TellsOut core given
-  pub limit : (reached : ℕ) → given ≡ answer.Limit reached → (asked ≡ kind.Sync) × (reached ≡ max_group)
+  pub limit : (reached : ℕ) → given ≡ answer.Limit reached → IsGroupKind asked × (reached ≡ max_group)
   pub memory : given ≡ answer.NoMemory → asked ≢ kind.Free
+  pub attach : IsAttachCause devices dropped given
 
 -- An answer tells of no limit.
 abbrev pub NoLimit : Answer → Type 0
@@ -37,70 +43,107 @@ NoLimit given = (reached : ℕ) → given ≡ answer.Limit reached → ⊥
 pub plain_no_limit : (given : Answer) → IsPlain given → NoLimit given
 plain_no_limit given plain reached is = subst IsPlain is plain
 
--- Where it doesn't, and the call is no free, it is known to fit.
-pub fits : (core : Core) (asked : Kind) (given : Answer) → IsAnswerOf asked given → TellsOut core given → NoLimit given
-    → asked ≢ kind.Free
-    → Fits core asked given
-fits core asked given of tells no_limit other = record {
+-- A call that is no attach has no cause of one's.
+pub no_attach_cause : (devices : ℕ) (dropped : WhyDropped → Type 0) (asked : Kind) (given : Answer) → asked ≢ kind.Attach
+    → IsAnswerOf asked given → IsAttachCause devices dropped given
+no_attach_cause devices dropped asked (answer.NewDeviceFailed device) other of = absurd (other of)
+no_attach_cause devices dropped asked (answer.DeviceOut device) other of = absurd (other of)
+no_attach_cause devices dropped asked (answer.NoDevice there width) other of = absurd (other of)
+no_attach_cause devices dropped asked given other of = tt
+
+-- The call is no free and no attach.
+abbrev pub IsPlainKind : Kind → Type 0
+IsPlainKind kind.Free = ⊥
+IsPlainKind kind.Attach = ⊥
+IsPlainKind other = ⊤
+
+pub read_plain_kind : (asked : Kind) → IsReadKind asked → IsPlainKind asked
+read_plain_kind kind.Get read = tt
+read_plain_kind kind.Sum read = tt
+read_plain_kind other read = absurd read
+
+-- So it is known to fit where no limit is told,
+pub fits : {devices : ℕ} {dropped : WhyDropped → Type 0} (core : Core) (asked : Kind) (given : Answer)
+    → IsAnswerOf asked given → TellsOut core given → NoLimit given → IsPlainKind asked
+    → Fits core devices dropped asked given
+fits {devices} {dropped} core asked given of tells no_limit plain = record {
   of_kind = of;
   tells = tells;
   limit = λ reached is. absurd (no_limit reached is);
-  memory = λ wanting. other;
+  memory = λ wanting free. subst IsPlainKind free plain;
+  attach = no_attach_cause devices dropped asked given (λ attach. subst IsPlainKind attach plain) of;
 }
 
--- No put, read, sync or attach is a free.
-pub put_no_free : (asked : Kind) → asked ≡ kind.Put → asked ≢ kind.Free
-put_no_free asked is free = apart (sym is ∙ free)
-  where
-    apart : kind.Put ≡ kind.Free → ⊥
-    apart same = cc
-
-pub sync_no_free : (asked : Kind) → asked ≡ kind.Sync → asked ≢ kind.Free
-sync_no_free asked is free = apart (sym is ∙ free)
-  where
-    apart : kind.Sync ≡ kind.Free → ⊥
-    apart same = cc
-
-pub attach_no_free : (asked : Kind) → asked ≡ kind.Attach → asked ≢ kind.Free
-attach_no_free asked is free = apart (sym is ∙ free)
+-- and an attach with its cause.
+pub attach_fits : {devices : ℕ} {dropped : WhyDropped → Type 0} (core : Core) (asked : Kind) (given : Answer)
+    → asked ≡ kind.Attach → IsAnswerOf kind.Attach given → TellsOut core given
+    → ((reached : ℕ) → given ≡ answer.Limit reached → reached ≡ max_group) → IsAttachCause devices dropped given
+    → Fits core devices dropped asked given
+attach_fits core asked given is of tells limit cause = record {
+  of_kind = subst (λ (k : Kind). IsAnswerOf k given) (sym is) of;
+  tells = tells;
+  limit = λ reached told. (subst IsGroupKind (sym is) tt, limit reached told);
+  memory = λ wanting free. apart (sym is ∙ free);
+  attach = cause;
+}
   where
     apart : kind.Attach ≡ kind.Free → ⊥
     apart same = cc
 
-pub read_no_free : (asked : Kind) → IsReadKind asked → asked ≢ kind.Free
-read_no_free asked is free = subst IsReadKind free is
+-- Its cause stands for whoever has come further.
+pub attach_cause : (devices : ℕ) (dropped further : WhyDropped → Type 0) (given : Answer)
+    → ((cause : WhyDropped) → dropped cause → further cause) → IsAttachCause devices dropped given
+    → IsAttachCause devices further given
+attach_cause devices dropped further (answer.NewDeviceFailed device) on is = on (why.NewDeviceFailed device) is
+attach_cause devices dropped further (answer.DeviceOut device) on is = on (why.DeviceOut device) is
+attach_cause devices dropped further (answer.NoDevice there width) on is = is
+attach_cause devices dropped further other on is = tt
 
 -- What is listed in a turn is what was listed before, or fits its call.
 abbrev pub FitSince : Turns → Turns → Type 0
 FitSince before after = (index : ℕ) (entry : Entry) → CallAt after.items index entry
-    → CallAt before.items index entry ⊎ FitsCall before.state.core.pool.uber.parity after.state.core.pool.out entry
+    → CallAt before.items index entry ⊎ FitsSince before after entry
 
 -- So it is where nothing was listed,
 pub fit_same : (before after : Turns) → after.items ≡ before.items → FitSince before after
 fit_same before after items index entry there =
     inl (subst (λ (l : List Item). slice_get l index ≡ Some (CallItem entry)) items there)
 
--- and where an entry was.
-pub fit_entry : (before after : Turns) (last : Entry) → after.items ≡ before.items ++ CallItem last ∷ []
-    → Fits before.state.core last.kind last.answer → IsWithin before.state.core.pool.out after.state.core.pool.out
-    → FitSince before after
-fit_entry before after last items fit still index entry there =
-    elim (new_or_before before.items (CallItem last) index (CallItem entry)
-    (subst (λ (l : List Item). slice_get l index ≡ Some (CallItem entry)) items there)) [
-      | inl new ↦ inr (subst (FitsCall before.state.core.pool.uber.parity after.state.core.pool.out) (same new.1) its)
-      | inr earlier ↦ inl earlier.1
-    ]
-  where
-    same : CallItem last ≡ CallItem entry → last ≡ entry
-    same is = cc
+module _ (before after : Turns) (last : Entry)
+    (fit : Fits before.state.core before.state.disk.devices (HasDropCause before after) last.kind last.answer)
+    (still : IsWithin before.state.core.pool.out after.state.core.pool.out) where
+  its : FitsSince before after last
+  its = record {
+    of_kind = fit.of_kind;
+    too_many = λ listed is. let found = fit.tells listed is in (
+      subst (λ (n : ℕ). before.state.core.pool.uber.parity < count_of n) (sym found.1) found.0,
+      λ device out. still device (subst (λ (n : ℕ). has_device n device ≡ true) found.1 out),
+    );
+    limit = fit.limit;
+    memory = fit.memory;
+    attach = fit.attach;
+  }
 
-    its : FitsCall before.state.core.pool.uber.parity after.state.core.pool.out last
-    its = record {
-      of_kind = fit.of_kind;
-      too_many = λ listed is. let found = fit.tells listed is in (
-        subst (λ (n : ℕ). before.state.core.pool.uber.parity < count_of n) (sym found.1) found.0,
-        λ device out. still device (subst (λ (n : ℕ). has_device n device ≡ true) found.1 out),
-      );
-      limit = fit.limit;
-      memory = fit.memory;
-    }
+  with_last : (items : List Item) (index : ℕ) (entry : Entry) → CallAt (items ++ CallItem last ∷ []) index entry
+      → CallAt items index entry ⊎ FitsSince before after entry
+  with_last items index entry there = elim (new_or_before items (CallItem last) index (CallItem entry) there) [
+    | inl new ↦ inr (subst (FitsSince before after) (same new.1) its)
+    | inr earlier ↦ inl earlier.1
+  ]
+    where
+      same : CallItem last ≡ CallItem entry → last ≡ entry
+      same is = cc
+
+  -- where an entry was,
+  pub fit_entry : after.items ≡ before.items ++ CallItem last ∷ [] → FitSince before after
+  fit_entry items index entry there = with_last before.items index entry
+      (subst (λ (l : List Item). slice_get l index ≡ Some (CallItem entry)) items there)
+
+  -- and where a group was before it, which answers no call.
+  pub fit_both : (group : GroupItem) → after.items ≡ (before.items ++ Group group ∷ []) ++ CallItem last ∷ []
+      → FitSince before after
+  fit_both group items index entry there = elim (with_last (before.items ++ Group group ∷ []) index entry
+      (subst (λ (l : List Item). slice_get l index ≡ Some (CallItem entry)) items there)) [
+        | inl earlier ↦ inl (group_apart before.items group index entry earlier)
+        | inr new ↦ inr new
+      ]

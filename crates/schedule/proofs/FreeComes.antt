@@ -19,10 +19,12 @@ use Rattle.core_turns.specs.Freeing.{FreesBlock}
 use Rattle.core_turns.specs.UnderWay.{Stands}
 use Rattle.core_turns.specs.declared.turn.Turn.TheVariants.{Done}
 use Rattle.core_turns.proofs.FreeStands.{frees_calls, frees_stands}
+use Rattle.schedule.specs.Dropping.{HasDropCause}
+use Rattle.schedule.specs.Turns.{turns_of}
 use Rattle.schedule.specs.declared.client.Client.{Client}
 use Rattle.schedule.specs.Turned.{Station, Frees, LeavesBegun}
 use Rattle.schedule.specs.Comes.{TakesTurn, Comes}
-use Rattle.schedule.proofs.Fitting.{plain_no_limit}
+use Rattle.schedule.proofs.Fitting.{no_attach_cause, plain_no_limit}
 use Rattle.schedule.proofs.RightNext.{IsPlain, free_right}
 use Rattle.schedule.proofs.Theirs.{none_some}
 use Rattle.schedule.proofs.LeavesPool.{LeavesPool, holds_left}
@@ -79,6 +81,9 @@ module _ {script : Script} {actor : ℕ} {before after : Station} {clients news 
   free_no_put : kind.Free ≡ kind.Put → ⊥
   free_no_put same = cc
 
+  free_no_attach : kind.Free ≡ kind.Attach → ⊥
+  free_no_attach same = cc
+
   -- A free is answered at once.
   pub free_at_once : Comes script actor before after clients news
   free_at_once =
@@ -90,6 +95,8 @@ module _ {script : Script} {actor : ℕ} {before after : Station} {clients news 
             (many.0, many.1);
         limit = λ reached told. absurd (plain_no_limit given of.1 reached told);
         memory = λ wanting. absurd (subst (FreesBlock before.state.core after.state.core id) wanting frees.frees);
+        attach = no_attach_cause before.state.disk.devices
+            (HasDropCause (turns_of before.state before.items clients) (turns_of after.state after.items news)) kind.Free given free_no_attach of.0;
       })
       (λ full. absurd (put_alone kind.Free given free_no_put of.0 full))
       (frees_calls before.state.core after.state.core id given (calls_under_way clients) frees.frees frees.under

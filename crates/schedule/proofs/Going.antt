@@ -5,7 +5,7 @@ use Rattle.core_commit.specs.CommitTurns.{CommitRun}
 use Rattle.client_script.specs.declared.call.ScriptCall.{ScriptCall}
 use Rattle.client_script.specs.Script.{Script, calls_of}
 use Rattle.core_turns.specs.declared.attaching.AttachRun.{AttachRun}
-use Rattle.core_turns.specs.Attaching.{IsAttachOf}
+use Rattle.core_turns.specs.Attaching.{IsAttachRunOf}
 use Rattle.core_turns.specs.Core.{Core}
 use Rattle.core_turns.specs.Getting.{HasTooManyOut}
 use Rattle.core_turns.specs.Committing.{IsCommitOf}
@@ -22,7 +22,7 @@ use Rattle.schedule.proofs.Theirs.{IsNoAttach, IsNoCommit, OnlyIt, apart_of_comm
 -- What a sync's turn leaves of an attach that has begun no commit.
 pub record KeepsAttach (core now : Core) : Type 0 where
   pub attaching : now.attaching ≡ core.attaching
-  pub early : (run : AttachRun) → IsBeforeCommit run → IsAttachOf core run → IsAttachOf now run
+  pub early : (run : AttachRun) → IsBeforeCommit run → IsAttachRunOf core run → IsAttachRunOf now run
 
 -- So it is where the pool's widths, how far it reaches and who attaches are the same.
 pub keeps_attach : (core now : Core) → now.pool.uber.reflow ≡ core.pool.uber.reflow → now.reach ≡ core.reach
@@ -54,7 +54,7 @@ module _ {script : Script} {core now : Core} {clients news : List Client} {index
   -- What others' attaches come to.
   abbrev OthersAttach : Type 0
   OthersAttach = (caller : ℕ) (its : Client) (under : UnderWay) (run : AttachRun) → caller ≢ index
-      → IsGoing clients caller its under → under.work ≡ work.Attach run → IsAttachOf now run × (now.attaching ≡ Some caller)
+      → IsGoing clients caller its under → under.work ≡ work.Attach run → IsAttachRunOf now run × (now.attaching ≡ Some caller)
 
   -- What the others do is kept,
   goes_each : now.committing ≡ core.committing → ((run : CommitRun) → IsCommitOf core run → IsCommitOf now run)
@@ -213,7 +213,7 @@ module _ {script : Script} {core now : Core} {clients news : List Client} {index
   -- The client's work makes the core's commit,
   commits_as : (under : UnderWay) (run : CommitRun) (call : ScriptCall) → OthersAttach
       → OnlyIt clients index → TheirAttach
-      → ((its : AttachRun) → under.work ≡ work.Attach its → IsAttachOf now its × (now.attaching ≡ Some index))
+      → ((its : AttachRun) → under.work ≡ work.Attach its → IsAttachRunOf now its × (now.attaching ≡ Some index))
       → client.under_way ≡ Some under → commit_in under.work ≡ Some run → IsHoldOf index under.work
       → slice_get (calls_of script index) (client.begun - 1) ≡ Some call → IsWorkFor call under.work
       → IsCommitOf now run → now.committing ≡ Some index → AreGoing script now news
@@ -247,13 +247,13 @@ module _ {script : Script} {core now : Core} {clients news : List Client} {index
 
   -- or an attach;
   pub attach_commits : (under : UnderWay) (run : AttachRun) (commit : CommitRun) (call : ScriptCall) → IsAlone
-      → OnlyIt clients index → under.work ≡ work.Attach run → IsAttachOf now run → now.attaching ≡ Some index
+      → OnlyIt clients index → under.work ≡ work.Attach run → IsAttachRunOf now run → now.attaching ≡ Some index
       → client.under_way ≡ Some under → commit_in under.work ≡ Some commit → IsHoldOf index under.work
       → slice_get (calls_of script index) (client.begun - 1) ≡ Some call → IsWorkFor call under.work
       → IsCommitOf now commit → now.committing ≡ Some index → AreGoing script now news
   attach_commits under run commit call alone only does of attaching client_is =
       commits_as under commit call (others_none alone) only (attach_is under run client_is does attaching)
-      (λ its is_attach. (subst (IsAttachOf now) (same_attach (sym does ∙ is_attach)) of, attaching)) client_is
+      (λ its is_attach. (subst (IsAttachRunOf now) (same_attach (sym does ∙ is_attach)) of, attaching)) client_is
 
   -- or it has ended.
   pub commit_ends : KeepsAttach core now → client.under_way ≡ None → OnlyIt clients index → IsNoAttach old.under_way

@@ -11,7 +11,7 @@ use Rattle.core_state.specs.Committing.{point_of}
 use Rattle.core_commit.specs.CommitTurns.{CommitRun}
 use Rattle.core_commit.specs.Spared.{IsOnInUse}
 use Rattle.core_turns.specs.declared.attaching.AttachRun.{AttachRun}
-use Rattle.core_turns.specs.Attaching.{IsAttachOf}
+use Rattle.core_turns.specs.Attaching.{IsAttachRunOf}
 use Rattle.core_turns.specs.Core.{Core, CoreState, at_disk}
 use Rattle.core_turns.specs.Getting.{HasTooManyOut}
 use Rattle.core_turns.specs.Committing.{IsCommitOf}
@@ -61,7 +61,7 @@ pub record KeepsCommit (old new : Core) : Type 0 where
   pub committing : new.committing ≡ old.committing
   pub attaching : new.attaching ≡ old.attaching
   pub commits : (run : CommitRun) → IsCommitOf old run → IsCommitOf new run
-  pub attaches : (run : AttachRun) → IsAttachOf old run → IsAttachOf new run
+  pub attaches : (run : AttachRun) → IsAttachRunOf old run → IsAttachRunOf new run
   pub many : HasTooManyOut old → HasTooManyOut new
 
 -- They are kept where they are left,

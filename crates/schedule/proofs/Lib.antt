@@ -29,6 +29,7 @@ pub mod Syncs
 pub mod LeavesPool
 pub mod TurnComes
 pub mod Refusals
+pub mod AttachAnswers
 pub mod SyncComes
 pub mod AttachComes
 pub mod AttachReads
@@ -36,6 +37,7 @@ pub mod AttachJoins
 pub mod AttachCommits
 pub mod AttachWidens
 pub mod AttachCut
+pub mod AttachEnds
 pub mod SyncGoes
 pub mod Puts
 pub mod PutComes
@@ -52,6 +54,7 @@ pub mod OpenedBirths
 pub mod UsingOpened
 pub mod Whole
 pub mod Shared
+pub mod Dropped
 pub mod TurnTaken
 pub mod RoundTaken
 pub mod CallTaken

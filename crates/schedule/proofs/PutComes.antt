@@ -1,6 +1,7 @@
 -- What the first turn of a client's put comes to.
 use Rattle.std.proofs.Common.{◌≡◌, ◌≢◌, ℕ, List, length, Some, None, refl, sym, ◌∙◌, ap, subst}
 use Rattle.std.specs.Prelude.{Contains, slice_get}
+use Rattle.std.proofs.lemmas.Bool.{false≢true}
 use Rattle.bank_trait.specs.Disk.{Disk}
 use Rattle.range_locks.specs.declared.hold.Hold.{Hold}
 use Rattle.range_locks.specs.declared.hold.HoldKind.TheVariants.{Shared}
@@ -30,9 +31,9 @@ use Rattle.schedule.specs.Running.{Runs, calls_under_way, setting_now}
 use Rattle.schedule.specs.Turns.{turns_of}
 use Rattle.schedule.specs.Turned.{Station, LeavesBegun}
 use Rattle.schedule.specs.Comes.{TakesTurn, Comes}
-use Rattle.schedule.proofs.Fitting.{fits, plain_no_limit, put_no_free}
+use Rattle.schedule.proofs.Fitting.{IsPlainKind, fits, plain_no_limit}
 use Rattle.schedule.proofs.RightNext.{put_right}
-use Rattle.schedule.proofs.Theirs.{calls_of_others}
+use Rattle.schedule.proofs.Theirs.{calls_of_others, none_there}
 use Rattle.schedule.proofs.Fulls.{full_put}
 use Rattle.schedule.proofs.Running.{sets_content, with_content}
 use Rattle.schedule.proofs.TurnComes.{comes_at_once, comes_begun, comes_waiting, first_entry, held_gains}
@@ -58,8 +59,8 @@ module _ {script : Script} {actor : ℕ} {before after : Station} {clients news 
   pub put_begins : (run : PutRun) → AreBytes content → BeginsPutTurn old now actor id (length content) (More run)
       → LeavesBegun actor call before after (More (work.Put run)) → Comes script actor before after clients news
   put_begins run are begins begun =
-      let gains = held_gains takes call idle change disk (Putting run) (work.Put run) next begun refl (λ sync. sync) in
-      comes_begun takes call idle change disk (Putting run) (work.Put run) next begun refl (λ sync. sync)
+      let gains = held_gains takes call idle change disk (Putting run) (work.Put run) next begun refl false≢true in
+      comes_begun takes call idle change disk (Putting run) (work.Put run) next begun refl false≢true
       (ap (λ (h : Hold). h.actor) begins.hold_is)
       (asked, id_is ∙ ap Some (sym begins.range.id_is), sym begins.len_is)
       (put_begins_calls begins others gains takes.schedule.going.are)
@@ -106,7 +107,7 @@ module _ {script : Script} {actor : ℕ} {before after : Station} {clients news 
       comes_at_once takes call idle (refused_leaves old now refuses.leaves) disk given next leaves
       (fits old call.kind given
       (subst (λ (k : Kind). IsAnswerOf k given) (sym asked) (unstored_answers given refuses.unstored)) refuses.tells
-      (plain_no_limit given (unstored_plain given refuses.unstored)) (put_no_free call.kind asked))
+      (plain_no_limit given (unstored_plain given refuses.unstored)) (subst IsPlainKind (sym asked) tt))
       (λ full.
       full_put script (turns_of before.state before.items clients) takes.schedule actor before.client.begun call
       id next asked id_is (subst (IsPutRefused old now id (length content)) full is).1)

@@ -1,6 +1,7 @@
 -- What each later turn of a client's put comes to.
 use Rattle.std.proofs.Common.{◌≡◌, ◌≢◌, ⊎_elim, ℕ, ◌-◌, List, [], ◌∷◌, ◌++◌, Option, Some, refl, sym, ◌∙◌, ap, subst}
 use Rattle.std.specs.Prelude.{option_map, slice_get, unwrap_or}
+use Rattle.std.proofs.lemmas.Bool.{false≢true}
 use Rattle.bank_trait.specs.Disk.{Disk}
 use Rattle.range_locks.specs.Holds.{EndsHold}
 use Rattle.space_alloc.specs.Space.{Gains}
@@ -34,7 +35,7 @@ use Rattle.schedule.specs.Turned.{Station, EndsPutting, GoesOnPutting, IsFilledI
 use Rattle.schedule.specs.Works.{made_by}
 use Rattle.schedule.specs.Coming.{IsWorldOf}
 use Rattle.schedule.specs.Comes.{TakesTurn, Comes}
-use Rattle.schedule.proofs.Fitting.{TellsOut, fits, plain_no_limit, put_no_free}
+use Rattle.schedule.proofs.Fitting.{IsPlainKind, TellsOut, fits, plain_no_limit}
 use Rattle.schedule.proofs.RightNext.{IsPlain, put_right}
 use Rattle.schedule.proofs.TurnComes.{comes_ended, comes_going, held_gone, held_moves, its_asked, its_content, its_work}
 use Rattle.schedule.proofs.Puts.{unstored_plain, unstored_answers, unstored_listed, unstored_map, rearranged_leaves}
@@ -74,7 +75,7 @@ module _ {script : Script} {actor : ℕ} {before after : Station} {clients news 
   pub put_goes_on : (next : PutRun) → GoesOnPutting before.state after.state call run next
       → LeavesGoing actor call before after under (More (work.Put next)) → Comes script actor before after clients news
   put_goes_on next puts further = comes_going takes call under (work.Put run) does_is under_is is (Putting run) refl
-      (λ sync. sync) goes (Putting next) (work.Put next) further refl (λ sync. sync)
+      false≢true goes (Putting next) (work.Put next) further refl false≢true
       (out_keeps writes.rest goes.out.still) (ap (λ (r : PutRun). r.hold.actor) same ∙ its) (
         asked_for.0,
         asked_for.1 ∙ ap (λ (r : PutRun). Some r.range.id) (sym same),
@@ -99,8 +100,8 @@ module _ {script : Script} {actor : ℕ} {before after : Station} {clients news 
 
       moves : (left : List HoldingCall) × Gains left (calls_under_way clients) (Putting run)
           × Gains left (calls_under_way news) (Putting next)
-      moves = held_moves takes call under (work.Put run) does_is under_is is (Putting run) refl (λ sync. sync) goes
-          (Putting next) (work.Put next) further refl (λ sync. sync)
+      moves = held_moves takes call under (work.Put run) does_is under_is is (Putting run) refl false≢true goes
+          (Putting next) (work.Put next) further refl false≢true
 
       filled : FilledAmong before.state (fill_bytes call.fill) moves.0 (calls_under_way clients) run puts.filled
       filled = filled_among puts.filled puts.fills moves.0 moves.1
@@ -113,7 +114,7 @@ module _ {script : Script} {actor : ℕ} {before after : Station} {clients news 
 
     among : FilledAmong before.state (fill_bytes call.fill) (calls_under_way news) (calls_under_way clients) run filled
     among = filled_among filled fills (calls_under_way news) (held_gone takes call under (work.Put run) does_is under_is is
-        (Putting run) refl (λ sync. sync) goes given ended)
+        (Putting run) refl false≢true goes given ended)
 
     of_filled : IsPutOf old filled
     of_filled = among.are.each (Putting filled) (gains_item (calls_under_way news) among.nexts (Putting filled) among.gains)
@@ -130,10 +131,10 @@ module _ {script : Script} {actor : ℕ} {before after : Station} {clients news 
         (calls_under_way news) runs.commit (at_disk now before.state.disk))
         → Comes script actor before after clients news
     ends_with listed change ends plain answers tells other are stands = comes_ended takes call under (work.Put run) does_is under_is
-        is (Putting run) refl (λ sync. sync) goes given ended listed (rearranged_leaves old now change
+        is (Putting run) refl false≢true goes given ended listed (rearranged_leaves old now change
         (keeps_ended old.pool.done old.holds now.holds filled.hold (put_shared old filled of_filled) ends)) disk
         (fits old call.kind given (subst (λ (k : Kind). IsAnswerOf k given) (sym asked_for.0) answers) tells
-        (plain_no_limit given plain) (put_no_free call.kind asked_for.0))
+        (plain_no_limit given plain) (subst IsPlainKind (sym asked_for.0) tt))
         other are
         (λ world past handed runs. (
           put_right world before.items entry asked_for.0 plain,

@@ -1,6 +1,7 @@
 -- What the turns of reads come to.
 use Rattle.std.proofs.Common.{◌≡◌, ◌≢◌, ℕ, ◌+◌, ◌-◌, List, length, Option, Some, None, refl, sym, ◌∙◌, ap, subst, arith}
 use Rattle.std.specs.Prelude.{Contains, slice_get, option_and_then}
+use Rattle.std.proofs.lemmas.Bool.{false≢true}
 use Rattle.bank_trait.specs.Disk.{Disk}
 use Rattle.range_locks.specs.declared.hold.Hold.{Hold}
 use Rattle.space_alloc.specs.Space.{Gains}
@@ -33,7 +34,7 @@ use Rattle.schedule.specs.Running.{IsWorkFor, calls_under_way, setting_now}
 use Rattle.schedule.specs.Turned.{Station, GoesOnReading, EndsReading, LeavesBegun, LeavesGoing, entry_for}
 use Rattle.schedule.specs.Works.{made_by}
 use Rattle.schedule.specs.Comes.{TakesTurn, Comes}
-use Rattle.schedule.proofs.Fitting.{fits, read_no_free}
+use Rattle.schedule.proofs.Fitting.{fits, read_plain_kind}
 use Rattle.schedule.proofs.Below.{below_end}
 use Rattle.schedule.proofs.Theirs.{calls_of_others}
 use Rattle.schedule.proofs.Fulls.{put_alone, read_no_put}
@@ -62,8 +63,8 @@ module _ {script : Script} {actor : ℕ} {before after : Station} {clients news 
     pub read_begins : (run : GetRun) → BeginsGet old now actor call.kind id (More run)
         → LeavesBegun actor call before after (More (work.Read run)) → ItComes
     read_begins run begins begun =
-        let gains = held_gains takes call idle leaves disk (Reading run) (work.Read run) next begun refl (λ sync. sync) in
-        comes_begun takes call idle leaves disk (Reading run) (work.Read run) next begun refl (λ sync. sync)
+        let gains = held_gains takes call idle leaves disk (Reading run) (work.Read run) next begun refl false≢true in
+        comes_begun takes call idle leaves disk (Reading run) (work.Read run) next begun refl false≢true
         (ap (λ (h : Hold). h.actor) begins.4) (sym begins.2, id_is ∙ ap Some (sym entry_id))
         (get_begins_calls actor id call.kind is takes.is begins others gains takes.schedule.going.are)
         (λ world past runs.
@@ -100,7 +101,7 @@ module _ {script : Script} {actor : ℕ} {before after : Station} {clients news 
         let of = refused_of old id call.kind given is begins.1 in
         comes_at_once takes call idle (holds_left old now old.pool.blocks begins.0) disk given next left
         (fits old call.kind given of (λ out tells. subst (IsGetRefused old id) tells begins.1)
-        (λ reached told. subst (IsGetRefused old id) told begins.1) (read_no_free call.kind is))
+        (λ reached told. subst (IsGetRefused old id) told begins.1) (read_plain_kind call.kind is))
         (λ full. absurd (put_alone call.kind given (read_no_put call.kind is) of full))
         (subst (λ (c : Core). AreCallsOf c (calls_under_way clients)) (sym begins.0) takes.schedule.going.are)
         (λ world past runs.
@@ -138,7 +139,7 @@ module _ {script : Script} {actor : ℕ} {before after : Station} {clients news 
     pub read_goes_on : (next : GetRun) → GoesOnReading before.state after.state run next
         → LeavesGoing actor call before after under (More (work.Read next)) → ItComes
     read_goes_on next reads further = comes_going takes call under (work.Read run) does_is under_is is (Reading run) refl
-        (λ sync. sync) goes (Reading next) (work.Read next) further refl (λ sync. sync)
+        false≢true goes (Reading next) (work.Read next) further refl false≢true
         (out_keeps reads.reads.2 goes.out.still) (ap (λ (r : GetRun). r.hold.actor) same ∙ its)
         (asked_for.0 ∙ sym (ap (λ (r : GetRun). r.kind) same), asked_for.1 ∙ sym (ap (λ (r : GetRun). Some r.entry.id) same))
         (get_reads_calls reads.reads moves.1 moves.2 takes.schedule.going.are)
@@ -154,16 +155,16 @@ module _ {script : Script} {actor : ℕ} {before after : Station} {clients news 
 
         moves : (left : List HoldingCall) × Gains left (calls_under_way clients) (Reading run)
             × Gains left (calls_under_way news) (Reading next)
-        moves = held_moves takes call under (work.Read run) does_is under_is is (Reading run) refl (λ sync. sync) goes
-            (Reading next) (work.Read next) further refl (λ sync. sync)
+        moves = held_moves takes call under (work.Read run) does_is under_is is (Reading run) refl false≢true goes
+            (Reading next) (work.Read next) further refl false≢true
 
     -- A read ends.
     pub read_ends : (given : Answer) → EndsReading before.state after.state run given
         → LeavesGoing actor call before after under (Done given) → ItComes
     read_ends given ending ended = comes_ended takes call under (work.Read run) does_is under_is is (Reading run) refl
-        (λ sync. sync) goes given ended
+        false≢true goes given ended
         (ended.0 ∙ listed_read now before.items under.at entry (made_by under.work) call.kind given call_read given_is) ends.leaves ending.disk
-        (fits old call.kind given given_is ends.too_many ends.no_limit (read_no_free call.kind call_read))
+        (fits old call.kind given given_is ends.too_many ends.no_limit (read_plain_kind call.kind call_read))
         (λ full. put_alone call.kind given (read_no_put call.kind call_read) given_is full) ends.calls_are
         (λ world past handed runs.
         let map = map_of world.handed world.opening before.items in
@@ -184,7 +185,7 @@ module _ {script : Script} {actor : ℕ} {before after : Station} {clients news 
         entry = entry_for call actor before.client.begun under.at given
 
         gone : Gains (calls_under_way news) (calls_under_way clients) (Reading run)
-        gone = held_gone takes call under (work.Read run) does_is under_is is (Reading run) refl (λ sync. sync) goes given
+        gone = held_gone takes call under (work.Read run) does_is under_is is (Reading run) refl false≢true goes given
             ended
 
         is_read : IsReadKind run.kind

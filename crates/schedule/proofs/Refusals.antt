@@ -1,23 +1,25 @@
 -- What an attach is answered that made no group.
 use Rattle.std.proofs.Common.{◌≡◌, ℕ, List, [], ◌∷◌, ◌++◌, Option, None, sym, ◌∙◌, ap, refl}
-use Rattle.std.specs.Prelude.{⊤}
+use Rattle.std.specs.Prelude.{◌⊎◌, ⊤, true}
+use Rattle.bank_trait.specs.Causes.{FaultCounted}
+use Rattle.uberblock_ring.specs.Devices.{has_device}
 use Rattle.attach_ring.specs.Ring.{RingRead}
 use Rattle.core_state.specs.declared.answer.Answer.{Answer}
 use Rattle.core_state.specs.declared.answer.Answer.TheVariants as answer
 use Rattle.core_state.specs.declared.answer.Kind.TheVariants as kind
 use Rattle.core_state.specs.declared.item.Entry.{Entry}
 use Rattle.core_state.specs.declared.item.Item.{Item}
-use Rattle.core_state.specs.declared.item.Item.TheVariants.{Call as CallItem}
 use Rattle.core_state.specs.Legal.{IsAnswerOf, IsRightAttach}
 use Rattle.core_state.specs.Map.{Map, PutBytes, map_after_answer}
 use Rattle.core_state.specs.World.{World}
+use Rattle.join_commit.specs.declared.join_run.WhyDropped.{WhyDropped}
+use Rattle.join_commit.specs.declared.join_run.WhyDropped.TheVariants as why
 use Rattle.core_turns.specs.Attaching.{IsAttachRefused, IsDeviceRefused}
 use Rattle.core_turns.specs.Committing.{IsSyncRefused}
 use Rattle.core_turns.specs.Core.{Core, CoreState}
 use Rattle.core_turns.specs.Getting.{HasTooManyOut}
+use Rattle.schedule.specs.Fitting.{IsAttachCause}
 use Rattle.schedule.specs.Recorded.{IsRightNext}
-use Rattle.schedule.specs.Turned.{group_by, listed_for, listed_of}
-use Rattle.schedule.proofs.Fitting.{NoLimit}
 use Rattle.schedule.proofs.RightNext.{IsPlain, attach_right, same_out}
 
 -- Why no device was attached, but that no number was left for a group.
@@ -31,41 +33,34 @@ IsRefusal (answer.NewDeviceFailed device) = ⊤
 IsRefusal (answer.Taken slot) = ⊤
 IsRefusal other = ⊥
 
--- It tells neither of damage nor of a limit,
-refusal_plain : (given : Answer) → IsRefusal given → IsPlain given
-refusal_plain (answer.TooManyFailed out) refusal = tt
-refusal_plain answer.NoMemory refusal = tt
-refusal_plain (answer.Expanding to) refusal = tt
-refusal_plain (answer.DeviceOut device) refusal = tt
-refusal_plain (answer.NoDevice devices width) refusal = tt
-refusal_plain (answer.NewDeviceFailed device) refusal = tt
-refusal_plain (answer.Taken slot) refusal = tt
-refusal_plain other refusal = absurd refusal
+-- It tells neither of damage nor of a limit, is an answer to an attach, and changes no map.
+record Refuses (given : Answer) : Type 0 where
+  plain : IsPlain given
+  answers : IsAnswerOf kind.Attach given
+  no_block : (handed : PutBytes) (map : Map) (entry : Entry) → map_after_answer handed map entry given ≡ map
 
--- is an answer to an attach,
+refuses : (given : Answer) → IsRefusal given → Refuses given
+refuses (answer.TooManyFailed out) refusal =
+    record { plain = tt; answers = tt; no_block = λ handed map entry. refl }
+refuses answer.NoMemory refusal = record { plain = tt; answers = tt; no_block = λ handed map entry. refl }
+refuses (answer.Expanding to) refusal = record { plain = tt; answers = refl; no_block = λ handed map entry. refl }
+refuses (answer.DeviceOut device) refusal =
+    record { plain = tt; answers = refl; no_block = λ handed map entry. refl }
+refuses (answer.NoDevice devices width) refusal =
+    record { plain = tt; answers = refl; no_block = λ handed map entry. refl }
+refuses (answer.NewDeviceFailed device) refusal =
+    record { plain = tt; answers = refl; no_block = λ handed map entry. refl }
+refuses (answer.Taken slot) refusal = record { plain = tt; answers = refl; no_block = λ handed map entry. refl }
+refuses other refusal = absurd refusal
+
 pub refusal_answers : (given : Answer) → IsRefusal given → IsAnswerOf kind.Attach given
-refusal_answers (answer.TooManyFailed out) refusal = tt
-refusal_answers answer.NoMemory refusal = tt
-refusal_answers (answer.Expanding to) refusal = refl
-refusal_answers (answer.DeviceOut device) refusal = refl
-refusal_answers (answer.NoDevice devices width) refusal = refl
-refusal_answers (answer.NewDeviceFailed device) refusal = refl
-refusal_answers (answer.Taken slot) refusal = refl
-refusal_answers other refusal = absurd refusal
+refusal_answers given refusal = (refuses given refusal).answers
 
--- changes no map,
 pub refusal_map : (handed : PutBytes) (map : Map) (entry : Entry) (given : Answer) → IsRefusal given
     → map_after_answer handed map entry given ≡ map
-refusal_map handed map entry (answer.TooManyFailed out) refusal = refl
-refusal_map handed map entry answer.NoMemory refusal = refl
-refusal_map handed map entry (answer.Expanding to) refusal = refl
-refusal_map handed map entry (answer.DeviceOut device) refusal = refl
-refusal_map handed map entry (answer.NoDevice devices width) refusal = refl
-refusal_map handed map entry (answer.NewDeviceFailed device) refusal = refl
-refusal_map handed map entry (answer.Taken slot) refusal = refl
-refusal_map handed map entry other refusal = absurd refusal
+refusal_map handed map entry given refusal = (refuses given refusal).no_block handed map entry
 
--- and is right wherever it is listed.
+-- It is right wherever it is listed.
 no_attach_told : (items : List Item) (previous index : ℕ) (given : Answer) → IsRefusal given
     → IsRightAttach items previous index given
 no_attach_told items previous index (answer.Attached width group) refusal = absurd refusal
@@ -74,7 +69,7 @@ no_attach_told items previous index other refusal = tt
 pub refusal_right : (world : World) (items : List Item) (entry : Entry) → entry.kind ≡ kind.Attach
     → IsRefusal entry.answer → IsRightNext world items entry
 refusal_right world items entry asked refusal = attach_right world items entry asked
-    (refusal_plain entry.answer refusal)
+    (refuses entry.answer refusal).plain
     (λ listed previous index. no_attach_told listed previous index entry.answer refusal)
 
 -- ---- the first turn
@@ -113,24 +108,34 @@ device_tells before ring after (answer.TooManyFailed out) refused listed is =
     (refused.0, same_out (sym is) ∙ refused.1)
 device_tells before ring after other refused listed is = absurd refused
 
-pub sync_refusal : (core : Core) (given : Answer) → IsSyncRefused core given → NoLimit given → IsRefusal given
-sync_refusal core (answer.TooManyFailed out) refused no_limit = tt
-sync_refusal core (answer.Limit reached) refused no_limit = absurd (no_limit reached refl)
-sync_refusal core answer.NoMemory refused no_limit = tt
-sync_refusal core other refused no_limit = absurd refused
+-- ---- the causes of what is told of devices
 
--- Its entry alone is listed, where no group was made.
-pub alone_listed : (core : Core) (items : List Item) (at : ℕ) (entry : Entry) (given : Answer) (made : Option ℕ)
-    → made ≡ None → IsRefusal given → listed_for core items at entry made given ≡ items ++ CallItem entry ∷ []
-alone_listed core items at entry given made none refusal =
-    ap (listed_of core.pool.uber.reflow items at entry) (ap (group_by given) none ∙ by given refusal)
-  where
-    by : (given : Answer) → IsRefusal given → group_by given None ≡ None
-    by (answer.TooManyFailed out) refusal = refl
-    by answer.NoMemory refusal = refl
-    by (answer.Expanding to) refusal = refl
-    by (answer.DeviceOut device) refusal = refl
-    by (answer.NoDevice devices width) refusal = refl
-    by (answer.NewDeviceFailed device) refusal = refl
-    by (answer.Taken slot) refusal = refl
-    by other refusal = absurd refusal
+-- in a first turn,
+pub refused_cause : (devices : ℕ) (dropped : WhyDropped → Type 0) (core : Core) (given : Answer)
+    → IsAttachRefused core devices given
+    → ((device : ℕ) → has_device core.pool.out device ≡ true → dropped (why.DeviceOut device))
+    → IsAttachCause devices dropped given
+refused_cause devices dropped core (answer.TooManyFailed out) refused known = tt
+refused_cause devices dropped core (answer.Expanding to) refused known = tt
+refused_cause devices dropped core (answer.DeviceOut device) refused known = known device refused.3.1
+refused_cause devices dropped core (answer.NoDevice there width) refused known = (refused.3.2, refused.3.4)
+refused_cause devices dropped core other refused known = absurd refused.3
+
+-- before the commit,
+pub device_cause : (devices : ℕ) (dropped : WhyDropped → Type 0) (before : CoreState) (ring : RingRead)
+    (after : CoreState) (given : Answer) → IsDeviceRefused before ring after given
+    → ((device : ℕ) → FaultCounted (before.disk.faults device) (after.disk.faults device)
+    → dropped (why.NewDeviceFailed device))
+    → IsAttachCause devices dropped given
+device_cause devices dropped before ring after (answer.NewDeviceFailed device) refused known = known device refused.2
+device_cause devices dropped before ring after (answer.Taken slot) refused known = tt
+device_cause devices dropped before ring after (answer.TooManyFailed out) refused known = tt
+device_cause devices dropped before ring after other refused known = absurd refused
+
+-- and as it is begun, which tells of none.
+pub sync_cause : (devices : ℕ) (dropped : WhyDropped → Type 0) (core : Core) (given : Answer) → IsSyncRefused core given
+    → IsAttachCause devices dropped given
+sync_cause devices dropped core (answer.TooManyFailed out) refused = tt
+sync_cause devices dropped core (answer.Limit reached) refused = tt
+sync_cause devices dropped core answer.NoMemory refused = tt
+sync_cause devices dropped core other refused = absurd refused

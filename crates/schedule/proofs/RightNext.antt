@@ -10,13 +10,15 @@ use Rattle.core_state.specs.declared.item.Group.{Group as GroupItem}
 use Rattle.core_state.specs.declared.item.Item.{Item}
 use Rattle.core_state.specs.declared.item.Item.TheVariants.{Group, Call}
 use Rattle.core_state.specs.Map.{Map, PutBytes, map_of, map_after}
-use Rattle.core_state.specs.Legal.{IsPrevious, IsGroupBefore, IsReadOf, IsCutShort, IsRightAttach, IsRightRead, IsRightFree, IsRightSync, IsRightCall}
+use Rattle.core_state.specs.Legal.{IsAnsweredGroup, IsPrevious, IsGroupBefore, IsReadOf, IsCutShort, IsRightAttach, IsRightRead, IsRightFree, IsRightSync, IsRightCall}
 use Rattle.core_state.specs.World.{World}
 use Rattle.uberblock_ring.specs.Uberblock.{max_group}
 use Rattle.core_turns.specs.Getting.{IsReadKind}
-use Rattle.journal_law.proofs.Grown.{grown_has, last_there, map_before, map_at_end}
+use Rattle.journal_law.proofs.Grown.{group_before_first, grown_has, last_there, map_before, map_at_end}
+use Rattle.schedule.specs.Fitting.{IsGroupKind}
 use Rattle.schedule.specs.Recorded.{IsRightNext, AllBelow}
 use Rattle.schedule.proofs.Below.{previous_below, below_group}
+use Rattle.schedule.proofs.BothListed.{one_latest}
 
 -- Two answers that are one list the same devices.
 pub same_out : {one other : ℕ} → answer.TooManyFailed one ≡ answer.TooManyFailed other → one ≡ other
@@ -44,11 +46,28 @@ stopped_cut (answer.TooManyFailed out) stopped = tt
 stopped_cut answer.NoMemory stopped = tt
 stopped_cut other stopped = absurd stopped
 
-stopped_sync : (items : List Item) (previous index : ℕ) (given : Answer) → IsStopped given
+-- A sync or an attach that was cut short tells of no group.
+cut_sync : (items : List Item) (previous index : ℕ) (given : Answer) → IsCutShort given
     → IsRightSync items previous index given
-stopped_sync items previous index (answer.TooManyFailed out) stopped = tt
-stopped_sync items previous index answer.NoMemory stopped = tt
-stopped_sync items previous index other stopped = absurd stopped
+cut_sync items previous index (answer.TooManyFailed out) cut = tt
+cut_sync items previous index (answer.Limit reached) cut = tt
+cut_sync items previous index answer.NoMemory cut = tt
+cut_sync items previous index other cut = absurd cut
+
+cut_attach : (items : List Item) (previous index : ℕ) (given : Answer) → IsCutShort given
+    → IsRightAttach items previous index given
+cut_attach items previous index (answer.TooManyFailed out) cut = tt
+cut_attach items previous index (answer.Limit reached) cut = tt
+cut_attach items previous index answer.NoMemory cut = tt
+cut_attach items previous index other cut = absurd cut
+
+cut_group : (handed : PutBytes) (opening : Map) (items : List Item) (previous index : ℕ) (entry : Entry) (asked : Kind)
+    → IsGroupKind asked → IsCutShort entry.answer → IsRightCall handed opening items previous index entry asked
+cut_group handed opening items previous index entry kind.Sync group cut =
+    cut_sync items previous index entry.answer cut
+cut_group handed opening items previous index entry kind.Attach group cut =
+    cut_attach items previous index entry.answer cut
+cut_group handed opening items previous index entry other group cut = absurd group
 
 -- What a read answers of a map is plain.
 read_plain : (held : Option (List ℕ)) (asked : Kind) (given : Answer) → IsReadOf held asked given → IsPlain given
@@ -117,19 +136,19 @@ module _ (world : World) (items : List Item) (entry : Entry) where
       (sym (map_before world.handed world.opening items (Call entry ∷ []) (length items) (omega arith)
       ∙ map_at_end world.handed world.opening items)) is))
 
-  -- A sync that was cut short.
-  pub sync_cut_right : entry.kind ≡ kind.Sync → IsStopped entry.answer → IsRightNext world items entry
-  sync_cut_right asked stopped = next_plain (stopped_plain entry.answer stopped)
-      (subst IsRightAs (sym asked) (λ previous previous_is.
-      stopped_sync with_entry previous (length items) entry.answer stopped))
+  -- A sync or an attach that was cut short.
+  pub group_cut_right : IsGroupKind entry.kind → IsStopped entry.answer → IsRightNext world items entry
+  group_cut_right asked stopped = next_plain (stopped_plain entry.answer stopped) (λ previous previous_is.
+      cut_group world.handed world.opening with_entry previous (length items) entry entry.kind asked
+      (stopped_cut entry.answer stopped))
 
   -- One that found no number left for its group.
-  pub sync_limit_right : (item : GroupItem) → entry.kind ≡ kind.Sync → entry.answer ≡ answer.Limit max_group
+  pub group_limit_right : (item : GroupItem) → IsGroupKind entry.kind → entry.answer ≡ answer.Limit max_group
       → IsGroupBefore items (length items) item → max_group ≤ item.group + 1
       → IsRightNext world items entry
-  sync_limit_right item asked answer_is latest at_last = record {
-    right = subst IsRightAs (sym asked) (λ previous previous_is.
-        subst (IsRightSync with_entry previous (length items)) (sym answer_is) tt);
+  group_limit_right item asked answer_is latest at_last = record {
+    right = λ previous previous_is. cut_group world.handed world.opening with_entry previous (length items) entry
+        entry.kind asked (subst IsCutShort (sym answer_is) tt);
     sound = λ damaged. apart (sym answer_is ∙ damaged);
     counted = λ reached limit. record {
       reached_is = same (sym limit ∙ answer_is);
@@ -156,20 +175,52 @@ module _ (world : World) (items : List Item) (group : GroupItem) (entry : Entry)
   abbrev with_group : List Item
   with_group = items ++ Group group ∷ []
 
+  abbrev with_both : List Item
+  with_both = with_group ++ Call entry ∷ []
+
+  answered_group : 1 ≤ group.after → AllBelow items entry.caller group.after → (previous : ℕ)
+      → IsPrevious with_both entry.caller (length with_group) previous
+      → IsAnsweredGroup with_both previous (length with_group) group.group
+  answered_group some below previous is = record {
+    place = length items;
+    group = group;
+    there = grown_has with_group (Call entry ∷ []) (length items) (Group group) (last_there items (Group group));
+    earlier = omega (arith, length-append items (Group group ∷ []));
+    number_is = refl;
+    begun = previous_below with_group (Call entry ∷ []) entry.caller group.after previous some
+        (below_group items group below) is;
+  }
+
   -- A sync that ended a group, which is listed just before it and was begun after all items of its caller.
   pub sync_right : entry.kind ≡ kind.Sync → entry.answer ≡ answer.Synced group.group → 1 ≤ group.after
       → AllBelow items entry.caller group.after
       → IsRightNext world (items ++ Group group ∷ []) entry
   sync_right asked answer_is some below = next_plain world with_group entry (subst IsPlain (sym answer_is) tt)
       (λ previous is.
-      subst (IsRightCall world.handed world.opening (with_group ++ Call entry ∷ []) previous (length with_group) entry)
-      (sym asked)
-      (subst (IsRightSync (with_group ++ Call entry ∷ []) previous (length with_group)) (sym answer_is) (record {
-        place = length items;
-        group = group;
-        there = grown_has with_group (Call entry ∷ []) (length items) (Group group) (last_there items (Group group));
-        earlier = omega (arith, length-append items (Group group ∷ []));
-        number_is = refl;
-        begun = previous_below with_group (Call entry ∷ []) entry.caller group.after previous some
-            (below_group items group below) is;
-      })))
+      subst (IsRightCall world.handed world.opening with_both previous (length with_group) entry) (sym asked)
+      (subst (IsRightSync with_both previous (length with_group)) (sym answer_is)
+      (answered_group some below previous is)))
+
+  -- An attach that did, whose group begins the expansion of a pool at rest.
+  pub attached_right : (last : GroupItem) (width : ℕ) → entry.kind ≡ kind.Attach
+      → entry.answer ≡ answer.Attached width group.group → 1 ≤ group.after → AllBelow items entry.caller group.after
+      → IsGroupBefore items (length items) last → (last.from + 1 ≡ width) × (last.to ≡ last.from)
+      → (group.from + 1 ≡ width) × (group.to ≡ width) → IsRightNext world (items ++ Group group ∷ []) entry
+  unfolding answered_group
+  attached_right last width asked answer_is some below latest was now =
+      next_plain world with_group entry (subst IsPlain (sym answer_is) tt)
+      (λ previous is.
+      subst (IsRightCall world.handed world.opening with_both previous (length with_group) entry) (sym asked)
+      (subst (IsRightAttach with_both previous (length with_group)) (sym answer_is) (
+        answered_group some below previous is,
+        record {
+          now = now;
+          before = λ old before. subst (λ (g : GroupItem). (g.from + 1 ≡ width) × (g.to ≡ g.from))
+              (one_latest latest (earlier old before)) was;
+        },
+      )))
+    where
+      earlier : (old : GroupItem) → IsGroupBefore with_both (length items) old → IsGroupBefore items (length items) old
+      earlier old before = group_before_first items (Group group ∷ []) (length items) old (omega arith)
+          (group_before_first with_group (Call entry ∷ []) (length items) old
+          (omega (arith, length-append items (Group group ∷ []))) before)

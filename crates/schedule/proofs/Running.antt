@@ -1,6 +1,6 @@
 -- What stands between two turns stands after a client's next one.
 use Rattle.std.proofs.Common.{◌≡◌, ◌≢◌, inl, inr, ℕ, ◌≤◌, List, [], ◌∷◌, ◌++◌, length, refl, sym, ◌∙◌, ap, arith, length-append, eq-eqb, ne_eqb}
-use Rattle.std.specs.Prelude.{Bool, Option, Some, None, ◌==◌, if◌then◌else◌}
+use Rattle.std.specs.Prelude.{Bool, IsSome, Option, Some, None, ◌==◌, if◌then◌else◌}
 use Rattle.core_state.specs.declared.item.Entry.{Entry}
 use Rattle.core_state.specs.declared.item.Group.{Group as GroupItem}
 use Rattle.core_state.specs.declared.item.Item.{Item}
@@ -23,7 +23,7 @@ use Rattle.schedule.specs.declared.client.UnderWay.{UnderWay}
 use Rattle.schedule.specs.declared.client.Work.{Work}
 use Rattle.schedule.specs.declared.client.Work.TheVariants as work
 use Rattle.schedule.specs.Recorded.{IsBegunAt}
-use Rattle.schedule.specs.Running.{HasBegunBy, HasBegunIn, HasContent, IsClient, IsThere, MakesCommit}
+use Rattle.schedule.specs.Running.{HasBegunBy, HasBegunIn, HasContent, IsClient, MakesCommit}
 
 -- What a call is about stays as the journal grows.
 content_grown : (world : World) (items more : List Item) (call : ScriptCall) (at : ℕ) (content : List ℕ) (does : Work)
@@ -70,14 +70,14 @@ group_grown world items more item begun at (work.Attach run) is =
 -- Work that makes no commit knows nothing of groups.
 pub group_free : (world : World) (items : List Item) (item : GroupItem) (begun : List Kept) (at : ℕ) (does : Work)
     → (MakesCommit does → ⊥) → HasBegunBy world items item begun at does
-group_free world items item begun at (work.Sync run) none = absurd (none tt)
+group_free world items item begun at (work.Sync run) none = absurd (none refl)
 group_free world items item begun at (work.Put run) none = tt
 group_free world items item begun at (work.Read run) none = tt
 group_free world items item begun at (work.Attach run) none = in_free (attach_commit run) none
   where
-    in_free : (commit : Option CommitRun) → (IsThere commit → ⊥) → HasBegunIn world items item begun at commit
+    in_free : (commit : Option CommitRun) → (IsSome commit → ⊥) → HasBegunIn world items item begun at commit
     in_free None none = tt
-    in_free (Some made) none = absurd (none tt)
+    in_free (Some made) none = absurd (none refl)
 
 -- Clients go on as the journal grows by items that are none of theirs.
 pub client_grown : (world : World) (script : Script) (items more : List Item) (item now : GroupItem)

@@ -29,12 +29,12 @@ use Rattle.schedule.specs.declared.client.Work.TheVariants as work
 use Rattle.schedule.specs.Clients.{Changes}
 use Rattle.schedule.specs.Moments.{Past}
 use Rattle.schedule.specs.Recorded.{Recorded}
-use Rattle.schedule.specs.Running.{AreGoing, HasBegunBy, HasContent, IsClient, IsGoing, IsThere, IsTheirs, MakesCommit, Runs, calls_under_way, commit_in, setting_now}
+use Rattle.schedule.specs.Running.{AreGoing, HasBegunBy, HasContent, IsClient, IsGoing, IsTheirs, MakesCommit, Runs, calls_under_way, commit_in, setting_now}
 use Rattle.schedule.proofs.Going.{one_commit}
 use Rattle.schedule.proofs.Syncs.{its_commit}
 use Rattle.schedule.proofs.Recording.{GoesOnSince, recorded_goes}
 use Rattle.schedule.proofs.Running.{group_free, with_content, with_other, with_own}
-use Rattle.schedule.proofs.Theirs.{IsNoAttach, IsNoCommit, OnlyIt, before_commit, each_going, idle_no_attach, idle_no_commit, no_one, commit_stays, same_attach, some_is, the_one, work_no_commit}
+use Rattle.schedule.proofs.Theirs.{IsNoAttach, IsNoCommit, OnlyIt, before_commit, each_going, idle_no_attach, idle_no_commit, no_one, none_there, commit_stays, same_attach, some_is, the_one, work_no_commit}
 
 -- Of an attach that makes no commit it is known on the devices alone.
 pub early_known : (setting now : Setting) (last next : Kept) (begun onward : List Kept) (disk : Disk) (run : AttachRun)
@@ -286,7 +286,7 @@ module _ {world : World} {script : Script} {past : Past} {before : CoreState} {i
       going = ap (λ (c : Client). c.under_way) client_is
 
       no_commit : MakesCommit (work.Attach run) → ⊥
-      no_commit makes = subst IsThere none makes
+      no_commit = none_there none
 
   -- A commit begins, which calls no device. No image shows its group.
   pub commit_begins : (does : Work) (run : CommitRun) (next : Kept) → MineHolds (next ∷ []) → runs.begun ≡ [] → runs.commit ≡ None

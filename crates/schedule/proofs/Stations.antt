@@ -9,7 +9,7 @@ use Rattle.core_state.specs.declared.item.Item.{Item}
 use Rattle.core_state.specs.declared.item.Item.TheVariants.{Call}
 use Rattle.client_script.specs.declared.call.ScriptCall.{ScriptCall}
 use Rattle.core_turns.specs.declared.turn.Turn.TheVariants.{More, Busy, Done}
-use Rattle.core_turns.specs.Core.{Core, CoreState}
+use Rattle.core_turns.specs.Core.{Core, CoreState, IsCore}
 use Rattle.schedule.specs.declared.client.Client.{Client}
 use Rattle.schedule.specs.declared.client.UnderWay.{UnderWay}
 use Rattle.schedule.specs.declared.client.Work.{Work}
@@ -75,7 +75,8 @@ module _ (calls : List ScriptCall) (actor : ℕ) (core new : Core) (disk : Disk)
 -- Its call under way had its next one.
 module _ (calls : List ScriptCall) (actor : ℕ) (before after : CoreState) (items : List Item) (client : Client)
     (under : UnderWay) (call : ScriptCall) (going : client.under_way ≡ Some under)
-    (is : slice_get calls (client.begun - 1) ≡ Some call) (goes : WorkGoesOn under.work before after) where
+    (is : slice_get calls (client.begun - 1) ≡ Some call) (goes : WorkGoesOn under.work before after)
+    (core : IsCore after.core) where
   pub went_more : (does : Work) (at : ℕ) → GoesOnBy before after call under.work (More does)
       → at ≡ begun_at (commit_in does) (commit_in under.work) under.at (length items)
       → Turned calls actor (record { state = before; items = items; client = client }) (record {
@@ -92,6 +93,7 @@ module _ (calls : List ScriptCall) (actor : ℕ) (before after : CoreState) (ite
     is = is;
     did = did;
     goes = goes;
+    core = core;
   }) (refl, λ i. record { begun = client.begun; under_way = Some (record { at = at_is i; work = does }) })
 
   pub went_done : (given : Answer) (widths : Reflow) (entry : Entry) (listed : List Item) (made : Option ℕ)
@@ -110,6 +112,7 @@ module _ (calls : List ScriptCall) (actor : ℕ) (before after : CoreState) (ite
     is = is;
     did = did;
     goes = goes;
+    core = core;
   }) (
     listed_is ∙ ap (λ (e : Entry). listed_with widths items under.at e made e.answer) entry_is
         ∙ (λ i. listed_with (widths_is i) items under.at (entry_for call actor client.begun under.at given) (made_is i)

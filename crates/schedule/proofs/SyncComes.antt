@@ -19,13 +19,15 @@ use Rattle.core_turns.specs.Committing.{BeginsCommit, IsSyncRefused}
 use Rattle.core_turns.specs.UnderWay.{AreCallsOf, Stands, HoldingCall}
 use Rattle.core_turns.proofs.Commits.{few_out, rests}
 use Rattle.core_turns.proofs.CommitStands.{commit_begins_calls, commit_begins_stands}
+use Rattle.schedule.specs.Dropping.{HasDropCause}
+use Rattle.schedule.specs.Turns.{turns_of}
 use Rattle.schedule.specs.declared.client.Client.{Client}
 use Rattle.schedule.specs.declared.client.UnderWay.{UnderWay}
 use Rattle.schedule.specs.declared.client.Work.TheVariants as work
 use Rattle.schedule.specs.Running.{calls_under_way, held_under, setting_now}
 use Rattle.schedule.specs.Turned.{Station, LeavesBegun}
 use Rattle.schedule.specs.Comes.{TakesTurn, Comes}
-use Rattle.schedule.proofs.Fitting.{sync_no_free}
+use Rattle.schedule.specs.Fitting.{IsGroupKind}
 use Rattle.schedule.proofs.Theirs.{OnlyIt, calls_stay, idle_no_attach, none_some, other_no_attach, run_of, sync_no_attach}
 use Rattle.schedule.proofs.Answered.{answered, answered_idle}
 use Rattle.schedule.proofs.Coming.{goes_for}
@@ -35,6 +37,7 @@ use Rattle.schedule.proofs.RunsGoOn.{commit_begins, none_holds}
 use Rattle.schedule.proofs.Fulls.{put_alone}
 use Rattle.schedule.proofs.LeavesPool.{holds_left, turn_still}
 use Rattle.schedule.proofs.TurnComes.{RunsOn, first_entry, comes_nowhere, comes_on, comes_at_once}
+use Rattle.schedule.proofs.Refusals.{sync_cause}
 use Rattle.schedule.proofs.Syncs.{no_commit, refused_tells, refused_map, refused_answers, refused_right}
 
 module _ {script : Script} {actor : ℕ} {before after : Station} {clients news : List Client} (call : ScriptCall)
@@ -136,8 +139,10 @@ module _ {script : Script} {actor : ℕ} {before after : Station} {clients news 
       (record {
         of_kind = of;
         tells = refused_tells old given refused.0;
-        limit = λ reached told. (asked, (subst (IsSyncRefused old) told refused.0).2);
-        memory = λ wanting. sync_no_free call.kind asked;
+        limit = λ reached told. (subst IsGroupKind (sym asked) tt, (subst (IsSyncRefused old) told refused.0).2);
+        memory = λ wanting free. no_free (sym asked ∙ free);
+        attach = sync_cause before.state.disk.devices
+            (HasDropCause (turns_of before.state before.items clients) (turns_of after.state after.items news)) old given refused.0;
       })
       (λ full. absurd (put_alone call.kind given (λ put. no_put (sym asked ∙ put)) of full))
       (subst (λ (c : Core). AreCallsOf c (calls_under_way clients)) (sym refused.1) takes.schedule.going.are)
@@ -145,7 +150,7 @@ module _ {script : Script} {actor : ℕ} {before after : Station} {clients news 
       let map : Map = map_of world.handed world.opening before.items in
       let entry = first_entry call actor before given in
       let last : old.pool.uber.group ≡ runs.last.uber.group = ap (λ (u : Uber). u.group) runs.stands.alike in (
-        refused_right world before.items runs.item entry old given asked refl runs.recorded.latest
+        refused_right world before.items runs.item entry old given (subst IsGroupKind (sym asked) tt) refl runs.recorded.latest
             (λ none. rests old takes.is none ∙ last ∙ runs.recorded.item_is.number) refused.0,
         subst (λ (m : Map). Stands (setting_now runs) runs.last runs.begun m runs.contents (calls_under_way clients) runs.commit
             after.state)
@@ -156,3 +161,6 @@ module _ {script : Script} {actor : ℕ} {before after : Station} {clients news 
     where
       no_put : kind.Sync ≡ kind.Put → ⊥
       no_put same = cc
+
+      no_free : kind.Sync ≡ kind.Free → ⊥
+      no_free same = cc

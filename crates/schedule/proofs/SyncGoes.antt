@@ -17,7 +17,6 @@ use Rattle.core_state.specs.World.{World}
 use Rattle.core_commit.specs.CommitTurns.{CommitRun}
 use Rattle.client_script.specs.declared.call.ScriptCall.{ScriptCall}
 use Rattle.client_script.specs.Script.{Script, calls_of}
-use Rattle.journal_law.proofs.Grown.{new_or_before}
 use Rattle.core_turns.specs.declared.turn.Turn.TheVariants.{More, Done}
 use Rattle.core_turns.specs.Core.{Core, CoreState}
 use Rattle.core_turns.specs.Committing.{IsCommitOf, StepsCommit, AnswersGroup}
@@ -31,6 +30,7 @@ use Rattle.schedule.specs.declared.client.Client.{Client}
 use Rattle.schedule.specs.declared.client.UnderWay.{UnderWay}
 use Rattle.schedule.specs.declared.client.Work.TheVariants as work
 use Rattle.schedule.specs.Clients.{ClientsAreAnswered}
+use Rattle.schedule.specs.Fitting.{IsGroupKind}
 use Rattle.schedule.specs.Recorded.{Recorded}
 use Rattle.schedule.specs.Running.{HasBegun, HasBegunBy, IsGoing, AreGoing, Runs, call_of_client, calls_under_way, commit_in, held_by, held_under, setting_now}
 use Rattle.schedule.specs.Works.{begun_at}
@@ -38,14 +38,12 @@ use Rattle.schedule.specs.Turns.{turns_of}
 use Rattle.schedule.specs.Turned.{Station, LeavesGoing, entry_for, group_for}
 use Rattle.schedule.specs.Comes.{TakesTurn, Comes}
 use Rattle.schedule.proofs.Coming.{goes_for}
-use Rattle.schedule.proofs.RightNext.{sync_cut_right, sync_right, same_out}
+use Rattle.schedule.proofs.RightNext.{group_cut_right, sync_right, same_out}
 use Rattle.schedule.proofs.Theirs.{IsNoAttach, OnlyIt, none_some, calls_stay, no_one, other_no_attach, sync_no_attach}
 use Rattle.schedule.proofs.Answered.{answered, answers_call, answers_group}
-use Rattle.schedule.specs.Fitting.{FitsCall}
-use Rattle.schedule.proofs.Fitting.{FitSince, fits, sync_no_free}
+use Rattle.schedule.proofs.Fitting.{FitSince, IsPlainKind, fit_both, fits}
 use Rattle.schedule.proofs.Fulls.{full_synced}
 use Rattle.schedule.proofs.Going.{commits_on, commit_ends, keeps_attach, one_commit}
-use Rattle.schedule.proofs.Running.{group_apart}
 use Rattle.schedule.proofs.RunsGoOn.{beside_hold, commit_goes_on, none_holds}
 use Rattle.schedule.proofs.RunsEnd.{commit_ends as runs_ends, commit_is_cut}
 use Rattle.schedule.proofs.Recording.{recorded_halves, recorded_whole}
@@ -231,31 +229,18 @@ module _ {script : Script} {actor : ℕ} {before after : Station} {clients news 
       no_full : answer.Synced number ≡ answer.Full → ⊥
       no_full same = cc
 
+      no_limit : (reached : ℕ) → answer.Synced number ≡ answer.Limit reached → ⊥
+      no_limit reached told = cc
+
+      none_out : (listed : ℕ) → answer.Synced number ≡ answer.TooManyFailed listed → ⊥
+      none_out listed told = cc
+
       -- The group answers no call, and the entry fits the sync.
       fit : FitSince (turns_of before.state before.items clients) (turns_of after.state after.items news)
-      fit index other there = elim (new_or_before (before.items ++ Group group ∷ []) (CallItem entry) index
-          (CallItem other) (subst (λ (l : List Item). slice_get l index ≡ Some (CallItem other)) leaves.0 there)) [
-            | inl last ↦ inr (subst (FitsCall old.pool.uber.parity now.pool.out)
-                (same last.1) its)
-            | inr earlier ↦ inl (group_apart before.items group index other earlier.1)
-          ]
-        where
-          same : CallItem entry ≡ CallItem other → entry ≡ other
-          same is = cc
-
-          none_out : (listed : ℕ) → answer.Synced number ≡ answer.TooManyFailed listed → ⊥
-          none_out listed told = cc
-
-          no_limit : (reached : ℕ) → answer.Synced number ≡ answer.Limit reached → ⊥
-          no_limit reached told = cc
-
-          its : FitsCall old.pool.uber.parity now.pool.out entry
-          its = record {
-            of_kind = for_call.0;
-            too_many = λ listed told. absurd (none_out listed told);
-            limit = λ reached told. absurd (no_limit reached told);
-            memory = λ wanting. sync_no_free call.kind for_call.0;
-          }
+      fit = fit_both (turns_of before.state before.items clients) (turns_of after.state after.items news) entry
+          (fits old call.kind (answer.Synced number) for_call.0 (λ listed told. absurd (none_out listed told)) no_limit
+          (subst IsPlainKind (sym for_call.0) tt))
+          goes.out.still group leaves.0
 
       on : RunsOn script before after clients news ((before.items ++ Group group ∷ []) ++ CallItem entry ∷ [])
       on world past handed within listed runs =
@@ -290,7 +275,7 @@ module _ {script : Script} {actor : ℕ} {before after : Station} {clients news 
   cut out steps leaves = comes_answered takes call before.client.begun under.at given its_next its_there (goes_for script goes) leaves.0
       leaves.1
       (fits old call.kind given tt (λ listed told. (steps.0, same_out (sym told) ∙ steps.1))
-      (λ reached told. no_limit reached told) (sync_no_free call.kind for_call.0)) (λ full. absurd (no_full full))
+      (λ reached told. no_limit reached told) (subst IsPlainKind (sym for_call.0) tt)) (λ full. absurd (no_full full))
       (subst (λ (s : CoreState). AreGoing script s.core news) (sym steps.2)
       (commit_ends takes.was takes.changes takes.schedule.going
       (subst (AreCallsOf old) (sym (ended_calls given leaves)) takes.schedule.going.are)
@@ -301,7 +286,7 @@ module _ {script : Script} {actor : ℕ} {before after : Station} {clients news 
       let stood = cut_stands steps.0 (its_stands runs) in
       commit_is_cut after.state takes.was takes.changes runs None (whole_recorded runs) (entry given leaves) refl
       (idle_now given leaves) (ap (λ (s : CoreState). s.disk) steps.2)
-      stood.groups.knows (sync_cut_right world before.items (entry given leaves) for_call.0 tt) tt listed refl only
+      stood.groups.knows (group_cut_right world before.items (entry given leaves) (subst IsGroupKind (sym for_call.0) tt) tt) tt listed refl only
       (subst (λ (l : List HoldingCall). Stands (setting_now runs) runs.last runs.begun map runs.contents l None after.state)
       (sym (ended_calls given leaves))
       (subst (Stands (setting_now runs) runs.last runs.begun map runs.contents (calls_under_way clients) None) (sym steps.2)

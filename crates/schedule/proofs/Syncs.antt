@@ -25,11 +25,12 @@ use Rattle.core_turns.specs.UnderWay.{HoldingCall, GroupsStand, Stands, shown_in
 use Rattle.core_turns.proofs.WritesBeside.{shown_one}
 use Rattle.schedule.specs.declared.client.Client.{Client}
 use Rattle.schedule.specs.declared.client.UnderWay.{UnderWay}
+use Rattle.schedule.specs.Fitting.{IsGroupKind}
 use Rattle.schedule.specs.Recorded.{IsRightNext}
 use Rattle.schedule.specs.Running.{IsGoing, IsTheirs, commit_in}
 use Rattle.schedule.proofs.Recording.{HalvesGoOn, HasParityOf}
 use Rattle.schedule.proofs.Running.{head_is}
-use Rattle.schedule.proofs.RightNext.{IsStopped, sync_cut_right, sync_limit_right, same_out}
+use Rattle.schedule.proofs.RightNext.{IsStopped, group_cut_right, group_limit_right, same_out}
 use Rattle.schedule.proofs.Theirs.{OnlyIt, makes_commit, some_is, none_some}
 
 -- ---- the core's commit
@@ -122,14 +123,14 @@ refused_answers asked core other refused = absurd refused
 
 -- and is right where the last group listed is the last one begun, if none is under way.
 pub refused_right : (world : World) (items : List Item) (item : GroupItem) (entry : Entry) (core : Core)
-    (given : Answer) → entry.kind ≡ kind.Sync → entry.answer ≡ given → IsGroupBefore items (length items) item
+    (given : Answer) → IsGroupKind entry.kind → entry.answer ≡ given → IsGroupBefore items (length items) item
     → (core.committing ≡ None → core.begun ≡ item.group) → IsSyncRefused core given
     → IsRightNext world items entry
 refused_right world items item entry core (answer.TooManyFailed out) asked is latest last refused =
-    sync_cut_right world items entry asked (subst IsStopped (sym is) tt)
+    group_cut_right world items entry asked (subst IsStopped (sym is) tt)
 refused_right world items item entry core (answer.Limit reached) asked is latest last refused =
-    sync_limit_right world items entry item asked (is ∙ ap answer.Limit refused.2) latest
+    group_limit_right world items entry item asked (is ∙ ap answer.Limit refused.2) latest
     (let same = last refused.1 in let high = refused.3 in omega (arith, same, high))
 refused_right world items item entry core answer.NoMemory asked is latest last refused =
-    sync_cut_right world items entry asked (subst IsStopped (sym is) tt)
+    group_cut_right world items entry asked (subst IsStopped (sym is) tt)
 refused_right world items item entry core other asked is latest last refused = absurd refused

@@ -1,7 +1,7 @@
 -- The calls under way of some clients, of whom one has changed.
 use Rattle.std.proofs.Common.{◌≡◌, ◌≢◌, ⊎_elim, ℕ, zero, suc, List, [], ◌∷◌, ◌++◌, Option, Some, None, sym, ◌∙◌, ap, subst, refl}
-use Rattle.std.specs.Prelude.{Contains, slice_get, ⊤}
-use Rattle.std.proofs.lemmas.Bool.{cases_eq}
+use Rattle.std.specs.Prelude.{Contains, IsSome, slice_get, ⊤}
+use Rattle.std.proofs.lemmas.Bool.{cases_eq, false≢true}
 use Rattle.std.proofs.lemmas.List.Elements.{Contains-append_cases, Contains-append_left, Contains-append_right}
 use Rattle.std.proofs.lemmas.Grind.{flat_map-append}
 use Rattle.space_alloc.specs.Space.{Gains}
@@ -19,7 +19,7 @@ use Rattle.schedule.specs.declared.client.UnderWay.{UnderWay}
 use Rattle.schedule.specs.declared.client.Work.{Work}
 use Rattle.schedule.specs.declared.client.Work.TheVariants as work
 use Rattle.schedule.specs.Clients.{Changes}
-use Rattle.schedule.specs.Running.{AreGoing, IsGoing, IsHoldOf, IsTheirs, IsThere, MakesCommit, call_of_client, calls_under_way, commit_in, held_by, held_under}
+use Rattle.schedule.specs.Running.{AreGoing, IsGoing, IsHoldOf, IsTheirs, MakesCommit, call_of_client, calls_under_way, commit_in, held_by, held_under}
 use Rattle.schedule.specs.Works.{begun_at}
 
 pub some_is : {A : Type 0} {one two : A} → Some one ≡ Some two → one ≡ two
@@ -118,14 +118,14 @@ calls_of_others {clients = clients} was idle going call listed its =
 
 -- A work makes a commit where it has one,
 pub makes_commit : (does : Work) (run : CommitRun) → commit_in does ≡ Some run → MakesCommit does
-makes_commit does run is = subst IsThere (sym is) tt
+makes_commit does run is = subst IsSome (sym is) refl
 
 -- and has one where it makes one.
 pub run_of : (does : Work) → MakesCommit does → (run : CommitRun) × (commit_in does ≡ Some run)
 run_of does = by (commit_in does)
   where
-    by : (commit : Option CommitRun) → IsThere commit → (run : CommitRun) × (commit ≡ Some run)
-    by None none = absurd none
+    by : (commit : Option CommitRun) → IsSome commit → (run : CommitRun) × (commit ≡ Some run)
+    by None none = absurd (false≢true none)
     by (Some run) there = (run, refl)
 
 -- No other client makes a commit.
@@ -227,8 +227,8 @@ pub no_one : (T : UnderWay → Type 0) {its : Option UnderWay} → its ≡ None 
     → T other
 no_one T idle other is = absurd (none_some (sym idle ∙ is))
 
-pub none_there : {commit : Option CommitRun} → commit ≡ None → IsThere commit → ⊥
-none_there none there = subst IsThere none there
+pub none_there : {commit : Option CommitRun} → commit ≡ None → IsSome commit → ⊥
+none_there none there = false≢true (subst IsSome none there)
 
 -- No commit is under way.
 abbrev pub IsNoCommit : Option UnderWay → Type 0
@@ -249,9 +249,9 @@ pub begun_before : (does was : Work) (at now : ℕ) → (MakesCommit does → �
     → begun_at (commit_in does) (commit_in was) at now ≡ at
 begun_before does was at now none = by (commit_in does) none
   where
-    by : (commit : Option CommitRun) → (IsThere commit → ⊥) → begun_at commit (commit_in was) at now ≡ at
+    by : (commit : Option CommitRun) → (IsSome commit → ⊥) → begun_at commit (commit_in was) at now ≡ at
     by None none = refl
-    by (Some run) none = absurd (none tt)
+    by (Some run) none = absurd (none refl)
 
 -- No attach is under way.
 abbrev pub IsNoAttach : Option UnderWay → Type 0
@@ -282,11 +282,11 @@ pub sync_no_attach : (sync : CommitRun) (run : AttachRun) → work.Sync sync ≡
 sync_no_attach sync run same = cc
 
 -- An attach that makes no commit has begun none.
-pub before_commit : (run : AttachRun) → (IsThere (attach_commit run) → ⊥) → IsBeforeCommit run
+pub before_commit : (run : AttachRun) → (IsSome (attach_commit run) → ⊥) → IsBeforeCommit run
 before_commit (Reads ring) none = tt
 before_commit (Checked ring) none = tt
-before_commit (Joins join) none = none tt
-before_commit (Signs run because) none = none tt
+before_commit (Joins join) none = none refl
+before_commit (Signs run because) none = none refl
 
 module _ {clients news : List Client} {index : ℕ} {old client : Client} (was : slice_get clients index ≡ Some old)
     (changes : Changes clients news index client) where

@@ -8,6 +8,7 @@ use Rattle.space_alloc.specs.Space.{Gains}
 use Rattle.uberblock_ring.specs.Devices.{count_of, IsWithin}
 use Rattle.core_state.specs.declared.answer.Answer.{Answer}
 use Rattle.core_state.specs.declared.answer.Answer.TheVariants as answer
+use Rattle.core_state.specs.declared.answer.Kind.{Kind}
 use Rattle.core_state.specs.declared.item.Entry.{Entry}
 use Rattle.core_state.specs.declared.item.Item.{Item}
 use Rattle.core_state.specs.declared.item.Item.TheVariants.{Call as CallItem}
@@ -25,6 +26,7 @@ use Rattle.schedule.specs.Clients.{ClientsAreAnswered}
 use Rattle.schedule.specs.Coming.{GoesOnFor, IsWorldOf, LeadTo}
 use Rattle.schedule.specs.Turns.{turns_of, Turns, taken_by, IsListedWith}
 use Rattle.schedule.specs.Running.{AreGoing, HasContent, IsGoing, IsHoldOf, IsWorkFor, IsWorkOf, MakesCommit, Runs, call_of_client, calls_under_way, held_by, held_under, setting_now}
+use Rattle.schedule.specs.Dropping.{HasDropCause}
 use Rattle.schedule.specs.Recorded.{IsRightNext}
 use Rattle.schedule.specs.Turned.{HasDeviceUnder, Station, LeavesBegun, LeavesGoing, entry_for}
 use Rattle.schedule.specs.Comes.{TakesTurn, Comes}
@@ -79,6 +81,9 @@ module _ {script : Script} {actor : ℕ} {before after : Station} {clients news 
   StandsNow world past runs contents map =
       Stands (setting_now runs) runs.last runs.begun map contents (calls_under_way news) runs.commit after.state
 
+  abbrev FitsNow : Kind → Answer → Type 0
+  FitsNow = Fits old before.state.disk.devices (HasDropCause was left)
+
   -- The bank has the devices that attaches are to bring.
   pub there_still : GoesOnFor script before.state after.state → (index : ℕ) (client : Client)
       → slice_get news index ≡ Some client → HasDeviceUnder after.state.disk client.under_way
@@ -103,7 +108,7 @@ module _ {script : Script} {actor : ℕ} {before after : Station} {clients news 
   pub came_listed : (more : List Item) → GoesOnFor script before.state after.state → after.items ≡ before.items ++ more
       → FitSince was left → RunsOn script before after clients news (before.items ++ more) → FullStays script was left
       → LeadTo script was (taken_by actor left ∷ []) left
-  came_listed more goes items fit runs full = came_turn script actor was left goes takes.space takes.numbers more items fit
+  came_listed more goes items fit runs full = came_turn script actor was left goes takes.space takes.numbers takes.dropped more items fit
       (λ world past handed within listed stood.
       subst (λ (l : List Item). Runs world script past after.state l news) (sym items)
       (runs world past handed within
@@ -135,11 +140,11 @@ module _ {script : Script} {actor : ℕ} {before after : Station} {clients news 
       → slice_get (calls_of script actor) (answered before.client) ≡ Some call → GoesOnFor script before.state after.state
       → after.items ≡ before.items ++ CallItem (entry_for call actor number at given) ∷ []
       → after.client ≡ record { begun = number; under_way = None }
-      → Fits old call.kind given → (given ≡ answer.Full → HasManyAt script was) → AreGoing script now news
+      → FitsNow call.kind given → (given ≡ answer.Full → HasManyAt script was) → AreGoing script now news
       → RunsOn script before after clients news (before.items ++ CallItem (entry_for call actor number at given) ∷ [])
       → ItComes
   comes_answered call number at given number_is next goes items client_is fit full going runs = record {
-    come = came_listed (CallItem its_entry ∷ []) goes items (fit_entry was left its_entry items fit goes.goes.out.still) runs
+    come = came_listed (CallItem its_entry ∷ []) goes items (fit_entry was left its_entry fit goes.goes.out.still items) runs
         (full_answer script was left its_entry items full);
     schedule = record {
       going = going;
@@ -198,7 +203,7 @@ module _ {script : Script} {actor : ℕ} {before after : Station} {clients news 
 
     -- A call that is answered in its first turn.
     pub comes_at_once : (given : Answer) → slice_get (calls_of script actor) before.client.begun ≡ Some call
-        → LeavesBegun actor call before after (Done given) → Fits old call.kind given
+        → LeavesBegun actor call before after (Done given) → FitsNow call.kind given
         → (given ≡ answer.Full → HasManyAt script was) → AreCallsOf now (calls_under_way clients)
         → ((world : World) (past : Past) → (runs : Runs world script past before.state before.items clients)
         → IsRightNext world before.items (first_entry call actor before given)
@@ -395,7 +400,7 @@ module _ {script : Script} {actor : ℕ} {before after : Station} {clients news 
         held_gone = call_ends takes.was takes.changes was_held (ap held_under idle_now)
 
         pub comes_ended : after.items ≡ before.items ++ CallItem entry ∷ [] → LeavesPool old now
-            → after.state.disk ≡ before.state.disk → Fits old call.kind given → given ≢ answer.Full
+            → after.state.disk ≡ before.state.disk → FitsNow call.kind given → given ≢ answer.Full
             → AreCallsOf now (calls_under_way news)
             → ((world : World) (past : Past) → IsWorldOf script world
             → (runs : Runs world script past before.state before.items clients)

@@ -15,6 +15,7 @@ use Rattle.core_turns.specs.declared.turn.Turn.{Turn}
 use Rattle.core_turns.specs.declared.turn.Turn.TheVariants.{More, Busy, Done}
 use Rattle.core_turns.specs.declared.attaching.AttachRun.TheVariants.{Reads, Checked, Joins, Signs}
 use Rattle.core_turns.specs.declared.getting.GetRun.{GetRun}
+use Rattle.core_turns.specs.Core.{IsCore}
 use Rattle.core_turns.specs.Getting.{IsReadKind, BeginsGet}
 use Rattle.schedule.specs.declared.client.Client.{Client}
 use Rattle.schedule.specs.declared.client.UnderWay.{UnderWay}
@@ -22,10 +23,11 @@ use Rattle.schedule.specs.declared.client.Work.{Work}
 use Rattle.schedule.specs.declared.client.Work.TheVariants as work
 use Rattle.schedule.specs.Comes.{TakesTurn, Comes}
 use Rattle.schedule.specs.Turned.{Station, BeginsWork, Waits, AnswersAtOnce, BeginsCall, GoesOnBy, LeavesBegun, LeavesGoing, HasTableOf, Turned, WorkGoesOn, Nothing, Began, Went}
-use Rattle.schedule.proofs.TurnComes.{comes_nowhere, its_asked}
+use Rattle.schedule.proofs.TurnComes.{comes_nowhere}
 use Rattle.schedule.proofs.AttachComes.{attach_at_once, attach_begins, attach_waits}
 use Rattle.schedule.proofs.AttachCommits.{join_drops, join_goes, signs_on}
 use Rattle.schedule.proofs.AttachCut.{attach_cut}
+use Rattle.schedule.proofs.AttachEnds.{attach_ends}
 use Rattle.schedule.proofs.AttachJoins.{attach_joins}
 use Rattle.schedule.proofs.AttachWidens.{join_joins}
 use Rattle.schedule.proofs.AttachReads.{commit_refused, device_refused, finds_free, reads_next, waits_on}
@@ -41,10 +43,6 @@ put_bytes : (id : Option ℕ) (bytes : List ℕ) → MayHave kind.Put id bytes �
 put_bytes id bytes may at = ⊎_elim (λ below. may.1.fit at 0 below)
     (λ above. let past : slice_index bytes at ≡ 0 = get_or_past bytes at 0 above in omega (arith, past))
     (cases_lt at (length bytes))
-
--- A script asks for no attach.
-no_attach : (call : ScriptCall) → IsAllowed call → call.kind ≡ kind.Attach → ⊥
-no_attach call allowed is = subst (λ (asked : Kind). MayHave asked call.id (fill_bytes call.fill)) is allowed
 
 module _ {script : Script} {actor : ℕ} {before after : Station} {clients news : List Client}
     (takes : TakesTurn script actor before after clients news) where
@@ -133,8 +131,7 @@ module _ {script : Script} {actor : ℕ} {before after : Station} {clients news 
 
   -- A later turn.
   module _ (under : UnderWay) (call : ScriptCall) (going : before.client.under_way ≡ Some under)
-      (is : slice_get (calls_of script actor) (before.client.begun - 1) ≡ Some call)
-      (allowed : IsAllowed call) where
+      (is : slice_get (calls_of script actor) (before.client.begun - 1) ≡ Some call) (still : IsCore after.state.core) where
     went_by : (does : Work) (turn : Turn Work) → under.work ≡ does → WorkGoesOn does before.state after.state
         → GoesOnBy before.state after.state call does turn
         → LeavesGoing actor call before after under turn → ItComes
@@ -161,10 +158,7 @@ module _ {script : Script} {actor : ℕ} {before after : Station} {clients news 
     went_by (work.Attach (Checked ring)) (More (work.Attach (Joins join))) does_is goes did leaves =
         attach_joins call takes under ring join does_is going is goes did.0 did.1 leaves
     went_by (work.Attach (Checked ring)) (Done given) does_is goes did leaves =
-        commit_refused call takes under ring going is goes given does_is did.0 did.1
-        (λ reached told.
-        no_attach call allowed (its_asked takes call under (work.Attach (Checked ring)) does_is going is).0)
-        leaves
+        commit_refused call takes under ring going is goes given does_is did.0 did.1 leaves
     went_by (work.Attach (Joins join)) (More (work.Attach (Joins next))) does_is goes did leaves =
         join_goes call takes under going is join next does_is goes did.0.0 did.0.1 did.1 leaves
     went_by (work.Attach (Joins join)) (More (work.Attach (Signs made None))) does_is goes did leaves =
@@ -175,8 +169,12 @@ module _ {script : Script} {actor : ℕ} {before after : Station} {clients news 
         signs_on call takes under going is commit next because same does_is goes did.0.1 did.1 leaves
     went_by (work.Attach (Joins join)) (Done given) does_is goes did leaves =
         attach_cut call takes under (Joins join) join.run refl does_is going is goes did.0 given did.1 leaves
-    went_by (work.Attach run) turn does_is goes did leaves =
-        absurd (no_attach call allowed (its_asked takes call under (work.Attach run) does_is going is).0)
+    went_by (work.Attach (Signs commit because)) (Done given) does_is goes did leaves = ⊎_elim
+        (λ stops. attach_cut call takes under (Signs commit because) commit refl does_is going is goes stops.0 given
+        stops.1 leaves)
+        (λ ends. attach_ends call takes under commit because does_is going is goes still given ends leaves)
+        did
+    went_by (work.Attach run) (More (work.Attach next)) does_is goes did leaves = absurd did.0
     went_by does turn does_is goes did leaves = absurd did
 
   -- **A turn of a client comes to a state in which the next turn may be taken, and what stood between two turns
@@ -189,5 +187,4 @@ module _ {script : Script} {actor : ℕ} {before after : Station} {clients news 
       began_by begins.call (allowed before.client.begun begins.call begins.next) begins.idle begins.next begins.disk turn
       begins.did begins.table leaves
   turned_comes allowed (Went under turn goes leaves) =
-      went_by under goes.call goes.going goes.is (allowed (before.client.begun - 1) goes.call goes.is) under.work turn refl
-      goes.goes goes.did leaves
+      went_by under goes.call goes.going goes.is goes.core under.work turn refl goes.goes goes.did leaves

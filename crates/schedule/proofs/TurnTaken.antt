@@ -6,8 +6,7 @@ use Rattle.std.proofs.lemmas.Option.{get_or_from_slice_get, slice_get-get_or, sl
 use Rattle.bank_trait.specs.Disk.{Lawful}
 use Rattle.core_state.specs.declared.answer.Kind.{Kind}
 use Rattle.client_script.specs.declared.call.ScriptCall.{ScriptCall}
-use Rattle.client_script.specs.Lines.{fill_bytes}
-use Rattle.client_script.specs.Script.{MayHave, Placed, Script, IsAllowed, calls_of}
+use Rattle.client_script.specs.Script.{Placed, Script, IsAllowed, calls_of}
 use Rattle.core_turns.specs.Core.{Core, IsCore}
 use Rattle.core_turns.specs.Getting.{HasTooManyOut}
 use Rattle.core_turns.specs.UnderWay.{HoldingCall, Putting, Reading}
@@ -18,7 +17,7 @@ use Rattle.schedule.specs.declared.client.Work.{Work}
 use Rattle.schedule.specs.declared.client.Work.TheVariants as work
 use Rattle.schedule.specs.Clients.{Changes}
 use Rattle.schedule.specs.Comes.{Comes, TakesTurn}
-use Rattle.schedule.specs.Coming.{AttachesNone, IsSchedule}
+use Rattle.schedule.specs.Coming.{IsSchedule}
 use Rattle.schedule.specs.Turns.{Turns, turns_of, taken_by}
 use Rattle.schedule.specs.Playing.{HasRoomForAnswers, IsReady}
 use Rattle.schedule.specs.Replaying.{AreIdle, HasTurn, OnlyShared, TakesOne}
@@ -26,6 +25,7 @@ use Rattle.schedule.specs.Running.{AreGoing, IsGoing, IsWorkFor, IsWorkOf, calls
 use Rattle.schedule.specs.Turned.{HasDeviceUnder, MayGoOn, Station, Turned}
 use Rattle.schedule.specs.Using.{HasCopiedNone}
 use Rattle.schedule.proofs.Coming.{came_nowhere}
+use Rattle.schedule.proofs.Dropped.{turn_drops}
 use Rattle.schedule.proofs.Shared.{turned_begins, turned_further, turned_shared, turned_still}
 use Rattle.schedule.proofs.Theirs.{none_some, some_is, is_among}
 use Rattle.schedule.proofs.TurnLaw.{turned_comes}
@@ -49,12 +49,6 @@ allowed_of script actor allowed number call is = all_at IsAllowed (calls_of scri
     (All-filter (λ (placed : Placed). placed.actor == actor) (λ (placed : Placed). IsAllowed placed.call) script.calls
     allowed))
     is
-
--- None of them is an attach.
-pub allowed_attach_none : (script : Script) → All (λ placed. IsAllowed placed.call) script.calls → AttachesNone script
-allowed_attach_none script allowed actor number call is attach =
-    subst (λ (asked : Kind). MayHave asked call.id (fill_bytes call.fill)) attach
-    (allowed_of script actor allowed number call is)
 
 -- A call under way is one of the core, and what the script asks for.
 pub going_may : (script : Script) (core : Core) (clients : List Client) (index : ℕ) (client : Client) (under : UnderWay)
@@ -141,6 +135,8 @@ takes_turn script place actor before after clients schedule was same low is lawf
       still_lawful = lawful.1;
       space = λ uber entries stood. turn_uses script actor before after clients (slice_set clients place after.client)
           schedule.going was changes is uber entries stood (numbers stood.last) turned;
+      dropped = λ cause. turn_drops (calls_of script actor) actor before after clients
+          (slice_set clients place after.client) was changes cause turned;
       there = there;
       numbers = numbers;
     }

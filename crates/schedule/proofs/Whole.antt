@@ -8,6 +8,7 @@ use Rattle.shadow_write.specs.Required.{front_after_stop}
 use Rattle.uberblock_ring.specs.Devices.{has_device, count_of, IsWithin}
 use Rattle.uberblock_ring.specs.Uberblock.{Uber}
 use Rattle.uberblock_ring.specs.Valid.{IsRightUber}
+use Rattle.core_state.specs.declared.item.Entry.{Entry}
 use Rattle.core_state.specs.declared.item.Group.{Group as GroupItem}
 use Rattle.core_state.specs.declared.item.Item.{Item}
 use Rattle.core_state.specs.declared.item.Item.TheVariants.{Group}
@@ -27,6 +28,8 @@ use Rattle.core_open.specs.Regions.{IsOnBelow}
 use Rattle.open_pool.specs.Opening.{AreLoaded, MayBegin, OpensPool, IsBegunWith}
 use Rattle.open_pool.specs.Pool.{Pool}
 use Rattle.client_script.specs.Script.{Placed, Script, asked_by, handed_by}
+use Rattle.join_commit.specs.declared.join_run.WhyDropped.{WhyDropped}
+use Rattle.join_commit.specs.declared.join_run.WhyDropped.TheVariants as why
 use Rattle.journal_law.specs.Moments.{KeepsLast}
 use Rattle.journal_law.specs.NoSpace.{NoSpaceIsCaused}
 use Rattle.journal_law.specs.FirstGroup.{BeginsAfter}
@@ -38,7 +41,9 @@ use Rattle.schedule.specs.declared.client.Client.{Client}
 use Rattle.schedule.specs.declared.whole_run.Ended.{Ended}
 use Rattle.schedule.specs.declared.whole_run.Ended.TheVariants.{Whole, NoMemory, Limit}
 use Rattle.schedule.specs.Caused.{FullIsCaused}
-use Rattle.schedule.specs.Coming.{AttachesNone, LeadTo}
+use Rattle.schedule.specs.Coming.{LeadTo}
+use Rattle.schedule.specs.Dropping.{HasDropCause, IsDropCause, IsToBeTold}
+use Rattle.schedule.specs.Fitting.{FitsCall, FitsSince, IsAttachCause}
 use Rattle.schedule.specs.Turns.{turns_of, TurnTaken, Turns, bank_when}
 use Rattle.schedule.specs.InTurn.{Cursor, InOrder, HaveTaken, Replay, replay_at}
 use Rattle.schedule.specs.Moments.{Past}
@@ -49,9 +54,10 @@ use Rattle.schedule.specs.WholeRun.{HasRun, HasRunInTurn, RunKeeps, first_turns}
 use Rattle.schedule.proofs.Banks.{are_listed, at_end as bank_at_end, at_start}
 use Rattle.schedule.proofs.Beginning.{no_call}
 use Rattle.schedule.proofs.InTurn.{gone_taken}
+use Rattle.schedule.proofs.Fitting.{attach_cause}
 use Rattle.schedule.proofs.Numbered.{first_numbered}
 use Rattle.schedule.proofs.OfLines.{follows_lines}
-use Rattle.schedule.proofs.Opened.{resting, opened_world, runs_first}
+use Rattle.schedule.proofs.Opened.{none_of_blank, resting, opened_world, runs_first}
 use Rattle.schedule.proofs.OpenedBirths.{opened_births}
 use Rattle.schedule.proofs.Recording.{recorded_throughout, recorded_keeps, recorded_no_older}
 use Rattle.schedule.proofs.UsingOpened.{uses_first}
@@ -93,7 +99,7 @@ module _ (script : Script) (old mid : Disk) (pool : Pool) (silent : ℕ) (items 
     (taken : HaveTaken script (first_turns script (at_disk (resting pool) mid) (first_item pool)) passed)
     (come : LeadTo script (first_turns script (at_disk (resting pool) mid) (first_item pool)) passed
     (turns_of final items clients))
-    (calls : CallsAreRight (asked_by script) items) (none : AttachesNone script) where
+    (calls : CallsAreRight (asked_by script) items) where
   abbrev item : GroupItem
   item = first_item pool
 
@@ -190,6 +196,28 @@ module _ (script : Script) (old mid : Disk) (pool : Pool) (silent : ℕ) (items 
       parity_is = sym (opened_parity may.may.parity begins.opened);
     }
 
+  -- No attach was under way as the run began, so what one tells has come since.
+  fits_run : (entry : Entry) → FitsSince first_state (turns_of final items clients) entry
+      → FitsCall pool.uber.parity old.devices final.core.pool.out (IsDropCause old final.disk final.core.pool.out) entry
+  fits_run entry fit = record {
+    of_kind = fit.of_kind;
+    too_many = fit.too_many;
+    limit = fit.limit;
+    memory = fit.memory;
+    attach = subst
+        (λ (n : ℕ). IsAttachCause n (IsDropCause old final.disk final.core.pool.out) entry.answer) opened_later.devices
+        (attach_cause mid.devices (HasDropCause first_state (turns_of final items clients))
+        (IsDropCause old final.disk final.core.pool.out) entry.answer (λ cause. ⊎_elim (by cause) (λ told. absurd (none told))) fit.attach);
+  }
+    where
+      by : (cause : WhyDropped) → IsDropCause mid final.disk final.core.pool.out cause
+          → IsDropCause old final.disk final.core.pool.out cause
+      by (why.NewDeviceFailed device) rose = let more = opened_later.faults device in omega (arith, rose, more)
+      by (why.DeviceOut device) out = out
+
+      none : {cause : WhyDropped} → IsToBeTold (blank_clients script.clients) cause → ⊥
+      none told = none_of_blank script.clients told.index told.client told.under told.going
+
   -- The calls of the script were carried out on the pool that the devices showed,
   pub has_run : HasRun script old final.disk items final.core.pool.out
   has_run = record {
@@ -210,14 +238,17 @@ module _ (script : Script) (old mid : Disk) (pool : Pool) (silent : ℕ) (items 
     renews = renews;
     writes = writes;
     parity = pool.uber.parity;
-    only = touches_then (IsOnBelow pool.uber.reflow.to) (IsOnInUse pool.uber.reflow.to pool.out)
-        (IsOnBelow pool.uber.reflow.to) (λ d x here. here) (λ d x here. here.0) opened_only
-        (come.same none).only;
+    only = subst (λ (turns : Turns). TouchesOnly (IsOnBelow (turns.state.core.reach + 1)) old final.disk) (sym come.ends)
+        (touches_then (IsOnBelow pool.uber.reflow.to) (IsOnInUse (final.core.reach + 1) pool.out)
+        (IsOnBelow (final.core.reach + 1))
+        (λ d x here. let more = come.reach in omega (arith, here, more)) (λ d x here. here.0) opened_only come.only);
+    same = λ none. touches_then (IsOnBelow pool.uber.reflow.to) (IsOnInUse pool.uber.reflow.to pool.out)
+        (IsOnBelow pool.uber.reflow.to) (λ d x here. here) (λ d x here. here.0) opened_only (come.same none).only;
     each = out_later old mid final.disk pool.uber silent pool.out final.core.pool.out opened_later come.later outs
         come.out;
     calls = calls;
-    fits = λ index entry there. ⊎_elim
-        (λ at. absurd (no_call item index entry at)) (λ fit. fit) (come.fits index entry there);
+    fits = λ index entry there. ⊎_elim (λ at. absurd (no_call item index entry at)) (fits_run entry)
+        (come.fits index entry there);
     numbers = (come.numbers (first_numbered pool)).numbered;
     borne = come.borne;
     few = come.few;

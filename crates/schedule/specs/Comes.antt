@@ -2,10 +2,12 @@
 use Rattle.std.specs.Prelude.{◌≡◌, ℕ, List, [], ◌∷◌, Some, slice_get}
 use Rattle.bank_trait.specs.Disk.{Lawful}
 use Rattle.client_script.specs.Script.{Script}
+use Rattle.join_commit.specs.declared.join_run.WhyDropped.{WhyDropped}
 use Rattle.core_turns.specs.Core.{IsCore}
 use Rattle.schedule.specs.declared.client.Client.{Client}
 use Rattle.schedule.specs.Clients.{Changes}
 use Rattle.schedule.specs.Coming.{LeadTo, IsSchedule, KeepsUsing}
+use Rattle.schedule.specs.Dropping.{HasDropCause, IsToBeTold}
 use Rattle.schedule.specs.Numbered.{IsNumbered}
 use Rattle.schedule.specs.Turned.{HasDeviceUnder, Station}
 use Rattle.schedule.specs.Turns.{taken_by, turns_of}
@@ -20,6 +22,8 @@ pub record TakesTurn (script : Script) (actor : ℕ) (before after : Station) (c
   pub still_lawful : Lawful after.state.disk
   pub space : KeepsUsing script (turns_of before.state before.items clients)
       (turns_of after.state after.items news)
+  pub dropped : (cause : WhyDropped) → IsToBeTold news cause
+      → HasDropCause (turns_of before.state before.items clients) (turns_of after.state after.items news) cause
   pub there : HasDeviceUnder after.state.disk after.client.under_way
   pub numbers : IsNumbered before.items before.state.core → IsNumbered after.items after.state.core
 

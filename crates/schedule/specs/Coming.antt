@@ -11,13 +11,15 @@ use Rattle.core_state.specs.declared.item.Item.{Item}
 use Rattle.core_state.specs.Legal.{CallAt}
 use Rattle.core_state.specs.World.{World}
 use Rattle.core_client.specs.Outs.{OnlyFailedGoOut}
+use Rattle.join_commit.specs.declared.join_run.WhyDropped.{WhyDropped}
 use Rattle.core_state.specs.Committing.{point_of}
 use Rattle.core_commit.specs.Spared.{IsOnInUse}
 use Rattle.client_script.specs.declared.call.ScriptCall.{ScriptCall}
 use Rattle.client_script.specs.Script.{Script, asked_by, calls_of, handed_by}
 use Rattle.schedule.specs.Caused.{FullIsCaused}
 use Rattle.schedule.specs.Clients.{ClientsAreAnswered}
-use Rattle.schedule.specs.Fitting.{FitsCall}
+use Rattle.schedule.specs.Dropping.{HasDropCause, IsToBeTold}
+use Rattle.schedule.specs.Fitting.{FitsSince}
 use Rattle.schedule.specs.Moments.{Past}
 use Rattle.schedule.specs.Numbered.{IsNumbered}
 use Rattle.schedule.specs.declared.client.Client.{Client}
@@ -68,8 +70,8 @@ pub record IsWorldOf (script : Script) (world : World) : Type 0 where
 -- These turns lead from one state to another, in a pool that reaches to no fewer devices. Devices went out where they
 -- failed, and none was touched but those in use that the pool then reaches to, and the one behind them, which an attach
 -- may have laid a group without its joining. Where no call of the script is an attach, the pool reaches to as many
--- devices as before, and none was touched but these. What was answered fits its call, and groups are numbered. The
--- devices whose failure has to be borne were out when it began, or have failed, and are no more than there are parities;
+-- devices as before, and none was touched but these. What was answered fits its call, what an attach under way goes on
+-- to tell has its cause, and groups are numbered. The devices whose failure has to be borne were out when it began, or have failed, and are no more than there are parities;
 -- none where too many were out then, since no device is called any more. Where these may fail, what stood stands, and
 -- answers that the table is full have their cause.
 pub record LeadTo (script : Script) (start : Turns) (passed : List TurnTaken) (now : Turns) : Type 0 where
@@ -86,7 +88,8 @@ pub record LeadTo (script : Script) (start : Turns) (passed : List TurnTaken) (n
       → slice_get now.items index ≡ Some item
   pub fits : (index : ℕ) (entry : Entry) → CallAt now.items index entry
       → CallAt start.items index entry
-      ⊎ FitsCall start.state.core.pool.uber.parity now.state.core.pool.out entry
+      ⊎ FitsSince start now entry
+  pub dropped : (cause : WhyDropped) → IsToBeTold now.clients cause → HasDropCause start now cause
   pub borne : ℕ
   pub few : count_of borne ≤ start.state.core.pool.uber.parity
   pub from_start : count_of start.state.core.pool.out ≤ start.state.core.pool.uber.parity

@@ -14,7 +14,7 @@ use Rattle.client_script.specs.declared.call.ScriptCall.{ScriptCall}
 use Rattle.client_script.specs.Lines.{fill_bytes}
 use Rattle.client_script.specs.Script.{Script, calls_of}
 use Rattle.core_turns.specs.declared.attaching.AttachRun.{AttachRun}
-use Rattle.core_turns.specs.Attaching.{HoldsAttach, IsAttachOf, attach_commit}
+use Rattle.core_turns.specs.Attaching.{HoldsAttach, IsAttachRunOf, attach_commit}
 use Rattle.core_turns.specs.Core.{Core, CoreState}
 use Rattle.core_turns.specs.Getting.{HasTooManyOut}
 use Rattle.core_turns.specs.Committing.{IsCommitOf}
@@ -23,7 +23,7 @@ use Rattle.schedule.specs.declared.client.Client.{Client}
 use Rattle.schedule.specs.declared.client.UnderWay.{UnderWay}
 use Rattle.schedule.specs.declared.client.Work.{Work}
 use Rattle.schedule.specs.declared.client.Work.TheVariants as work
-pub use Rattle.schedule.specs.Works.{commit_in, held_by, IsThere, MakesCommit}
+pub use Rattle.schedule.specs.Works.{commit_in, held_by, MakesCommit}
 use Rattle.schedule.specs.Moments.{Past}
 use Rattle.schedule.specs.Recorded.{Recorded, IsBegunAt}
 
@@ -69,7 +69,7 @@ pub record IsWorkOf (script : Script) (core : Core) (index : ℕ) (client : Clie
   pub there : slice_get (calls_of script index) (client.begun - 1) ≡ Some call
   pub asked : IsWorkFor call does
   pub commit : (run : CommitRun) → commit_in does ≡ Some run → IsCommitOf core run × (core.committing ≡ Some index)
-  pub attach : (run : AttachRun) → does ≡ work.Attach run → IsAttachOf core run × (core.attaching ≡ Some index)
+  pub attach : (run : AttachRun) → does ≡ work.Attach run → IsAttachRunOf core run × (core.attaching ≡ Some index)
 
 -- The clients' calls under way are calls of this core, and their clients' works. A commit under way is a client's, or
 -- was cut short. An attach under way is a client's.

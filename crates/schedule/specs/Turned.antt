@@ -25,13 +25,13 @@ use Rattle.core_turns.specs.declared.putting.Filled.{Filled}
 use Rattle.core_turns.specs.declared.putting.PutRun.{PutRun}
 use Rattle.core_turns.specs.declared.turn.Turn.{Turn}
 use Rattle.core_turns.specs.declared.turn.Turn.TheVariants.{More, Busy, Done}
-use Rattle.core_turns.specs.Core.{Core, CoreState, HasBankOf, at_disk}
+use Rattle.core_turns.specs.Core.{Core, CoreState, HasBankOf, IsCore, at_disk}
 use Rattle.core_turns.specs.Getting.{IsReadKind, IsGetOf, BeginsGet, ReadsTurn, SolvesGet, EndsGet}
 use Rattle.core_turns.specs.Freeing.{FreesBlock}
 use Rattle.core_turns.specs.Putting.{IsPutOf, BeginsPutTurn, FillsPut, WritesTurn, EndsPut, GivesUpTurn}
 use Rattle.core_turns.specs.Committing.{IsCommitOf, BeginsCommit, StepsCommit}
 use Rattle.core_turns.specs.declared.attaching.AttachRun.{AttachRun}
-use Rattle.core_turns.specs.Attaching.{AttachGoesOn, BeginsAttach, HasNewDevice, IsAttachOf, StepsAttach}
+use Rattle.core_turns.specs.Attaching.{AttachGoesOn, BeginsAttach, HasNewDevice, IsAttachRunOf, StepsAttach}
 use Rattle.core_turns.specs.UnderWay.{TurnGoesOn}
 use Rattle.journal_law.specs.Points.{point_after}
 use Rattle.schedule.specs.declared.client.Client.{Client}
@@ -171,7 +171,7 @@ GoesOnBy before after call (work.Put run) (More (work.Put next)) = GoesOnPutting
 GoesOnBy before after call (work.Read run) (More (work.Read next)) = GoesOnReading before after run next
 GoesOnBy before after call (work.Sync run) (More (work.Sync next)) = StepsCommit before run after (More next)
 GoesOnBy before after call (work.Attach run) (More (work.Attach next)) = StepsAttach before run after (More next)
-    × IsAttachOf after.core next
+    × IsAttachRunOf after.core next
 GoesOnBy before after call (work.Put run) (Done given) = EndsPutting before after call run given
 GoesOnBy before after call (work.Read run) (Done given) = EndsReading before after run given
 GoesOnBy before after call (work.Sync run) (Done given) = StepsCommit before run after (Done given)
@@ -191,7 +191,7 @@ entry_for call actor number at given = record {
   answer = given;
 }
 
--- the item of a group of these widths that a sync made which began after so many items
+-- the item of a group of these widths whose commit began after so many items
 abbrev pub group_with : Reflow → ℕ → ℕ → GroupItem
 group_with widths at number = record { group = number; after = at; from = widths.from; to = widths.to }
 
@@ -258,6 +258,7 @@ pub record CallGoesOn (calls : List ScriptCall) (before after : Station) (under 
   pub is : slice_get calls (before.client.begun - 1) ≡ Some call
   pub did : GoesOnBy before.state after.state call under.work turn
   pub goes : WorkGoesOn under.work before.state after.state
+  pub core : IsCore after.state.core
 
 -- what the client is then, and what the journal has
 abbrev pub LeavesBegun : ℕ → ScriptCall → Station → Station → Turn Work → Type 0
@@ -303,7 +304,7 @@ MayGoOn core call (work.Put run) = IsPutOf core run × IsUnderWay core.pool.bloc
     × (length (fill_bytes call.fill) ≡ run.len)
 MayGoOn core call (work.Read run) = IsReadKind run.kind × IsGetOf core run
 MayGoOn core call (work.Sync run) = IsCommitOf core run
-MayGoOn core call (work.Attach run) = IsAttachOf core run
+MayGoOn core call (work.Attach run) = IsAttachRunOf core run
 
 -- The bank has the device that an attach is to bring.
 abbrev pub HasDeviceFor : Disk → Work → Type 0

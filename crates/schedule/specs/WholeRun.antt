@@ -1,5 +1,5 @@
 -- What a run of turns keeps, from the opening of its pool to its end.
-use Rattle.std.specs.Prelude.{◌≡◌, ◌≢◌, ℕ, ◌≤◌, List, [], ◌∷◌, ◌++◌, Contains}
+use Rattle.std.specs.Prelude.{◌≡◌, ◌≢◌, ℕ, ◌+◌, ◌≤◌, List, [], ◌∷◌, ◌++◌, Contains}
 use Rattle.bank_trait.specs.Disk.{Image, Disk, Later}
 use Rattle.bank_trait.specs.Regions.{TouchesOnly}
 use Rattle.uberblock_ring.specs.Devices.{count_of, IsWithin}
@@ -26,6 +26,8 @@ use Rattle.journal_law.specs.NoSpace.{NoSpaceIsCaused}
 use Rattle.journal_law.specs.FirstGroup.{BeginsAfter}
 use Rattle.open_pool.specs.Pool.{first_item}
 use Rattle.schedule.specs.declared.whole_run.Ran.{Ran}
+use Rattle.schedule.specs.Coming.{AttachesNone}
+use Rattle.schedule.specs.Dropping.{IsDropCause}
 use Rattle.schedule.specs.Fitting.{FitsCall}
 use Rattle.schedule.specs.InTurn.{Cursor, HaveTaken, InOrder, replay_at}
 use Rattle.schedule.specs.Moments.{KeepsTurnByTurn}
@@ -90,7 +92,8 @@ pub record HasRun (script : Script) (old new : Disk) (items : List Item) (out : 
   -- Some devices were silent when the pool was looked for: each failed by the end of the opening. But for them the
   -- devices choose the group that the opening renews. The opening wrote copies of that group, and nothing else until
   -- the uberblock that renews it. Each device that is out at the end was out then, or failed in the run. No device is
-  -- touched but those of the pool.
+  -- touched but those of the pool, as far as it reaches in the end, and the one behind them, which an attach may have laid
+  -- a group without its joining; where no call of the script is an attach, but those of the pool that was opened.
   pub silent : ℕ
   pub failed : HaveFailed old start.disk silent
   pub renews : (image : Image) → HoldsImage old image
@@ -98,11 +101,13 @@ pub record HasRun (script : Script) (old new : Disk) (items : List Item) (out : 
   pub writes : WritesInOrder old start.disk silent start.core.pool.uber
   pub parity : ℕ
   pub each : (image : Image) → HoldsImage old image → AreOutIn old new silent opened.to parity out image
-  pub only : TouchesOnly (IsOnBelow opened.to) old new
+  pub only : TouchesOnly (IsOnBelow ((last_left (first_turns script start opened) passed).state.core.reach + 1)) old new
+  pub same : AttachesNone script → TouchesOnly (IsOnBelow opened.to) old new
   -- The calls that were answered are the script's, those of each client in its order, and each answer fits its call. The
   -- groups are numbered one after the other.
   pub calls : CallsAreRight (asked_by script) items
-  pub fits : (index : ℕ) (entry : Entry) → CallAt items index entry → FitsCall parity out entry
+  pub fits : (index : ℕ) (entry : Entry) → CallAt items index entry
+      → FitsCall parity old.devices out (IsDropCause old new out) entry
   pub numbers : GroupsAreNumbered items
   -- Some devices have to be borne: no more than there are parities, of those that are out at the end; with the silent
   -- ones of the pool, and those that the opening's group lists as out.

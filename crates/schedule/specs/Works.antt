@@ -1,5 +1,5 @@
 -- What a call under way does: the sectors that it holds, and the commit that it makes.
-use Rattle.std.specs.Prelude.{ℕ, List, ◌∷◌, [], Option, Some, None, ⊤}
+use Rattle.std.specs.Prelude.{ℕ, List, ◌∷◌, [], Option, Some, None, IsSome}
 use Rattle.core_commit.specs.CommitTurns.{CommitRun}
 use Rattle.core_turns.specs.declared.attaching.AttachRun.TheVariants.{Signs}
 use Rattle.core_turns.specs.Attaching.{attach_commit}
@@ -21,15 +21,11 @@ commit_in (work.Read run) = None
 commit_in (work.Sync run) = Some run
 commit_in (work.Attach run) = attach_commit run
 
-abbrev pub IsThere : Option CommitRun → Type 0
-IsThere None = ⊥
-IsThere (Some run) = ⊤
-
 -- The work makes a commit.
 abbrev pub MakesCommit : Work → Type 0
-MakesCommit does = IsThere (commit_in does)
+MakesCommit does = IsSome (commit_in does)
 
--- the group of an attach's commit, once its uberblocks are written
+-- the group of an attach's commit, once its uberblocks are being written
 abbrev pub made_by : Work → Option ℕ
 made_by (work.Attach (Signs run because)) = Some run.uber.group
 made_by other = None

@@ -25,7 +25,7 @@ impl Work {
         )
     }
 
-    /// The group of an attach's commit, once its uberblocks are written.
+    /// The group of an attach's commit, once its uberblocks are being written.
     pub fn group(&self) -> Option<u64>
         ensures { result ≡ made_by self.now }
     {

@@ -1,5 +1,5 @@
 // A turn of one client.
-ghost use Rattle.std.specs.Prelude.{◌≡◌, ◌↔◌, ◌≤◌, ◌<◌, ◌+◌, ◌-◌, ℕ, IsTrue, None, Option as OptionOf, Some, length, slice_get};
+ghost use Rattle.std.specs.Prelude.{◌≡◌, ◌↔◌, ◌≤◌, ◌<◌, ◌+◌, ◌-◌, ℕ, IsSome, IsTrue, None, Option as OptionOf, Some, length, slice_get};
 ghost use Rattle.bank_trait.specs.Disk.{Disk, Lawful};
 ghost use Rattle.client_script.specs.declared.call.ScriptCall.{ScriptCall as CallOf};
 ghost use Rattle.client_script.specs.Script.{IsAllowed};
@@ -8,7 +8,7 @@ ghost use Rattle.core_turns.specs.Core.{IsCore, HasBankOf};
 ghost use Rattle.schedule.specs.declared.client.UnderWay.{UnderWay as UnderWayOf};
 ghost use Rattle.schedule.specs.Playing.{UsesRoom, unanswered};
 ghost use Rattle.schedule.specs.Turned.{HasDeviceUnder, MayGoOn, Turned, entry_for, group_by, listed_with, station_of};
-ghost use Rattle.schedule.specs.Works.{IsThere, begun_at, commit_in};
+ghost use Rattle.schedule.specs.Works.{begun_at, commit_in};
 
 use crate::client::{Client, UnderWay, Work};
 use crate::turning::{begin_call, go_on};
@@ -65,7 +65,7 @@ fn list_answer(journal: &mut Journal, widths: &Reflow, at: usize, made: Option<u
 /// How many items the journal had when the group of a work began: as many as it has now, where its commit begins in this
 /// turn.
 fn begun_at(work: &Work, makes: bool, at: usize, now: usize) -> usize
-    ensures { (was : OptionOf RunOf) → (IsTrue makes ↔ IsThere was) → result ≡ begun_at (commit_in work.now) was at now }
+    ensures { (was : OptionOf RunOf) → (IsTrue makes ↔ IsSome was) → result ≡ begun_at (commit_in work.now) was at now }
 {
     if work.makes_commit() && !makes {
         now
@@ -150,7 +150,9 @@ pub fn take_turn<B: Bank>(
     let UnderWay { at, work } = under_way;
     let made = work.group();
     let makes = work.makes_commit();
-    match go_on(alloc, bank, core, call, work) {
+    let turn = go_on(alloc, bank, core, call, work);
+    let widths = core.reflow();
+    match turn {
         Turn::More(work) => {
             let at = begun_at(&work, makes, at, journal.len());
             client.under_way = Some(UnderWay { at, work });
@@ -158,7 +160,6 @@ pub fn take_turn<B: Bank>(
         Turn::Busy { by: _ } => unreachable!(),
         Turn::Done(answer) => {
             let entry = entry_for(call, actor, client.begun, at, answer);
-            let widths = core.reflow();
             list_answer(journal, &widths, at, made, entry);
         }
     }

@@ -23,11 +23,11 @@ returns-in-More-clause-turned g c =
     let begun : 1 ≤ c.args.client.now.begun = c.requires.begun c.in-Some.under_way going in
     let few = c.requires.few in
     went_more c.args.calls.now c.args.actor (at_disk c.args.core.now (g.B.Bank.disk c.args.bank.now))
-    (at_disk c.go_on.new.core (g.B.Bank.disk c.go_on.new.bank)) c.args.journal.now.items c.args.client.now
+    (at_disk c.go_on-turn.new.core (g.B.Bank.disk c.go_on-turn.new.bank)) c.args.journal.now.items c.args.client.now
     c.in-Some.under_way c.index-calls-client.result going
     (slice_get_read c.args.calls.now (length c.args.calls.now) (c.args.client.now.begun - 1) c.index-calls-client.result refl
     (omega (arith, begun, few)) c.index-calls-client.is)
-    c.go_on.ensures.goes_on c.in-More.work c.begun_at-at.result c.in-More.ensures.goes
+    c.go_on-turn.ensures.goes_on c.reflow-widths-2.ensures.is c.in-More.work c.begun_at-at.result c.in-More.ensures.goes
     (c.begun_at-at.ensures (commit_in c.in-Some.under_way.work) c.makes_commit-makes.ensures
     ∙ ap (begun_at (commit_in c.in-More.work) (commit_in c.in-Some.under_way.work) c.in-Some.under_way.at)
     c.len.ensures)
@@ -38,16 +38,16 @@ returns-in-Done-clause-turned g c =
     let begun : 1 ≤ c.args.client.now.begun = c.requires.begun c.in-Some.under_way going in
     let few = c.requires.few in
     went_done c.args.calls.now c.args.actor (at_disk c.args.core.now (g.B.Bank.disk c.args.bank.now))
-    (at_disk c.go_on.new.core (g.B.Bank.disk c.go_on.new.bank)) c.args.journal.now.items c.args.client.now
+    (at_disk c.go_on-turn.new.core (g.B.Bank.disk c.go_on-turn.new.bank)) c.args.journal.now.items c.args.client.now
     c.in-Some.under_way c.index-calls-client.result going
     (slice_get_read c.args.calls.now (length c.args.calls.now) (c.args.client.now.begun - 1) c.index-calls-client.result refl
     (omega (arith, begun, few)) c.index-calls-client.is)
-    c.go_on.ensures.goes_on c.in-Done.answer c.reflow-widths.result c.entry_for-entry.result c.list_answer.new.journal.items
-    c.group-made.result c.take.new.self c.in-Done.ensures.goes c.reflow-widths.ensures.value c.entry_for-entry.ensures c.list_answer.ensures.items c.group-made.ensures
+    c.go_on-turn.ensures.goes_on c.reflow-widths-2.ensures.is c.in-Done.answer c.reflow-widths-2.result c.entry_for-entry.result c.list_answer.new.journal.items
+    c.group-made.result c.take.new.self c.in-Done.ensures.goes c.reflow-widths-2.ensures.value c.entry_for-entry.ensures c.list_answer.ensures.items c.group-made.ensures
     c.take.ensures.after
 
-pub go_on-requires-clause-may : goal.go_on-requires-clause-may
-go_on-requires-clause-may g c =
+pub go_on-turn-requires-clause-may : goal.go_on-turn-requires-clause-may
+go_on-turn-requires-clause-may g c =
     let going = sym c.take.ensures.value ∙ c.in-Some.is in
     let begun : 1 ≤ c.args.client.now.begun = c.requires.begun c.in-Some.under_way going in
     let few = c.requires.few in
@@ -55,8 +55,8 @@ go_on-requires-clause-may g c =
     (slice_get_read c.args.calls.now (length c.args.calls.now) (c.args.client.now.begun - 1) c.index-calls-client.result refl
     (omega (arith, begun, few)) c.index-calls-client.is)
 
-pub go_on-requires-clause-there : goal.go_on-requires-clause-there
-go_on-requires-clause-there g c =
+pub go_on-turn-requires-clause-there : goal.go_on-turn-requires-clause-there
+go_on-turn-requires-clause-there g c =
     subst (HasDeviceUnder (g.B.Bank.disk c.args.bank.now)) (sym c.take.ensures.value ∙ c.in-Some.is) c.requires.there
 
 pub begin_next-requires-clause-room : goal.begin_next-requires-clause-room

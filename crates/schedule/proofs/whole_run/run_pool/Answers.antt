@@ -12,7 +12,6 @@ use Rattle.schedule.specs.Replaying.{blank_clients}
 use Rattle.schedule.specs.Turns.{Turns, turns_of}
 use Rattle.schedule.specs.WholeRun.{HasRunInTurn, first_turns}
 use Rattle.schedule.proofs.Opened.{resting}
-use Rattle.schedule.proofs.TurnTaken.{allowed_attach_none}
 use Rattle.schedule.proofs.Whole.{ends_taken, has_run_in_turn}
 use Rattle.schedule.proofs.whole_run.run_pool.Goals as goal
 
@@ -48,4 +47,4 @@ returns-clause-run g c =
     (ends_taken script (replay_at start 0 (InOrder c.args.listed.now))
     (replay_at (turns_of final items out.clients) carried.result.turns out.cursor) out.passed carried.result.ended
     out.ends)
-    out.come carried.ensures.calls (allowed_attach_none script c.requires.allowed) c.args.listed.now carried.result.ended carried.result.turns out.cursor c.requires.actors out.ends)
+    out.come carried.ensures.calls c.args.listed.now carried.result.ended carried.result.turns out.cursor c.requires.actors out.ends)

@@ -1,0 +1,54 @@
+-- What an attach is answered that made a group.
+use Rattle.std.proofs.Common.{◌≡◌, ℕ, Option, None, Some, refl}
+use Rattle.std.specs.Prelude.{⊤}
+use Rattle.core_state.specs.declared.answer.Answer.{Answer}
+use Rattle.core_state.specs.declared.answer.Answer.TheVariants as answer
+use Rattle.core_state.specs.declared.answer.Kind.TheVariants as kind
+use Rattle.core_state.specs.declared.item.Entry.{Entry}
+use Rattle.core_state.specs.Legal.{IsAnswerOf}
+use Rattle.core_state.specs.Map.{Map, PutBytes, map_after_answer}
+use Rattle.join_commit.specs.declared.join_run.WhyDropped.{WhyDropped}
+use Rattle.join_commit.specs.declared.join_run.WhyDropped.TheVariants as why
+use Rattle.core_turns.specs.Attaching.{attach_answer}
+use Rattle.schedule.specs.Fitting.{IsAttachCause}
+use Rattle.schedule.proofs.Refusals.{IsRefusal}
+
+-- The device was attached, or not: it failed, or one of the pool is out.
+abbrev pub IsAttachEnd : Answer → Type 0
+IsAttachEnd (answer.Attached width group) = ⊤
+IsAttachEnd (answer.NewDeviceFailed device) = ⊤
+IsAttachEnd (answer.DeviceOut device) = ⊤
+IsAttachEnd other = ⊥
+
+pub attach_ended : (because : Option WhyDropped) (width group : ℕ) → IsAttachEnd (attach_answer because width group)
+attach_ended None width group = tt
+attach_ended (Some (why.NewDeviceFailed device)) width group = tt
+attach_ended (Some (why.DeviceOut device)) width group = tt
+
+-- Where it was not, that is told.
+pub end_refusal : (because : WhyDropped) (width group : ℕ) → IsRefusal (attach_answer (Some because) width group)
+end_refusal (why.NewDeviceFailed device) width group = tt
+end_refusal (why.DeviceOut device) width group = tt
+
+-- Its cause is the one that was known when the commit was made.
+pub end_cause : (devices : ℕ) (dropped : WhyDropped → Type 0) (because : Option WhyDropped) (width group : ℕ)
+    → ((cause : WhyDropped) → because ≡ Some cause → dropped cause)
+    → IsAttachCause devices dropped (attach_answer because width group)
+end_cause devices dropped None width group known = tt
+end_cause devices dropped (Some (why.NewDeviceFailed device)) width group known = known (why.NewDeviceFailed device) refl
+end_cause devices dropped (Some (why.DeviceOut device)) width group known = known (why.DeviceOut device) refl
+
+-- Each answers an attach,
+pub end_answers : (given : Answer) → IsAttachEnd given → IsAnswerOf kind.Attach given
+end_answers (answer.Attached width group) ended = refl
+end_answers (answer.NewDeviceFailed device) ended = refl
+end_answers (answer.DeviceOut device) ended = refl
+end_answers other ended = absurd ended
+
+-- and changes no map.
+pub end_map : (handed : PutBytes) (map : Map) (entry : Entry) (given : Answer) → IsAttachEnd given
+    → map_after_answer handed map entry given ≡ map
+end_map handed map entry (answer.Attached width group) ended = refl
+end_map handed map entry (answer.NewDeviceFailed device) ended = refl
+end_map handed map entry (answer.DeviceOut device) ended = refl
+end_map handed map entry other ended = absurd ended
