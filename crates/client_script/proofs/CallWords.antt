@@ -27,6 +27,10 @@ after_hex_id text rest bytes first id led is =
     let same = one_leading text first id rest is.digits led is.led in
     subst (λ (l : List ℕ). IsHex l bytes) (sym same.1) is.hex
 
+-- Words that begin with `puthex` begin with its first letter.
+first_letter : (words rest more : List ℕ) (letter : ℕ) → words ≡ codes "puthex " ++ rest → words ≡ letter ∷ more → 112 ≡ letter
+first_letter words rest more letter led is = ap (λ (l : List ℕ). get_or l 0 0) (sym led ∙ is)
+
 -- Words that begin with `puthex` are those of bytes.
 hex_of : (words rest : List ℕ) → words ≡ codes "puthex " ++ rest → (kind : Kind) (id : Option ℕ) (fill : Fill) → IsWords words kind id fill → (n : ℕ) × ((bytes : List ℕ) × IsHexWords rest n bytes)
 hex_of words rest led Put (Some n) (Hex bytes) is =
@@ -44,19 +48,11 @@ hex_of words rest led Put (Some n) (Hex bytes) is =
 hex_of words rest led Put (Some n) (Pattern len seed) is =
     let fourth : 104 ≡ 32 = ap (λ (l : List ℕ). get_or l 3 0) (sym led ∙ is.spelled) in
     absurd (omega (arith, fourth))
-hex_of words rest led Get (Some n) Nothing is =
-    let first : 112 ≡ 103 = ap (λ (l : List ℕ). get_or l 0 0) (sym led ∙ is.spelled) in
-    absurd (omega (arith, first))
-hex_of words rest led Sum (Some n) Nothing is =
-    let first : 112 ≡ 115 = ap (λ (l : List ℕ). get_or l 0 0) (sym led ∙ is.spelled) in
-    absurd (omega (arith, first))
-hex_of words rest led Free (Some n) Nothing is =
-    let first : 112 ≡ 102 = ap (λ (l : List ℕ). get_or l 0 0) (sym led ∙ is.spelled) in
-    absurd (omega (arith, first))
-hex_of words rest led Sync None Nothing is =
-    let first : 112 ≡ 115 = ap (λ (l : List ℕ). get_or l 0 0) (sym led ∙ is.spelled) in
-    absurd (omega (arith, first))
-hex_of words rest led Attach None Nothing is = absurd is.served
+hex_of words rest led Get (Some n) Nothing is = absurd (omega (arith, first_letter words rest _ 103 led is.spelled))
+hex_of words rest led Sum (Some n) Nothing is = absurd (omega (arith, first_letter words rest _ 115 led is.spelled))
+hex_of words rest led Free (Some n) Nothing is = absurd (omega (arith, first_letter words rest _ 102 led is.spelled))
+hex_of words rest led Sync None Nothing is = absurd (omega (arith, first_letter words rest _ 115 led is.spelled))
+hex_of words rest led Attach None Nothing is = absurd (omega (arith, first_letter words rest _ 97 led is.spelled))
 hex_of words rest led Copy None Nothing is = absurd is.served
 hex_of words rest led Scrub None Nothing is = absurd is.served
 hex_of words rest led kind id fill is = absurd (omega (arith, is.some))

@@ -2,12 +2,13 @@
 use Rattle.std.proofs.Common.{◌≡◌, ◌≢◌, inl, inr, ℕ, ◌*◌, ◌<◌, ◌≤◌, List, [], ◌∷◌, ◌++◌, length, cond, Bool, true, false, Some, None, decimal, refl, sym, ◌∙◌, ap, subst, arith, eqb, ne_eqb, append_assoc}
 use Rattle.std.specs.Prelude.{All, codes}
 use Rattle.std.proofs.lemmas.List.Elements.{All-head, All-tail}
-use Rattle.core_state.specs.declared.answer.Kind.TheVariants.{Put, Get, Sum, Free, Sync}
+use Rattle.core_state.specs.declared.answer.Kind.{Kind}
+use Rattle.core_state.specs.declared.answer.Kind.TheVariants.{Put, Get, Sum, Free, Sync, Attach}
 use Rattle.client_script.specs.declared.call.Fill.TheVariants.{Nothing, Pattern, Hex}
-use Rattle.client_script.specs.declared.call_fault.CallFault.TheVariants.{UnknownCall, Number, PutWords, NoBytes, TooManyBytes, HexDigits, IdAlone, SyncAlone}
+use Rattle.client_script.specs.declared.call_fault.CallFault.TheVariants.{UnknownCall, Number, PutWords, NoBytes, TooManyBytes, HexDigits, IdAlone, WordAlone}
 use Rattle.client_script.specs.Lines.{with_byte}
-use Rattle.client_script.specs.Words.{IsCut, IsNumber, IsPattern, IsHexWords, HasNoCall}
-use Rattle.client_script.specs.Faults.{split_words, AreNumbers, IsIdName, IsPutName, IsCallName, IsCallFault}
+use Rattle.client_script.specs.Words.{IsCut, IsNumber, IsPattern, IsHexWords, IsWords, HasNoCall, IsBareWord}
+use Rattle.client_script.specs.Faults.{split_words, AreNumbers, IsIdName, IsPutName, IsBareName, IsCallName, IsCallFault}
 use Rattle.client_script.proofs.CallWords.{hex_read}
 
 -- A byte that is no space begins the first word.
@@ -170,8 +171,13 @@ pub put_alone : (word : List ℕ) → IsPutName word → IsCallFault word PutWor
 put_alone word (inl put) = subst (λ (w : List ℕ). IsCallFault w PutWords) (sym put) (inl ([], refl, λ three. omega (arith, three)))
 put_alone word (inr puthex) = subst (λ (w : List ℕ). IsCallFault w PutWords) (sym puthex) (inr ([], refl, omega arith))
 
-sync_alone : HasNoCall (codes "sync") → ⊥
-sync_alone isnt = isnt Sync None Nothing (record { served = tt; some = omega arith; spelled = refl; id_fits = tt; fill_fits = tt })
+-- The word of a call that has nothing else is its words, and so a name of such a call is one.
+bare_words : (word : List ℕ) (kind : Kind) → IsBareWord word kind → IsWords word kind None Nothing
+bare_words word kind is = record { served = is.0; some = is.1; spelled = is.2; id_fits = tt; fill_fits = tt }
+
+bare_alone : (word : List ℕ) → IsBareName word → HasNoCall word → ⊥
+bare_alone word (inl sync) isnt = isnt Sync None Nothing (bare_words word Sync (tt, omega arith, sync))
+bare_alone word (inr attach) isnt = isnt Attach None Nothing (bare_words word Attach (tt, omega arith, attach))
 
 pub unknown_alone : (word : List ℕ) → All (λ byte. byte ≢ 32) word → HasNoCall word → (IsPutName word → ⊥) → (IsIdName word → ⊥) → IsCallFault word UnknownCall
 unknown_alone word none isnt no_put no_id = (word, [], split_alone word none, no_name)
@@ -179,21 +185,20 @@ unknown_alone word none isnt no_put no_id = (word, [], split_alone word none, no
     no_name : IsCallName word → ⊥
     no_name (inl put) = no_put put
     no_name (inr (inl id)) = no_id id
-    no_name (inr (inr sync)) = sync_alone (subst HasNoCall sync isnt)
+    no_name (inr (inr bare)) = bare_alone word bare isnt
 
--- A first word that names no call, and one that names a sync.
-pub unknown_name : (words name rest : List ℕ) → IsCut words 32 name rest → name ≢ codes "put" → name ≢ codes "puthex" → name ≢ codes "sync" → (IsIdName name → ⊥) → IsCallFault words UnknownCall
-unknown_name words name rest cut no_put no_hex no_sync no_id = (name, split_words rest, split_cut words name rest cut, no_name)
+-- A first word that names no call, and one that names a call of one word.
+pub unknown_name : (words name rest : List ℕ) → IsCut words 32 name rest → name ≢ codes "put" → name ≢ codes "puthex" → (IsBareName name → ⊥) → (IsIdName name → ⊥) → IsCallFault words UnknownCall
+unknown_name words name rest cut no_put no_hex no_bare no_id = (name, split_words rest, split_cut words name rest cut, no_name)
   where
     no_name : IsCallName name → ⊥
     no_name (inl (inl put)) = no_put put
     no_name (inl (inr puthex)) = no_hex puthex
     no_name (inr (inl id)) = no_id id
-    no_name (inr (inr sync)) = no_sync sync
+    no_name (inr (inr bare)) = no_bare bare
 
-pub more_than_sync : (words name rest : List ℕ) → IsCut words 32 name rest → name ≡ codes "sync" → IsCallFault words SyncAlone
-more_than_sync words name rest cut sync =
-    (split_words rest, split_cut words name rest cut ∙ ap (λ (n : List ℕ). n ∷ split_words rest) sync, some_word rest)
+pub more_than_name : (words name rest : List ℕ) → IsCut words 32 name rest → IsBareName name → IsCallFault words WordAlone
+more_than_name words name rest cut is = (name, split_words rest, is, split_cut words name rest cut, some_word rest)
 
 -- What a name and what follows it make.
 pub named_words : (words name other rest : List ℕ) → IsCut words 32 name rest → name ≡ other → words ≡ other ++ 32 ∷ rest

@@ -19,6 +19,7 @@ pub data Asked : Type 0 where
   OfSum : (id : ℕ) → Asked
   OfFree : (id : ℕ) → Asked
   OfSync : Asked
+  OfAttach : Asked
 
 abbrev words_of : Asked → List ℕ
 words_of (OfPattern id len seed) = codes "put " ++ (decimal id ++ 32 ∷ (decimal len ++ 32 ∷ decimal seed))
@@ -27,6 +28,7 @@ words_of (OfGet id) = codes "get " ++ decimal id
 words_of (OfSum id) = codes "sum " ++ decimal id
 words_of (OfFree id) = codes "free " ++ decimal id
 words_of OfSync = codes "sync"
+words_of OfAttach = codes "attach"
 
 abbrev Fits : Asked → Type 0
 Fits (OfPattern id len seed) = (id < 2 ^ 64) × (len < 2 ^ 64) × (seed < 2 ^ 64)
@@ -35,6 +37,7 @@ Fits (OfGet id) = id < 2 ^ 64
 Fits (OfSum id) = id < 2 ^ 64
 Fits (OfFree id) = id < 2 ^ 64
 Fits OfSync = ⊤
+Fits OfAttach = ⊤
 
 -- a call's line
 abbrev line_of : ℕ → Asked → Line
@@ -44,6 +47,7 @@ line_of actor (OfGet id) = CallLine actor Get (Some id) Nothing
 line_of actor (OfSum id) = CallLine actor Sum (Some id) Nothing
 line_of actor (OfFree id) = CallLine actor Free (Some id) Nothing
 line_of actor OfSync = CallLine actor Sync None Nothing
+line_of actor OfAttach = CallLine actor Attach None Nothing
 
 -- A call's line is one of these.
 pub record IsAsked (text : List ℕ) (actor : ℕ) (line : Line) : Type 0 where
@@ -73,7 +77,7 @@ asked_by_line text actor Get (Some id) Nothing is = record { asked = OfGet id; s
 asked_by_line text actor Sum (Some id) Nothing is = record { asked = OfSum id; spelled = is.spelled; fits = is.id_fits; line_is = refl }
 asked_by_line text actor Free (Some id) Nothing is = record { asked = OfFree id; spelled = is.spelled; fits = is.id_fits; line_is = refl }
 asked_by_line text actor Sync None Nothing is = record { asked = OfSync; spelled = is.spelled; fits = tt; line_is = refl }
-asked_by_line text actor Attach None Nothing is = absurd is.served
+asked_by_line text actor Attach None Nothing is = record { asked = OfAttach; spelled = is.spelled; fits = tt; line_is = refl }
 asked_by_line text actor Copy None Nothing is = absurd is.served
 asked_by_line text actor Scrub None Nothing is = absurd is.served
 asked_by_line text actor kind id fill is = absurd (omega (arith, is.some))
@@ -118,6 +122,7 @@ same_asked (OfGet id) (OfGet other) fits fit e = ap OfGet (same_number id other 
 same_asked (OfSum id) (OfSum other) fits fit e = ap OfSum (same_number id other fits fit (ap (drop 4) e))
 same_asked (OfFree id) (OfFree other) fits fit e = ap OfFree (same_number id other fits fit (ap (drop 5) e))
 same_asked OfSync OfSync fits fit e = refl
+same_asked OfAttach OfAttach fits fit e = refl
 same_asked one other fits fit e =
     let first = ap (λ (l : List ℕ). get_or l 0 0) e in
     let second = ap (λ (l : List ℕ). get_or l 1 0) e in

@@ -3,7 +3,7 @@ use Rattle.std.specs.Prelude.{◌≡◌, ◌≢◌, ◌⊎◌, ℕ, zero, suc, �
 use Rattle.std.proofs.Common.{inl, inr}
 use Rattle.std.specs.List.{AllZip}
 use Rattle.client_script.specs.declared.call_fault.CallFault.{CallFault}
-use Rattle.client_script.specs.declared.call_fault.CallFault.TheVariants.{UnknownCall, Number, PutWords, NoBytes, TooManyBytes, HexDigits, IdAlone, SyncAlone}
+use Rattle.client_script.specs.declared.call_fault.CallFault.TheVariants.{UnknownCall, Number, PutWords, NoBytes, TooManyBytes, HexDigits, IdAlone, WordAlone}
 use Rattle.client_script.specs.declared.line_fault.LineFault.{LineFault}
 use Rattle.client_script.specs.declared.line_fault.LineFault.TheVariants.{CarriageReturn, StraySpace, NoClients, ClientsAgain, ClientCount, Turns, NoCall, NoSuchClient, InCall}
 use Rattle.client_script.specs.Lines.{Order, IsLineText, IsNumberText, with_byte, client_letter}
@@ -28,9 +28,13 @@ IsIdName word = (word ≡ codes "get") ⊎ ((word ≡ codes "sum") ⊎ (word ≡
 abbrev pub IsPutName : List ℕ → Type 0
 IsPutName word = (word ≡ codes "put") ⊎ (word ≡ codes "puthex")
 
+-- The name of a call that has nothing else.
+abbrev pub IsBareName : List ℕ → Type 0
+IsBareName word = (word ≡ codes "sync") ⊎ (word ≡ codes "attach")
+
 -- The name of a call.
 abbrev pub IsCallName : List ℕ → Type 0
-IsCallName word = IsPutName word ⊎ (IsIdName word ⊎ (word ≡ codes "sync"))
+IsCallName word = IsPutName word ⊎ (IsIdName word ⊎ IsBareName word)
 
 -- What is wrong with the words of a call after its letter.
 abbrev pub IsCallFault : List ℕ → CallFault → Type 0
@@ -60,8 +64,8 @@ IsCallFault words HexDigits = (id : List ℕ) × (digits : List ℕ)
     × ((bytes : List ℕ) → IsHex digits bytes → ⊥)
 IsCallFault words IdAlone = (name : List ℕ) × (rest : List (List ℕ)) × IsIdName name
     × (split_words words ≡ name ∷ rest) × (length rest ≢ 1)
-IsCallFault words SyncAlone =
-    (rest : List (List ℕ)) × (split_words words ≡ codes "sync" ∷ rest) × (0 < length rest)
+IsCallFault words WordAlone = (name : List ℕ) × (rest : List (List ℕ)) × IsBareName name
+    × (split_words words ≡ name ∷ rest) × (0 < length rest)
 
 -- A space stands at an end of a text, or beside another.
 abbrev pub HasStraySpace : List ℕ → Type 0

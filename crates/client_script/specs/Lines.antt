@@ -83,6 +83,7 @@ IsServedKind Get = ⊤
 IsServedKind Sum = ⊤
 IsServedKind Free = ⊤
 IsServedKind Sync = ⊤
+IsServedKind Attach = ⊤
 IsServedKind kind = ⊥
 
 -- A call is spelled so: its letter, a space, its words.

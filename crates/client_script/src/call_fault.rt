@@ -1,7 +1,7 @@
 // What is wrong with the words of a call.
 ghost use Rattle.std.specs.Prelude.{◌≡◌, ◌≢◌, ◌++◌, ◌∷◌, ◌↔◌, ℕ, List, All, IsTrue, codes};
 ghost use Rattle.client_script.specs.Words.{IsNumber, IsPattern, IsHexWords, HasNoCall};
-ghost use Rattle.client_script.specs.Faults.{IsIdName, IsPutName, IsCallFault};
+ghost use Rattle.client_script.specs.Faults.{IsIdName, IsPutName, IsBareName, IsCallFault};
 
 use crate::cut::cut;
 use crate::number::number;
@@ -24,8 +24,8 @@ pub enum CallFault {
     HexDigits,
     /// A call that has an id alone has none, or more.
     IdAlone,
-    /// A sync has more than its name.
-    SyncAlone,
+    /// A sync or an attach has more than its name.
+    WordAlone,
 }
 
 /// What is wrong with words that are no call's.
@@ -40,8 +40,8 @@ pub fn call_fault(words: &[u8]) -> CallFault
         put_fault(rest)
     } else if is_word(name, b"puthex") {
         puthex_fault(rest)
-    } else if is_word(name, b"sync") {
-        CallFault::SyncAlone
+    } else if is_bare_name(name) {
+        CallFault::WordAlone
     } else if is_id_name(name) {
         id_fault(name, rest)
     } else {
@@ -65,6 +65,12 @@ fn is_id_name(word: &[u8]) -> bool
     ensures { IsTrue result ↔ IsIdName word.now }
 {
     is_word(word, b"get") || is_word(word, b"sum") || is_word(word, b"free")
+}
+
+fn is_bare_name(word: &[u8]) -> bool
+    ensures { IsTrue result ↔ IsBareName word.now }
+{
+    is_word(word, b"sync") || is_word(word, b"attach")
 }
 
 // What is wrong with one word.

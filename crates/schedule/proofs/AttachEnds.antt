@@ -227,13 +227,16 @@ module _ {script : Script} {actor : ℕ} {before after : Station} {clients news 
         → Runs world script past after.state with_both news
     ends_with with =
         let closed = closes because of.1 ends.given_is in
-        commit_ends after.state takes.was takes.changes runs under next group entry refl idle_now
-        (next, stands.groups.begun_is, record {
-          number = begun_is.number;
-          listed = begun_is.listed;
-          map = begun_is.map;
-          widths = closed.0 begun_is.widths;
-        })
+        commit_ends after.state takes.was takes.changes runs under next group entry refl idle_now (
+          next,
+          stands.groups.begun_is,
+          record {
+            number = begun_is.number;
+            listed = begun_is.listed;
+            map = begun_is.map;
+            widths = closed.0 begun_is.widths;
+          },
+        )
         (recorded_whole (its_group call takes under (Signs run because) run refl does_is under_is is goes runs)
         (λ awaits. awaits) (begun_parity stands) run.stage
         (its_recorded call takes under (Signs run because) run refl does_is under_is is goes runs))
