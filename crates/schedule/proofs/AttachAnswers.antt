@@ -1,15 +1,18 @@
 -- What an attach is answered that made a group.
-use Rattle.std.proofs.Common.{◌≡◌, ℕ, Option, None, Some, refl}
+use Rattle.std.proofs.Common.{◌≡◌, ℕ, List, Option, None, Some, refl}
 use Rattle.std.specs.Prelude.{⊤}
+use Rattle.bank_trait.specs.Disk.{Disk}
 use Rattle.core_state.specs.declared.answer.Answer.{Answer}
 use Rattle.core_state.specs.declared.answer.Answer.TheVariants as answer
 use Rattle.core_state.specs.declared.answer.Kind.TheVariants as kind
 use Rattle.core_state.specs.declared.item.Entry.{Entry}
+use Rattle.core_state.specs.declared.item.Item.{Item}
 use Rattle.core_state.specs.Legal.{IsAnswerOf}
 use Rattle.core_state.specs.Map.{Map, PutBytes, map_after_answer}
 use Rattle.join_commit.specs.declared.join_run.WhyDropped.{WhyDropped}
 use Rattle.join_commit.specs.declared.join_run.WhyDropped.TheVariants as why
 use Rattle.core_turns.specs.Attaching.{attach_answer}
+use Rattle.schedule.specs.Caused.{IsAnswerCause}
 use Rattle.schedule.specs.Fitting.{IsAttachCause}
 use Rattle.schedule.proofs.Refusals.{IsRefusal}
 
@@ -30,7 +33,13 @@ pub end_refusal : (because : WhyDropped) (width group : ℕ) → IsRefusal (atta
 end_refusal (why.NewDeviceFailed device) width group = tt
 end_refusal (why.DeviceOut device) width group = tt
 
--- Its cause is the one that was known when the commit was made.
+-- The journal has no more to say of why,
+pub end_caused : (items : List Item) (index : ℕ) (disk : Disk) (because : WhyDropped) (width group : ℕ)
+    → IsAnswerCause items index disk (attach_answer (Some because) width group)
+end_caused items index disk (why.NewDeviceFailed device) width group = tt
+end_caused items index disk (why.DeviceOut device) width group = tt
+
+-- and its cause is the one that was known when the commit was made.
 pub end_cause : (devices : ℕ) (dropped : WhyDropped → Type 0) (because : Option WhyDropped) (width group : ℕ)
     → ((cause : WhyDropped) → because ≡ Some cause → dropped cause)
     → IsAttachCause devices dropped (attach_answer because width group)

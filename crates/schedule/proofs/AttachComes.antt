@@ -4,6 +4,7 @@ use Rattle.std.specs.Prelude.{slice_get, true}
 use Rattle.std.proofs.lemmas.Option.{slice_get_within}
 use Rattle.attach_ring.proofs.Rings.{none_read}
 use Rattle.uberblock_ring.specs.Devices.{has_device}
+use Rattle.uberblock_ring.specs.Uberblock.{Uber}
 use Rattle.core_state.specs.declared.answer.Answer.{Answer}
 use Rattle.core_state.specs.declared.answer.Kind.{Kind}
 use Rattle.core_state.specs.declared.answer.Kind.TheVariants as kind
@@ -30,7 +31,7 @@ use Rattle.schedule.proofs.Coming.{goes_for}
 use Rattle.schedule.proofs.Fitting.{attach_fits}
 use Rattle.schedule.proofs.Going.{attach_begins as going_begins}
 use Rattle.schedule.proofs.LeavesPool.{holds_left, turn_still}
-use Rattle.schedule.proofs.Refusals.{IsRefusal, refusal_answers, refusal_map, refusal_right, refused_cause, refused_is, refused_tells}
+use Rattle.schedule.proofs.Refusals.{IsRefusal, refusal_answers, refusal_map, refusal_right, refused_cause, refused_caused, refused_is, refused_tells}
 use Rattle.schedule.proofs.RunsGoOn.{attach_begins as runs_begins}
 use Rattle.schedule.proofs.Theirs.{calls_stay, none_some, same_attach}
 use Rattle.schedule.proofs.TurnComes.{RunsOn, comes_at_once, comes_nowhere, comes_on, first_entry}
@@ -129,7 +130,11 @@ module _ {script : Script} {actor : ℕ} {before after : Station} {clients news 
       (λ world past runs.
       let map : Map = map_of world.handed world.opening before.items in
       let entry = first_entry call actor before given in (
-        refusal_right world before.items entry asked refusal,
+        refusal_right world before.items entry after.state.disk asked refusal
+            (refused_caused old before.state.disk.devices before.items runs.item (length before.items) after.state.disk given
+            runs.recorded.latest
+            (ap (λ (u : Uber). u.reflow.from) runs.stands.alike ∙ runs.recorded.item_is.widths.0)
+            (ap (λ (u : Uber). u.reflow.to) runs.stands.alike ∙ runs.recorded.item_is.widths.1) refused.0),
         subst (λ (m : Map). Stands (setting_now runs) runs.last runs.begun m runs.contents (calls_under_way clients)
             runs.commit after.state)
             (sym (refusal_map world.handed map entry given refusal))

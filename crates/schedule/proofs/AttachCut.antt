@@ -77,7 +77,7 @@ module _ {script : Script} {actor : ℕ} {before after : Station} {clients news 
       was.reach stops.unchanged.goes_on.later
       (λ groups time row. since_read (setting_now was) groups time before.state.disk after.state.disk stops.unchanged) in
       commit_is_cut after.state takes.was takes.changes runs None whole entry refl idle_now refl stood.groups.knows
-      (refusal_right world before.items entry asked.0 tt) tt listed refl
+      (refusal_right world before.items entry after.state.disk asked.0 tt tt) tt listed refl
       (only call takes under run commit makes does_is under_is is goes)
       (subst (λ (l : List HoldingCall). Stands (setting_now was) was.last was.begun
       (map_of world.handed world.opening before.items) was.contents l None after.state) (sym same)

@@ -39,6 +39,7 @@ use Rattle.schedule.specs.declared.client.Client.{Client}
 use Rattle.schedule.specs.declared.client.UnderWay.{UnderWay}
 use Rattle.schedule.specs.declared.client.Work.TheVariants as work
 use Rattle.schedule.specs.Clients.{ClientsAreAnswered}
+use Rattle.schedule.specs.Caused.{IsAnswerCause}
 use Rattle.schedule.specs.Comes.{Comes, TakesTurn}
 use Rattle.schedule.specs.Coming.{GoesOnFor}
 use Rattle.schedule.specs.Dropping.{HasDropCause}
@@ -50,7 +51,7 @@ use Rattle.schedule.specs.Turned.{LeavesGoing, Station, WorkGoesOn, entry_for, g
 use Rattle.schedule.specs.Turns.{IsListedWith, turns_of}
 use Rattle.schedule.specs.Works.{made_by}
 use Rattle.schedule.proofs.Answered.{answered, answers_call, answers_group}
-use Rattle.schedule.proofs.AttachAnswers.{IsAttachEnd, attach_ended, end_answers, end_cause, end_map, end_refusal}
+use Rattle.schedule.proofs.AttachAnswers.{IsAttachEnd, attach_ended, end_answers, end_cause, end_caused, end_map, end_refusal}
 use Rattle.schedule.proofs.AttachCommits.{alone, for_call, its_group, its_recorded, its_stands, of_core, only, same_calls}
 use Rattle.schedule.proofs.AttachUses.{answered_by}
 use Rattle.schedule.proofs.Coming.{goes_for_attach}
@@ -197,7 +198,7 @@ module _ {script : Script} {actor : ℕ} {before after : Station} {clients news 
     -- Where the answer tells of a wider pool it names the group, and else the group has the widths before it.
     closes : (why : Option WhyDropped) → IsMadeAt old.pool.uber.reflow why run.uber.reflow
         → given ≡ attach_answer why now.pool.uber.reflow.to old.begun
-        → (StepWhere Awaited → StepWhere Told) × IsRightNext world with_group entry
+        → (StepWhere Awaited → StepWhere Told) × IsRightNext world with_group entry after.state.disk
     closes None made given_is = (
       width_step_where runs.item (item_of next under.at) (λ awaits. (
         length with_group,
@@ -205,7 +206,7 @@ module _ {script : Script} {actor : ℕ} {before after : Station} {clients news 
         last_there with_group (CallItem entry),
         given_is ∙ ap (λ (width : ℕ). answer.Attached width old.begun) wider.1,
       )),
-      attached_right world before.items group entry runs.item (runs.item.from + 1) asked.0
+      attached_right world before.items group entry after.state.disk runs.item (runs.item.from + 1) asked.0
           (given_is ∙ ap (λ (width : ℕ). answer.Attached width old.begun) wider.1) its.at.0 its.after
           runs.recorded.latest (refl, sym last_to ∙ made.rest ∙ last_from)
           (ap (λ (n : ℕ). n + 1) (wider.0 ∙ last_from), wider.1),
@@ -219,8 +220,10 @@ module _ {script : Script} {actor : ℕ} {before after : Station} {clients news 
     closes (Some cause) made given_is = (
       same_widths runs.item (item_of next under.at)
           (ap (λ (r : Reflow). r.to) (sym reflow_is ∙ made_is ∙ made.1) ∙ last_to),
-      refusal_right world with_group entry asked.0
-          (subst IsRefusal (sym given_is) (end_refusal cause now.pool.uber.reflow.to old.begun)),
+      refusal_right world with_group entry after.state.disk asked.0
+          (subst IsRefusal (sym given_is) (end_refusal cause now.pool.uber.reflow.to old.begun))
+          (subst (IsAnswerCause with_group (length with_group) after.state.disk) (sym given_is)
+          (end_caused with_group (length with_group) after.state.disk cause now.pool.uber.reflow.to old.begun)),
     )
 
     ends_with : IsListedWith past.banks before.items with_both after.state.disk

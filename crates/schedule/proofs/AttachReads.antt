@@ -55,7 +55,7 @@ use Rattle.schedule.proofs.Fitting.{TellsOut, attach_fits}
 use Rattle.schedule.proofs.Going.{attach_goes as going_goes, attach_stops as going_stops, one_commit}
 use Rattle.schedule.proofs.LeavesPool.{KeepsCommit}
 use Rattle.schedule.proofs.Recording.{recorded_goes}
-use Rattle.schedule.proofs.Refusals.{IsRefusal, device_cause, device_refusal, device_tells, refusal_answers, refusal_map, refusal_right, sync_cause}
+use Rattle.schedule.proofs.Refusals.{IsRefusal, device_cause, device_caused, device_refusal, device_tells, refusal_answers, refusal_map, refusal_right, sync_cause}
 use Rattle.schedule.proofs.RunsEnd.{answers_call as runs_answer}
 use Rattle.schedule.proofs.RunsGoOn.{goes_on as runs_goes_on, its_holds}
 use Rattle.schedule.proofs.Syncs.{its_commit, refused_answers as sync_answers, refused_map as sync_map, refused_right as sync_refused_right, refused_tells as sync_tells, stands_know}
@@ -204,7 +204,7 @@ module _ {script : Script} {actor : ℕ} {before after : Station} {clients news 
     pub no_full : given ≢ answer.Full
     pub no_block : (handed : PutBytes) (map : Map) (entry : Entry) → map_after_answer handed map entry given ≡ map
     pub right : (world : World) (past : Past) → Runs world script past before.state before.items clients
-        → IsRightNext world before.items (entry_for call actor before.client.begun under.at given)
+        → IsRightNext world before.items (entry_for call actor before.client.begun under.at given) after.state.disk
 
   -- It ends, and no device is attached.
   pub attach_stops : (given : Answer) → EndsEarly given → StopsAttach before.state after.state
@@ -332,8 +332,14 @@ module _ {script : Script} {actor : ℕ} {before after : Station} {clients news 
         no_full = λ full. subst IsRefusal full refusal;
         no_block = λ handed map entry. refusal_map handed map entry given refusal;
         right = λ world past runs. refusal_right world before.items
-            (entry_for call actor before.client.begun under.at given)
-            (its_asked takes call under (work.Attach (Reads ring)) does_is under_is is).0 refusal;
+            (entry_for call actor before.client.begun under.at given) after.state.disk
+            (its_asked takes call under (work.Attach (Reads ring)) does_is under_is is).0 refusal
+            (device_caused before.state ring after.state given before.items runs.item (length before.items)
+            runs.recorded.latest
+            ((its_work takes call under (work.Attach (Reads ring)) does_is under_is is).attach (Reads ring) refl).0.behind
+            (ap (λ (u : Uber). u.reflow.to) runs.stands.alike ∙ runs.recorded.item_is.widths.1)
+            (known_of call takes under (Reads ring) does_is under_is is goes refl
+            (looked after.state.disk takes.schedule.going takes.is takes.still_lawful stops.unchanged runs)) refused);
       })
       stops (refused_plain before.state after.state takes.is ring given refused) leaves
     where
@@ -353,7 +359,7 @@ module _ {script : Script} {actor : ℕ} {before after : Station} {clients news 
         no_full = λ full. subst (IsSyncRefused before.state.core) full refused;
         no_block = λ handed map entry. sync_map handed map entry before.state.core given refused;
         right = λ world past runs. sync_refused_right world before.items runs.item
-            (entry_for call actor before.client.begun under.at given) before.state.core given
+            (entry_for call actor before.client.begun under.at given) after.state.disk before.state.core given
             (subst IsGroupKind (sym (its_asked takes call under (work.Attach (Checked ring)) does_is under_is is).0) tt)
             refl runs.recorded.latest
             (λ none. rests before.state.core takes.is none ∙ ap (λ (u : Uber). u.group) runs.stands.alike

@@ -98,7 +98,7 @@ module _ {setting : Setting} {first : Kept} {later : List Kept} {pool : Pool} {s
         in_order = group_alone item refl;
         right = answers_alone handed begins.opened.chosen.map item;
         sound = λ index entry there. absurd (no_call item index entry there);
-        counted = record { each = λ index reached entry there limit. absurd (no_call item index entry there) };
+        caused = record { each = λ index entry there. absurd (no_call item index entry there) };
         since = since;
         parity = subst (HaveParityOf (first ∷ later)) groups_are (parity_opened parity begins.opened);
         no_older = kept_first here (subst (λ (d : Disk). Later d mid) (sym origin) opened_later)

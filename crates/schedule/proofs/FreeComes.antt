@@ -104,7 +104,7 @@ module _ {script : Script} {actor : ℕ} {before after : Station} {clients news 
       (λ world past runs.
       let map = map_of world.handed world.opening before.items in
       let entry = first_entry call actor before given in (
-        free_right world before.items entry asked of.1
+        free_right world before.items entry after.state.disk asked of.1
             (subst (λ (held : Option (List ℕ)). IsRightFree held given) (sym (ap (option_and_then map) id_is))
             (frees_right before.state.core after.state.core before.state.disk map id given runs.stands.holds
             frees.frees)),

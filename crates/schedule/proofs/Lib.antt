@@ -1,7 +1,7 @@
 pub mod Moments
 pub mod Below
 pub mod RightNext
-pub mod Counted
+pub mod Caused
 pub mod BothListed
 pub mod Recording
 pub mod Beginning

@@ -113,7 +113,7 @@ module _ {script : Script} {actor : ℕ} {before after : Station} {clients news 
       id next asked id_is (subst (IsPutRefused old now id (length content)) full is).1)
       (put_refused_calls (calls_under_way clients) old now refuses.leaves takes.schedule.going.are)
       (λ world past runs. (
-        put_right world before.items entry asked (unstored_plain given refuses.unstored),
+        put_right world before.items entry after.state.disk asked (unstored_plain given refuses.unstored),
         subst (λ (m : Map). Stands (setting_now runs) runs.last runs.begun m runs.contents (calls_under_way clients)
             runs.commit after.state)
             (sym (unstored_map world.handed (map_of world.handed world.opening before.items) entry given

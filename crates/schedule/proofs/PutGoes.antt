@@ -137,7 +137,7 @@ module _ {script : Script} {actor : ℕ} {before after : Station} {clients news 
         (plain_no_limit given plain) (subst IsPlainKind (sym asked_for.0) tt))
         other are
         (λ world past handed runs. (
-          put_right world before.items entry asked_for.0 plain,
+          put_right world before.items entry after.state.disk asked_for.0 plain,
           subst (λ (d : Disk). Stands (setting_now runs) runs.last runs.begun
               (map_after_answer world.handed (map_of world.handed world.opening before.items) entry given) runs.contents
               (calls_under_way news) runs.commit (at_disk now d)) (sym disk)

@@ -80,19 +80,19 @@ map_read handed map entry asked other is of = refl
 
 -- An answer to a read that began after some of the items, all of its caller's among them, is right where it tells of
 -- the map of that time, or was cut short.
-pub right_read : (world : World) (items : List Item) (call : ScriptCall) (actor number at : ℕ) (given : Answer)
+pub right_read : (world : World) (items : List Item) (disk : Disk) (call : ScriptCall) (actor number at : ℕ) (given : Answer)
     → IsReadKind call.kind → 1 ≤ at → at ≤ length items → AllBelow items actor at
     → IsReadRight (option_and_then (map_after world.handed world.opening items at) call.id) call.kind given
-    → IsRightNext world items (entry_for call actor number at given)
-right_read world items call actor number at (answer.TooManyFailed out) is some within below right =
-    read_cut_right world items (entry_for call actor number at (answer.TooManyFailed out)) is
+    → IsRightNext world items (entry_for call actor number at given) disk
+right_read world items disk call actor number at (answer.TooManyFailed out) is some within below right =
+    read_cut_right world items (entry_for call actor number at (answer.TooManyFailed out)) disk is
     (point_read call.kind at (answer.TooManyFailed out) is) tt
-right_read world items call actor number at answer.NoMemory is some within below right =
-    read_cut_right world items (entry_for call actor number at answer.NoMemory) is
+right_read world items disk call actor number at answer.NoMemory is some within below right =
+    read_cut_right world items (entry_for call actor number at answer.NoMemory) disk is
     (point_read call.kind at answer.NoMemory is) tt
-right_read world items call actor number at answer.Damaged is some within below right = absurd right
-right_read world items call actor number at other is some within below right =
-    read_right world items (entry_for call actor number at other) at is (point_read call.kind at other is) some within
+right_read world items disk call actor number at answer.Damaged is some within below right = absurd right
+right_read world items disk call actor number at other is some within below right =
+    read_right world items (entry_for call actor number at other) disk at is (point_read call.kind at other is) some within
     below right
 
 -- Why a read was refused is an answer to it,

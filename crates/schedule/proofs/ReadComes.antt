@@ -109,7 +109,7 @@ module _ {script : Script} {actor : ℕ} {before after : Station} {clients news 
         let map_now = map_after world.handed world.opening before.items (length before.items) in
         let none : given ≡ answer.Absent → map id ≡ None = get_finds map old now before.state.disk actor id call.kind
         (Done given) runs.stands.holds begins in (
-          right_read world before.items call actor (before.client.begun + 1) (length before.items) given is
+          right_read world before.items after.state.disk call actor (before.client.begun + 1) (length before.items) given is
               (let some = runs.recorded.latest.before in omega (arith, some)) (omega arith) (below_end before.items actor)
               (refused_right old id (option_and_then map_now call.id) call.kind given
               (λ absent. ap (option_and_then map_now) id_is
@@ -171,7 +171,7 @@ module _ {script : Script} {actor : ℕ} {before after : Station} {clients news 
         let mine = runs.each actor before.client under (its_going takes call under (work.Read run) does_is under_is is) in
         let content = its_content takes call under (work.Read run) does_is under_is is runs in
         let done = ends.stands _ _ _ _ _ _ runs.stands in (
-          right_read world before.items call actor before.client.begun under.at given call_read mine.at.0 mine.at.1
+          right_read world before.items after.state.disk call actor before.client.begun under.at given call_read mine.at.0 mine.at.1
               mine.after
               (subst (λ (held : Option (List ℕ)). IsReadRight held call.kind given)
               (sym (ap (option_and_then (map_after world.handed world.opening before.items under.at)) asked_for.1 ∙ content))

@@ -32,9 +32,10 @@ use Rattle.journal_law.proofs.Moments.{contains_one}
 use Rattle.journal_law.proofs.Rows.{row_among}
 use Rattle.journal_law.proofs.GrownAnswers.{each_grown_call, each_grown_group}
 use Rattle.schedule.specs.Running.{HasBegun}
+use Rattle.schedule.specs.Caused.{IsAnswerCause}
 use Rattle.schedule.specs.Recorded.{Recorded, IsRightNext, IsBegunAt}
 use Rattle.schedule.proofs.BothListed.{both_right, groups_both}
-use Rattle.schedule.proofs.Counted.{counted_call, counted_group}
+use Rattle.schedule.proofs.Caused.{caused_call, caused_group}
 use Rattle.schedule.specs.Moments.{KeepsOn, KeepsTurnByTurn, Past}
 use Rattle.schedule.proofs.Moments.{AreLatest, whole_row, on_goes, on_now, on_wider, kept_more, kept_to_end, since_any_reach}
 
@@ -152,7 +153,7 @@ module _ {world : World} {past : Past} {items : List Item} {item : GroupItem} {l
     in_order = so_far.in_order;
     right = so_far.right;
     sound = so_far.sound;
-    counted = so_far.counted;
+    caused = so_far.caused;
     since = goes_on (world.known ++ so_far.groups.answered ++ so_far.groups.begun) past.origin.clock row_now
         so_far.since;
     parity = so_far.parity;
@@ -169,7 +170,7 @@ module _ {world : World} {past : Past} {items : List Item} {item : GroupItem} {l
   -- A call is answered that ends no group.
   pub recorded_answers : (reach : ℕ) (entry : Entry) → past.banks (length items + 1) ≡ now
       → Knows (record world.setting { reach = reach }) last begun now
-      → IsRightNext world items entry → IsAnswerOf entry.kind entry.answer
+      → IsRightNext world items entry now → IsAnswerOf entry.kind entry.answer
       → Recorded world past (items ++ Call entry ∷ []) item last begun now
   recorded_answers reach entry here knows right is_answer =
       let grown = groups_call world.calls world.handed world.opening world.known items so_far.groups so_far.in_order entry in
@@ -186,7 +187,8 @@ module _ {world : World} {past : Past} {items : List Item} {item : GroupItem} {l
         in_order = groups_grown_call items entry so_far.in_order;
         right = answers_grown_call world.handed world.opening items entry so_far.right right.right is_answer;
         sound = each_grown_call IsSound items entry so_far.sound right.sound;
-        counted = counted_call items entry so_far.counted right.counted;
+        caused = caused_call items entry past.banks so_far.caused
+            (subst (λ (d : Disk). IsAnswerCause items (length items) d entry.answer) (sym here) right.caused);
         since = subst (λ (l : List Kept). KeepsSince world.setting l past.origin.clock now)
             (λ i. world.known ++ sym grown.1 i ++ sym grown.2 i) so_far.since;
         parity = subst (HaveParityOf world.known) (λ i. world.known ++ sym grown.1 i ++ sym grown.2 i) so_far.parity;
@@ -257,7 +259,7 @@ module _ {world : World} {past : Past} {items : List Item} {item : GroupItem} {l
           in_order = so_far.in_order;
           right = so_far.right;
           sound = so_far.sound;
-          counted = so_far.counted;
+          caused = so_far.caused;
           since = subst (λ (l : List Kept). KeepsSince world.setting l past.origin.clock now) row
               (since_longer world.setting all (next ∷ []) past.origin.clock now so_far.since);
           parity = subst (HaveParityOf world.known) row
@@ -340,7 +342,7 @@ module _ {world : World} {past : Past} {items : List Item} {item : GroupItem} {l
 
   -- The group's item is listed before the answer. A group that begins an expansion is answered as an attach's.
   pub recorded_ends : (attached → IsAttachOf both (item.from + 1) group.group)
-      → IsRightNext world (items ++ Group group ∷ []) entry → IsAnswerOf entry.kind entry.answer
+      → IsRightNext world (items ++ Group group ∷ []) entry now → IsAnswerOf entry.kind entry.answer
       → past.banks (length items + 1) ≡ now → past.banks (length with_group + 1) ≡ now
       → Recorded world past ((items ++ Group group ∷ []) ++ Call entry ∷ []) group next [] now
   recorded_ends told right is_answer here then =
@@ -370,7 +372,8 @@ module _ {world : World} {past : Past} {items : List Item} {item : GroupItem} {l
         right = answers_grown_call world.handed world.opening with_group entry
             (answers_grown_group world.handed world.opening items group so_far.right) right.right is_answer;
         sound = each_grown_call IsSound with_group entry (each_grown_group IsSound items group so_far.sound) right.sound;
-        counted = counted_call with_group entry (counted_group items group so_far.counted) right.counted;
+        caused = caused_call with_group entry past.banks (caused_group items group past.banks so_far.caused)
+            (subst (λ (d : Disk). IsAnswerCause with_group (length with_group) d entry.answer) (sym then) right.caused);
         since = subst (λ (l : List Kept). KeepsSince world.setting l past.origin.clock now) row so_far.since;
         parity = subst (HaveParityOf world.known) row so_far.parity;
         no_older = kept_more

@@ -1,6 +1,7 @@
 -- The next entry is right where it is listed.
 use Rattle.std.proofs.Common.{◌≡◌, inr, ℕ, ◌+◌, ◌≤◌, List, [], ◌∷◌, ◌++◌, length, Option, Some, None, refl, sym, ◌∙◌, subst, arith, length-append}
-use Rattle.std.specs.Prelude.{option_and_then, ⊤}
+use Rattle.std.specs.Prelude.{◌≢◌, option_and_then, ⊤}
+use Rattle.bank_trait.specs.Disk.{Disk}
 use Rattle.core_state.specs.declared.answer.Answer.{Answer}
 use Rattle.core_state.specs.declared.answer.Answer.TheVariants as answer
 use Rattle.core_state.specs.declared.answer.Kind.{Kind}
@@ -15,6 +16,7 @@ use Rattle.core_state.specs.World.{World}
 use Rattle.uberblock_ring.specs.Uberblock.{max_group}
 use Rattle.core_turns.specs.Getting.{IsReadKind}
 use Rattle.journal_law.proofs.Grown.{group_before_first, grown_has, last_there, map_before, map_at_end}
+use Rattle.schedule.specs.Caused.{IsAnswerCause}
 use Rattle.schedule.specs.Fitting.{IsGroupKind}
 use Rattle.schedule.specs.Recorded.{IsRightNext, AllBelow}
 use Rattle.schedule.proofs.Below.{previous_below, below_group}
@@ -24,11 +26,23 @@ use Rattle.schedule.proofs.BothListed.{one_latest}
 pub same_out : {one other : ℕ} → answer.TooManyFailed one ≡ answer.TooManyFailed other → one ≡ other
 same_out same = cc
 
--- The answer tells neither of damage nor of a limit.
+-- The answer tells neither of damage, nor of a limit, nor of what an attach found.
 abbrev pub IsPlain : Answer → Type 0
 IsPlain answer.Damaged = ⊥
 IsPlain (answer.Limit reached) = ⊥
+IsPlain (answer.Expanding to) = ⊥
+IsPlain (answer.NoDevice devices width) = ⊥
+IsPlain (answer.Taken slot) = ⊥
 IsPlain other = ⊤
+
+-- Then nothing else is needed for its cause.
+plain_caused : (items : List Item) (index : ℕ) (disk : Disk) (given : Answer) → IsPlain given
+    → IsAnswerCause items index disk given
+plain_caused items index disk (answer.Limit reached) plain = absurd plain
+plain_caused items index disk (answer.Expanding to) plain = absurd plain
+plain_caused items index disk (answer.NoDevice devices width) plain = absurd plain
+plain_caused items index disk (answer.Taken slot) plain = absurd plain
+plain_caused items index disk other plain = tt
 
 -- The call was cut short: too many devices are out, or memory is wanting.
 abbrev pub IsStopped : Answer → Type 0
@@ -84,7 +98,7 @@ read_call handed opening items previous index entry kind.Get is right = right
 read_call handed opening items previous index entry kind.Sum is right = right
 read_call handed opening items previous index entry other is right = absurd is
 
-module _ (world : World) (items : List Item) (entry : Entry) where
+module _ (world : World) (items : List Item) (entry : Entry) (disk : Disk) where
   abbrev with_entry : List Item
   with_entry = items ++ Call entry ∷ []
 
@@ -93,18 +107,18 @@ module _ (world : World) (items : List Item) (entry : Entry) where
   IsRightAs asked = (previous : ℕ) → IsPrevious with_entry entry.caller (length items) previous
       → IsRightCall world.handed world.opening with_entry previous (length items) entry asked
 
-  next_plain : IsPlain entry.answer → IsRightAs entry.kind → IsRightNext world items entry
+  next_plain : IsPlain entry.answer → IsRightAs entry.kind → IsRightNext world items entry disk
   next_plain plain right = record {
     right = right;
     sound = λ damaged. subst IsPlain damaged plain;
-    counted = λ reached limit. absurd (subst IsPlain limit plain);
+    caused = plain_caused items (length items) disk entry.answer plain;
   }
 
   -- A get or a sum that speaks of the map after some of the items, all of its caller's among them.
   pub read_right : (at : ℕ) → IsReadKind entry.kind → entry.at ≡ Some at → 1 ≤ at → at ≤ length items
       → AllBelow items entry.caller at
       → IsReadOf (option_and_then (map_after world.handed world.opening items at) entry.id) entry.kind entry.answer
-      → IsRightNext world items entry
+      → IsRightNext world items entry disk
   read_right at asked at_is some within below is =
       next_plain (read_plain (option_and_then (map_after world.handed world.opening items at) entry.id) entry.kind
       entry.answer is) (λ previous previous_is.
@@ -117,27 +131,27 @@ module _ (world : World) (items : List Item) (entry : Entry) where
       )))
 
   -- One that was cut short.
-  pub read_cut_right : IsReadKind entry.kind → entry.at ≡ None → IsStopped entry.answer → IsRightNext world items entry
+  pub read_cut_right : IsReadKind entry.kind → entry.at ≡ None → IsStopped entry.answer → IsRightNext world items entry disk
   read_cut_right asked at_is stopped = next_plain (stopped_plain entry.answer stopped) (λ previous previous_is.
       read_call world.handed world.opening with_entry previous (length items) entry entry.kind asked
       (subst (IsRightRead world.handed world.opening with_entry previous (length items) entry) (sym at_is)
       (stopped_cut entry.answer stopped)))
 
   -- A put, whatever else it answers.
-  pub put_right : entry.kind ≡ kind.Put → IsPlain entry.answer → IsRightNext world items entry
+  pub put_right : entry.kind ≡ kind.Put → IsPlain entry.answer → IsRightNext world items entry disk
   put_right asked plain = next_plain plain (subst IsRightAs (sym asked) (λ previous previous_is. tt))
 
   -- A free that speaks of the map after all items.
   pub free_right : entry.kind ≡ kind.Free → IsPlain entry.answer
       → IsRightFree (option_and_then (map_of world.handed world.opening items) entry.id) entry.answer
-      → IsRightNext world items entry
+      → IsRightNext world items entry disk
   free_right asked plain is = next_plain plain (subst IsRightAs (sym asked) (λ previous previous_is.
       subst (λ (map : Map). IsRightFree (option_and_then map entry.id) entry.answer)
       (sym (map_before world.handed world.opening items (Call entry ∷ []) (length items) (omega arith)
       ∙ map_at_end world.handed world.opening items)) is))
 
   -- A sync or an attach that was cut short.
-  pub group_cut_right : IsGroupKind entry.kind → IsStopped entry.answer → IsRightNext world items entry
+  pub group_cut_right : IsGroupKind entry.kind → IsStopped entry.answer → IsRightNext world items entry disk
   group_cut_right asked stopped = next_plain (stopped_plain entry.answer stopped) (λ previous previous_is.
       cut_group world.handed world.opening with_entry previous (length items) entry entry.kind asked
       (stopped_cut entry.answer stopped))
@@ -145,33 +159,29 @@ module _ (world : World) (items : List Item) (entry : Entry) where
   -- One that found no number left for its group.
   pub group_limit_right : (item : GroupItem) → IsGroupKind entry.kind → entry.answer ≡ answer.Limit max_group
       → IsGroupBefore items (length items) item → max_group ≤ item.group + 1
-      → IsRightNext world items entry
+      → IsRightNext world items entry disk
   group_limit_right item asked answer_is latest at_last = record {
     right = λ previous previous_is. cut_group world.handed world.opening with_entry previous (length items) entry
         entry.kind asked (subst IsCutShort (sym answer_is) tt);
     sound = λ damaged. apart (sym answer_is ∙ damaged);
-    counted = λ reached limit. record {
-      reached_is = same (sym limit ∙ answer_is);
-      group = item;
-      before = latest;
-      last = at_last;
-    };
+    caused = subst (IsAnswerCause items (length items) disk) (sym answer_is)
+        (record { reached_is = refl; group = item; before = latest; last = at_last });
   }
     where
       apart : answer.Limit max_group ≡ answer.Damaged → ⊥
       apart is = cc
 
-      same : {one two : ℕ} → answer.Limit one ≡ answer.Limit two → one ≡ two
-      same is = cc
-
-  -- An attach, where its answer is right behind whatever entry.
-  pub attach_right : entry.kind ≡ kind.Attach → IsPlain entry.answer
+  -- An attach that told of no group.
+  pub untold_right : entry.kind ≡ kind.Attach → entry.answer ≢ answer.Damaged
       → ((listed : List Item) (previous index : ℕ) → IsRightAttach listed previous index entry.answer)
-      → IsRightNext world items entry
-  attach_right asked plain right = next_plain plain
-      (subst IsRightAs (sym asked) (λ previous previous_is. right with_entry previous (length items)))
+      → IsAnswerCause items (length items) disk entry.answer → IsRightNext world items entry disk
+  untold_right asked sound right caused = record {
+    right = subst IsRightAs (sym asked) (λ previous previous_is. right with_entry previous (length items));
+    sound = sound;
+    caused = caused;
+  }
 
-module _ (world : World) (items : List Item) (group : GroupItem) (entry : Entry) where
+module _ (world : World) (items : List Item) (group : GroupItem) (entry : Entry) (disk : Disk) where
   abbrev with_group : List Item
   with_group = items ++ Group group ∷ []
 
@@ -194,8 +204,8 @@ module _ (world : World) (items : List Item) (group : GroupItem) (entry : Entry)
   -- A sync that ended a group, which is listed just before it and was begun after all items of its caller.
   pub sync_right : entry.kind ≡ kind.Sync → entry.answer ≡ answer.Synced group.group → 1 ≤ group.after
       → AllBelow items entry.caller group.after
-      → IsRightNext world (items ++ Group group ∷ []) entry
-  sync_right asked answer_is some below = next_plain world with_group entry (subst IsPlain (sym answer_is) tt)
+      → IsRightNext world (items ++ Group group ∷ []) entry disk
+  sync_right asked answer_is some below = next_plain world with_group entry disk (subst IsPlain (sym answer_is) tt)
       (λ previous is.
       subst (IsRightCall world.handed world.opening with_both previous (length with_group) entry) (sym asked)
       (subst (IsRightSync with_both previous (length with_group)) (sym answer_is)
@@ -205,10 +215,10 @@ module _ (world : World) (items : List Item) (group : GroupItem) (entry : Entry)
   pub attached_right : (last : GroupItem) (width : ℕ) → entry.kind ≡ kind.Attach
       → entry.answer ≡ answer.Attached width group.group → 1 ≤ group.after → AllBelow items entry.caller group.after
       → IsGroupBefore items (length items) last → (last.from + 1 ≡ width) × (last.to ≡ last.from)
-      → (group.from + 1 ≡ width) × (group.to ≡ width) → IsRightNext world (items ++ Group group ∷ []) entry
+      → (group.from + 1 ≡ width) × (group.to ≡ width) → IsRightNext world (items ++ Group group ∷ []) entry disk
   unfolding answered_group
   attached_right last width asked answer_is some below latest was now =
-      next_plain world with_group entry (subst IsPlain (sym answer_is) tt)
+      next_plain world with_group entry disk (subst IsPlain (sym answer_is) tt)
       (λ previous is.
       subst (IsRightCall world.handed world.opening with_both previous (length with_group) entry) (sym asked)
       (subst (IsRightAttach with_both previous (length with_group)) (sym answer_is) (

@@ -45,7 +45,7 @@ module _ {world : World} {script : Script} {past : Past} {before : CoreState} {i
       (entry : Entry) (caller : entry.caller ≡ index) (ended : client.under_way ≡ None)
       (disk : after.disk ≡ before.disk)
       (knows : Knows (setting_now runs) runs.last (shown_of runs.begun commit) before.disk)
-      (right : IsRightNext world items entry) (answers : IsAnswerOf entry.kind entry.answer)
+      (right : IsRightNext world items entry after.disk) (answers : IsAnswerOf entry.kind entry.answer)
       (with : IsListedWith past.banks items (items ++ CallItem entry ∷ []) after.disk) where
     abbrev grown : List Item
     grown = items ++ CallItem entry ∷ []
@@ -53,7 +53,8 @@ module _ {world : World} {script : Script} {past : Past} {before : CoreState} {i
     recorded_entry : Recorded world past grown runs.item runs.last (shown_of runs.begun commit) after.disk
     recorded_entry = subst (Recorded world past grown runs.item runs.last (shown_of runs.begun commit)) (sym disk)
         (recorded_answers so_far runs.reach entry (with (length items + 1) (omega arith)
-        (omega (arith, length-append items (CallItem entry ∷ []))) ∙ disk) knows right answers)
+        (omega (arith, length-append items (CallItem entry ∷ []))) ∙ disk) knows
+        (subst (IsRightNext world items entry) disk right) answers)
 
     each_left : (other : ℕ) (its_client : Client) (its_under : UnderWay) → IsGoing news other its_client its_under
         → IsClient world script grown runs.item runs.begun (runs.contents other) other its_client its_under
@@ -121,7 +122,7 @@ module _ {world : World} {script : Script} {past : Past} {before : CoreState} {i
         to = next.uber.reflow.to;
       })
       (told : attached → IsAttachOf ((items ++ Group group ∷ []) ++ CallItem entry ∷ []) (runs.item.from + 1) group.group)
-      (right : IsRightNext world (items ++ Group group ∷ []) entry) (answers : IsAnswerOf entry.kind entry.answer)
+      (right : IsRightNext world (items ++ Group group ∷ []) entry after.disk) (answers : IsAnswerOf entry.kind entry.answer)
       (no_block : map_after_answer world.handed map entry entry.answer ≡ map)
       (knows : Knows (setting_now runs) next [] before.disk)
       (with : IsListedWith past.banks items ((items ++ Group group ∷ []) ++ CallItem entry ∷ []) after.disk)
@@ -147,7 +148,8 @@ module _ {world : World} {script : Script} {past : Past} {before : CoreState} {i
         (subst (λ (l : List Kept). Recorded world past items runs.item runs.last l before.disk) begun_is so_far)
         is_next runs.reach knows
         (ap (λ (g : GroupItem). g.group) group_is) (ap (λ (g : GroupItem). g.after) group_is)
-        (ap (λ (g : GroupItem). g.from) group_is) (ap (λ (g : GroupItem). g.to) group_is) entry told right answers
+        (ap (λ (g : GroupItem). g.from) group_is) (ap (λ (g : GroupItem). g.to) group_is) entry told
+        (subst (IsRightNext world (items ++ Group group ∷ []) entry) disk right) answers
         (both_with (length items + 1) (omega arith) (omega arith))
         (both_with (length (items ++ Group group ∷ []) + 1) (omega (arith, length-append items (Group group ∷ [])))
         (omega (arith, length-append items (Group group ∷ [])))))

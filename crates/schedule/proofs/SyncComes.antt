@@ -150,7 +150,7 @@ module _ {script : Script} {actor : ℕ} {before after : Station} {clients news 
       let map : Map = map_of world.handed world.opening before.items in
       let entry = first_entry call actor before given in
       let last : old.pool.uber.group ≡ runs.last.uber.group = ap (λ (u : Uber). u.group) runs.stands.alike in (
-        refused_right world before.items runs.item entry old given (subst IsGroupKind (sym asked) tt) refl runs.recorded.latest
+        refused_right world before.items runs.item entry after.state.disk old given (subst IsGroupKind (sym asked) tt) refl runs.recorded.latest
             (λ none. rests old takes.is none ∙ last ∙ runs.recorded.item_is.number) refused.0,
         subst (λ (m : Map). Stands (setting_now runs) runs.last runs.begun m runs.contents (calls_under_way clients) runs.commit
             after.state)

@@ -265,7 +265,7 @@ module _ {script : Script} {actor : ℕ} {before after : Station} {clients news 
             to = (reflow_is i).to;
           })
           (λ attached. absurd attached)
-          (sync_right world before.items group entry for_call.0 refl mine.at.0 mine.after) for_call.0 refl (subst (Knows (setting_now runs) next []) disk stood.groups.knows) listed
+          (sync_right world before.items group entry after.state.disk for_call.0 refl mine.at.0 mine.after) for_call.0 refl (subst (Knows (setting_now runs) next []) disk stood.groups.knows) listed
           (subst (λ (l : List HoldingCall). Stands (setting_now runs) next [] map runs.contents l None after.state)
           (sym (ended_calls (answer.Synced number) leaves)) stood)
 
@@ -286,7 +286,7 @@ module _ {script : Script} {actor : ℕ} {before after : Station} {clients news 
       let stood = cut_stands steps.0 (its_stands runs) in
       commit_is_cut after.state takes.was takes.changes runs None (whole_recorded runs) (entry given leaves) refl
       (idle_now given leaves) (ap (λ (s : CoreState). s.disk) steps.2)
-      stood.groups.knows (group_cut_right world before.items (entry given leaves) (subst IsGroupKind (sym for_call.0) tt) tt) tt listed refl only
+      stood.groups.knows (group_cut_right world before.items (entry given leaves) after.state.disk (subst IsGroupKind (sym for_call.0) tt) tt) tt listed refl only
       (subst (λ (l : List HoldingCall). Stands (setting_now runs) runs.last runs.begun map runs.contents l None after.state)
       (sym (ended_calls given leaves))
       (subst (Stands (setting_now runs) runs.last runs.begun map runs.contents (calls_under_way clients) None) (sym steps.2)

@@ -1,6 +1,7 @@
 -- A sync among the calls under way: its commit is the core's, and what it may be answered in its first turn.
 use Rattle.std.proofs.Common.{◌≡◌, inl, inr, ℕ, List, length, Option, Some, None, refl, sym, ◌∙◌, ap, subst, arith}
 use Rattle.std.specs.Prelude.{slice_get}
+use Rattle.bank_trait.specs.Disk.{Disk}
 use Rattle.core_state.specs.declared.answer.Answer.{Answer}
 use Rattle.core_state.specs.declared.answer.Answer.TheVariants as answer
 use Rattle.core_state.specs.declared.answer.Kind.{Kind}
@@ -122,15 +123,15 @@ refused_answers asked core answer.NoMemory refused = tt
 refused_answers asked core other refused = absurd refused
 
 -- and is right where the last group listed is the last one begun, if none is under way.
-pub refused_right : (world : World) (items : List Item) (item : GroupItem) (entry : Entry) (core : Core)
+pub refused_right : (world : World) (items : List Item) (item : GroupItem) (entry : Entry) (disk : Disk) (core : Core)
     (given : Answer) → IsGroupKind entry.kind → entry.answer ≡ given → IsGroupBefore items (length items) item
     → (core.committing ≡ None → core.begun ≡ item.group) → IsSyncRefused core given
-    → IsRightNext world items entry
-refused_right world items item entry core (answer.TooManyFailed out) asked is latest last refused =
-    group_cut_right world items entry asked (subst IsStopped (sym is) tt)
-refused_right world items item entry core (answer.Limit reached) asked is latest last refused =
-    group_limit_right world items entry item asked (is ∙ ap answer.Limit refused.2) latest
+    → IsRightNext world items entry disk
+refused_right world items item entry disk core (answer.TooManyFailed out) asked is latest last refused =
+    group_cut_right world items entry disk asked (subst IsStopped (sym is) tt)
+refused_right world items item entry disk core (answer.Limit reached) asked is latest last refused =
+    group_limit_right world items entry disk item asked (is ∙ ap answer.Limit refused.2) latest
     (let same = last refused.1 in let high = refused.3 in omega (arith, same, high))
-refused_right world items item entry core answer.NoMemory asked is latest last refused =
-    group_cut_right world items entry asked (subst IsStopped (sym is) tt)
-refused_right world items item entry core other asked is latest last refused = absurd refused
+refused_right world items item entry disk core answer.NoMemory asked is latest last refused =
+    group_cut_right world items entry disk asked (subst IsStopped (sym is) tt)
+refused_right world items item entry disk core other asked is latest last refused = absurd refused

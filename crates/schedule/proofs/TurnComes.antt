@@ -206,7 +206,7 @@ module _ {script : Script} {actor : ℕ} {before after : Station} {clients news 
         → LeavesBegun actor call before after (Done given) → FitsNow call.kind given
         → (given ≡ answer.Full → HasManyAt script was) → AreCallsOf now (calls_under_way clients)
         → ((world : World) (past : Past) → (runs : Runs world script past before.state before.items clients)
-        → IsRightNext world before.items (first_entry call actor before given)
+        → IsRightNext world before.items (first_entry call actor before given) after.state.disk
         × Stands (setting_now runs) runs.last runs.begun
         (map_after_answer world.handed (map_of world.handed world.opening before.items)
         (first_entry call actor before given) given) runs.contents (calls_under_way clients) runs.commit after.state)
@@ -404,7 +404,7 @@ module _ {script : Script} {actor : ℕ} {before after : Station} {clients news 
             → AreCallsOf now (calls_under_way news)
             → ((world : World) (past : Past) → IsWorldOf script world
             → (runs : Runs world script past before.state before.items clients)
-            → IsRightNext world before.items entry
+            → IsRightNext world before.items entry after.state.disk
             × StandsNow world past runs runs.contents
             (map_after_answer world.handed (map_of world.handed world.opening before.items) entry given))
             → ItComes

@@ -185,7 +185,7 @@ module _ (script : Script) (old mid : Disk) (pool : Pool) (silent : ℕ) (items 
       begins = begins_after;
       legal = record { groups = runs.recorded.in_order; calls_are = calls; answers = runs.recorded.right };
       sound = runs.recorded.sound;
-      counted = runs.recorded.counted;
+      caused = runs.recorded.caused;
       full = full.each;
       no_space = no_space;
       any_moment = recorded_throughout runs.recorded;

@@ -12,14 +12,9 @@ use Rattle.core_state.specs.Journal.{GroupsAreRight, IsWidthStep}
 use Rattle.core_state.specs.Keeps.{Kept}
 use Rattle.core_state.specs.Moment.{IsGroupOf, Groups, KeepsSince, item_of}
 use Rattle.core_state.specs.World.{World}
-use Rattle.journal_law.specs.Caused.{IsAtLastGroup}
 use Rattle.journal_law.specs.Parity.{HaveParityOf}
+use Rattle.schedule.specs.Caused.{AnswersAreCaused, IsAnswerCause}
 use Rattle.schedule.specs.Moments.{KeptSoFar, KeepsOn, Past}
-
--- Each answer that tells of a limit has its cause in the items before it.
-pub record GroupsAreCounted (items : List Item) : Type 0 where
-  pub each : (index reached : ℕ) (entry : Entry) → CallAt items index entry
-      → entry.answer ≡ answer.Limit reached → IsAtLastGroup items index reached
 
 -- The journal is right so far; each image since the bank was the first one keeps groups of the run in a row, none
 -- older than the last one listed by then. The last group listed is this one, by this item, and these that images can
@@ -36,19 +31,19 @@ pub record Recorded (world : World) (past : Past) (items : List Item) (item : Gr
   pub in_order : GroupsAreRight items
   pub right : AnswersAreRight world.handed world.opening items
   pub sound : (index : ℕ) (entry : Entry) → CallAt items index entry → entry.answer ≢ answer.Damaged
-  pub counted : GroupsAreCounted items
+  pub caused : AnswersAreCaused items past.banks
   pub since : KeepsSince world.setting (world.known ++ groups.answered ++ groups.begun) past.origin.clock now
   pub parity : HaveParityOf world.known (world.known ++ groups.answered ++ groups.begun)
   pub no_older : KeptSoFar world.setting world.calls world.handed world.opening world.known items past
   pub kept_on : KeepsOn world.setting world.calls world.handed world.opening items item last begun
       (past.banks (length items)) now
 
--- The next entry is right where it is listed.
-pub record IsRightNext (world : World) (items : List Item) (entry : Entry) : Type 0 where
+-- The next entry is right where it is listed, with this bank.
+pub record IsRightNext (world : World) (items : List Item) (entry : Entry) (disk : Disk) : Type 0 where
   pub right : (previous : ℕ) → IsPrevious (items ++ Call entry ∷ []) entry.caller (length items) previous
       → IsRightCall world.handed world.opening (items ++ Call entry ∷ []) previous (length items) entry entry.kind
   pub sound : entry.answer ≢ answer.Damaged
-  pub counted : (reached : ℕ) → entry.answer ≡ answer.Limit reached → IsAtLastGroup items (length items) reached
+  pub caused : IsAnswerCause items (length items) disk entry.answer
 
 -- A commit of this group began after so many items, those of the last group or later ones. It has that group's widths,
 -- ends its expansion, or begins one where that may be.

@@ -26,6 +26,7 @@ use Rattle.journal_law.specs.NoSpace.{NoSpaceIsCaused}
 use Rattle.journal_law.specs.FirstGroup.{BeginsAfter}
 use Rattle.open_pool.specs.Pool.{first_item}
 use Rattle.schedule.specs.declared.whole_run.Ran.{Ran}
+use Rattle.schedule.specs.Caused.{AnswersAreCaused}
 use Rattle.schedule.specs.Coming.{AttachesNone}
 use Rattle.schedule.specs.Dropping.{IsDropCause}
 use Rattle.schedule.specs.Fitting.{FitsCall}
@@ -34,7 +35,6 @@ use Rattle.schedule.specs.Moments.{KeepsTurnByTurn}
 use Rattle.schedule.specs.Numbered.{GroupsAreNumbered}
 use Rattle.schedule.specs.OfLines.{FollowsLines}
 use Rattle.schedule.specs.Playing.{EndsAs}
-use Rattle.schedule.specs.Recorded.{GroupsAreCounted}
 use Rattle.schedule.specs.Replaying.{IsAtRest, blank_clients}
 use Rattle.schedule.specs.Turns.{Turns, TurnTaken, bank_when, last_left, turns_of}
 
@@ -42,8 +42,9 @@ use Rattle.schedule.specs.Turns.{Turns, TurnTaken, bank_when, last_left, turns_o
 -- Whatever a stop leaves, at any moment of the run, keeps some of the groups in a row: those kept before, the
 -- journal's, and at most one that was begun after them; and none older than the last one listed by then. At its end
 -- that is the journal's last one, and what the bank keeps then is among these groups. All of them have the parity of
--- the first one that the bank kept, and that is the run's parity. No read is told as damaged. An answer
--- that tells of a limit has its cause: the last group, or more ids than a table has room for. Where one says `NoSpace`,
+-- the first one that the bank kept, and that is the run's parity. No read is told as damaged. Answers
+-- have the cause that the journal tells and the bank; one that says `Full` that the map and the script have more ids than
+-- a table has room for. Where one says `NoSpace`,
 -- the chosen group's index and the script have too many blocks.
 pub record RunKeeps (script : Script) (setting : Setting) (first : Kept) (later : List Kept) (old new : Disk)
     (items : List Item) (parity silent : ℕ) (banks : ℕ → Disk) : Type 0 where
@@ -54,7 +55,7 @@ pub record RunKeeps (script : Script) (setting : Setting) (first : Kept) (later 
   pub begins : BeginsAfter chosen items
   pub legal : IsLegalJournal (asked_by script) (handed_by script) chosen.map items
   pub sound : (index : ℕ) (entry : Entry) → CallAt items index entry → entry.answer ≢ answer.Damaged
-  pub counted : GroupsAreCounted items
+  pub caused : AnswersAreCaused items banks
   pub full : (index : ℕ) (entry : Entry) → CallAt items index entry → entry.answer ≡ answer.Full
       → HasTooManyIds script chosen.map
   pub no_space : NoSpaceIsCaused script chosen.uber chosen.entries items
