@@ -1,7 +1,7 @@
 -- Commits, turn by turn: what a step leaves, and what each turn does to the bank and the devices.
 use Rattle.std.proofs.Common.{◌≡◌, ◌⊎◌, inl, inr, ⊎_elim, ℕ, ◌^◌, ◌<◌, length, refl, sym, ◌∙◌, ap, subst, arith}
 use Rattle.std.proofs.lemmas.Bool.{true≢false}
-use Rattle.bank_trait.specs.Disk.{Disk, Lawful}
+use Rattle.bank_trait.specs.Disk.{Disk, Later, Lawful}
 use Rattle.bank_trait.specs.Regions.{TouchesOnly}
 use Rattle.bank_trait.proofs.Moments.{later_refl}
 use Rattle.bank_trait.proofs.Touches.{touches_none}
@@ -158,6 +158,20 @@ turn_nowhere state = record {
   later = later_refl state.disk;
   out = outs_none (point_of state.core.pool.out state.disk);
   only = touches_none (IsOnInUse state.core.reach state.core.pool.out) state.disk;
+}
+
+-- Where the disk is as it was, no device was called.
+pub turn_still : (before after : CoreState) → after.core.pool.uber ≡ before.core.pool.uber
+    → after.core.reach ≡ before.core.reach → after.core.pool.out ≡ before.core.pool.out → after.disk ≡ before.disk → TurnGoesOn before after
+turn_still before after uber reach outs disk = let none = turn_nowhere before in record {
+  parity = ap (λ (u : Uber). u.parity) uber;
+  reach = reach;
+  rows = ap (λ (u : Uber). u.reflow.rows) uber;
+  later = subst (Later before.disk) (sym disk) none.later;
+  out = subst (OnlyFailedGoOut (point_of before.core.pool.out before.disk))
+      (λ i. point_of (sym outs i) (sym disk i)) none.out;
+  only = subst (TouchesOnly (IsOnInUse before.core.reach before.core.pool.out) before.disk) (sym disk)
+      none.only;
 }
 
 -- What a turn of a commit does, whether its group is answered or not.

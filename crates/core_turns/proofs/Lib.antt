@@ -31,6 +31,7 @@ pub mod FreeStands
 pub mod JobCalls
 pub mod JobEnds
 pub mod JobStands
+pub mod CopyRounds
 pub mod Joining
 pub mod AttachTurns
 pub mod AttachGoes

@@ -4,5 +4,6 @@ pub mod Freeing
 pub mod Putting
 pub mod Committing
 pub mod Copying
+pub mod Rounds
 pub mod Attaching
 pub mod UnderWay

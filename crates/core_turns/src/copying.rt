@@ -43,6 +43,13 @@ impl CopyRun {
         self.job.is_done()
     }
 
+    /// Whose job it is.
+    pub(crate) fn actor(&self) -> u8
+        ensures { result ≡ self.now.hold.actor }
+    {
+        self.hold.actor
+    }
+
     /// The sectors that are copied.
     pub fn job(&self) -> Job
         ensures { result ≡ self.now.job.job }

@@ -15,6 +15,7 @@ mod freeing;
 mod getting;
 mod open_core;
 mod putting;
+mod rounds;
 mod turn;
 
 pub use attaching::AttachRun;
@@ -22,4 +23,5 @@ pub use copying::{CopyRun, JobBegin};
 pub use getting::{GetRun, OutOfMemory, Solved};
 pub use open_core::Core;
 pub use putting::{Filled, PutRun};
+pub use rounds::CopyRound;
 pub use turn::Turn;

@@ -18,6 +18,7 @@ use Rattle.core_turns.specs.Attaching.{BeginsAttach, BeginsAttachSo, HoldsAttach
 use Rattle.core_turns.specs.Core.{Core, at_disk}
 use Rattle.core_turns.specs.UnderWay.{AreCallsOf, HoldingCall, Stands}
 use Rattle.core_turns.proofs.AttachStands.{attaching_calls, attaching_stands}
+use Rattle.core_turns.proofs.CommitGoes.{turn_still}
 use Rattle.schedule.specs.Dropping.{HasDropCause}
 use Rattle.schedule.specs.Turns.{turns_of}
 use Rattle.schedule.specs.declared.client.Client.{Client}
@@ -30,7 +31,7 @@ use Rattle.schedule.proofs.Answered.{answered, answered_idle}
 use Rattle.schedule.proofs.Coming.{goes_for}
 use Rattle.schedule.proofs.Fitting.{attach_fits}
 use Rattle.schedule.proofs.Going.{attach_begins as going_begins}
-use Rattle.schedule.proofs.LeavesPool.{holds_left, turn_still}
+use Rattle.schedule.proofs.LeavesPool.{holds_left}
 use Rattle.schedule.proofs.Refusals.{IsRefusal, refusal_answers, refusal_map, refusal_right, refused_cause, refused_caused, refused_is, refused_tells}
 use Rattle.schedule.proofs.RunsGoOn.{attach_begins as runs_begins}
 use Rattle.schedule.proofs.Theirs.{calls_stay, none_some, same_attach}

@@ -18,7 +18,7 @@ use Rattle.core_turns.specs.Committing.{IsCommitOf}
 use Rattle.core_turns.specs.UnderWay.{TurnGoesOn}
 use Rattle.open_pool.proofs.Banks.{count_grows}
 use Rattle.core_turns.proofs.AttachBeside.{attach_still}
-use Rattle.core_turns.proofs.CommitGoes.{turn_nowhere}
+use Rattle.core_turns.proofs.CommitGoes.{turn_still}
 use Rattle.core_turns.proofs.Frames.{OnlyOut}
 use Rattle.core_turns.proofs.StandFrames.{LeavesCommit, commit_still, out_leaves}
 use Rattle.core_turns.proofs.Holds.{KeepsAlone, keeps_same}
@@ -86,21 +86,7 @@ pub out_keeps : {old new : Core} → OnlyOut old new → IsWithin old.pool.out n
 out_keeps {old} {new} rest within =
     keeps_left (out_leaves old new rest within) (ap (λ (c : Core). c.attaching) rest)
 
--- Where the disk is as it was, no device was called.
-pub turn_still : (before after : CoreState) → after.core.pool.uber ≡ before.core.pool.uber
-    → after.core.reach ≡ before.core.reach → after.core.pool.out ≡ before.core.pool.out → after.disk ≡ before.disk → TurnGoesOn before after
-turn_still before after uber reach outs disk = let none = turn_nowhere before in record {
-  parity = ap (λ (u : Uber). u.parity) uber;
-  reach = reach;
-  rows = ap (λ (u : Uber). u.reflow.rows) uber;
-  later = subst (Later before.disk) (sym disk) none.later;
-  out = subst (OnlyFailedGoOut (point_of before.core.pool.out before.disk))
-      (λ i. point_of (sym outs i) (sym disk i)) none.out;
-  only = subst (TouchesOnly (IsOnInUse before.core.reach before.core.pool.out) before.disk) (sym disk)
-      none.only;
-}
-
--- So it is where only blocks and holds changed.
+-- A turn goes on so where only blocks and holds changed.
 pub pool_goes : (old new : Core) (blocks : Blocks) (holds : List Hold) (disk : Disk)
     → new ≡ record old { pool = record old.pool { blocks = blocks }; holds = holds }
     → TurnGoesOn (at_disk old disk) (at_disk new disk)

@@ -19,6 +19,7 @@ use Rattle.core_turns.specs.Committing.{BeginsCommit, IsSyncRefused}
 use Rattle.core_turns.specs.UnderWay.{AreCallsOf, Stands, HoldingCall}
 use Rattle.core_turns.proofs.Commits.{few_out, rests}
 use Rattle.core_turns.proofs.CommitStands.{commit_begins_calls, commit_begins_stands}
+use Rattle.core_turns.proofs.CommitGoes.{turn_still}
 use Rattle.schedule.specs.Dropping.{HasDropCause}
 use Rattle.schedule.specs.Turns.{turns_of}
 use Rattle.schedule.specs.declared.client.Client.{Client}
@@ -35,7 +36,7 @@ use Rattle.schedule.proofs.Begun.{begun_now}
 use Rattle.schedule.proofs.Going.{commits_on, keeps_attach}
 use Rattle.schedule.proofs.RunsGoOn.{commit_begins, none_holds}
 use Rattle.schedule.proofs.Fulls.{put_alone}
-use Rattle.schedule.proofs.LeavesPool.{holds_left, turn_still}
+use Rattle.schedule.proofs.LeavesPool.{holds_left}
 use Rattle.schedule.proofs.TurnComes.{RunsOn, first_entry, comes_nowhere, comes_on, comes_at_once}
 use Rattle.schedule.proofs.Refusals.{sync_cause}
 use Rattle.schedule.proofs.Syncs.{no_commit, refused_tells, refused_map, refused_answers, refused_right}

@@ -19,6 +19,7 @@ use Rattle.client_script.specs.Script.{Script, calls_of}
 use Rattle.core_turns.specs.Core.{Core}
 use Rattle.core_turns.specs.UnderWay.{HoldingCall, AreCallsOf, Stands, TurnGoesOn, shown_of}
 use Rattle.core_turns.specs.declared.turn.Turn.TheVariants.{More, Done}
+use Rattle.core_turns.proofs.CommitGoes.{turn_still}
 use Rattle.schedule.specs.declared.client.Client.{Client}
 use Rattle.schedule.specs.declared.client.UnderWay.{UnderWay}
 use Rattle.schedule.specs.declared.client.Work.{Work}
@@ -42,7 +43,7 @@ use Rattle.schedule.proofs.Fulls.{full_same, HasManyAt, full_answer, FullStays}
 use Rattle.schedule.proofs.Coming.{came_nowhere, came_turn, goes_for}
 use Rattle.schedule.proofs.Fitting.{Fits, FitSince, fit_same, fit_entry}
 use Rattle.schedule.proofs.Syncs.{stands_know}
-use Rattle.schedule.proofs.LeavesPool.{KeepsCommit, LeavesPool, leaves_commit, turn_still}
+use Rattle.schedule.proofs.LeavesPool.{KeepsCommit, LeavesPool, leaves_commit}
 use Rattle.schedule.specs.Moments.{Past}
 
 -- What stood between two turns stands after this one with these items.

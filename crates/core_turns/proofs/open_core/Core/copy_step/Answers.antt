@@ -1,0 +1,13 @@
+use Rattle.core_turns.proofs.CommitGoes.{turn_bank}
+use Rattle.core_turns.proofs.CopyRounds.{copy_goes}
+use Rattle.core_turns.proofs.open_core.Core.copy_step.Goals as goal
+
+pub returns-clause-goes_on : goal.returns-clause-goes_on
+returns-clause-goes_on g c = copy_goes _ _ c.args.round c.step_copy.result c.step_copy.ensures.is
+    (g.met.B.Bank.lawful c.args.bank.now) c.requires.of c.step_copy.ensures.steps
+
+pub returns-clause-bank : goal.returns-clause-bank
+returns-clause-bank g c = turn_bank _ _
+    (copy_goes _ _ c.args.round c.step_copy.result c.step_copy.ensures.is
+    (g.met.B.Bank.lawful c.args.bank.now) c.requires.of c.step_copy.ensures.steps)
+    c.requires.bank

@@ -1,0 +1,151 @@
+// Copies, turn by turn: rounds of jobs and commits.
+ghost use Rattle.std.specs.Prelude.{◌≡◌};
+ghost use Rattle.bank_trait.specs.Disk.{Disk};
+ghost use Rattle.core_client.specs.Outs.{OnlyFailedGoOut};
+ghost use Rattle.core_state.specs.Committing.{point_of};
+ghost use Rattle.core_turns.specs.declared.rounds.CopyRound.TheVariants.{Copies as CopiesOf, Commits as CommitsOf};
+ghost use Rattle.core_turns.specs.Core.{IsCore, at_disk, HasBankOf};
+ghost use Rattle.core_turns.specs.Committing.{IsCommitOf};
+ghost use Rattle.core_turns.specs.Copying.{IsJobOf};
+ghost use Rattle.core_turns.specs.Rounds.{BeginsRound, IsMoreRound, IsRoundOf, StepsCopy};
+ghost use Rattle.core_turns.specs.UnderWay.{TurnGoesOn};
+
+use crate::copying::{CopyRun, JobBegin};
+use crate::{Core, Turn};
+use bank_trait::Bank;
+use core_commit::CommitRun;
+use core_state::Answer;
+use std::alloc::Global;
+
+/// What a copy has under way between two of its turns.
+#[derive(Drop)]
+pub enum CopyRound {
+    /// Nothing: a round of this actor's copy is to begin. Beside it the group that a commit of the copy made in the turn
+    /// before, where it did.
+    Rests { actor: u8, made: Option<u64> },
+    /// A job, which holds the sectors that it copies.
+    Copies(CopyRun),
+    /// A commit.
+    Commits(CommitRun),
+}
+
+impl Core {
+    /// The first turn of a copy: its first round begins, or finds another's call in its way. It is answered where no
+    /// expansion runs, while a device is out, and where the commit that is due is refused.
+    pub fn copy_begin(&mut self, alloc: Global, actor: u8) -> Turn<CopyRound>
+        ensures begins { BeginsRound self.old self.new actor result }
+        ensures of { IsMoreRound self.new result }
+        ensures bank { (disk : Disk) → HasBankOf self.old disk → HasBankOf self.new disk }
+    {
+        self.begin_round(alloc, actor)
+    }
+
+    /// The next turn of a copy: a round begins as the first one did, and waits where it finds another's call in its way;
+    /// a job reads a sector or writes it, has copied all of its sectors, or is given up; a commit makes its next call,
+    /// or has made its group.
+    pub fn copy_step<B: Bank>(
+        &mut self,
+        alloc: Global,
+        bank: &mut B,
+        round: CopyRound,
+    ) -> Turn<CopyRound>
+        requires of { IsRoundOf self.old round }
+        requires bank { HasBankOf self.old (B.disk bank.old) }
+        ensures steps { StepsCopy (at_disk self.old (B.disk bank.old)) round
+            (at_disk self.new (B.disk bank.new)) result }
+        ensures of { IsMoreRound self.new result }
+        ensures bank { HasBankOf self.new (B.disk bank.new) }
+        ensures goes_on { TurnGoesOn (at_disk self.old (B.disk bank.old))
+            (at_disk self.new (B.disk bank.new)) }
+    {
+        self.step_copy(alloc, bank, round)
+    }
+
+    fn begin_round(&mut self, alloc: Global, actor: u8) -> Turn<CopyRound>
+        ensures is { IsCore self.old }
+        ensures begins { BeginsRound self.old self.new actor result }
+        ensures of { IsMoreRound self.new result }
+    {
+        // That the core is one is known by a call of it.
+        let _ = self.reflow();
+        match self.job_begin(actor) {
+            JobBegin::More(run) => Turn::More(CopyRound::Copies(run)),
+            JobBegin::Busy { by } => Turn::Busy { by },
+            JobBegin::Done(answer) => Turn::Done(answer),
+            JobBegin::CommitDue => match self.commit_begin(alloc, actor) {
+                Turn::More(run) => Turn::More(CopyRound::Commits(run)),
+                Turn::Busy { by } => Turn::Busy { by },
+                Turn::Done(answer) => Turn::Done(answer),
+            },
+        }
+    }
+
+    fn step_copy<B: Bank>(
+        &mut self,
+        alloc: Global,
+        bank: &mut B,
+        round: CopyRound,
+    ) -> Turn<CopyRound>
+        requires of { IsRoundOf self.old round }
+        requires bank { HasBankOf self.old (B.disk bank.old) }
+        ensures is { IsCore self.old }
+        ensures steps { StepsCopy (at_disk self.old (B.disk bank.old)) round
+            (at_disk self.new (B.disk bank.new)) result }
+        ensures of { IsMoreRound self.new result }
+    {
+        // That the core is one is known by a call of it.
+        let _ = self.reflow();
+        match round {
+            CopyRound::Rests { actor, made: _ } => match self.begin_round(alloc, actor) {
+                Turn::Busy { by: _ } => Turn::More(CopyRound::Rests { actor, made: None }),
+                begun => begun,
+            },
+            CopyRound::Copies(run) => self.step_copying(bank, run),
+            CopyRound::Commits(run) => self.step_commit_of_copy(bank, run),
+        }
+    }
+
+    /// The next device call of a copy's job, or its end.
+    fn step_copying<B: Bank>(&mut self, bank: &mut B, run: CopyRun) -> Turn<CopyRound>
+        requires of { IsJobOf self.old run }
+        requires bank { HasBankOf self.old (B.disk bank.old) }
+        ensures steps { StepsCopy (at_disk self.old (B.disk bank.old)) (CopiesOf run)
+            (at_disk self.new (B.disk bank.new)) result }
+        ensures of { IsMoreRound self.new result }
+    {
+        let actor = run.actor();
+        if !self.out().is_empty() {
+            return match self.job_give_up(run) {
+                Some(answer) => Turn::Done(answer),
+                None => Turn::More(CopyRound::Rests { actor, made: None }),
+            };
+        }
+        if run.is_done() {
+            self.job_end(run);
+            return Turn::More(CopyRound::Rests { actor, made: None });
+        }
+        Turn::More(CopyRound::Copies(self.job_step(bank, run)))
+    }
+
+    /// The next device call of a copy's commit, or the answer of its group, behind which the copy goes on.
+    fn step_commit_of_copy<B: Bank>(&mut self, bank: &mut B, run: CommitRun) -> Turn<CopyRound>
+        requires of { IsCommitOf self.old run }
+        requires bank { HasBankOf self.old (B.disk bank.old) }
+        ensures steps { StepsCopy (at_disk self.old (B.disk bank.old)) (CommitsOf run)
+            (at_disk self.new (B.disk bank.new)) result }
+        ensures of { IsMoreRound self.new result }
+    {
+        let Some(actor) = self.committing else {
+            unreachable!();
+        };
+        match self.commit_step(bank, run) {
+            Turn::More(run) => Turn::More(CopyRound::Commits(run)),
+            Turn::Done(Answer::Synced { group }) => Turn::More(CopyRound::Rests {
+                actor,
+                made: Some(group),
+            }),
+            Turn::Done(answer) => Turn::Done(answer),
+            Turn::Busy { by: _ } => unreachable!(),
+        }
+    }
+}
