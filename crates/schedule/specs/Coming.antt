@@ -71,9 +71,9 @@ pub record IsWorldOf (script : Script) (world : World) : Type 0 where
 -- failed, and none was touched but those in use that the pool then reaches to, and the one behind them, which an attach
 -- may have laid a group without its joining. Where no call of the script is an attach, the pool reaches to as many
 -- devices as before, and none was touched but these. What was answered fits its call, what an attach under way goes on
--- to tell has its cause, and groups are numbered. The devices whose failure has to be borne were out when it began, or have failed, and are no more than there are parities;
--- none where too many were out then, since no device is called any more. Where these may fail, what stood stands, and
--- answers that the table is full have their cause.
+-- to tell has its cause, and groups are numbered. The devices whose failure has to be borne were out when it began, or
+-- have failed, and are no more than there are parities; none where too many were out then, since no device is called any
+-- more. Where these may fail, what stood stands, and answers that the table is full have their cause.
 pub record LeadTo (script : Script) (start : Turns) (passed : List TurnTaken) (now : Turns) : Type 0 where
   pub ends : last_left start passed ≡ now
   pub later : Later start.state.disk now.state.disk

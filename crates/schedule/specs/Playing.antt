@@ -34,7 +34,7 @@ abbrev pub UsesRoom : ℕ → ℕ → Client → Client → Type 0
 UsesRoom before after old new = before + 2 * answered_of old.begun old.under_way
     ≤ after + 2 * answered_of new.begun new.under_way
 
--- There is room for an answer of each call that has none yet, and for the groups that syncs make.
+-- There is room for an answer of each call that has none yet, and for the groups that syncs and attaches make.
 pub record HasRoomForAnswers (script : Script) (clients : List Client) (room : ℕ) : Type 0 where
   pub enough : 2 * all_unanswered (calls_by script) clients ≤ room
 
