@@ -1,7 +1,9 @@
 -- A run finds no space for a put only where its blocks are many, while the journal grows.
-use Rattle.std.proofs.Common.{[], ◌≡◌, inl, inr, ℕ, ◌-◌, ◌≤◌, List, ◌∷◌, ◌++◌, length, sym, ◌∙◌, ap, subst, arith}
+use Rattle.std.proofs.Common.{[], ◌≡◌, inl, inr, ℕ, ◌-◌, ◌≤◌, List, ◌∷◌, ◌++◌, length, refl, sym, ◌∙◌, ap, subst, arith, if◌then◌else◌}
+use Rattle.std.specs.Prelude.{◌==◌}
+use Rattle.std.proofs.lemmas.List.{take-append-le}
 use Rattle.width_map.specs.declared.birth.Birth.{Birth}
-use Rattle.width_map.specs.Births.{first_width, width_of_birth}
+use Rattle.width_map.specs.Births.{births_after, first_width, width_of_birth}
 use Rattle.block_record.specs.declared.entry.IndexEntry.{IndexEntry}
 use Rattle.uberblock_ring.specs.Uberblock.{Uber}
 use Rattle.uberblock_ring.specs.Valid.{IsBirthsOf, IsRightUber}
@@ -14,8 +16,8 @@ use Rattle.core_state.specs.Legal.{CallAt}
 use Rattle.core_blocks.specs.Puts.{sectors_taken}
 use Rattle.core_blocks.proofs.Sizes.{size_shrinks}
 use Rattle.core_open.proofs.BlockSpans.{births_between}
-use Rattle.client_script.specs.Script.{Script}
-use Rattle.journal_law.specs.NoSpace.{largest_size, FindsNoSpace, NoSpaceIsCaused}
+use Rattle.client_script.specs.Script.{Script, handed_by}
+use Rattle.journal_law.specs.NoSpace.{births_told, largest_size, width_told, FindsNoSpace, NoSpaceIsCaused}
 use Rattle.journal_law.proofs.Grown.{new_or_before, group_before_grown}
 
 -- No width is below the first one,
@@ -39,6 +41,40 @@ largest uber len birth right = size_shrinks uber.parity (first_width uber.births
     (let wide = right.births.wide in omega (arith, wide))
     (first_least uber.births uber.parity uber.reflow.from uber.group birth right.births)
 
+-- ---- what a journal tells of a pool's widths
+
+-- An answer more tells nothing of them,
+pub width_told_call : (from : ℕ) (items : List Item) (entry : Entry)
+    → width_told from (items ++ Call entry ∷ []) ≡ width_told from items
+width_told_call from [] entry = refl
+width_told_call from (Call first ∷ items) entry = width_told_call from items entry
+width_told_call from (Group first ∷ items) entry = width_told_call first.from items entry
+
+pub births_told_call : (births : List Birth) (from : ℕ) (items : List Item) (entry : Entry)
+    → births_told births from (items ++ Call entry ∷ []) ≡ births_told births from items
+births_told_call births from [] entry = refl
+births_told_call births from (Call first ∷ items) entry = births_told_call births from items entry
+births_told_call births from (Group first ∷ items) entry =
+    births_told_call (if first.from == from then births else births_after births first.group) first.from items entry
+
+-- and a group more tells its own width, and a birth where that is another than before.
+pub width_told_group : (from : ℕ) (items : List Item) (group : GroupItem)
+    → width_told from (items ++ Group group ∷ []) ≡ group.from
+width_told_group from [] group = refl
+width_told_group from (Call first ∷ items) group = width_told_group from items group
+width_told_group from (Group first ∷ items) group = width_told_group first.from items group
+
+pub births_told_group : (births : List Birth) (from : ℕ) (items : List Item) (group : GroupItem)
+    → births_told births from (items ++ Group group ∷ [])
+    ≡ (if group.from == width_told from items then births_told births from items
+    else births_after (births_told births from items) group.group)
+births_told_group births from [] group = refl
+births_told_group births from (Call first ∷ items) group = births_told_group births from items group
+births_told_group births from (Group first ∷ items) group =
+    births_told_group (if first.from == from then births else births_after births first.group) first.from items group
+
+-- ---- causes in a journal that grows
+
 -- A cause in the items before an index is one in the grown journal.
 finds_grown : (script : Script) (uber : Uber) (entries : List IndexEntry) (items more : List Item) (index : ℕ) (entry : Entry)
     (size : ℕ) → index ≤ length items → FindsNoSpace script uber entries items index entry size
@@ -46,7 +82,12 @@ finds_grown : (script : Script) (uber : Uber) (entries : List IndexEntry) (items
 finds_grown script uber entries items more index entry size within finds = record {
   group = finds.group;
   before = group_before_grown items more index finds.group within finds.before;
-  size_is = finds.size_is;
+  born = finds.born;
+  late = finds.late;
+  size_is = finds.size_is ∙ ap (λ (told : List Item).
+      sectors_taken uber.parity (births_told uber.births uber.reflow.from told)
+      (length (handed_by script entry.caller entry.call)) finds.born)
+      (sym (take-append-le index items more within));
   tight = finds.tight;
 }
 
@@ -110,6 +151,8 @@ no_space_alike script one other entries others items parity births reflow same c
       each = λ index size entry there is. let found = caused.each index size entry there is in record {
         group = found.group;
         before = found.before;
+        born = found.born;
+        late = found.late;
         size_is = found.size_is;
         tight = found.tight;
       };

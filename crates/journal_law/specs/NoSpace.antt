@@ -1,7 +1,8 @@
 -- Why a run finds no space for a put: by the sizes of the blocks that there were at its opening, and of those that
 -- its script puts.
-use Rattle.std.specs.Prelude.{[], ◌≡◌, ℕ, ◌+◌, List, ◌∷◌, ◌++◌, length, map, flat_map}
-use Rattle.width_map.specs.Births.{first_width}
+use Rattle.std.specs.Prelude.{[], ◌≡◌, ◌⊎◌, ◌==◌, ℕ, ◌+◌, List, ◌∷◌, ◌++◌, length, map, flat_map, take, if◌then◌else◌}
+use Rattle.width_map.specs.declared.birth.Birth.{Birth}
+use Rattle.width_map.specs.Births.{births_after, first_width}
 use Rattle.reflow_mark.specs.Reflow.{sectors_of}
 use Rattle.block_record.specs.declared.entry.IndexEntry.{IndexEntry}
 use Rattle.uberblock_ring.specs.Uberblock.{Uber}
@@ -11,6 +12,7 @@ use Rattle.core_state.specs.declared.answer.Kind.TheVariants as kind
 use Rattle.core_state.specs.declared.item.Entry.{Entry}
 use Rattle.core_state.specs.declared.item.Group.{Group as GroupItem}
 use Rattle.core_state.specs.declared.item.Item.{Item}
+use Rattle.core_state.specs.declared.item.Item.TheVariants.{Group, Call}
 use Rattle.core_state.specs.Legal.{CallAt, IsGroupBefore}
 use Rattle.core_blocks.specs.Puts.{sectors_taken}
 use Rattle.core_blocks.specs.Usage.{IsTight, size_at}
@@ -37,14 +39,30 @@ abbrev pub IsTightFor : Uber → List IndexEntry → List Placed → ℕ → Typ
 IsTightFor uber entries calls size =
     IsTight (sectors_of uber.reflow) (map (largest_size uber) (lengths_of entries calls)) size
 
+-- the width of a pool's data rows once a journal has told of these groups
+abbrev pub width_told : ℕ → List Item → ℕ
+width_told from [] = from
+width_told from (Call entry ∷ items) = width_told from items
+width_told from (Group group ∷ items) = width_told group.from items
+
+-- its births then: a group of another width than the one before it has ended an expansion
+abbrev pub births_told : List Birth → ℕ → List Item → List Birth
+births_told births from [] = births
+births_told births from (Call entry ∷ items) = births_told births from items
+births_told births from (Group group ∷ items) =
+    births_told (if group.from == from then births else births_after births group.group) group.from items
+
 -- Why a put finds no run of so many free sectors: its bytes take so many where they are born in the group after the
--- last one before this index, and the blocks at the opening and those that the script puts could leave none.
+-- last one before this index, or in the one after that while its commit is under way, by the births that the groups
+-- before this index leave; and the blocks at the opening and those that the script puts could leave none.
 pub record FindsNoSpace (script : Script) (uber : Uber) (entries : List IndexEntry) (items : List Item) (index : ℕ)
     (entry : Entry) (size : ℕ) : Type 0 where
   pub group : GroupItem
   pub before : IsGroupBefore items index group
-  pub size_is : size
-      ≡ sectors_taken uber.parity uber.births (length (handed_by script entry.caller entry.call)) (group.group + 1)
+  pub born : ℕ
+  pub late : (born ≡ group.group + 1) ⊎ (born ≡ group.group + 2)
+  pub size_is : size ≡ sectors_taken uber.parity (births_told uber.births uber.reflow.from (take index items))
+      (length (handed_by script entry.caller entry.call)) born
   pub tight : IsTightFor uber entries script.calls size
 
 -- Each answer of the journal that tells of no space has its cause.

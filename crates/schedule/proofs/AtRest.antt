@@ -5,7 +5,6 @@ use Rattle.std.proofs.lemmas.Bool.{cases_eq}
 use Rattle.std.proofs.lemmas.List.{length-map, length-replicate, take_all}
 use Rattle.std.proofs.lemmas.Option.{slice_get-get_or}
 use Rattle.bank_trait.specs.Disk.{Disk}
-use Rattle.core_blocks.proofs.Lists.{none_listed}
 use Rattle.core_state.specs.declared.item.Entry.{Entry}
 use Rattle.core_state.specs.declared.item.Item.{Item}
 use Rattle.core_state.specs.Legal.{CallAt}
@@ -22,7 +21,7 @@ use Rattle.schedule.specs.Turned.{HasDeviceUnder}
 use Rattle.schedule.specs.Turns.{turns_of}
 use Rattle.schedule.specs.InTurn.{Cursor, replay_at, replay_by, turns_by}
 use Rattle.schedule.specs.Playing.{IsReady}
-use Rattle.schedule.specs.Replaying.{AreIdle, HaveBegun, IsAtRest, OnlyShared, blank_client, blank_clients}
+use Rattle.schedule.specs.Replaying.{AreIdle, HaveBegun, IsAtRest, blank_client, blank_clients}
 use Rattle.schedule.proofs.Rooms.{room_at_first}
 use Rattle.schedule.proofs.Theirs.{none_some}
 use Rattle.schedule.proofs.Opened.{blank_is, calls_none, none_held, none_of_blank}
@@ -64,10 +63,6 @@ schedule_at_rest script core disk items count rest bank none = record {
         let few = subst (λ (c : Client). number < answered_of c.begun c.under_way) blank low in
         omega (arith, few)
 
-pub shared_at_rest : (core : Core) → IsAtRest core → OnlyShared core.holds
-shared_at_rest core rest = subst OnlyShared (sym rest.holds)
-    (record { each = λ hold listed. absurd (none_listed hold listed) })
-
 -- Before the first turn: clients that have begun no call, and room for all answers.
 pub ready_at_rest : (script : Script) (core : Core) (disk : Disk) (items : List Item) (journal : Journal)
     (progress : Progress) → IsAtRest core → HasBankOf core disk
@@ -79,8 +74,7 @@ ready_at_rest script core disk items journal progress rest bank none same blank 
     (sym blank) (subst (λ (listed : List Item). IsReady script
     (turns_of (at_disk core disk) listed (blank_clients script.clients)) journal.room) (sym same) (record {
       schedule = schedule_at_rest script core disk items script.clients rest bank none;
-      shared = shared_at_rest core rest;
-      still = rest.still;
+      copying = rest.copying;
       counted = length-replicate script.clients blank_client;
       enough = room_at_first script script.clients journal.room room;
     }))

@@ -15,25 +15,25 @@ use Rattle.core_turns.specs.Core.{Core, CoreState, IsCore}
 use Rattle.schedule.specs.declared.client.Work.TheVariants as work
 use Rattle.schedule.specs.Turned.{group_by}
 use Rattle.schedule.specs.Works.{made_by}
-use Rattle.schedule.proofs.Copied.{begins_holds, stays_same}
 use Rattle.schedule.proofs.UsingEnds.{EndsPlainly, EndsWith, GoesWith, core_goes, goes_still, group_ends, next_group, plain_ends}
-use Rattle.schedule.proofs.UsingTurns.{same_core, same_parts}
+use Rattle.schedule.proofs.UsingTurns.{commit_begun, same_core, same_parts}
 
 -- Who attaches is not told of in it.
 attaching_goes : {old : Core} {group : ℕ} (now : Core) (by : Option ℕ) → GoesWith old now group
     → GoesWith old (record now { attaching = by }) group
 attaching_goes now by goes = record {
-  uses = λ still. let uses = goes.uses still in record { taken = uses.taken; held = uses.held; holds = uses.holds };
+  uses = record { taken = goes.uses.taken; held = goes.uses.held; holds = goes.uses.holds };
   group_is = goes.group_is;
-  stays = λ still. let stays = goes.stays still in record {
-    group = stays.group;
-    parity = stays.parity;
-    births = stays.births;
-    from = stays.from;
-    rows = stays.rows;
-    to = stays.to;
-    still = λ was. record { front = (stays.still was).front };
+  stays = record {
+    group = goes.stays.group;
+    parity = goes.stays.parity;
+    rows = goes.stays.rows;
+    from = goes.stays.from;
+    first = goes.stays.first;
+    births = goes.stays.births;
+    same = goes.stays.same;
   };
+  copying = goes.copying;
 }
 
 module _ (before after : CoreState) (is : IsCore before.core) where
@@ -45,24 +45,19 @@ module _ (before after : CoreState) (is : IsCore before.core) where
 
   -- The core is the same,
   same_goes : new ≡ old → GoesWith old new old.pool.uber.group
-  same_goes same = goes_still old new (ap (λ (c : Core). c.pool.uber) same) (ap (λ (c : Core). c.pool.done) same)
+  same_goes same = goes_still old new (ap (λ (c : Core). c.pool.uber) same) (ap (λ (c : Core). c.copying) same)
       (same_core old new same)
 
   -- or but for the attach, which stops,
   stops_goes : StopsAttach before after → GoesWith old new old.pool.uber.group
   stops_goes stops = goes_still old new (ap (λ (c : Core). c.pool.uber) stops.core)
-      (ap (λ (c : Core). c.pool.done) stops.core)
+      (ap (λ (c : Core). c.copying) stops.core)
       (same_parts old new (ap (λ (c : Core). c.pool.blocks.space) stops.core) (ap (λ (c : Core). c.holds) stops.core))
 
   -- or its commit begins.
   joining_goes : (run : CommitRun) (actor : ℕ) → BeginsCommitSo old new actor run → GoesWith old new old.pool.uber.group
-  joining_goes run actor begins = record {
-    uses = λ still. same_parts old new (ap (λ (c : Core). c.pool.blocks.space) begins.rest)
-        (begins_holds old new actor run is still begins);
-    group_is = ap (λ (c : Core). c.pool.uber.group) begins.rest;
-    stays = λ still. stays_same old new (ap (λ (c : Core). c.pool.uber) begins.rest)
-        (ap (λ (c : Core). c.pool.done) begins.rest);
-  }
+  joining_goes run actor begins = goes_still old new (ap (λ (c : Core). c.pool.uber) begins.rest)
+      (ap (λ (c : Core). c.copying) begins.rest) (commit_begun old new run actor begins)
 
   -- A later turn: one after which the attach goes on,
   pub attach_goes : (run next : AttachRun) → StepsAttach before run after (More next)
@@ -73,7 +68,7 @@ module _ (before after : CoreState) (is : IsCore before.core) where
   attach_goes (Checked ring) (Joins join) goes = joining_goes join.run goes.actor goes.begins
   attach_goes (Joins join) (Joins next) goes = core_goes before after is new.pool.out goes.1
   attach_goes (Joins join) (Signs run None) goes = goes_still old new (ap (λ (c : Core). c.pool.uber) goes.1)
-      (ap (λ (c : Core). c.pool.done) goes.1)
+      (ap (λ (c : Core). c.copying) goes.1)
       (same_parts old new (ap (λ (c : Core). c.pool.blocks.space) goes.1) (ap (λ (c : Core). c.holds) goes.1))
   attach_goes (Joins join) (Signs run (Some because)) goes = core_goes before after is new.pool.out goes.1
   attach_goes (Signs run because) (Signs next same) goes = core_goes before after is new.pool.out goes.1.2

@@ -14,7 +14,7 @@ pub mod Fulls
 pub mod RunsGoOn
 pub mod RunsEnd
 pub mod Using
-pub mod Copied
+pub mod Stays
 pub mod UsingTurns
 pub mod UsingEnds
 pub mod AttachUses
@@ -50,7 +50,6 @@ pub mod TurnLaw
 pub mod CallTurns
 pub mod Stations
 pub mod Opened
-pub mod OpenedBirths
 pub mod UsingOpened
 pub mod Whole
 pub mod Shared

@@ -1,10 +1,9 @@
 -- One turn of a client of a script: what it needs before, and what stands after it.
-use Rattle.std.proofs.Common.{◌≡◌, ◌≢◌, ⊎_elim, ℕ, ◌-◌, ◌<◌, ◌≤◌, List, [], ◌∷◌, length, Some, zero, suc, refl, sym, ◌∙◌, ap, subst, arith, slice_index_or, slice_set}
+use Rattle.std.proofs.Common.{◌≡◌, ◌≢◌, ⊎_elim, ℕ, ◌-◌, ◌<◌, ◌≤◌, List, [], ◌∷◌, length, Some, None, zero, suc, refl, sym, ◌∙◌, ap, subst, arith, slice_index_or, slice_set}
 use Rattle.std.specs.Prelude.{All, Contains, filter, slice_get, ◌==◌}
 use Rattle.std.proofs.lemmas.List.Elements.{All-filter, All-map, All-get_or}
 use Rattle.std.proofs.lemmas.Option.{get_or_from_slice_get, slice_get-get_or, slice_get_within}
 use Rattle.bank_trait.specs.Disk.{Lawful}
-use Rattle.core_state.specs.declared.answer.Kind.{Kind}
 use Rattle.client_script.specs.declared.call.ScriptCall.{ScriptCall}
 use Rattle.client_script.specs.Script.{Placed, Script, IsAllowed, calls_of}
 use Rattle.core_turns.specs.Core.{Core, IsCore}
@@ -20,13 +19,12 @@ use Rattle.schedule.specs.Comes.{Comes, TakesTurn}
 use Rattle.schedule.specs.Coming.{IsSchedule}
 use Rattle.schedule.specs.Turns.{Turns, turns_of, taken_by}
 use Rattle.schedule.specs.Playing.{HasRoomForAnswers, IsReady}
-use Rattle.schedule.specs.Replaying.{AreIdle, HasTurn, OnlyShared, TakesOne}
+use Rattle.schedule.specs.Replaying.{AreIdle, HasTurn, TakesOne}
 use Rattle.schedule.specs.Running.{AreGoing, IsGoing, IsWorkFor, IsWorkOf, calls_under_way, commit_in, held_by}
 use Rattle.schedule.specs.Turned.{HasDeviceUnder, MayGoOn, Station, Turned}
-use Rattle.schedule.specs.Using.{HasCopiedNone}
 use Rattle.schedule.proofs.Coming.{came_nowhere}
 use Rattle.schedule.proofs.Dropped.{turn_drops}
-use Rattle.schedule.proofs.Shared.{turned_begins, turned_further, turned_shared, turned_still}
+use Rattle.schedule.proofs.Shared.{turned_begins, turned_copying, turned_further, turned_still}
 use Rattle.schedule.proofs.Theirs.{none_some, some_is, is_among}
 use Rattle.schedule.proofs.TurnLaw.{turned_comes}
 use Rattle.schedule.specs.Numbered.{IsNumbered}
@@ -158,8 +156,8 @@ none_attaches script core clients going idle other is =
 -- A client of the script took a turn.
 module _ (script : Script) (actor : ℕ) (before after : Station) (clients news : List Client)
     (takes : TakesTurn script actor before after clients news)
-    (allowed : All (λ placed. IsAllowed placed.call) script.calls) (shared : OnlyShared before.state.core.holds)
-    (still : HasCopiedNone before.state.core) (turned : Turned (calls_of script actor) actor before after) where
+    (allowed : All (λ placed. IsAllowed placed.call) script.calls) (copying : before.state.core.copying ≡ None)
+    (turned : Turned (calls_of script actor) actor before after) where
   comes : Comes script actor before after clients news
   comes = turned_comes takes (allowed_of script actor allowed) turned
 
@@ -168,7 +166,7 @@ module _ (script : Script) (actor : ℕ) (before after : Station) (clients news 
     there = takes.changes.there;
     further = turned_further (calls_of script actor) actor before after turned;
     still = λ under going. turned_still (calls_of script actor) actor before after under turned going;
-    begins = λ idle low. turned_begins (calls_of script actor) actor before after turned shared
+    begins = λ idle low. turned_begins (calls_of script actor) actor before after turned takes.is copying
         (none_commits script before.state.core clients takes.schedule.going idle)
         (none_attaches script before.state.core clients takes.schedule.going idle)
         (idle.each actor before.client takes.was) low;
@@ -204,10 +202,9 @@ module _ (script : Script) (actor : ℕ) (before after : Station) (clients news 
   -- The next turn may be taken then.
   pub turn_ready : (left : ℕ) → length clients ≡ script.clients → length news ≡ length clients
       → HasRoomForAnswers script news left → IsReady script (turns_of after.state after.items news) left
-  turn_ready left counted same enough = let calm = turned_shared takes turned (shared, still) in record {
+  turn_ready left counted same enough = record {
     schedule = comes.schedule;
-    shared = calm.0;
-    still = calm.1;
+    copying = turned_copying takes turned ∙ copying;
     counted = same ∙ counted;
     enough = enough;
   }

@@ -1,14 +1,11 @@
 -- The calls that are left of a script and the runs of sectors that were taken, as they come.
-use Rattle.std.proofs.Common.{◌≡◌, ◌≢◌, ⊎_elim, ℕ, suc, ◌+◌, ◌≤◌, List, [], ◌∷◌, ◌++◌, length, Bool, Some, refl, sym, ◌∙◌, ap, arith, cond, if◌then◌else◌, eq-eqb, ne_eqb, length-append, drop, drop-cons}
-use Rattle.std.specs.Prelude.{filter, flat_map, map, nat_le, slice_get, sum, ◌==◌}
+use Rattle.std.proofs.Common.{◌≡◌, ◌≢◌, ⊎_elim, ℕ, suc, ◌+◌, ◌≤◌, List, [], ◌∷◌, ◌++◌, length, Bool, Some, refl, sym, ◌∙◌, ap, arith, cond, eq-eqb, ne_eqb, length-append, drop, drop-cons}
+use Rattle.std.specs.Prelude.{filter, flat_map, map, slice_get, sum, ◌==◌}
 use Rattle.std.proofs.lemmas.Bool.{cases_eq}
-use Rattle.std.proofs.lemmas.Bool.Decides.{nat_tests}
 use Rattle.std.proofs.lemmas.Grind.{flat_map-append}
 use Rattle.std.proofs.lemmas.List.{append-nil, map-append}
 use Rattle.std.proofs.lemmas.List.Sums.{sum_by-append}
 use Rattle.std.proofs.lemmas.Option.{slice_get_within, get_or_from_slice_get}
-use Rattle.width_map.specs.declared.birth.Birth.{Birth}
-use Rattle.width_map.specs.Births.{width_from, width_of_birth, NoneAbove}
 use Rattle.space_alloc.specs.Space.{Run, Space, Gains, HasNoFreeRun}
 use Rattle.block_record.specs.declared.entry.IndexEntry.{IndexEntry}
 use Rattle.uberblock_ring.specs.Uberblock.{Uber}
@@ -24,22 +21,6 @@ use Rattle.schedule.specs.declared.client.Client.{Client}
 use Rattle.schedule.specs.Clients.{Changes}
 use Rattle.schedule.specs.Using.{AreAtMost, AreLeft, AreRunsOf, calls_among, sizes_left, sizes_of, sizes_put}
 use Rattle.schedule.proofs.Theirs.{some_is}
-
--- ---- widths
-
--- From the last of the births' groups on there is one width.
-width_late : (births : List Birth) (width group one other : ℕ) → NoneAbove group births → group ≤ one → group ≤ other
-    → width_from width births one ≡ width_from width births other
-width_late [] width group one other none low high = refl
-width_late (entry ∷ births) width group one other none low high =
-    let same : (if nat_le entry.group one then entry.width else width)
-    ≡ (if nat_le entry.group other then entry.width else width) = grind (arith, nat_tests, none.0, low, high) in
-    ap (λ (w : ℕ). width_from w births one) same
-    ∙ width_late births (if nat_le entry.group other then entry.width else width) group one other none.1 low high
-
-pub one_width : (births : List Birth) (group one other : ℕ) → NoneAbove group births → group ≤ one → group ≤ other
-    → width_of_birth births one ≡ width_of_birth births other
-one_width births group one other = width_late births 0 group one other
 
 -- ---- the calls that are left
 
@@ -254,7 +235,7 @@ full_beside runs core size are full start free = full start (λ sector inside. l
   untaken = λ taken. its.untaken (taken.0, are.taken taken.0 taken.1, taken.2);
   not_held = λ held. its.untaken (held_sectors held.0, are.held held.0 held.1, held.2);
   not_shared = λ shared.
-      let within = are.holds shared.0 shared.1 in
+      let within = are.holds shared.0 shared.1 shared.2 in
       let overlaps = shared.3 in
       let begins = overlaps.begins in
       let ends = overlaps.ends in
@@ -263,7 +244,7 @@ full_beside runs core size are full start free = full start (λ sector inside. l
       its.untaken (within.run, within.listed, (omega (arith, begins, low), omega (arith, ends, high)));
 })
 
--- and so they could leave none.
+-- and so they could leave none,
 pub full_by_runs : (runs : List Run) (core : Core) (left sizes : List ℕ) (size : ℕ) → AreRunsOf runs core
     → AreAtMost runs left sizes → HasNoFreeRun core.pool.blocks.space core.holds size
     → IsTight core.pool.blocks.space.capacity sizes size
@@ -273,3 +254,8 @@ full_by_runs runs core left sizes size are most full =
       sectors = (let same = ap sectors_in (append-nil runs) in let few = most.sectors in omega (arith, same, few));
     })
     (full_beside runs core size are full)
+
+-- nor where the pool had fewer sectors.
+pub tight_below : (small large : ℕ) (sizes : List ℕ) (size : ℕ) → small ≤ large → IsTight large sizes size
+    → IsTight small sizes size
+tight_below small large sizes size less is = record { tight = let tight = is.tight in omega (arith, tight, less) }

@@ -32,23 +32,24 @@ use Rattle.core_turns.specs.Getting.{AnswersSolved, EndsGet, answer_of}
 use Rattle.core_turns.specs.Putting.{EndsPut, GivesUpTurn, IsStoppedPut, WritesTurn}
 use Rattle.core_turns.specs.Committing.{AnswersGroup, IsCommitOf, StepsCommit}
 use Rattle.schedule.specs.Turned.{EndsPutting, EndsReading, group_by}
-use Rattle.schedule.specs.Using.{HasCopiedNone}
-use Rattle.schedule.proofs.Copied.{Stays, answers_stays, stays_same}
+use Rattle.schedule.proofs.Stays.{Stays, answers_stays, stays_same}
 use Rattle.schedule.proofs.Theirs.{none_some}
 use Rattle.schedule.proofs.UsingTurns.{UsesNoMore, given_up, one_less, same_core, same_parts, stored}
 
--- The group is this one after a turn. Where nothing was copied it goes on with no more runs, and the pool stays.
+-- The group is this one after a turn, which goes on with no more runs. The pool stays, and who copies.
 pub record GoesWith (old new : Core) (group : ℕ) : Type 0 where
-  pub uses : HasCopiedNone old → UsesNoMore old new
+  pub uses : UsesNoMore old new
   pub group_is : new.pool.uber.group ≡ group
-  pub stays : HasCopiedNone old → Stays old new
+  pub stays : Stays old new
+  pub copying : new.copying ≡ old.copying
 
-pub goes_still : (old new : Core) → new.pool.uber ≡ old.pool.uber → new.pool.done ≡ old.pool.done
+pub goes_still : (old new : Core) → new.pool.uber ≡ old.pool.uber → new.copying ≡ old.copying
     → UsesNoMore old new → GoesWith old new old.pool.uber.group
-goes_still old new uber done uses = record {
-  uses = λ still. uses;
+goes_still old new uber copying uses = record {
+  uses = uses;
   group_is = ap (λ (u : Uber). u.group) uber;
-  stays = λ still. stays_same old new uber done;
+  stays = stays_same old new uber;
+  copying = copying;
 }
 
 -- An answer that neither comes with a group nor tells of no space.
@@ -119,12 +120,12 @@ module _ (before after : CoreState) (is : IsCore before.core) where
 
   -- Only devices went out.
   pub core_goes : (out : ℕ) → new ≡ record old { pool = record old.pool { out = out } } → GoesWith old new old.pool.uber.group
-  core_goes out rest = goes_still old new (ap (λ (c : Core). c.pool.uber) rest) (ap (λ (c : Core). c.pool.done) rest)
+  core_goes out rest = goes_still old new (ap (λ (c : Core). c.pool.uber) rest) (ap (λ (c : Core). c.copying) rest)
       (same_parts old new (ap (λ (c : Core). c.pool.blocks.space) rest) (ap (λ (c : Core). c.holds) rest))
 
   stopped_goes : (run : PutRun) (given : Answer) → IsStoppedPut old new run given → GoesWith old new old.pool.uber.group
   stopped_goes run given stopped = goes_still old new (ap (λ (c : Core). c.pool.uber) stopped.gives_up.rest)
-      (ap (λ (c : Core). c.pool.done) stopped.gives_up.rest) (given_up old new run stopped.gives_up)
+      (ap (λ (c : Core). c.copying) stopped.gives_up.rest) (given_up old new run stopped.gives_up)
 
   writes_goes : (run : PutRun) (turn : Turn PutRun) → WritesTurn before run after turn
       → GoesWith old new old.pool.uber.group
@@ -136,7 +137,7 @@ module _ (before after : CoreState) (is : IsCore before.core) where
       → IsPlainEnd given × GoesWith old new old.pool.uber.group
   ended_put run answer.Stored ends = (
     tt,
-    goes_still old new (ap (λ (c : Core). c.pool.uber) ends.rest) (ap (λ (c : Core). c.pool.done) ends.rest)
+    goes_still old new (ap (λ (c : Core). c.pool.uber) ends.rest) (ap (λ (c : Core). c.copying) ends.rest)
         (stored old new run ends),
   )
   ended_put run (answer.TooManyFailed out) ends = (tt, stopped_goes run (answer.TooManyFailed out) ends)
@@ -146,7 +147,7 @@ module _ (before after : CoreState) (is : IsCore before.core) where
       → IsPlainEnd given × GoesWith old new old.pool.uber.group
   gave_up run answer.NoMemory ends = (
     tt,
-    goes_still old new (ap (λ (c : Core). c.pool.uber) ends.1.rest) (ap (λ (c : Core). c.pool.done) ends.1.rest)
+    goes_still old new (ap (λ (c : Core). c.pool.uber) ends.1.rest) (ap (λ (c : Core). c.copying) ends.1.rest)
         (given_up old new run ends.1),
   )
   gave_up run (answer.TooManyFailed out) ends = (tt, stopped_goes run (answer.TooManyFailed out) ends)
@@ -165,12 +166,12 @@ module _ (before after : CoreState) (is : IsCore before.core) where
   ended_hold : (hold : Hold) → new ≡ record old { holds = new.holds } → EndsHold old.holds new.holds hold
       → GoesWith old new old.pool.uber.group
   ended_hold hold rest ends = goes_still old new (ap (λ (c : Core). c.pool.uber) rest)
-      (ap (λ (c : Core). c.pool.done) rest) (record {
+      (ap (λ (c : Core). c.copying) rest) (record {
         taken = λ run listed. subst (λ (s : Space). Contains s.taken run)
             (ap (λ (c : Core). c.pool.blocks.space) rest) listed;
         held = λ run listed. inl (subst (λ (s : Space). Contains s.held run)
             (ap (λ (c : Core). c.pool.blocks.space) rest) listed);
-        holds = one_less old new hold ends;
+        holds = λ other listed shared. one_less old new hold ends other listed;
       })
 
   -- What was solved is answered plainly.
@@ -207,7 +208,7 @@ module _ (before after : CoreState) (is : IsCore before.core) where
   pub group_ends : (run : CommitRun) (number : ℕ) → IsCommitOf old run → AnswersGroup before run after number
       → GoesWith old new number
   group_ends run number of answers = record {
-    uses = λ still. record {
+    uses = record {
       taken = λ other listed. subst (λ (l : List Run). Contains l other)
           (ap (λ (c : Core). c.pool.blocks.space.taken) answers.answers.rest
           ∙ (runs_behind old.pool answers.ended.uber).0) listed;
@@ -216,7 +217,7 @@ module _ (before after : CoreState) (is : IsCore before.core) where
           (subst (λ (l : List HeldRun). Contains l other)
           (ap (λ (c : Core). c.pool.blocks.space.held) answers.answers.rest
           ∙ (runs_behind old.pool answers.ended.uber).1) listed));
-      holds = λ hold listed. ⊎_elim
+      holds = λ hold listed shared. ⊎_elim
           (λ dropped. one_less old new _ dropped.1 hold listed)
           (λ none. subst (λ (l : List Hold). Contains l hold) none.1 listed)
           answers.answers.holds;
@@ -225,6 +226,7 @@ module _ (before after : CoreState) (is : IsCore before.core) where
         ∙ ap (λ (u : Uber). u.group) (ready_keeps old.pool.out run answers.ended answers.ends.is_ready).uber
         ∙ of.number ∙ sym answers.group_is;
     stays = answers_stays before after run number is of answers;
+    copying = ap (λ (c : Core). c.copying) answers.answers.rest;
   }
 
   pub sync_ends : (run : CommitRun) (given : Answer) → IsCommitOf old run → StepsCommit before run after (Done given)
@@ -234,6 +236,6 @@ module _ (before after : CoreState) (is : IsCore before.core) where
       inl (
         plain_ends (answer.TooManyFailed out) None tt,
         goes_still old new (ap (λ (s : CoreState). s.core.pool.uber) steps.2)
-            (ap (λ (s : CoreState). s.core.pool.done) steps.2) (same_core old new (ap (λ (s : CoreState). s.core) steps.2)),
+            (ap (λ (s : CoreState). s.core.copying) steps.2) (same_core old new (ap (λ (s : CoreState). s.core) steps.2)),
       )
   sync_ends run other of steps = absurd steps

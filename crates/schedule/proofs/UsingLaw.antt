@@ -1,10 +1,10 @@
 -- A put finds no space only where the blocks and the puts of the script are many, turn by turn.
-use Rattle.std.proofs.Common.{◌≡◌, inl, inr, ℕ, ◌+◌, ◌-◌, ◌*◌, List, [], ◌∷◌, ◌++◌, length, Option, Some, None, sym, ◌∙◌, ap, subst, arith}
-use Rattle.std.specs.Prelude.{option_map, slice_get, unwrap_or}
-use Rattle.reconstruct.specs.Rows.{sectors_for}
-use Rattle.row_layout.specs.Layout.{allocated_of}
+use Rattle.std.proofs.Common.{◌≡◌, ◌⊎◌, inl, inr, ℕ, ◌+◌, ◌-◌, ◌*◌, ◌≤◌, ◌==◌, if◌then◌else◌, List, [], ◌∷◌, ◌++◌, length, Option, Some, None, sym, ◌∙◌, ap, subst, arith}
+use Rattle.std.specs.Prelude.{option_map, slice_get, take, unwrap_or}
+use Rattle.std.proofs.Math.Nat.{mul-le-mul_left}
+use Rattle.std.proofs.lemmas.List.{take_all}
 use Rattle.space_alloc.specs.Space.{Run, Gains, HasNoFreeRun}
-use Rattle.width_map.specs.Births.{width_of_birth}
+use Rattle.width_map.specs.Births.{births_after}
 use Rattle.block_record.specs.declared.entry.IndexEntry.{IndexEntry}
 use Rattle.uberblock_ring.specs.Uberblock.{Uber}
 use Rattle.core_state.specs.declared.answer.Answer.{Answer}
@@ -15,25 +15,24 @@ use Rattle.core_state.specs.declared.item.Entry.{Entry}
 use Rattle.core_state.specs.declared.item.Group.{Group as GroupItem}
 use Rattle.core_state.specs.declared.item.Item.TheVariants.{Group, Call as CallItem}
 use Rattle.core_blocks.specs.Puts.{sectors_taken}
-use Rattle.core_blocks.specs.Usage.{IsTight}
 use Rattle.core_commit.specs.CommitTurns.{CommitRun}
 use Rattle.client_script.specs.declared.call.ScriptCall.{ScriptCall}
 use Rattle.client_script.specs.Lines.{fill_bytes}
 use Rattle.client_script.specs.Script.{Placed, Script, calls_of, handed_by}
 use Rattle.core_turns.specs.declared.turn.Turn.TheVariants.{More, Busy, Done}
-use Rattle.core_turns.specs.Core.{Core, IsCore}
+use Rattle.core_turns.specs.Core.{Core, IsCore, groups_begun}
 use Rattle.core_turns.specs.Committing.{IsCommitOf}
-use Rattle.journal_law.specs.NoSpace.{length_put, FindsNoSpace, NoSpaceIsCaused}
-use Rattle.journal_law.proofs.NoSpace.{no_space_call, no_space_group}
+use Rattle.journal_law.specs.NoSpace.{births_told, length_put, width_told, FindsNoSpace, NoSpaceIsCaused}
+use Rattle.journal_law.proofs.NoSpace.{births_told_call, births_told_group, no_space_call, no_space_group, width_told_call, width_told_group}
 use Rattle.schedule.specs.declared.client.Client.{Client}
 use Rattle.schedule.specs.declared.client.UnderWay.{UnderWay}
 use Rattle.schedule.specs.Clients.{Changes}
 use Rattle.schedule.specs.Running.{AreGoing, commit_in}
 use Rattle.schedule.specs.Turned.{AnswersAtOnce, Station, Turned, Nothing, Began, Went, entry_for, group_for}
 use Rattle.schedule.specs.Works.{made_by}
-use Rattle.schedule.specs.Using.{AreLeft, AreRunsOf, AreUsed, HasUsedRuns, IsOpenSince, sizes_of}
-use Rattle.schedule.proofs.Copied.{opened_stays, stays_same}
-use Rattle.schedule.proofs.Using.{full_by_runs, left_next, left_same, most_next, one_width}
+use Rattle.schedule.specs.Using.{AreLeft, AreRunsOf, AreUsed, HasToldWidths, HasUsedRuns, IsOpenSince, sizes_of}
+use Rattle.schedule.proofs.Stays.{Stays, opened_stays, same_births, stays_same}
+use Rattle.schedule.proofs.Using.{full_by_runs, left_next, left_same, most_next, tight_below}
 use Rattle.schedule.proofs.UsingTurns.{BeginsWith, FitsPut, answers_with, none_fits, runs_still, same_core, waits_with, works_begin}
 use Rattle.schedule.proofs.UsingEnds.{GoesWith, group_space}
 use Rattle.schedule.proofs.UsingWorks.{group_listed, plain_listed, works_end, works_go}
@@ -66,11 +65,8 @@ module _ (script : Script) (actor : ℕ) (before after : Station) (clients news 
 
   -- ---- what the pool was opened with
 
-  opened_same : new.pool.uber ≡ old.pool.uber → new.pool.done ≡ old.pool.done → IsOpenSince uber new
-  opened_same same done = opened_stays uber old new (stays_same old new same done) stood.opened
-
-  opened_goes : (group : ℕ) → GoesWith old new group → IsOpenSince uber new
-  opened_goes group with = opened_stays uber old new (with.stays stood.opened.still) stood.opened
+  opened : Stays old new → IsOpenSince uber new
+  opened stays = opened_stays uber old new stays stood.opened
 
   -- ---- what was used
 
@@ -101,43 +97,69 @@ module _ (script : Script) (actor : ℕ) (before after : Station) (clients news 
             left = left;
             are_left = are_left;
             runs = more ++ stood.used.runs;
-            are = begins.runs stood.opened.still stood.used.runs stood.used.are;
+            are = begins.runs stood.used.runs stood.used.are;
             most = most_next uber stood.used.runs more left stood.used.left placed (sizes_of uber entries script.calls)
                 gains its.few its.sectors stood.used.most;
           }
 
   -- ---- what is listed
 
-  uses : IsOpenSince uber new → AreUsed script uber entries new news → NoSpaceIsCaused script uber entries after.items
-      → HasUsedRuns script uber entries new after.items news
-  uses opened used caused = record { opened = opened; used = used; last = last; caused = caused }
+  uses : Stays old new → HasToldWidths uber after.items new → AreUsed script uber entries new news
+      → NoSpaceIsCaused script uber entries after.items → HasUsedRuns script uber entries new after.items news
+  uses stays told used caused = record {
+    opened = opened stays;
+    used = used;
+    last = last;
+    told = told;
+    caused = caused;
+  }
 
   -- Nothing,
-  lists_none : IsOpenSince uber new → AreUsed script uber entries new news → after.items ≡ before.items
-      → HasUsedRuns script uber entries new after.items news
-  lists_none opened used items =
-      uses opened used (subst (NoSpaceIsCaused script uber entries) (sym items) stood.caused)
+  lists_none : Stays old new → new.pool.uber.group ≡ old.pool.uber.group → AreUsed script uber entries new news
+      → after.items ≡ before.items → HasUsedRuns script uber entries new after.items news
+  lists_none stays group used items = uses stays (record {
+    from = stays.same group ∙ stood.told.from ∙ ap (width_told uber.reflow.from) (sym items);
+    births = same_births old new stays group ∙ stood.told.births
+        ∙ ap (births_told uber.births uber.reflow.from) (sym items);
+  }) used (subst (NoSpaceIsCaused script uber entries) (sym items) stood.caused)
 
   -- an answer,
-  lists_entry : IsOpenSince uber new → AreUsed script uber entries new news → (entry : Entry)
-      → after.items ≡ before.items ++ CallItem entry ∷ []
+  lists_entry : Stays old new → new.pool.uber.group ≡ old.pool.uber.group → AreUsed script uber entries new news
+      → (entry : Entry) → after.items ≡ before.items ++ CallItem entry ∷ []
       → ((size : ℕ) → entry.answer ≡ answer.NoSpace size
       → FindsNoSpace script uber entries before.items (length before.items) entry size)
       → HasUsedRuns script uber entries new after.items news
-  lists_entry opened used entry items finds =
-      uses opened used (subst (NoSpaceIsCaused script uber entries) (sym items)
+  lists_entry stays group used entry items finds = uses stays (record {
+    from = stays.same group ∙ stood.told.from ∙ sym (width_told_call uber.reflow.from before.items entry)
+        ∙ ap (width_told uber.reflow.from) (sym items);
+    births = same_births old new stays group ∙ stood.told.births
+        ∙ sym (births_told_call uber.births uber.reflow.from before.items entry)
+        ∙ ap (births_told uber.births uber.reflow.from) (sym items);
+  }) used (subst (NoSpaceIsCaused script uber entries) (sym items)
       (no_space_call script uber entries before.items stood.caused entry finds))
 
   -- or a group and its answer.
-  lists_group : IsOpenSince uber new → AreUsed script uber entries new news → (group : GroupItem) → (entry : Entry)
-      → after.items ≡ (before.items ++ Group group ∷ []) ++ CallItem entry ∷ []
+  lists_group : (number at : ℕ) → GoesWith old new number → AreUsed script uber entries new news → (entry : Entry)
+      → after.items ≡ (before.items ++ Group (group_for new at number) ∷ []) ++ CallItem entry ∷ []
       → ((size : ℕ) → entry.answer ≡ answer.NoSpace size → ⊥)
       → HasUsedRuns script uber entries new after.items news
-  lists_group opened used group entry items never =
-      uses opened used (subst (NoSpaceIsCaused script uber entries) (sym items)
+  lists_group number at with used entry items never = uses with.stays (record {
+    from = sym (width_told_call uber.reflow.from (before.items ++ Group group ∷ []) entry
+        ∙ width_told_group uber.reflow.from before.items group)
+        ∙ ap (width_told uber.reflow.from) (sym items);
+    births = with.stays.births
+        ∙ (λ i. if new.pool.uber.reflow.from == stood.told.from i then stood.told.births i
+        else births_after (stood.told.births i) (with.group_is i))
+        ∙ sym (births_told_call uber.births uber.reflow.from (before.items ++ Group group ∷ []) entry
+        ∙ births_told_group uber.births uber.reflow.from before.items group)
+        ∙ ap (births_told uber.births uber.reflow.from) (sym items);
+  }) used (subst (NoSpaceIsCaused script uber entries) (sym items)
       (no_space_call script uber entries (before.items ++ Group group ∷ [])
       (no_space_group script uber entries before.items stood.caused group) entry
       (λ size is. absurd (never size is))))
+    where
+      group : GroupItem
+      group = group_for new at number
 
   -- ---- a put that finds no space
 
@@ -151,27 +173,35 @@ module _ (script : Script) (actor : ℕ) (before after : Station) (clients news 
   finds call given size next size_is none = record {
     group = stood.last.group;
     before = stood.last.latest;
+    born = old.begun + 1;
+    late = born_late old.committing is.begun;
     size_is = size_is
-        ∙ (λ i. sectors_taken (stood.opened.parity i) (stood.opened.births i) (length (fill_bytes call.fill))
+        ∙ (λ i. sectors_taken (stood.opened.parity i) (stood.told.births i) (length (fill_bytes call.fill))
         (old.begun + 1))
-        ∙ ap (λ (wide : ℕ). allocated_of (record {
-          start = 0;
-          sectors = sectors_for (length (fill_bytes call.fill));
-          parity = uber.parity;
-          width = wide;
-        })) one
-        ∙ ap (λ (bytes : List ℕ). sectors_taken uber.parity uber.births (length bytes) (stood.last.group.group + 1))
-        (sym handed);
-    tight = subst (λ (capacity : ℕ). IsTight capacity (sizes_of uber entries script.calls) size)
-        (is.is.capacity ∙ (λ i. stood.opened.rows i * stood.opened.from i))
+        ∙ (λ i. sectors_taken uber.parity
+        (births_told uber.births uber.reflow.from (all i)) (length (sym handed i)) (old.begun + 1));
+    tight = tight_below (uber.reflow.rows * uber.reflow.from) old.pool.blocks.space.capacity
+        (sizes_of uber entries script.calls) size wide
         (full_by_runs stood.used.runs old _ (sizes_of uber entries script.calls) size stood.used.are stood.used.most
         none);
   }
     where
-      one : width_of_birth uber.births (old.begun + 1) ≡ width_of_birth uber.births (stood.last.group.group + 1)
-      one = one_width uber.births uber.group (old.begun + 1) (stood.last.group.group + 1) stood.opened.born
-          (let since = stood.opened.since in let begun = is.begun in omega (arith, since, begun))
-          (let since = stood.opened.since in let number = stood.last.number in omega (arith, since, number))
+      all : before.items ≡ take (length before.items) before.items
+      all = sym (take_all (length before.items) before.items (omega arith))
+
+      -- It is born in the group after the last one listed, or while a commit is under way in the one after that.
+      born_late : (committing : Option ℕ) → old.begun ≡ old.pool.uber.group + groups_begun committing
+          → (old.begun + 1 ≡ stood.last.group.group + 1) ⊎ (old.begun + 1 ≡ stood.last.group.group + 2)
+      born_late None begun = inl (let number = stood.last.number in omega (arith, begun, number))
+      born_late (Some by) begun = inr (let number = stood.last.number in omega (arith, begun, number))
+
+      -- The pool has no fewer sectors than at its opening.
+      wide : uber.reflow.rows * uber.reflow.from ≤ old.pool.blocks.space.capacity
+      wide =
+          let capacity : old.pool.blocks.space.capacity ≡ uber.reflow.rows * old.pool.uber.reflow.from =
+          is.is.capacity ∙ (λ i. stood.opened.rows i * old.pool.uber.reflow.from) in
+          let more = mul-le-mul_left uber.reflow.rows stood.opened.from in
+          omega (arith, capacity, more)
 
       before_it : before.client.begun + 1 - 1 ≡ before.client.begun
       before_it = omega arith
@@ -193,21 +223,21 @@ module _ (script : Script) (actor : ℕ) (before after : Station) (clients news 
       → HasUsedRuns script uber entries after.state.core after.items news
   turn_uses (Nothing nothing) =
       let core : new ≡ old = ap (λ (s : Station). s.state.core) nothing.same in
-      lists_none (opened_same (ap (λ (c : Core). c.pool.uber) core) (ap (λ (c : Core). c.pool.done) core))
+      lists_none (stays_same old new (ap (λ (c : Core). c.pool.uber) core)) (ap (λ (c : Core). c.pool.uber.group) core)
       (used_still (runs_still old new (same_core old new core))
       (ap (λ (s : Station). s.client.begun) nothing.same))
       (ap (λ (s : Station). s.items) nothing.same)
   turn_uses (Began (More does) begins leaves) =
       let on = works_begin old new is before.state.disk.devices actor begins.call begins.call.kind begins.call.id does begins.did in
-      lists_none (opened_same on.begins.uber on.begins.done)
+      lists_none (stays_same old new on.begins.uber) (ap (λ (u : Uber). u.group) on.begins.uber)
       (used_next begins.call begins.next (ap (λ (c : Client). c.begun) leaves.1) on.more on.begins
       (on.fits uber stood.opened)) leaves.0
   turn_uses (Began (Busy by) begins leaves) =
       let with = waits_with old new is before.state.disk.devices actor begins.call begins.call.kind begins.call.id by begins.did in
-      lists_none (opened_same with.uber with.done) (used_still (with.runs stood.opened.still) (ap (λ (c : Client). c.begun) leaves.1)) leaves.0
+      lists_none (stays_same old new with.uber) (ap (λ (u : Uber). u.group) with.uber) (used_still with.runs (ap (λ (c : Client). c.begun) leaves.1)) leaves.0
   turn_uses (Began (Done given) begins leaves) =
       let with = answers_with old new is before.state.disk.devices actor begins.call begins.call.kind begins.call.id given begins.did in
-      lists_entry (opened_same with.uber with.done)
+      lists_entry (stays_same old new with.uber) (ap (λ (u : Uber). u.group) with.uber)
       (used_next begins.call begins.next (ap (λ (c : Client). c.begun) leaves.1) [] with
       (none_fits uber (length_put begins.call.kind (fill_bytes begins.call.fill))))
       (entry_for begins.call actor (before.client.begun + 1) (length before.items) given) leaves.0
@@ -217,20 +247,18 @@ module _ (script : Script) (actor : ℕ) (before after : Station) (clients news 
       finds begins.call given size begins.next why.0 why.1)
   turn_uses (Went under (More does) goes leaves) =
       let with = works_go before.state after.state is goes.call under.work does goes.did in
-      lists_none (opened_goes old.pool.uber.group with)
-      (used_still (runs_still old new (with.uses stood.opened.still)) (ap (λ (c : Client). c.begun) leaves.1)) leaves.0
+      lists_none with.stays with.group_is (used_still (runs_still old new with.uses) (ap (λ (c : Client). c.begun) leaves.1)) leaves.0
   turn_uses (Went under (Busy by) goes leaves) = absurd leaves
   turn_uses (Went under (Done given) goes leaves) = elim (works_end before.state after.state is goes.call under.work given
       (its_commit under goes.going) goes.did) [
-        | inl plain ↦ lists_entry (opened_goes old.pool.uber.group plain.1)
-            (used_still (runs_still old new (plain.1.uses stood.opened.still)) (ap (λ (c : Client). c.begun) leaves.1))
+        | inl plain ↦ lists_entry plain.1.stays plain.1.group_is
+            (used_still (runs_still old new plain.1.uses) (ap (λ (c : Client). c.begun) leaves.1))
             (entry_for goes.call actor before.client.begun under.at given)
             (leaves.0 ∙ plain_listed new before.items under.at
             (entry_for goes.call actor before.client.begun under.at given) (made_by under.work) given plain.0)
             (λ size told. absurd (plain.0.space size told))
-        | inr synced ↦ lists_group (opened_goes synced.0 synced.2)
-            (used_still (runs_still old new (synced.2.uses stood.opened.still)) (ap (λ (c : Client). c.begun) leaves.1))
-            (group_for new under.at synced.0)
+        | inr synced ↦ lists_group synced.0 under.at synced.2
+            (used_still (runs_still old new synced.2.uses) (ap (λ (c : Client). c.begun) leaves.1))
             (entry_for goes.call actor before.client.begun under.at given)
             (leaves.0 ∙ group_listed new before.items under.at
             (entry_for goes.call actor before.client.begun under.at given) (made_by under.work) given synced.0 synced.1)

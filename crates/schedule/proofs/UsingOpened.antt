@@ -1,11 +1,10 @@
 -- What a pool that was opened uses is what its index tells, before the first turn.
-use Rattle.std.proofs.Common.{◌≡◌, ℕ, ◌+◌, List, [], ◌∷◌, length, refl, sym, ◌∙◌, ap, subst, arith, length-append}
+use Rattle.std.proofs.Common.{◌≡◌, Bool, if◌then◌else◌, eq-eqb, ℕ, ◌+◌, List, [], ◌∷◌, length, refl, sym, ◌∙◌, ap, subst, arith, length-append}
 use Rattle.std.specs.Prelude.{Contains, drop, map, sum}
 use Rattle.std.proofs.lemmas.List.Sums.{sum_by-append}
 use Rattle.bank_trait.specs.Disk.{Disk}
-use Rattle.width_map.specs.Births.{NoneAbove}
+use Rattle.width_map.specs.Births.{births_after}
 use Rattle.row_layout.specs.Layout.{allocated_of}
-use Rattle.shadow_write.specs.Required.{front_after_stop}
 use Rattle.space_alloc.specs.Space.{Run, HeldRun}
 use Rattle.block_record.specs.declared.entry.IndexEntry.{IndexEntry}
 use Rattle.uberblock_ring.specs.Uberblock.{Uber}
@@ -37,7 +36,6 @@ index_sizes uber [] = refl
 index_sizes uber (entry ∷ entries) = ap (λ (l : List ℕ). largest_size uber entry.len ∷ l) (index_sizes uber entries)
 
 module _ (script : Script) (pool : Pool) (disk : Disk) (right : IsRightUber pool.uber)
-    (born : NoneAbove pool.uber.group pool.uber.births) (front : pool.done ≡ front_after_stop pool.uber.reflow)
     (loaded : AreLoaded pool.uber pool.blocks.table.entries pool.blocks) where
   abbrev entries : List IndexEntry
   entries = pool.blocks.table.entries
@@ -79,14 +77,11 @@ module _ (script : Script) (pool : Pool) (disk : Disk) (right : IsRightUber pool
   uses_first = record {
     opened = record {
       right = right;
-      born = born;
       since = omega arith;
       parity = refl;
-      births = refl;
-      from = refl;
       rows = refl;
-      to = omega arith;
-      still = record { front = λ expands. front };
+      from = omega arith;
+      first = refl;
     };
     used = record {
       left = script.calls;
@@ -98,10 +93,15 @@ module _ (script : Script) (pool : Pool) (disk : Disk) (right : IsRightUber pool
       are = record {
         taken = λ run listed. listed;
         held = λ run listed. absurd (none_listed run (subst (λ (l : List HeldRun). Contains l run) loaded.space.held listed));
-        holds = λ hold listed. absurd (none_listed hold listed);
+        holds = λ hold listed shared. absurd (none_listed hold listed);
       };
       most = most;
     };
     last = first_numbered pool;
+    told = record {
+      from = refl;
+      births = ap (λ (same : Bool). if same then pool.uber.births else births_after pool.uber.births pool.uber.group)
+          (sym (eq-eqb pool.uber.reflow.from pool.uber.reflow.from refl));
+    };
     caused = no_space_alone script pool.uber entries (first_item pool);
   }

@@ -2,11 +2,12 @@
 use Rattle.std.proofs.Common.{◌≡◌, ◌⊎◌, inl, inr, ⊎_elim, ℕ, ◌+◌, ◌≤◌, List, [], ◌∷◌, ◌++◌, length, Option, Some, None, sym, ◌∙◌, ap, subst, arith}
 use Rattle.std.specs.Prelude.{Contains, map, sum}
 use Rattle.width_map.specs.declared.birth.Birth.{Birth}
+use Rattle.width_map.specs.Births.{first_width}
 use Rattle.range_locks.specs.declared.hold.Hold.{Hold}
-use Rattle.range_locks.specs.declared.hold.HoldKind.TheVariants.{Shared}
+use Rattle.range_locks.specs.declared.hold.HoldKind.TheVariants.{Shared, Exclusive}
 use Rattle.range_locks.specs.Holds.{EndsHold}
 use Rattle.row_layout.specs.Layout.{Layout, allocated_of}
-use Rattle.space_alloc.specs.Space.{Gains, Run, HeldRun, Space}
+use Rattle.space_alloc.specs.Space.{Run, HeldRun, Space}
 use Rattle.block_record.specs.declared.entry.IndexEntry.{IndexEntry}
 use Rattle.block_table.specs.Table.{entry_of}
 use Rattle.uberblock_ring.specs.Uberblock.{Uber}
@@ -17,15 +18,17 @@ use Rattle.core_state.specs.declared.answer.Kind.TheVariants as kind
 use Rattle.core_blocks.specs.Blocks.{run_of, put_run}
 use Rattle.core_blocks.specs.Puts.{HoldsBack, sectors_taken}
 use Rattle.core_blocks.specs.Runs.{held_sectors}
-use Rattle.core_blocks.specs.Usage.{sectors_in}
+use Rattle.core_blocks.specs.Usage.{sectors_in, size_at}
 use Rattle.core_blocks.proofs.Listed.{found_listed}
 use Rattle.core_blocks.proofs.Lists.{first_listed, rest_listed, gains_old, gains_item, gains_cases}
 use Rattle.client_script.specs.declared.call.ScriptCall.{ScriptCall}
 use Rattle.client_script.specs.Lines.{fill_bytes}
+use Rattle.core_commit.specs.CommitTurns.{CommitRun}
 use Rattle.core_turns.specs.declared.getting.GetRun.{GetRun}
 use Rattle.core_turns.specs.declared.putting.PutRun.{PutRun}
 use Rattle.core_turns.specs.declared.turn.Turn.TheVariants.{More}
-use Rattle.core_turns.specs.Core.{Core, IsCore}
+use Rattle.core_turns.specs.Core.{Core, IsCore, as_begun}
+use Rattle.core_turns.specs.Committing.{BeginsCommitSo, hold_for}
 use Rattle.core_turns.specs.Getting.{BeginsGet, hold_of}
 use Rattle.core_turns.specs.Freeing.{FreesBlock}
 use Rattle.core_turns.specs.Putting.{BeginsPutSo, BeginsPutTurn, GivesUp, IsPutRefused, LeavesBlocks, StoresBlock}
@@ -33,26 +36,24 @@ use Rattle.journal_law.specs.NoSpace.{length_put, largest_size}
 use Rattle.journal_law.proofs.NoSpace.{largest}
 use Rattle.schedule.specs.declared.client.Work.{Work}
 use Rattle.schedule.specs.declared.client.Work.TheVariants as work
-use Rattle.schedule.specs.Replaying.{OnlyShared}
 use Rattle.schedule.specs.Turned.{AnswersAtOnce, BeginsWork, Waits}
-use Rattle.schedule.specs.Using.{AreRunsOf, HasCopiedNone, IsHeldIn, IsOpenSince}
-use Rattle.schedule.proofs.Copied.{begins_holds}
+use Rattle.schedule.specs.Using.{AreRunsOf, IsHeldIn, IsOpenSince}
 
 -- ---- runs
 
--- All that is in use was in use before.
+-- All that is in use was in use before, and what is shared was shared.
 pub record UsesNoMore (old new : Core) : Type 0 where
   pub taken : (run : Run) → Contains new.pool.blocks.space.taken run → Contains old.pool.blocks.space.taken run
   pub held : (run : HeldRun) → Contains new.pool.blocks.space.held run
       → Contains old.pool.blocks.space.held run ⊎ Contains old.pool.blocks.space.taken (held_sectors run)
-  pub holds : (hold : Hold) → Contains new.holds hold → Contains old.holds hold
+  pub holds : (hold : Hold) → Contains new.holds hold → hold.kind ≡ Shared → Contains old.holds hold
 
 -- So the runs are the same.
 pub runs_still : (old new : Core) → UsesNoMore old new → (runs : List Run) → AreRunsOf runs old → AreRunsOf runs new
 runs_still old new uses runs are = record {
   taken = λ run listed. are.taken run (uses.taken run listed);
   held = λ run listed. ⊎_elim (are.held run) (are.taken (held_sectors run)) (uses.held run listed);
-  holds = λ hold listed. are.holds hold (uses.holds hold listed);
+  holds = λ hold listed shared. are.holds hold (uses.holds hold listed shared) shared;
 }
 
 -- A hold that is in runs is in more of them.
@@ -70,21 +71,40 @@ module _ (old new : Core) where
   same_core same = record {
     taken = λ run listed. subst (λ (c : Core). Contains c.pool.blocks.space.taken run) same listed;
     held = λ run listed. inl (subst (λ (c : Core). Contains c.pool.blocks.space.held run) same listed);
-    holds = λ hold listed. subst (λ (c : Core). Contains c.holds hold) same listed;
+    holds = λ hold listed shared. subst (λ (c : Core). Contains c.holds hold) same listed;
   }
 
   pub same_parts : new.pool.blocks.space ≡ old.pool.blocks.space → new.holds ≡ old.holds → UsesNoMore old new
   same_parts space holds = record {
     taken = λ run listed. subst (λ (s : Space). Contains s.taken run) space listed;
     held = λ run listed. inl (subst (λ (s : Space). Contains s.held run) space listed);
-    holds = λ hold listed. subst (λ (l : List Hold). Contains l hold) holds listed;
+    holds = λ hold listed shared. subst (λ (l : List Hold). Contains l hold) holds listed;
   }
+
+  -- A commit that begins holds its sectors alone.
+  pub commit_begun : (run : CommitRun) (actor : ℕ) → BeginsCommitSo old new actor run → UsesNoMore old new
+  commit_begun run actor begins = record {
+    taken = λ other listed. subst (λ (s : Space). Contains s.taken other)
+        (ap (λ (c : Core). c.pool.blocks.space) begins.rest) listed;
+    held = λ other listed. inl (subst (λ (s : Space). Contains s.held other)
+        (ap (λ (c : Core). c.pool.blocks.space) begins.rest) listed);
+    holds = λ hold listed shared. ⊎_elim
+        (λ taken. ⊎_elim
+        (λ same. absurd (alone (sym shared ∙ sym (ap (λ (h : Hold). h.kind) same))))
+        (λ was. was)
+        (gains_cases old.holds new.holds (hold_for old.pool.uber.reflow run.uber.reflow actor) hold taken.1 listed))
+        (λ none. subst (λ (l : List Hold). Contains l hold) none.1 listed)
+        begins.holds;
+  }
+    where
+      alone : Shared ≡ Exclusive → ⊥
+      alone same = cc
 
   left_blocks : LeavesBlocks old new → UsesNoMore old new
   left_blocks leaves = record {
     taken = leaves.taken;
     held = λ run listed. inl (subst (λ (l : List HeldRun). Contains l run) leaves.held listed);
-    holds = λ hold listed. subst (λ (l : List Hold). Contains l hold) (ap (λ (c : Core). c.holds) leaves.rest) listed;
+    holds = λ hold listed shared. subst (λ (l : List Hold). Contains l hold) (ap (λ (c : Core). c.holds) leaves.rest) listed;
   }
 
   pub one_less : (hold : Hold) → EndsHold old.holds new.holds hold → (other : Hold) → Contains new.holds other
@@ -97,7 +117,7 @@ module _ (old new : Core) where
     taken = λ other listed. gains_old new.pool.blocks.space.taken old.pool.blocks.space.taken (put_run run.range) other
         gives.dropped.taken listed;
     held = λ other listed. inl (subst (λ (l : List HeldRun). Contains l other) gives.dropped.held listed);
-    holds = one_less run.hold gives.ends;
+    holds = λ hold listed shared. one_less run.hold gives.ends hold listed;
   }
 
   -- or hold it back.
@@ -107,7 +127,7 @@ module _ (old new : Core) where
   held_back parity births group None same holds = record {
     taken = λ run listed. subst (λ (s : Space). Contains s.taken run) same listed;
     held = λ run listed. inl (subst (λ (s : Space). Contains s.held run) same listed);
-    holds = holds;
+    holds = λ hold listed shared. holds hold listed;
   }
   held_back parity births group (Some entry) holding holds = record {
     taken = λ run listed. gains_old new.pool.blocks.space.taken old.pool.blocks.space.taken (run_of parity births entry)
@@ -117,7 +137,7 @@ module _ (old new : Core) where
         (gains_item new.pool.blocks.space.taken old.pool.blocks.space.taken (run_of parity births entry) holding.taken)))
         (λ was. inl was)
         (gains_cases old.pool.blocks.space.held new.pool.blocks.space.held _ run holding.held listed);
-    holds = holds;
+    holds = λ hold listed shared. holds hold listed;
   }
 
   pub stored : (run : PutRun) → StoresBlock old new run → UsesNoMore old new
@@ -134,32 +154,18 @@ module _ (old new : Core) where
 
 -- ---- first turns
 
--- A turn begins a call, with these runs more where nothing was copied. A hold that comes is shared then.
+-- A turn begins a call, with these runs more. Who copies stays so.
 pub record BeginsWith (old new : Core) (more : List Run) : Type 0 where
   pub uber : new.pool.uber ≡ old.pool.uber
-  pub done : new.pool.done ≡ old.pool.done
-  pub runs : HasCopiedNone old → (runs : List Run) → AreRunsOf runs old → AreRunsOf (more ++ runs) new
-  pub shared : HasCopiedNone old → OnlyShared old.holds → OnlyShared new.holds
+  pub copying : new.copying ≡ old.copying
+  pub runs : (runs : List Run) → AreRunsOf runs old → AreRunsOf (more ++ runs) new
 
-pub shared_still : {old new : Core} → UsesNoMore old new → OnlyShared old.holds → OnlyShared new.holds
-shared_still uses shared = record { each = λ hold listed. shared.each hold (uses.holds hold listed) }
-
-shared_more : {old new : List Hold} {hold : Hold} → Gains old new hold → hold.kind ≡ Shared → OnlyShared old
-    → OnlyShared new
-shared_more {old} {new} {hold} gains kind_is shared = record {
-  each = λ other listed. ⊎_elim
-      (λ same. ap (λ (h : Hold). h.kind) (sym same) ∙ kind_is)
-      (λ had. shared.each other had)
-      (gains_cases old new hold other gains listed);
-}
-
-begins_still : (old new : Core) → new.pool.uber ≡ old.pool.uber → new.pool.done ≡ old.pool.done
-    → (HasCopiedNone old → UsesNoMore old new) → BeginsWith old new []
-begins_still old new uber done uses = record {
+begins_still : (old new : Core) → new.pool.uber ≡ old.pool.uber → new.copying ≡ old.copying → UsesNoMore old new
+    → BeginsWith old new []
+begins_still old new uber copying uses = record {
   uber = uber;
-  done = done;
-  runs = λ still. runs_still old new (uses still);
-  shared = λ still. shared_still (uses still);
+  copying = copying;
+  runs = runs_still old new uses;
 }
 
 -- The runs are no more than what is put, at the pool's first width.
@@ -178,20 +184,20 @@ pub record BeginsOn (old new : Core) (lengths : List ℕ) : Type 0 where
 
 module _ (old new : Core) (is : IsCore old) where
   same_begins : new ≡ old → BeginsWith old new []
-  same_begins same = begins_still old new (ap (λ (c : Core). c.pool.uber) same) (ap (λ (c : Core). c.pool.done) same)
-      (λ still. same_core old new same)
+  same_begins same = begins_still old new (ap (λ (c : Core). c.pool.uber) same) (ap (λ (c : Core). c.copying) same)
+      (same_core old new same)
 
   left_begins : LeavesBlocks old new → BeginsWith old new []
   left_begins leaves = begins_still old new (ap (λ (c : Core). c.pool.uber) leaves.rest)
-      (ap (λ (c : Core). c.pool.done) leaves.rest) (λ still. left_blocks old new leaves)
+      (ap (λ (c : Core). c.copying) leaves.rest) (left_blocks old new leaves)
 
   -- A put takes one run, and holds it.
   put_takes : (actor id len : ℕ) (run : PutRun) → BeginsPutSo old new actor id len run
       → BeginsWith old new (put_run run.range ∷ [])
   put_takes actor id len run begins = record {
     uber = ap (λ (c : Core). c.pool.uber) begins.rest;
-    done = ap (λ (c : Core). c.pool.done) begins.rest;
-    runs = λ still runs are. record {
+    copying = ap (λ (c : Core). c.copying) begins.rest;
+    runs = λ runs are. record {
       taken = λ other listed. ⊎_elim
           (λ same. subst (Contains (put_run run.range ∷ runs)) same (first_listed (put_run run.range) runs))
           (λ was. rest_listed (put_run run.range) other runs (are.taken other was))
@@ -199,33 +205,36 @@ module _ (old new : Core) (is : IsCore old) where
           begins.begins.taken.taken listed);
       held = λ other listed. rest_listed (put_run run.range) (held_sectors other) runs (are.held other
           (subst (λ (l : List HeldRun). Contains l other) begins.begins.taken.held listed));
-      holds = λ hold listed. ⊎_elim
+      holds = λ hold listed shared. ⊎_elim
           (λ same. subst (IsHeldIn (put_run run.range ∷ runs)) (sym begins.hold_is ∙ same) (record {
             run = put_run run.range;
             listed = first_listed (put_run run.range) runs;
             begins = omega arith;
             ends = omega arith;
           }))
-          (λ was. held_further runs (put_run run.range) hold (are.holds hold was))
+          (λ was. held_further runs (put_run run.range) hold (are.holds hold was shared))
           (gains_cases old.holds new.holds run.hold hold begins.holds listed);
     };
-    shared = λ still. shared_more begins.holds (ap (λ (h : Hold). h.kind) begins.hold_is);
   }
 
   -- That has no more sectors than at the pool's first width.
   put_size : (actor id len : ℕ) (run : PutRun) → BeginsPutSo old new actor id len run → (uber : Uber)
       → IsOpenSince uber old → allocated_of run.range.layout ≤ largest_size uber len
   put_size actor id len run begins uber since =
-      let parity : new.pool.blocks.parity ≡ uber.parity = begins.begins.parity ∙ is.is.parity ∙ since.parity in
-      let births : new.pool.blocks.births ≡ uber.births = begins.begins.births ∙ is.is.births ∙ since.births in
+      let parity : new.pool.blocks.parity ≡ old.pool.uber.parity = begins.begins.parity ∙ is.is.parity in
+      let births : new.pool.blocks.births ≡ old.pool.uber.births = begins.begins.births ∙ is.is.births in
       let size : allocated_of run.range.layout
       ≡ sectors_taken new.pool.blocks.parity new.pool.blocks.births len (old.begun + 1) =
       ap (λ (l : Layout). allocated_of l) begins.range.layout_is in
       let same : sectors_taken new.pool.blocks.parity new.pool.blocks.births len (old.begun + 1)
-      ≡ sectors_taken uber.parity uber.births len (old.begun + 1) =
+      ≡ sectors_taken old.pool.uber.parity old.pool.uber.births len (old.begun + 1) =
       λ i. sectors_taken (parity i) (births i) len (old.begun + 1) in
-      let most = largest uber len (old.begun + 1) since.right in
-      omega (arith, size, same, most)
+      let most : sectors_taken old.pool.uber.parity old.pool.uber.births len (old.begun + 1)
+      ≤ size_at old.pool.uber.parity (first_width old.pool.uber.births) len =
+      largest (as_begun old).uber len (old.begun + 1) is.is.right in
+      let first : size_at old.pool.uber.parity (first_width old.pool.uber.births) len ≡ largest_size uber len =
+      λ i. size_at (since.parity i) (since.first i) len in
+      omega (arith, size, same, most, first)
 
   put_begins : (actor id len : ℕ) (run : PutRun) → BeginsPutTurn old new actor id len (More run)
       → BeginsOn old new (len ∷ [])
@@ -243,18 +252,17 @@ module _ (old new : Core) (is : IsCore old) where
       → BeginsWith old new []
   get_begins actor id asked run begins = record {
     uber = ap (λ (c : Core). c.pool.uber) begins.6;
-    done = ap (λ (c : Core). c.pool.done) begins.6;
-    runs = λ still runs are. record {
+    copying = ap (λ (c : Core). c.copying) begins.6;
+    runs = λ runs are. record {
       taken = λ other listed. are.taken other
           (subst (λ (c : Core). Contains c.pool.blocks.space.taken other) begins.6 listed);
       held = λ other listed. are.held other
           (subst (λ (c : Core). Contains c.pool.blocks.space.held other) begins.6 listed);
-      holds = λ hold listed. ⊎_elim
+      holds = λ hold listed shared. ⊎_elim
           (λ same. subst (IsHeldIn runs) (sym begins.4 ∙ same) (its runs are))
-          (λ was. are.holds hold was)
+          (λ was. are.holds hold was shared)
           (gains_cases old.holds new.holds run.hold hold begins.9 listed);
     };
-    shared = λ still. shared_more begins.9 (ap (λ (h : Hold). h.kind) begins.4);
   }
     where
       block : Run
@@ -284,11 +292,11 @@ module _ (old new : Core) (is : IsCore old) where
 
   free_begins : (id : ℕ) (given : Answer) → FreesBlock old new id given → BeginsWith old new []
   free_begins id answer.Freed frees =
-      begins_still old new (ap (λ (c : Core). c.pool.uber) frees.2.rest) (ap (λ (c : Core). c.pool.done) frees.2.rest)
-      (λ still. freed old new id answer.Freed frees)
+      begins_still old new (ap (λ (c : Core). c.pool.uber) frees.2.rest) (ap (λ (c : Core). c.copying) frees.2.rest)
+      (freed old new id answer.Freed frees)
   free_begins id answer.Absent frees =
-      begins_still old new (ap (λ (c : Core). c.pool.uber) frees.1.rest) (ap (λ (c : Core). c.pool.done) frees.1.rest)
-      (λ still. freed old new id answer.Absent frees)
+      begins_still old new (ap (λ (c : Core). c.pool.uber) frees.1.rest) (ap (λ (c : Core). c.copying) frees.1.rest)
+      (freed old new id answer.Absent frees)
   free_begins id (answer.TooManyFailed out) frees = same_begins frees.2
   free_begins id other frees = absurd frees
 
@@ -306,13 +314,11 @@ module _ (old new : Core) (is : IsCore old) where
       on_none [] (get_begins actor id kind.Sum run begins)
   works_begin devices actor call kind.Sync None (work.Sync run) begins =
       on_none [] (begins_still old new (ap (λ (c : Core). c.pool.uber) begins.rest)
-      (ap (λ (c : Core). c.pool.done) begins.rest)
-      (λ still. same_parts old new (ap (λ (c : Core). c.pool.blocks.space) begins.rest)
-      (begins_holds old new actor run is still begins)))
+      (ap (λ (c : Core). c.copying) begins.rest) (commit_begun old new run actor begins))
   works_begin devices actor call kind.Attach None (work.Attach run) begins =
       on_none [] (begins_still old new (ap (λ (c : Core). c.pool.uber) begins.rest)
-      (ap (λ (c : Core). c.pool.done) begins.rest)
-      (λ still. same_parts old new (ap (λ (c : Core). c.pool.blocks.space) begins.rest)
+      (ap (λ (c : Core). c.copying) begins.rest)
+      (same_parts old new (ap (λ (c : Core). c.pool.blocks.space) begins.rest)
       (ap (λ (c : Core). c.holds) begins.rest)))
   works_begin devices actor call asked id does begins = absurd begins
 

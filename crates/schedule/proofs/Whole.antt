@@ -1,10 +1,9 @@
 -- A run of turns from the opening of its pool to its end.
 use Rattle.std.proofs.Common.{◌≡◌, inl, inr, ⊎_elim, ℕ, ◌≤◌, List, [], ◌∷◌, ◌++◌, Bool, true, false, refl, sym, ◌∙◌, ap, arith, length, subst, ◌+◌, ◌<◌}
 use Rattle.std.specs.Prelude.{Contains, All}
-use Rattle.bank_trait.specs.Disk.{Image, Disk, Later, Lawful}
+use Rattle.bank_trait.specs.Disk.{Image, Disk, Later}
 use Rattle.bank_trait.specs.Regions.{TouchesOnly}
 use Rattle.bank_trait.proofs.Touches.{touches_then}
-use Rattle.shadow_write.specs.Required.{front_after_stop}
 use Rattle.uberblock_ring.specs.Devices.{has_device, count_of, IsWithin}
 use Rattle.uberblock_ring.specs.Uberblock.{Uber}
 use Rattle.uberblock_ring.specs.Valid.{IsRightUber}
@@ -58,7 +57,6 @@ use Rattle.schedule.proofs.Fitting.{attach_cause}
 use Rattle.schedule.proofs.Numbered.{first_numbered}
 use Rattle.schedule.proofs.OfLines.{follows_lines}
 use Rattle.schedule.proofs.Opened.{none_of_blank, resting, opened_world, runs_first}
-use Rattle.schedule.proofs.OpenedBirths.{opened_births}
 use Rattle.schedule.proofs.Recording.{recorded_throughout, recorded_keeps, recorded_no_older}
 use Rattle.schedule.proofs.UsingOpened.{uses_first}
 use Rattle.schedule.proofs.Syncs.{stands_know}
@@ -94,8 +92,8 @@ module _ (script : Script) (old mid : Disk) (pool : Pool) (silent : ℕ) (items 
     → RenewsChoice (shape_of old) silent image pool.uber pool.blocks.table.entries)
     (writes : WritesInOrder old mid silent pool.uber)
     (outs : AreOutOf old mid silent pool.uber pool.out) (begun : IsBegunWith pool silent old mid)
-    (rest : AreUnderWay pool.blocks []) (bank : HasBank pool.uber pool.out mid) (lawful : Lawful old)
-    (right : IsRightUber pool.uber) (front : pool.done ≡ front_after_stop pool.uber.reflow) (loaded : AreLoaded pool.uber pool.blocks.table.entries pool.blocks)
+    (rest : AreUnderWay pool.blocks []) (bank : HasBank pool.uber pool.out mid)
+    (right : IsRightUber pool.uber) (loaded : AreLoaded pool.uber pool.blocks.table.entries pool.blocks)
     (taken : HaveTaken script (first_turns script (at_disk (resting pool) mid) (first_item pool)) passed)
     (come : LeadTo script (first_turns script (at_disk (resting pool) mid) (first_item pool)) passed
     (turns_of final items clients))
@@ -157,9 +155,6 @@ module _ (script : Script) (old mid : Disk) (pool : Pool) (silent : ℕ) (items 
       );
     }
 
-    out_in : IsWithin pool.out setting.failed
-    out_in device out = borne_in device (come.from_start few device out)
-
     -- No space was found only where the chosen group's blocks and the script's are many.
     no_space : NoSpaceIsCaused script begins.opened.chosen.uber begins.opened.chosen.entries items
     no_space =
@@ -171,8 +166,7 @@ module _ (script : Script) (old mid : Disk) (pool : Pool) (silent : ℕ) (items 
         (ap (λ (u : Uber). u.births) alike ∙ ap (λ (u : Uber). u.births) renews)
         (ap (λ (u : Uber). u.reflow) alike ∙ ap (λ (u : Uber). u.reflow) renews)
         (begins.opened.entries_are ∙ begins.opened.renews.entries)
-        (come.space pool.uber pool.blocks.table.entries (uses_first script pool mid right
-        (opened_births setting first later old may pool silent mid lawful begun missed_in out_in) front loaded)).caused
+        (come.space pool.uber pool.blocks.table.entries (uses_first script pool mid right loaded)).caused
 
     -- What the run keeps, where these devices may fail.
     pub run_keeps : RunKeeps script setting first later old final.disk items pool.uber.parity silent
@@ -224,7 +218,7 @@ module _ (script : Script) (old mid : Disk) (pool : Pool) (silent : ℕ) (items 
     opened = item;
     there = come.listed 0 (Group item) refl;
     start = at_disk (resting pool) mid;
-    rest = record { holds = refl; committing = refl; attaching = refl; blocks = rest; still = record { front = λ expands. front } };
+    rest = record { holds = refl; committing = refl; copying = refl; attaching = refl; blocks = rest };
     opened_is = refl;
     bank = bank;
     later = opened_later;

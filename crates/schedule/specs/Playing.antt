@@ -1,5 +1,5 @@
 -- What stands while a script is carried out, and how that ends.
-use Rattle.std.specs.Prelude.{◌≡◌, ℕ, suc, ◌+◌, ◌-◌, ◌*◌, ◌≤◌, List, [], ◌∷◌, length, map}
+use Rattle.std.specs.Prelude.{◌≡◌, ℕ, suc, ◌+◌, ◌-◌, ◌*◌, ◌≤◌, List, [], ◌∷◌, length, map, None}
 use Rattle.core_state.specs.declared.item.Item.{Item}
 use Rattle.client_script.specs.Script.{Script, calls_of}
 use Rattle.core_turns.specs.Core.{CoreState}
@@ -10,8 +10,7 @@ use Rattle.schedule.specs.Clients.{answered_of}
 use Rattle.schedule.specs.Coming.{LeadTo, IsSchedule}
 use Rattle.schedule.specs.InTurn.{Cursor, InOrder, InRest, HasGone, HaveTaken, Replay, replay_at}
 use Rattle.schedule.specs.Turns.{Turns, TurnTaken, most_turns, turns_of}
-use Rattle.schedule.specs.Replaying.{AreIdle, OnlyShared}
-use Rattle.schedule.specs.Using.{HasCopiedNone}
+use Rattle.schedule.specs.Replaying.{AreIdle}
 
 -- ---- room for answers
 
@@ -40,11 +39,10 @@ pub record HasRoomForAnswers (script : Script) (clients : List Client) (room : �
 
 -- ---- between turns
 
--- What has to stand before a turn.
+-- What has to stand before a turn. Nobody copies sectors.
 pub record IsReady (script : Script) (turns : Turns) (room : ℕ) : Type 0 where
   pub schedule : IsSchedule script turns
-  pub shared : OnlyShared turns.state.core.holds
-  pub still : HasCopiedNone turns.state.core
+  pub copying : turns.state.core.copying ≡ None
   pub counted : length turns.clients ≡ script.clients
   pub enough : HasRoomForAnswers script turns.clients room
 

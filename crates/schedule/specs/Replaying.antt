@@ -1,7 +1,5 @@
 -- A script that is carried out turn by turn.
-use Rattle.std.specs.Prelude.{◌≡◌, ◌≢◌, ℕ, ◌+◌, ◌<◌, ◌≤◌, List, [], ◌∷◌, length, replicate, Some, None, Contains, slice_get, true}
-use Rattle.range_locks.specs.declared.hold.Hold.{Hold}
-use Rattle.range_locks.specs.declared.hold.HoldKind.TheVariants.{Shared}
+use Rattle.std.specs.Prelude.{◌≡◌, ◌≢◌, ℕ, ◌+◌, ◌<◌, ◌≤◌, List, [], ◌∷◌, length, replicate, Some, None, slice_get, true}
 use Rattle.core_blocks.specs.Blocks.{AreUnderWay}
 use Rattle.client_script.specs.InOrder.{given_of}
 use Rattle.client_script.specs.Script.{Script, calls_of}
@@ -11,15 +9,14 @@ use Rattle.schedule.specs.declared.client.UnderWay.{UnderWay}
 use Rattle.schedule.specs.Coming.{LeadTo}
 use Rattle.schedule.specs.InTurn.{IsTurnOf, is_busy_at}
 use Rattle.schedule.specs.Turns.{Turns, most_turns, taken_by}
-use Rattle.schedule.specs.Using.{HasCopiedNone}
 
--- No call is under way, and nothing was copied.
+-- No call is under way.
 pub record IsAtRest (core : Core) : Type 0 where
   pub holds : core.holds ≡ []
   pub committing : core.committing ≡ None
+  pub copying : core.copying ≡ None
   pub attaching : core.attaching ≡ None
   pub blocks : AreUnderWay core.pool.blocks []
-  pub still : HasCopiedNone core
 
 -- a client that has begun no call
 abbrev pub blank_client : Client
@@ -28,10 +25,6 @@ blank_client = record { begun = 0; under_way = None }
 -- so many of them
 abbrev pub blank_clients : ℕ → List Client
 blank_clients count = replicate count blank_client
-
--- No hold is exclusive, so that no call waits for one.
-pub record OnlyShared (holds : List Hold) : Type 0 where
-  pub each : (hold : Hold) → Contains holds hold → hold.kind ≡ Shared
 
 -- No client has a call under way.
 pub record AreIdle (clients : List Client) : Type 0 where

@@ -1,9 +1,8 @@
 -- What calls that take turns have used of a pool's space since its opening, and why one found none.
 use Rattle.std.specs.Prelude.{◌≡◌, ℕ, ◌+◌, ◌≤◌, List, [], length, drop, map, flat_map, sum, Some, slice_get, Contains}
-use Rattle.width_map.specs.Births.{NoneAbove}
-use Rattle.reflow_mark.specs.Reflow.{Expands}
+use Rattle.width_map.specs.Births.{first_width}
 use Rattle.range_locks.specs.declared.hold.Hold.{Hold}
-use Rattle.shadow_write.specs.Required.{front_after_stop}
+use Rattle.range_locks.specs.declared.hold.HoldKind.TheVariants.{Shared}
 use Rattle.space_alloc.specs.Space.{Run, HeldRun}
 use Rattle.block_record.specs.declared.entry.IndexEntry.{IndexEntry}
 use Rattle.uberblock_ring.specs.Uberblock.{Uber}
@@ -15,7 +14,7 @@ use Rattle.client_script.specs.declared.call.ScriptCall.{ScriptCall}
 use Rattle.client_script.specs.Lines.{fill_bytes}
 use Rattle.client_script.specs.Script.{Placed, Script, calls_of}
 use Rattle.core_turns.specs.Core.{Core}
-use Rattle.journal_law.specs.NoSpace.{length_put, lengths_of, largest_size, NoSpaceIsCaused}
+use Rattle.journal_law.specs.NoSpace.{births_told, length_put, lengths_of, largest_size, width_told, NoSpaceIsCaused}
 use Rattle.schedule.specs.declared.client.Client.{Client}
 use Rattle.schedule.specs.Numbered.{IsNumbered}
 
@@ -51,11 +50,12 @@ pub record IsHeldIn (runs : List Run) (hold : Hold) : Type 0 where
   pub begins : run.start ≤ hold.lo
   pub ends : hold.hi ≤ run.start + run.len
 
--- Whatever sectors are taken, held back, or held by a call are of these runs.
+-- Whatever sectors are taken, held back, or shared by a call are of these runs. Those that a call holds alone make a put
+-- wait, but leave none without space.
 pub record AreRunsOf (runs : List Run) (core : Core) : Type 0 where
   pub taken : (run : Run) → Contains core.pool.blocks.space.taken run → Contains runs run
   pub held : (run : HeldRun) → Contains core.pool.blocks.space.held run → Contains runs (held_sectors run)
-  pub holds : (hold : Hold) → Contains core.holds hold → IsHeldIn runs hold
+  pub holds : (hold : Hold) → Contains core.holds hold → hold.kind ≡ Shared → IsHeldIn runs hold
 
 -- Runs and further sizes are no more than these sizes, and have no more sectors.
 pub record AreAtMost (runs : List Run) (left sizes : List ℕ) : Type 0 where
@@ -64,22 +64,20 @@ pub record AreAtMost (runs : List Run) (left sizes : List ℕ) : Type 0 where
 
 -- ---- between two turns
 
--- Nothing was copied since the opening: the front is where a stop leaves it.
-pub record HasCopiedNone (core : Core) : Type 0 where
-  pub front : Expands core.pool.uber.reflow → core.pool.done ≡ front_after_stop core.pool.uber.reflow
-
--- A pool has parity and births of its opening's uberblock, and its data rows at the same width, reaches to no fewer
--- devices, and is of no older group. No birth is above that, and nothing was copied.
+-- A pool has parity, rows and first width of its opening's uberblock, has its data rows at no smaller width, and is of no
+-- older group.
 pub record IsOpenSince (uber : Uber) (core : Core) : Type 0 where
   pub right : IsRightUber uber
-  pub born : NoneAbove uber.group uber.births
   pub since : uber.group ≤ core.pool.uber.group
   pub parity : core.pool.uber.parity ≡ uber.parity
-  pub births : core.pool.uber.births ≡ uber.births
-  pub from : core.pool.uber.reflow.from ≡ uber.reflow.from
   pub rows : core.pool.uber.reflow.rows ≡ uber.reflow.rows
-  pub to : uber.reflow.to ≤ core.pool.uber.reflow.to
-  pub still : HasCopiedNone core
+  pub from : uber.reflow.from ≤ core.pool.uber.reflow.from
+  pub first : first_width core.pool.uber.births ≡ first_width uber.births
+
+-- The width of its data rows and its births are those of the opening's uberblock once the journal's groups are told.
+pub record HasToldWidths (uber : Uber) (items : List Item) (core : Core) : Type 0 where
+  pub from : core.pool.uber.reflow.from ≡ width_told uber.reflow.from items
+  pub births : core.pool.uber.births ≡ births_told uber.births uber.reflow.from items
 
 -- Of the space no more was used since the opening than the blocks of its index take, and those that calls put which
 -- were begun.
@@ -97,4 +95,5 @@ pub record HasUsedRuns (script : Script) (uber : Uber) (entries : List IndexEntr
   pub opened : IsOpenSince uber core
   pub used : AreUsed script uber entries core clients
   pub last : IsNumbered items core
+  pub told : HasToldWidths uber items core
   pub caused : NoSpaceIsCaused script uber entries items

@@ -69,7 +69,7 @@ returns-then-place-len-clause-turn g c =
     let takes : TakesTurn c.args.script.now c.args.actor before after clients news =
     takes_turn c.args.script.now c.from-place.result c.args.actor before after clients c.requires.ready.schedule there
     c.from-place.ensures low c.take_turn.ensures.is c.take_turn.ensures.lawful c.take_turn.ensures.there turned in
-    turn_taken c.args.script.now c.args.actor before after clients news takes c.requires.allowed c.requires.ready.shared c.requires.ready.still turned
+    turn_taken c.args.script.now c.args.actor before after clients news takes c.requires.allowed c.requires.ready.copying turned
 
 pub returns-then-place-len-clause-ready : goal.returns-then-place-len-clause-ready
 returns-then-place-len-clause-ready g c =
@@ -87,12 +87,12 @@ returns-then-place-len-clause-ready g c =
     let takes : TakesTurn c.args.script.now c.args.actor before after clients news =
     takes_turn c.args.script.now c.from-place.result c.args.actor before after clients c.requires.ready.schedule there
     c.from-place.ensures low c.take_turn.ensures.is c.take_turn.ensures.lawful c.take_turn.ensures.there turned in
-    turn_ready c.args.script.now c.args.actor before after clients news takes c.requires.allowed c.requires.ready.shared c.requires.ready.still turned
+    turn_ready c.args.script.now c.args.actor before after clients news takes c.requires.allowed c.requires.ready.copying turned
     c.take_turn.new.journal.room c.requires.ready.counted (length-set clients c.from-place.result c.take_turn.new.client)
     (room_after c.args.script.now c.from-place.result c.args.actor c.args.journal.now.room c.take_turn.new.journal.room
     clients client c.take_turn.new.client c.from-place.ensures c.requires.ready.enough there
     (c.requires.ready.schedule.answered.few c.args.actor client there)
-    (turn_few c.args.script.now c.args.actor before after clients news takes c.requires.allowed c.requires.ready.shared c.requires.ready.still turned)
+    (turn_few c.args.script.now c.args.actor before after clients news takes c.requires.allowed c.requires.ready.copying turned)
     c.take_turn.ensures.room)
 
 pub returns-else-place-len-clause-turn : goal.returns-else-place-len-clause-turn

@@ -43,7 +43,7 @@ returns-clause-run g c =
     (record { ended = carried.result.ended; turns = carried.result.turns; out = devices })) (sym c.out.ensures)
     (has_run_in_turn script old mid pool c.in_ok-opened.opened.silent items out.clients final out.passed opened.later
     opened.only opened.silent opened.few opened.missed opened.renews opened.writes opened.out opened.begins opened.rest
-    opened.bank (g.met.B.Bank.lawful c.args.bank.now) opened.right opened.front opened.loaded
+    opened.bank opened.right opened.loaded
     (ends_taken script (replay_at start 0 (InOrder c.args.listed.now))
     (replay_at (turns_of final items out.clients) carried.result.turns out.cursor) out.passed carried.result.ended
     out.ends)
