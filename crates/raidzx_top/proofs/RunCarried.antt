@@ -286,10 +286,10 @@ module _ (order : Order) (call : TopCall) (lawful : Lawful call.old)
         few listed (λ image holds. many_listed index listed entry there is image holds)
     is_smooth index entry there (answer.DeviceOut device) is =
         none_out device (subst (IsAttachCause call.old.devices (IsDropCause call.old call.new out)) is
-            (run.fits index entry there).attach)
+        (run.fits index entry there).attach)
     is_smooth index entry there (answer.NewDeviceFailed device) is =
         none_rose device (subst (IsAttachCause call.old.devices (IsDropCause call.old call.new out)) is
-            (run.fits index entry there).attach)
+        (run.fits index entry there).attach)
     is_smooth index entry there (answer.Paused device) is =
         absurd (of_client index entry there kind.Copy (answers index entry there (answer.Paused device) is))
     is_smooth index entry there other is = tt
