@@ -17,12 +17,16 @@ WORK=$(mktemp -d)
 trap 'rm -rf "$WORK"' EXIT
 cd "$WORK"
 
-# images COUNT SECTORS: fresh images disk0, disk1, .. that hold a pattern. IMAGES names them.
+# fresh IMAGE SECTORS: a fresh image, that holds a pattern.
+fresh() { head -c $(($2 * 512)) /dev/zero | tr '\0' '\245' >"$1"; }
+
+# images COUNT SECTORS: fresh images disk0, disk1, .. IMAGES names them.
 images() {
+  local number
   rm -rf disk*
   IMAGES=()
   for number in $(seq 0 $(($1 - 1))); do
-    head -c $(($2 * 512)) /dev/zero | tr '\0' '\245' >"disk$number"
+    fresh "disk$number" "$2"
     IMAGES+=("disk$number")
   done
 }
@@ -62,6 +66,14 @@ expect() {
   printf 'ok %s\n' "$name"
 }
 
+# tells NAME LINE..: these lines were told by the last run.
+tells() {
+  local name=$1
+  shift
+  [ "$(cat told)" = "$(printf '%s\n' "$@")" ] || failed "$name" "$(cat told)"
+  printf 'ok %s\n' "$name"
+}
+
 # calls CALL..: a script in which one client makes these calls.
 calls() {
   printf 'clients 1\n'
@@ -92,6 +104,15 @@ unchanged() {
   printf 'ok %s\n' "$name"
 }
 
+# bytes HEX: these bytes. filled LENGTH: the input, and zeros up to this length.
+bytes() { printf "$(printf %s "$1" | tr -d ' \n' | sed 's/../\\x&/g')"; }
+filled() { cat - /dev/zero | head -c "$1"; }
+digest() { sha256sum "$1" | cut -c 1-64; }
+# sectors FILE FIRST COUNT: some of a file's sectors.
+sectors() { dd if="$1" bs=512 skip="$2" count="$3" status=none; }
+# unused FILE FIRST COUNT: these sectors hold zeros, or what a fresh image holds.
+unused() { [ "$(sectors "$@" | tr -d '\0\245' | wc -c)" = 0 ] || failed 'sectors that are not used' "$*"; }
+
 # pattern LEN SEED: the bytes that `put ID LEN SEED` stores.
 pattern() {
   local at
@@ -101,4 +122,25 @@ pattern() {
 # answers: of a journal's text the answers to `get` and `sum`, without their places in the journal.
 answers() {
   sed -n 's/^[0-9]* [a-h]\.[0-9]* \(get\|sum\) \([0-9]*\)\( at [0-9]*\)\?/\1 \2/p'
+}
+
+# disturbed PATH FAULT WORD..: a run with a fault in the calls on this file, as `fdatasync:error=EIO:when=2`. Its text
+# stands in `found`, what it tells in `told`, its calls in `trace`. STATUS is how it ends.
+disturbed() {
+  local path=$1 fault=$2
+  shift 2
+  STATUS=0
+  strace -f -s 0 -o trace -P "$path" -e "trace=${fault%%:*}" -e "inject=$fault" \
+    "$RAIDZX" "$@" <"${INPUT:-/dev/null}" >found 2>told || STATUS=$?
+  sed -i '/^strace: Requested path/d' told
+}
+
+# was NAME STATUS TEXT [LINE..]: how the disturbed run has ended, and what it has told.
+was() {
+  local name=$1 status=$2 text=$3
+  shift 3
+  if [ "$STATUS" != "$status" ] || [ "$(cat found)" != "$text" ] ||
+    [ "$(cat told)" != "$([ $# = 0 ] || printf '%s\n' "$@")" ]; then
+    failed "$name" "status $STATUS, text: $(cat found), told: $(cat told)"
+  fi
 }

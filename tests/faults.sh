@@ -5,27 +5,6 @@ strace -o /dev/null true 2>/dev/null || { echo 'skipped failing calls: strace ma
 [ ! -w /dev/shm ] || export TMPDIR=/dev/shm # many short runs: files in memory will do
 . "$(dirname "$0")/build.sh"
 
-# disturbed PATH FAULT WORD..: a run with a fault in the calls on this file, as `fdatasync:error=EIO:when=2`. Its text
-# stands in `found`, what it tells in `told`, its calls in `trace`. STATUS is how it ends.
-disturbed() {
-  local path=$1 fault=$2
-  shift 2
-  STATUS=0
-  strace -f -s 0 -o trace -P "$path" -e "trace=${fault%%:*}" -e "inject=$fault" \
-    "$RAIDZX" "$@" <"${INPUT:-/dev/null}" >found 2>told || STATUS=$?
-  sed -i '/^strace: Requested path/d' told
-}
-
-# was NAME STATUS TEXT [LINE..]: how the disturbed run has ended, and what it has told.
-was() {
-  local name=$1 status=$2 text=$3
-  shift 3
-  if [ "$STATUS" != "$status" ] || [ "$(cat found)" != "$text" ] ||
-    [ "$(cat told)" != "$([ $# = 0 ] || printf '%s\n' "$@")" ]; then
-    failed "$name" "status $STATUS, text: $(cat found), told: $(cat told)"
-  fi
-}
-
 INPUT=script
 pool 1 3 256
 keep made

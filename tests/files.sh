@@ -2,14 +2,6 @@
 # A pool on real files: what a later run finds, where it stands, and what is refused and left alone.
 . "$(dirname "$0")/build.sh"
 
-# bytes HEX: these bytes. filled LENGTH: the input, and zeros up to this length.
-bytes() { printf "$(printf %s "$1" | tr -d ' \n' | sed 's/../\\x&/g')"; }
-filled() { cat - /dev/zero | head -c "$1"; }
-digest() { sha256sum "$1" | cut -c 1-64; }
-# sectors FILE FIRST COUNT: some of a file's sectors.
-sectors() { dd if="$1" bs=512 skip="$2" count="$3" status=none; }
-# unused FILE FIRST COUNT: these sectors hold zeros, or what a fresh image holds.
-unused() { [ "$(sectors "$@" | tr -d '\0\245' | wc -c)" = 0 ] || failed 'sectors that are not used' "$*"; }
 lengths() { stat -c '%n %s' "${IMAGES[@]}"; }
 # same_lengths NAME: no image has grown or shrunk since the lengths were noted.
 same_lengths() {

@@ -2,14 +2,6 @@
 # What is told on standard error of single images. A run in which all is well tells nothing.
 . "$(dirname "$0")/build.sh"
 
-# tells NAME LINE..: these lines were told by the last run.
-tells() {
-  local name=$1
-  shift
-  [ "$(cat told)" = "$(printf '%s\n' "$@")" ] || failed "$name" "$(cat told)"
-  printf 'ok %s\n' "$name"
-}
-
 missing='No such file or directory (os error 2)'
 pool 1 3 256
 runs 'all is well' 0 '0 group 3 after 0

@@ -1,12 +1,14 @@
 """Opens what a stop leaves of images, at each call of a run.
 
-stops.py PROGRAM FOLDER GROUP=FILE..
+stops.py PROGRAM FOLDER DEVICES OLD GROUP=FILE..
 
-The folder holds the images before and after the run (`start`, `end`), its writes and syncs (`trace`, of strace),
-and a script that reads all blocks (`reads`). Each FILE holds the answers to it that are those of this group.
+The run names so many images, of which the first OLD ones are the pool's and the others are attached. The folder holds
+the images before and after the run (`start`, `end`), its writes and syncs (`trace`, of strace), and a script that reads
+all blocks (`reads`). Each FILE holds the answers to it that are those of this group.
 A stop after some of the calls keeps each write that its device has synced since. Of the others it may keep all,
 none, single ones, parts, or leave other bytes there. Whatever it left, the next run has to answer the blocks of a
-group that is not older than the last one synced by then, also where one more image is gone.
+group that is not older than the last one synced by then, also where one more image is gone. Where images are
+attached, a run over the old ones alone has to do so too.
 """
 import pathlib
 import re
@@ -19,7 +21,8 @@ CALL = re.compile(r' (pwrite64|fdatasync)\(\d+<([^>]*)>(?:, "([^"]*)", 512, (\d+
 ANSWER = re.compile(r'^\d+ a\.\d+ (get|sum) (\d+) at \d+ (.*)$')
 
 program, folder = sys.argv[1], pathlib.Path(sys.argv[2])
-answers = {int(group): pathlib.Path(file).read_text() for group, file in (word.split('=') for word in sys.argv[3:])}
+devices, old = (int(word) for word in sys.argv[3:5])
+answers = {int(group): pathlib.Path(file).read_text() for group, file in (word.split('=') for word in sys.argv[5:])}
 
 
 def fail(text):
@@ -59,7 +62,12 @@ def newest(image):
     return max(group_of(image[at:at + SECTOR]) for at in range(0, RING, SECTOR))
 
 
-def choices(count, devices):
+def last_synced():
+    """The last group that is synced on all images that show one."""
+    return min(group for group in ended.values() if group)
+
+
+def choices(count, written_on):
     """What becomes of so many writes that are not synced: of each the part that is kept, or None for a filling."""
     yield 'all kept', [SECTOR] * count
     yield 'none kept', [0] * count
@@ -67,8 +75,8 @@ def choices(count, devices):
         return
     yield 'other bytes', [None] * count
     yield 'halves', [SECTOR // 2] * count
-    for device in set(devices):
-        yield f'disk{device} alone', [SECTOR if each == device else 0 for each in devices]
+    for device in set(written_on):
+        yield f'disk{device} alone', [SECTOR if each == device else 0 for each in written_on]
     for one in range(count):
         yield f'write {one} alone', [SECTOR if each == one else 0 for each in range(count)]
         yield f'all but write {one}', [0 if each == one else SECTOR for each in range(count)]
@@ -82,14 +90,14 @@ def left(synced, loose, parts):
     return stopped
 
 
-def look(stopped, lowest, highest, name):
-    """Opens the images; the answers have to be those of one group of these."""
-    for device in (0, 1, 2):
+def look(stopped, named, lowest, highest, name):
+    """Opens the first so many images; the answers have to be those of one group of these."""
+    for device in range(devices):
         file = folder / f'disk{device}'
         file.unlink(missing_ok=True)
         if device in stopped:
             file.write_bytes(stopped[device])
-    words = [program] + [str(folder / f'disk{device}') for device in (0, 1, 2)] + ['--', 'run']
+    words = [program] + [str(folder / f'disk{device}') for device in range(named)] + ['--', 'run']
     run = subprocess.run(words, stdin=open(folder / 'reads'), capture_output=True, text=True)
     lines = run.stdout.splitlines()
     if run.returncode != 0:
@@ -121,12 +129,15 @@ for device, offset, data in [(None, None, None), *calls()]:
             continue
         seen.append(stopped)
         name = f'stopped after {count} calls, {name}'
-        look(stopped, min(ended.values()), max(begun.values()), name)
-        gone = opened % 4
+        lowest, highest = last_synced(), max(begun.values())
+        look(stopped, devices, lowest, highest, name)
+        if old < devices:
+            look(stopped, old, lowest, highest, f'{name}, and with the old images alone')
+        gone = opened % (devices + 1)
         opened += 1
-        if len(stopped) == 3 and gone in stopped:
+        if len(stopped) == devices and gone in stopped:
             del stopped[gone]
-            look(stopped, min(ended.values()), max(begun.values()), f'{name}, and without disk{gone}')
+            look(stopped, devices, lowest, highest, f'{name}, and without disk{gone}')
     count += 1
 if loose:
     fail('writes that are never synced: ' + ' '.join(f'disk{device} {offset}' for device, offset, _ in loose))

@@ -15,36 +15,52 @@ printf 'sum 7 absent\nsum 8 absent\n' >none
 { block 7 600 2; block 8 70 1; } >two
 { echo 'sum 7 absent'; block 8 1500 3; } >three
 
-# stops NAME GROUP=FILE..: traces the run of `script` on the images, and stops it at each call.
+# stops NAME OLD GROUP=FILE..: traces the run of `script` on the images, of which the first so many are the pool's, and
+# stops it at each call.
 stops() {
-  local name=$1 found
-  shift
+  local name=$1 old=$2 found
+  shift 2
   keep start
   strace -f -y -xx -s 512 -e trace=pwrite64,pwritev,pwritev2,fdatasync,fsync,sync_file_range,ftruncate,fallocate \
-    -o trace "$RAIDZX" disk0 disk1 disk2 -- run <script >/dev/null 2>told
+    -o trace "$RAIDZX" "${IMAGES[@]}" -- run <script >/dev/null 2>told
   keep end
   rm -rf stop
   mkdir stop
   mv trace start end stop
   cp reads stop
-  found=$(python3 "$TESTS/stops.py" "$RAIDZX" stop "$@") || { echo "$found"; exit 1; }
+  found=$(python3 "$TESTS/stops.py" "$RAIDZX" stop ${#IMAGES[@]} "$old" "$@") || { echo "$found"; exit 1; }
   printf 'ok %s: %s\n' "$name" "$found"
 }
 
 pool 1 3 256
 calls 'put 7 3 5' sync 'put 7 600 2' 'put 8 70 1' sync >script
-stops 'the first run of a pool' 1=none 3=none 4=one 5=two
+stops 'the first run of a pool' 3 1=none 3=none 4=one 5=two
 
 # The uberblock of group 5 stands on disk0 alone, as a stop may leave it: the opening copies it first.
 for device in 1 2; do dd if=/dev/zero of=disk$device bs=512 seek=5 count=1 conv=notrunc status=none; done
 keep torn
 calls 'free 7' 'put 8 1500 3' sync >script
-stops 'a run on what a stop has left' 4=one 5=two 6=one 7=two 8=three
+stops 'a run on what a stop has left' 3 4=one 5=two 6=one 7=two 8=three
 
 back torn
 rm disk1
-stops 'a run without an image' 4=one 5=two 6=one 7=two 8=three
+stops 'a run without an image' 3 4=one 5=two 6=one 7=two 8=three
 
 back torn
 rm disk0
-stops 'a run without the image of the newest group' 4=one 6=one 7=three
+stops 'a run without the image of the newest group' 3 4=one 6=one 7=three
+
+# A fourth image is attached, between a sync and further puts.
+pool 1 3 256
+fresh disk3 256
+IMAGES+=(disk3)
+calls 'put 7 3 5' sync attach 'put 7 600 2' 'put 8 70 1' sync >script
+stops 'a run that attaches an image' 3 1=none 3=none 4=one 5=one 6=two
+
+# The uberblock of the attach's group stands on the new image alone, as a stop may leave it.
+back stop/start
+calls 'put 7 3 5' sync attach >script
+"$RAIDZX" "${IMAGES[@]}" -- run <script >/dev/null
+for device in 0 1 2; do dd if=/dev/zero of=disk$device bs=512 seek=5 count=1 conv=notrunc status=none; done
+calls 'free 7' 'put 8 1500 3' sync >script
+stops 'a run on what a stop of an attach has left' 3 4=one 5=one 7=one 8=three
