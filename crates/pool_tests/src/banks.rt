@@ -20,19 +20,30 @@ pub const OPENING: u64 = 35;
 /// The reads of a ring.
 pub const RING: u64 = 32;
 
-/// Devices of 256 sectors, as many as the pool 9 that was made on them is wide.
-fn bank_with_pool(alloc: Global, parity: u32, width: u32) -> Result<MemBank, Fail>
+/// So many devices of 256 sectors, on the first of which pool 9 was made.
+fn bank_with_pool(alloc: Global, devices: u32, parity: u32, width: u32) -> Result<MemBank, Fail>
     requires some { 2 ≤ width }
     requires narrow { width ≤ 16 }
+    requires devices { width ≤ devices }
 {
-    let mut bank = MemBank::new(alloc, width, 256)?;
+    let mut bank = MemBank::new(alloc, devices, 256)?;
     create(&mut bank, parity, width, 9)?;
     Ok(bank)
 }
 
 /// Three devices on which pool 9 was made, with one parity.
 pub fn bank_of_nine(alloc: Global) -> Result<MemBank, Fail> {
-    bank_with_pool(alloc, 1, 3)
+    bank_with_pool(alloc, 3, 1, 3)
+}
+
+/// The same, and a blank device behind them.
+pub fn bank_of_nine_and_a_blank(alloc: Global) -> Result<MemBank, Fail> {
+    bank_with_pool(alloc, 4, 1, 3)
+}
+
+/// Sixteen devices with pool 9, and a blank one behind them.
+pub fn bank_of_sixteen_and_a_blank(alloc: Global) -> Result<MemBank, Fail> {
+    bank_with_pool(alloc, 17, 1, 16)
 }
 
 /// As many devices as pool 9 is wide, which was made on them.
@@ -43,7 +54,7 @@ pub fn bank_of_width(
     width: u32,
 ) -> Result<MemBank, Fail> {
     assert!(rt; 2 <= width && width <= 16);
-    bank_with_pool(alloc, parity, width)
+    bank_with_pool(alloc, width, parity, width)
 }
 
 /// Writes an uberblock to its slot on a device.

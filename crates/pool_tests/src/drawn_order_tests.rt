@@ -1,25 +1,45 @@
 // Two hundred orders, their journals checked item by item.
-use crate::banks::bank_of_nine;
+use crate::banks::bank_of_nine_and_a_blank;
 use crate::calls::{REPLAY, RUN, call};
 use crate::legal_check::Journaled;
 use crate::plans::{Draw, Plan, plan_of, plan_of_lines, plan_of_reads};
 use crate::runs::{Order, run_into};
 use bank_mem::MemBank;
-use core_state::Journal;
+use core_state::{Group, Journal};
 use schedule::Ended;
 use std::alloc::{AllocError, Global};
 use std::process::Abort;
 use std::test::Fail;
 use uberblock_ring::DeviceSet;
 
-/// The calls on each device that make a pool, and most of those that open it.
+/// The calls on each device of the pool that make it, and most of those that open it.
 const OPENING: u64 = 65;
+
+/// The device that an attach asks for, and the calls on it before: the opening reads its ring.
+const NEW_DEVICE: u32 = 3;
+
+const NEW_OPENING: u64 = 32;
 
 /// Of so many calls on a device that come after, one fails.
 const AFTER_OPENING: u64 = 45;
 
 /// The group of a new pool's opening.
-const FIRST_OPENING: u64 = 3;
+const FIRST_OPENING: Group = Group {
+    group: 3,
+    after: 0,
+    from: 3,
+    to: 3,
+};
+
+/// The group of the opening that comes after this one.
+fn opening_after(last: &Group) -> Group {
+    Group {
+        group: last.group.wrapping_add(2),
+        after: 0,
+        from: last.from,
+        to: last.to,
+    }
+}
 
 /// Whether these devices may be out, where this one may fail, or none.
 fn may_be_out(failing: Option<u32>, out: DeviceSet) -> bool {
@@ -73,11 +93,14 @@ fn check_order(
     };
     assert_eq!(rt; told.first_wrong(), None, "order {number}");
     let last = told.last_group().ok_or("no group")?;
+    if failing.is_none() {
+        assert_eq!(rt; last.to == 4, plan.attaches(), "order {number}");
+    }
     let held = told.held_after(alloc, last.after)?;
     let reads = plan_of_reads(alloc)?;
     let journal = replay_plan(rt, alloc, bank, &reads, failing, number)?;
     let told = Journaled {
-        opening_group: last.group.wrapping_add(2),
+        opening_group: opening_after(&last),
         opening: held.as_slice(),
         calls: reads.calls.as_slice(),
         items: journal.as_slice(),
@@ -89,7 +112,7 @@ fn check_order(
 /// Checks the orders from this number up to that one.
 fn check_orders(rt: &impl Abort, alloc: Global, from: u64, to: u64) -> Result<(), Fail> {
     for number in from..to {
-        let mut bank = bank_of_nine(alloc)?;
+        let mut bank = bank_of_nine_and_a_blank(alloc)?;
         check_order(rt, alloc, &mut bank, None, number)?;
     }
     Ok(())
@@ -113,8 +136,13 @@ fn the_third_fifty_orders_are_answered_rightly(rt: HostRuntime) -> Result<(), Fa
 /// A call on a device fails, if it is made, or all from that one on. Gives the device.
 fn let_one_fail(bank: &mut MemBank, number: u64) -> Result<u32, AllocError> {
     let mut draw = Draw::new(number.wrapping_add(1000));
-    let device = draw.below(3) as u32;
-    let call = OPENING + draw.below(AFTER_OPENING);
+    let device = draw.below(4) as u32;
+    let opening = if device == NEW_DEVICE {
+        NEW_OPENING
+    } else {
+        OPENING
+    };
+    let call = opening + draw.below(AFTER_OPENING);
     if draw.below(2) == 0 {
         bank.fail_at(&[(device, call)])?;
     } else {
@@ -129,7 +157,7 @@ fn the_last_fifty_orders_are_answered_rightly_past_a_failing_device(
 ) -> Result<(), Fail> {
     let alloc = rt.alloc();
     for number in 150..200 {
-        let mut bank = bank_of_nine(alloc)?;
+        let mut bank = bank_of_nine_and_a_blank(alloc)?;
         let device = let_one_fail(&mut bank, number)?;
         check_order(&rt, alloc, &mut bank, Some(device), number)?;
     }
@@ -141,7 +169,10 @@ fn the_last_fifty_orders_are_answered_rightly_past_a_failing_device(
 fn compare_run_and_replay(rt: &impl Abort, alloc: Global, from: u64, to: u64) -> Result<(), Fail> {
     for number in from..to {
         let plan = plan_of_lines(alloc, number)?;
-        let mut banks = [bank_of_nine(alloc)?, bank_of_nine(alloc)?];
+        let mut banks = [
+            bank_of_nine_and_a_blank(alloc)?,
+            bank_of_nine_and_a_blank(alloc)?,
+        ];
         if number % 2 == 1 {
             for bank in &mut banks {
                 let_one_fail(bank, number)?;

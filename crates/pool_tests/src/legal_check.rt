@@ -4,9 +4,6 @@ use core_state::{Answer, Entry, Group, Item, Kind};
 use sha2::{Digest, Sha256};
 use std::alloc::{AllocError, Global};
 
-/// The width of the pool.
-const WIDTH: u32 = 3;
-
 /// The bytes that an id has.
 #[derive(Drop)]
 pub struct Held {
@@ -14,11 +11,11 @@ pub struct Held {
     pub bytes: Vec<u8>,
 }
 
-/// A journal, and what it is checked against: the number of the opening's group, what was stored then, and the
-/// calls that the clients make.
+/// A journal, and what it is checked against: the opening's group, what was stored then, and the calls that the clients
+/// make.
 #[derive(Drop)]
 pub struct Journaled<'a> {
-    pub opening_group: u64,
+    pub opening_group: Group,
     pub opening: &'a [Held],
     pub calls: &'a [PlannedCall],
     pub items: &'a [Item],
@@ -29,7 +26,7 @@ pub struct Journaled<'a> {
 pub enum Wrong {
     /// The first item is not the opening's group.
     Opening,
-    /// A group doesn't follow the one before it.
+    /// A group doesn't follow the one before it, or has other widths and is no attach's.
     Group,
     /// No client makes such a call, or not after the call that it was answered last.
     Call,
@@ -43,6 +40,11 @@ pub enum Wrong {
     Free,
     /// A sync doesn't name the group listed just before it, or that one was begun too early.
     Sync,
+    /// An attach doesn't name the group listed just before it, that one was begun too early, or it didn't widen the pool
+    /// to that width.
+    Attach,
+    /// An attach tells of an expansion, and the last group before it has none to that width.
+    Expanding,
 }
 
 /// Whether an answer is for such a call, where nothing is wanting.
@@ -54,6 +56,15 @@ fn is_answer_of(kind: Kind, answer: &Answer) -> bool {
         Answer::Freed => kind == Kind::Free,
         Answer::Synced { group: _ } => kind == Kind::Sync,
         Answer::Absent => kind == Kind::Get || kind == Kind::Sum || kind == Kind::Free,
+        Answer::Attached { width: _, group: _ } => kind == Kind::Attach,
+        Answer::Expanding { to: _ } => kind == Kind::Attach,
+        Answer::DeviceOut { device: _ } => kind == Kind::Attach,
+        Answer::NoDevice {
+            devices: _,
+            width: _,
+        } => kind == Kind::Attach,
+        Answer::NewDeviceFailed { device: _ } => kind == Kind::Attach,
+        Answer::Taken { slot: _ } => kind == Kind::Attach,
         _ => false,
     }
 }
@@ -68,6 +79,14 @@ fn is_read_of(block: Option<&[u8]>, answer: &Answer) -> bool {
         }
         _ => false,
     }
+}
+
+/// Whether a group turns a pool at rest, as the group before it has it, into one that expands to this width.
+fn widens_to(before: &Group, group: &Group, width: u32) -> bool {
+    before.from == before.to
+        && group.from == before.to
+        && group.to == width
+        && group.from.wrapping_add(1) == width
 }
 
 /// What an id has at the opening.
@@ -152,13 +171,31 @@ impl<'a> Journaled<'a> {
 
     fn is_opening_right(&self) -> bool {
         match self.items.first() {
-            Some(Item::Group(group)) => {
-                group.group == self.opening_group
-                    && group.after == 0
-                    && group.from == WIDTH
-                    && group.to == WIDTH
-            }
+            Some(Item::Group(group)) => *group == self.opening_group,
             _ => false,
+        }
+    }
+
+    /// Whether the item behind the group at this index is an attach's answer that names it.
+    fn is_of_attach(&self, index: usize, group: &Group) -> bool {
+        let Some(Item::Call(entry)) = self.items.get(index.wrapping_add(1)) else {
+            return false;
+        };
+        match entry.answer {
+            Answer::Attached {
+                width: _,
+                group: named,
+            } => named == group.group,
+            _ => false,
+        }
+    }
+
+    /// Whether a group has the widths of the one before it, or is that of an attach and widens the pool.
+    fn are_widths_right(&self, index: usize, before: &Group, group: &Group) -> bool {
+        if self.is_of_attach(index, group) {
+            widens_to(before, group, before.to.wrapping_add(1))
+        } else {
+            group.from == before.from && group.to == before.to
         }
     }
 
@@ -170,8 +207,7 @@ impl<'a> Journaled<'a> {
         group.group == before.group.wrapping_add(1)
             && before.after <= group.after
             && group.after <= index as u64
-            && group.from == before.from
-            && group.to == before.to
+            && self.are_widths_right(index, &before, group)
     }
 
     /// Whether the caller makes this call, next after the one that was answered last.
@@ -225,6 +261,45 @@ impl<'a> Journaled<'a> {
         }
     }
 
+    /// Whether an attach names the group listed just before it, which was begun after its caller's last answer and
+    /// widened the pool to this width.
+    fn is_attached_right(&self, index: usize, entry: &Entry, width: u32, number: u64) -> bool {
+        let (previous, _) = self.previous_of(entry.caller, index);
+        let place = index.wrapping_sub(1);
+        let Some(Item::Group(listed)) = self.items.get(place) else {
+            return false;
+        };
+        let Some(before) = self.group_before(place) else {
+            return false;
+        };
+        listed.group == number
+            && (previous as u64) < listed.after
+            && widens_to(&before, listed, width)
+    }
+
+    /// Whether the last group before this index has an expansion to this width.
+    fn is_expanding_right(&self, index: usize, to: u32) -> bool {
+        match self.group_before(index) {
+            Some(last) => last.to == to && last.from.wrapping_add(1) == to,
+            None => false,
+        }
+    }
+
+    /// What is wrong with an attach that is answered.
+    fn wrong_attach(&self, index: usize, entry: &Entry) -> Option<Wrong> {
+        let (is_right, wrong) = match entry.answer {
+            Answer::Attached { width, group } => {
+                (
+                    self.is_attached_right(index, entry, width, group),
+                    Wrong::Attach,
+                )
+            }
+            Answer::Expanding { to } => (self.is_expanding_right(index, to), Wrong::Expanding),
+            _ => return None,
+        };
+        if is_right { None } else { Some(wrong) }
+    }
+
     /// What is wrong with a call that is answered.
     fn wrong_entry(&self, index: usize, entry: &Entry) -> Option<Wrong> {
         if !self.is_call_right(index, entry) {
@@ -237,6 +312,7 @@ impl<'a> Journaled<'a> {
             Kind::Get | Kind::Sum => (self.is_read_right(index, entry), Wrong::Read),
             Kind::Free => (self.is_free_right(index, entry), Wrong::Free),
             Kind::Sync => (self.is_sync_right(index, entry), Wrong::Sync),
+            Kind::Attach => return self.wrong_attach(index, entry),
             _ => return None,
         };
         if is_right { None } else { Some(wrong) }

@@ -6,6 +6,8 @@
 #![tactic(auto)]
 
 #[cfg(test)]
+mod attach_call_tests;
+#[cfg(test)]
 mod bank_tests;
 #[cfg(test)]
 mod banks;
@@ -27,6 +29,8 @@ mod first_run_tests;
 mod join_tests;
 #[cfg(test)]
 mod legal_check;
+#[cfg(test)]
+mod legal_check_tests;
 #[cfg(test)]
 mod lost_block_tests;
 #[cfg(test)]

@@ -12,6 +12,11 @@ const FEWEST_CALLS: u64 = 6;
 
 const MOST_CALLS: u64 = 10;
 
+/// Fewest turns of an order, also where a client attaches a device: that alone takes some fifty.
+const TURNS: u64 = 54;
+
+const TURNS_WITH_ATTACH: u64 = 180;
+
 /// Most bytes of a pattern, a little less than three sectors, and of a put in hex.
 const MOST_BYTES: u64 = 1_500;
 
@@ -70,17 +75,18 @@ pub fn letter(caller: u64) -> char {
     }
 }
 
-/// The kind of a call: a put at first, and later puts more often than others.
+/// The kind of a call: a put at first, and later puts more often than others, and seldom an attach.
 fn draw_kind(draw: &mut Draw, round: u64) -> Kind {
     if round == 0 {
         return Kind::Put;
     }
-    match draw.below(20) {
-        0..=6 => Kind::Put,
-        7..=9 => Kind::Get,
-        10..=12 => Kind::Sum,
-        13..=16 => Kind::Free,
-        _ => Kind::Sync,
+    match draw.below(40) {
+        0..=13 => Kind::Put,
+        14..=19 => Kind::Get,
+        20..=25 => Kind::Sum,
+        26..=33 => Kind::Free,
+        34..=38 => Kind::Sync,
+        _ => Kind::Attach,
     }
 }
 
@@ -140,6 +146,7 @@ fn plan_words(
         Kind::Get => write!(script, "get {id}")?,
         Kind::Sum => write!(script, "sum {id}")?,
         Kind::Free => write!(script, "free {id}")?,
+        Kind::Attach => write!(script, "attach")?,
         _ => write!(script, "sync")?,
     }
     Ok(Vec::new(alloc))
@@ -154,6 +161,16 @@ impl Plan {
             calls: Vec::new(alloc),
             script,
         })
+    }
+
+    /// Whether a client attaches a device.
+    pub fn attaches(&self) -> bool {
+        for call in &self.calls {
+            if call.kind == Kind::Attach {
+                return true;
+            }
+        }
+        false
     }
 
     /// One more call, on a line of its own.
@@ -171,7 +188,7 @@ impl Plan {
         let bytes = plan_words(alloc, draw, kind, id, &mut self.script)?;
         writeln!(self.script)?;
         let id = match kind {
-            Kind::Sync => None,
+            Kind::Sync | Kind::Attach => None,
             _ => Some(id),
         };
         self.calls.push(PlannedCall {
@@ -184,14 +201,19 @@ impl Plan {
         Ok(())
     }
 
-    /// About 60 turns of the three clients, in runs of so many at most.
+    /// About 60 turns of the three clients, or 190, in runs of so many at most.
     fn push_order(&mut self, draw: &mut Draw, longest: u64) -> Result<(), AllocError>
         requires { 0 < longest }
     {
         self.script.push_str("order ")?;
         let mut run = 0;
         let mut actor = 'a';
-        for _turn in 0..54 + draw.below(13) {
+        let fewest = if self.attaches() {
+            TURNS_WITH_ATTACH
+        } else {
+            TURNS
+        };
+        for _turn in 0..fewest.wrapping_add(draw.below(13)) {
             if run == 0 {
                 run = 1 + draw.below(longest);
                 actor = letter(draw.below(3));
@@ -223,7 +245,7 @@ fn draw_calls(alloc: Global, draw: &mut Draw) -> Result<Plan, AllocError> {
     Ok(plan)
 }
 
-/// The plan of this number: three clients, and an order of about 60 letters.
+/// The plan of this number: three clients, and an order.
 pub fn plan_of(alloc: Global, number: u64) -> Result<Plan, AllocError> {
     let mut draw = Draw::new(number);
     let mut plan = draw_calls(alloc, &mut draw)?;
