@@ -7,19 +7,16 @@ use Rattle.core_state.specs.Committing.{point_of}
 use Rattle.core_state.specs.declared.answer.Answer.{Answer}
 use Rattle.core_state.specs.declared.answer.Answer.TheVariants as answer
 use Rattle.core_state.specs.declared.answer.Kind.{Kind}
-use Rattle.core_blocks.specs.declared.range.PutRange.{PutRange}
-use Rattle.core_blocks.specs.Blocks.{IsUnderWay}
 use Rattle.core_client.specs.Outs.{OnlyFailedGoOut}
 use Rattle.core_turns.specs.declared.copying.CopyRun.{CopyRun}
-use Rattle.core_turns.specs.declared.copying.JobBegin.TheVariants as begun
 use Rattle.core_turns.specs.declared.getting.GetRun.{GetRun}
 use Rattle.core_turns.specs.declared.putting.PutRun.{PutRun}
 use Rattle.core_turns.specs.declared.turn.Turn.{Turn}
 use Rattle.core_turns.specs.declared.turn.Turn.TheVariants.{More, Busy, Done}
 use Rattle.core_turns.specs.Core.{Core, CoreState, HasBankOf}
-use Rattle.core_turns.specs.Copying.{BeginsJob, IsJobOf}
+use Rattle.core_turns.specs.Copying.{IsJobOf}
 use Rattle.core_turns.specs.Getting.{BeginsGet, ReadsTurn}
-use Rattle.core_turns.specs.Putting.{EndsPut, IsPutOf}
+use Rattle.core_turns.specs.Putting.{EndsPut}
 use Rattle.core_turns.proofs.Frames.{job_of_stays, widths_out}
 use Rattle.core_turns.proofs.GetTurns.{begins_holds, begins_rest}
 
@@ -35,17 +32,6 @@ put_end_bank old new run (Done given) disk ends bank = by given ends
     by (answer.TooManyFailed out) ends =
         subst (λ (c : Core). HasBankOf c disk) (sym ends.gives_up.rest) bank
     by other ends = absurd ends
-
--- A put goes on where a job waits,
-pub put_at_wait : (old new : Core) (actor by : ℕ) (put : PutRun) → BeginsJob old new actor (begun.Busy by)
-    → IsPutOf old put → IsPutOf new put
-put_at_wait old new actor by put begins of = subst (λ (c : Core). IsPutOf c put) (sym begins.3) of
-
--- and has its sectors.
-pub range_at_wait : (old new : Core) (actor by : ℕ) (range : PutRange) → BeginsJob old new actor (begun.Busy by)
-    → IsUnderWay old.pool.blocks range → IsUnderWay new.pool.blocks range
-range_at_wait old new actor by range begins under =
-    subst (λ (c : Core). IsUnderWay c.pool.blocks range) (sym begins.3) under
 
 -- A job goes on where a read begins,
 pub job_at_begin : (old new : Core) (actor id : ℕ) (asked : Kind) (turn : Turn GetRun) (job : CopyRun)

@@ -2,10 +2,11 @@
 use crate::attached::{are_read, block_bytes, copied_pool};
 use crate::pool_on_bank::{CLIENT, COPIER, PoolOnBank, Round};
 use crate::rounds::at_mark;
-use crate::sectors::{Place, held};
+use crate::sectors::{Place, held, new_place, old_place};
 use crate::stops::copy_of;
 use bank_trait::Bank;
 use core_turns::JobBegin;
+use reflow_copier::Job;
 use reflow_mark::State;
 use std::alloc::Global;
 use std::process::Abort;
@@ -43,6 +44,64 @@ fn a_second_job_waits_for_the_first(rt: HostRuntime) -> Result<(), Fail> {
     };
     assert_eq!(rt; by, COPIER);
     assert!(rt; matches!(pool.end_job(run)?, Round::Copied(_)));
+    Ok(())
+}
+
+/// A whole put. While it is under way a job is to wait for it.
+fn put_before_a_job(
+    alloc: Global,
+    pool: &mut PoolOnBank,
+    id: u64,
+    bytes: &[u8],
+) -> Result<(), Fail> {
+    let run = pool.begin_put(alloc, id, bytes)?;
+    match pool.who_is_in_the_way() {
+        Some(CLIENT) => pool.end_put(run),
+        _ => Err("the put is not in the way of a job".into()),
+    }
+}
+
+/// The job that the next round carries out.
+fn next_job(alloc: Global, pool: &mut PoolOnBank) -> Result<Job, Fail> {
+    match pool.round(alloc)? {
+        Round::Copied(job) => Ok(job),
+        _ => Err("no job is carried out".into()),
+    }
+}
+
+/// Whether the first sector of these bytes stands at this place.
+fn begin_at(
+    rt: &impl Abort,
+    alloc: Global,
+    pool: &PoolOnBank,
+    bytes: &[u8],
+    place: Place,
+) -> Result<bool, Fail> {
+    let mut left = copy_of(alloc, &pool.bank)?;
+    let first = held(rt, &mut left, place)?;
+    Ok(bytes.starts_with(&first))
+}
+
+#[test]
+fn a_job_waits_for_a_put(rt: HostRuntime) -> Result<(), Fail> {
+    let alloc = rt.alloc();
+    let before = lengths(alloc, 65, &[])?;
+    let behind = lengths(alloc, 65, &[3_072])?;
+    let mut pool = copied_pool(alloc, before.as_slice(), MOVED)?;
+    assert_eq!(rt; pool.core.reflow(), at_mark(128, State::Moved));
+    // It takes the sectors 130 to 139. The first is of parity, and the last holds nothing.
+    let bytes = block_bytes(alloc, 65, 3_072)?;
+    let clock = pool.bank.clock();
+    put_before_a_job(alloc, &mut pool, 65, bytes.as_slice())?;
+    assert_eq!(rt; pool.bank.clock(), clock.saturating_add(9));
+    let (old, new) = (old_place(&rt, 131), new_place(&rt, 131));
+    assert!(rt; begin_at(&rt, alloc, &pool, bytes.as_slice(), old)?);
+    assert_eq!(rt;
+        next_job(alloc, &mut pool)?,
+        Job::Chunk { lo: 128, hi: 167 }
+    );
+    assert!(rt; begin_at(&rt, alloc, &pool, bytes.as_slice(), new)?);
+    assert!(rt; are_read(alloc, &mut pool, behind.as_slice())?);
     Ok(())
 }
 

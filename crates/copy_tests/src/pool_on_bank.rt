@@ -1,5 +1,5 @@
 // An open pool on a bank in memory, and its calls turn by turn.
-ghost use Rattle.std.specs.Prelude.{◌≡◌, IfOk, Some};
+ghost use Rattle.std.specs.Prelude.{◌≡◌, IfOk, IfSome, Some};
 ghost use Rattle.bank_mem.specs.MemBank.{mem_disk};
 ghost use Rattle.core_blocks.specs.Blocks.{IsUnderWay};
 ghost use Rattle.core_turns.specs.declared.copying.CopyRun.{CopyRun as CopyRunOf};
@@ -244,6 +244,16 @@ impl PoolOnBank {
             run = self.core.job_step(&mut self.bank, run);
         }
         Err("a job has no end".into())
+    }
+
+    /// Who is in the way of the job that is due. None where nobody is; the job may have begun then.
+    pub fn who_is_in_the_way(&mut self) -> Option<u8>
+        ensures { IfSome result (λ _. self.new.core ≡ self.old.core) }
+    {
+        match self.core.job_begin(COPIER) {
+            JobBegin::Busy { by } => Some(by),
+            _ => None,
+        }
     }
 
     /// A round of a copy: the job that is due, or the commit.
