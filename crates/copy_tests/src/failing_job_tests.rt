@@ -1,10 +1,11 @@
 // Jobs during which devices fail.
 use crate::attached::{MIXED, are_read, copied_pool};
-use crate::pool_on_bank::{COPIER, Round};
+use crate::pool_on_bank::{COPIER, PoolOnBank, Round};
 use crate::rounds::at_mark;
 use core_state::Answer;
 use core_turns::JobBegin;
 use reflow_mark::State;
+use std::alloc::Global;
 use std::test::Fail;
 
 /// Rounds until what lies below 128 stands at its new places.
@@ -31,6 +32,45 @@ fn a_job_is_given_up_where_a_device_fails(rt: HostRuntime) -> Result<(), Fail> {
             "{failing}"
         );
         assert!(rt; are_read(alloc, &mut pool, &MIXED)?, "{failing}");
+    }
+    Ok(())
+}
+
+/// What a job is answered that is given up behind the turn of a read with which too many devices are out.
+fn told_given_up(alloc: Global, pool: &mut PoolOnBank) -> Result<Option<Answer>, Fail> {
+    let JobBegin::More(run) = pool.core.job_begin(COPIER) else {
+        return Err("no job is due".into());
+    };
+    pool.meet_failures(alloc, 0)?;
+    Ok(pool.core.job_give_up(run))
+}
+
+/// What the next round is answered at once.
+fn told_at_once(pool: &mut PoolOnBank) -> Result<Answer, Fail> {
+    match pool.core.job_begin(COPIER) {
+        JobBegin::Done(answer) => Ok(answer),
+        _ => Err("a round is not answered at once".into()),
+    }
+}
+
+#[test]
+fn a_job_is_given_up_where_too_many_devices_failed(rt: HostRuntime) -> Result<(), Fail> {
+    let alloc = rt.alloc();
+    for (one, other) in [(0, 1), (0, 2), (0, 3), (1, 2), (1, 3), (2, 3)] {
+        let mut pool = copied_pool(alloc, &MIXED, MOVED)?;
+        pool.fail(one)?;
+        pool.fail(other)?;
+        let both = 1 << one | 1 << other;
+        let told = told_given_up(alloc, &mut pool)?;
+        assert!(rt;
+            matches!(&told, Some(Answer::TooManyFailed { out }) if *out == both),
+            "{one} and {other}"
+        );
+        let told = told_at_once(&mut pool)?;
+        assert!(rt;
+            matches!(&told, Answer::TooManyFailed { out } if *out == both),
+            "{one} and {other}"
+        );
     }
     Ok(())
 }
