@@ -1,5 +1,5 @@
 // The journal of a run.
-ghost use Rattle.std.specs.Prelude.{◌≡◌, ◌==◌, ◌++◌, ◌+◌, ◌<◌, ◌≤◌, [], ◌∷◌, length, OnOk};
+ghost use Rattle.std.specs.Prelude.{◌≡◌, ◌==◌, ◌++◌, ◌+◌, ◌<◌, ◌≤◌, [], ◌∷◌, length, OnOk, OnErr};
 
 use crate::item::Item;
 use std::alloc::{AllocError, Global};
@@ -58,6 +58,19 @@ impl Journal {
         ensures room { OnOk result (items ≤ self.new.room) }
     {
         self.items.reserve(items)
+    }
+
+    /// Makes room for so many items beside those that there is room for.
+    pub fn reserve_more(&mut self, items: usize) -> Result<(), AllocError>
+        ensures same { self.new.items ≡ self.old.items }
+        ensures more { OnOk result (self.old.room + items ≤ self.new.room) }
+        ensures kept { OnErr result (self.old.room ≤ self.new.room) }
+    {
+        let spare = self.items.capacity() - self.items.len();
+        match spare.checked_add(items) {
+            Some(all) => self.items.reserve(all),
+            None => Err(AllocError),
+        }
     }
 
     /// Lists one more item, in room that was made. Takes no memory.

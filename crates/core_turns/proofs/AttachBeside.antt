@@ -44,30 +44,38 @@ new_device_still old new device reflow reach attaching was = record {
   behind = subst (λ (r : Reflow). device ≡ r.to) (sym reflow) was.behind;
 }
 
--- and the attach the one under way, where the commit that is under way is left.
-pub attach_still : (old new : Core) (run : AttachRun) → LeavesCommit old new → new.attaching ≡ old.attaching
+-- and the attach the one under way, where the commit that is under way is kept,
+pub attach_kept : (old new : Core) (run : AttachRun) → new.pool.uber ≡ old.pool.uber → new.reach ≡ old.reach
+    → new.committing ≡ old.committing → new.attaching ≡ old.attaching
+    → ((commit : CommitRun) → IsCommitOf old commit → IsCommitOf new commit)
     → IsAttachRunOf old run → IsAttachRunOf new run
-attach_still old new (Reads ring) leaves attaching was =
-    new_device_still old new ring.device (ap (λ (u : Uber). u.reflow) leaves.uber) leaves.reach attaching was
-attach_still old new (Checked ring) leaves attaching was = (
-  new_device_still old new ring.device (ap (λ (u : Uber). u.reflow) leaves.uber) leaves.reach attaching was.0,
+attach_kept old new (Reads ring) uber reach committing attaching commits was =
+    new_device_still old new ring.device (ap (λ (u : Uber). u.reflow) uber) reach attaching was
+attach_kept old new (Checked ring) uber reach committing attaching commits was = (
+  new_device_still old new ring.device (ap (λ (u : Uber). u.reflow) uber) reach attaching was.0,
   was.1,
   was.2,
 )
-attach_still old new (Joins join) leaves attaching was = (
+attach_kept old new (Joins join) uber reach committing attaching commits was = (
   record {
-    of = commit_still old new leaves was.0.of;
-    under_way = attaching ∙ was.0.under_way ∙ sym leaves.committing;
+    of = commits join.run was.0.of;
+    under_way = attaching ∙ was.0.under_way ∙ sym committing;
   },
-  may_reach_still old new (ap (λ (u : Uber). u.reflow) leaves.uber) leaves.reach was.1,
+  may_reach_still old new (ap (λ (u : Uber). u.reflow) uber) reach was.1,
 )
-attach_still old new (Signs run because) leaves attaching was = (
+attach_kept old new (Signs run because) uber reach committing attaching commits was = (
   record {
-    of = commit_still old new leaves was.0.of;
-    under_way = attaching ∙ was.0.under_way ∙ sym leaves.committing;
+    of = commits run was.0.of;
+    under_way = attaching ∙ was.0.under_way ∙ sym committing;
   },
-  subst (λ (u : Uber). IsMadeAt u.reflow because run.uber.reflow) (sym leaves.uber) was.1,
+  subst (λ (u : Uber). IsMadeAt u.reflow because run.uber.reflow) (sym uber) was.1,
 )
+
+-- as where it is left.
+pub attach_still : (old new : Core) (run : AttachRun) → LeavesCommit old new → new.attaching ≡ old.attaching
+    → IsAttachRunOf old run → IsAttachRunOf new run
+attach_still old new run leaves attaching = attach_kept old new run leaves.uber leaves.reach leaves.committing attaching
+    (λ commit. commit_still old new leaves)
 
 -- It has no commit under way yet.
 abbrev pub IsBeforeCommit : AttachRun → Type 0

@@ -208,7 +208,12 @@ module _ {old new : Core} {run : CopyRun} {left calls : List HoldingCall} (is : 
     beside = pairs_lose AreBeside beside_turn calls left (Copying run) gains are.beside;
   })
 
-  -- And all stands, with each block right at the front that the job leaves.
+  -- A commit under way beside it is still the core's,
+  pub job_ends_commit : (commit : CommitRun) → IsCommitOf old commit → IsCommitOf new commit
+  job_ends_commit commit its = subst (λ (core : Core). IsCommitOf core commit) (sym ends.rest)
+      (commit_on old run is of new.holds ends.ends commit its)
+
+  -- and all stands, with each block right at the front that the job leaves.
   pub job_ends_stands : {setting : Setting} {last : Kept} {begun : List Kept} {map : Map} {contents : ℕ → List ℕ}
       {commit : Option CommitRun} {disk : Disk} → old.pool.out ≡ 0
       → run.job.made ≡ call_count run.job.reflow run.job.job

@@ -54,7 +54,7 @@ use Rattle.core_turns.proofs.Cores.{bank_has, bank_within}
 use Rattle.core_turns.proofs.Frames.{AreOff, IsCallOff, IsOff, Leaves, call_stays, leaves_touched}
 use Rattle.core_turns.proofs.StandFrames.{stands_anew}
 use Rattle.core_turns.proofs.GetStands.{AddsNoPut, OnlyHeld, stands_held}
-use Rattle.core_turns.proofs.Holds.{alone_beside, alone_passes}
+use Rattle.core_turns.proofs.Holds.{alone_beside, alone_passes, KeepsAlone}
 use Rattle.core_turns.proofs.JobBeside.{off_target}
 use Rattle.core_turns.proofs.JobLaws.{all_used, target_data}
 use Rattle.core_turns.proofs.JobTurns.{IsWrittenBy, due_runs, none_left, step_touches_target}
@@ -85,6 +85,34 @@ hold_at_front : (core : Core) (run : CopyRun) → IsJobOf core run → run.hold.
 hold_at_front core run of = ap (λ (h : Hold). h.lo) of.hold_is
     ∙ job_at_front core.pool.uber.reflow core.pool.done run.job.job of.goes.may_run
 
+-- ---- its hold beside that of a commit
+
+-- What a commit holds it holds still, beside the hold of a job that begins,
+pub job_begins_alone : {old new : Core} {run : CopyRun} {actor : ℕ} → BeginsJobSo old new actor run
+    → KeepsAlone old.pool.done old.holds new.holds
+job_begins_alone {old} {new} {run} begins hold exclusive =
+    alone_beside old.pool.done old.holds new.holds run.hold hold exclusive kind (omega (arith, lo)) begins.holds
+  where
+    kind : run.hold.kind ≡ Exclusive
+    kind = ap (λ (r : CopyRun). r.hold.kind) begins.run_is
+
+    lo : run.hold.lo ≡ old.pool.done
+    lo = ap (λ (r : CopyRun). r.hold.lo) begins.run_is
+        ∙ job_at_front old.pool.uber.reflow old.pool.done run.job.job (due_runs old run.job.job begins.due)
+
+-- or of one that is given up.
+pub job_drops_alone : {old new : Core} {run : CopyRun} → IsCore old → DropsJob old new run → IsJobOf old run
+    → KeepsAlone old.pool.done old.holds new.holds
+job_drops_alone {old} {new} {run} is drops of hold exclusive =
+    alone_passes old.pool.done old.pool.done old.holds new.holds run.hold hold exclusive
+    (ap (λ (h : Hold). h.kind) of.hold_is) (omega (arith, lo)) (omega arith) (none_left old run new.holds is of drops.ends).1
+    drops.ends
+  where
+    lo : run.hold.lo ≡ old.pool.done
+    lo = hold_at_front old run of
+
+-- ---- what stands
+
 module _ {setting : Setting} {last : Kept} {begun : List Kept} {map : Map} {contents : ℕ → List ℕ}
     {commit : Option CommitRun} where
   -- A job begins: it has copied nothing.
@@ -93,10 +121,7 @@ module _ {setting : Setting} {last : Kept} {begun : List Kept} {map : Map} {cont
       → Stands setting last begun map contents left commit (at_disk old disk)
       → Stands setting last begun map contents calls commit (at_disk new disk)
   job_begins_stands {old} {new} {disk} {run} {left} {calls} actor is begins gains stands =
-      stands_held old new disk is only
-      (λ hold exclusive. alone_beside old.pool.done old.holds new.holds run.hold hold exclusive kind (omega (arith, lo))
-      begins.holds)
-      (job_adds gains)
+      stands_held old new disk is only (job_begins_alone begins) (job_adds gains)
       (λ call listed. ⊎_elim
       (λ (same : Copying run ≡ call). inl (subst (λ (c : HoldingCall). HoldsCall (at_disk new disk) (contents (actor_of c)) c)
       same copies))
@@ -110,13 +135,6 @@ module _ {setting : Setting} {last : Kept} {begun : List Kept} {map : Map} {cont
         copying = sym (ap (λ (c : Core). c.copying) begins.rest) i;
         attaching = sym (ap (λ (c : Core). c.attaching) begins.rest) i;
       })
-
-      kind : run.hold.kind ≡ Exclusive
-      kind = ap (λ (r : CopyRun). r.hold.kind) begins.run_is
-
-      lo : run.hold.lo ≡ old.pool.done
-      lo = ap (λ (r : CopyRun). r.hold.lo) begins.run_is
-          ∙ job_at_front old.pool.uber.reflow old.pool.done run.job.job (due_runs old run.job.job begins.due)
 
       copies : CopiesCells new.pool.uber.reflow new.pool.done run.job (point_of new.pool.out disk)
       copies = subst (λ (r : JobRun). GoesOnIn new.pool.uber.reflow new.pool.done r
@@ -142,17 +160,10 @@ module _ {setting : Setting} {last : Kept} {begun : List Kept} {map : Map} {cont
       → Stands setting last begun map contents calls commit (at_disk old disk)
       → Stands setting last begun map contents left commit (at_disk new disk)
   job_drops_stands {old} {new} {disk} {run} {left} {calls} is drops of gains stands =
-      stands_held old new disk is only
-      (λ hold exclusive. alone_passes old.pool.done old.pool.done old.holds new.holds run.hold hold exclusive
-      (ap (λ (h : Hold). h.kind) of.hold_is) (omega (arith, lo)) (omega arith) (none_left old run new.holds is of drops.ends).1
-      drops.ends)
-      (job_loses gains)
+      stands_held old new disk is only (job_drops_alone is drops of) (job_loses gains)
       (λ call listed. inr (stands.each call (gains_old left calls (Copying run) call gains listed)))
       stands
     where
-      lo : run.hold.lo ≡ old.pool.done
-      lo = hold_at_front old run of
-
       only : OnlyHeld old new
       only = drops.rest ∙ (λ i. record old {
         holds = new.holds;
