@@ -20,7 +20,7 @@ use Rattle.schedule.specs.Coming.{IsSchedule}
 use Rattle.schedule.specs.Turned.{HasDeviceUnder}
 use Rattle.schedule.specs.Turns.{turns_of}
 use Rattle.schedule.specs.InTurn.{Cursor, replay_at, replay_by, turns_by}
-use Rattle.schedule.specs.Playing.{IsReady}
+use Rattle.schedule.specs.Playing.{IsReady, shared_count}
 use Rattle.schedule.specs.Replaying.{AreIdle, HaveBegun, IsAtRest, blank_client, blank_clients}
 use Rattle.schedule.proofs.Rooms.{room_at_first}
 use Rattle.schedule.proofs.Theirs.{none_some}
@@ -74,7 +74,8 @@ ready_at_rest script core disk items journal progress rest bank none same blank 
     (sym blank) (subst (λ (listed : List Item). IsReady script
     (turns_of (at_disk core disk) listed (blank_clients script.clients)) journal.room) (sym same) (record {
       schedule = schedule_at_rest script core disk items script.clients rest bank none;
-      copying = rest.copying;
+      copying = λ actor copies. absurd (none_some (sym rest.copying ∙ copies));
+      sharing = let none = ap shared_count rest.holds in omega (arith, none);
       counted = length-replicate script.clients blank_client;
       enough = room_at_first script script.clients journal.room room;
     }))

@@ -134,7 +134,7 @@ module _ {script : Script} {actor : ℕ} {before after : Station} {clients news 
       → Comes script actor before after clients news
   attach_steps next made next_makes few core of of_commit stands further = comes_further takes call under (work.Attach run)
       does_is under_is is (work.Attach next) (goes_for_attach script actor (before.client.begun - 1) call is for_call.0 goes)
-      further
+      further refl
       (attach_commits takes.was takes.changes takes.schedule.going
       (subst (AreCallsOf now) (sym (same_calls (ap held_under next_is)))
       (core_calls old now (calls_under_way clients) core goes.0.out.still takes.schedule.going.are))

@@ -99,7 +99,7 @@ module _ {script : Script} {actor : ℕ} {before after : Station} {clients news 
       → Comes script actor before after clients news
   attach_joins further = comes_further takes call under (work.Attach (Checked ring)) does_is under_is is
       (work.Attach (Joins join)) (goes_for_attach script actor (before.client.begun - 1) call is for_call.0 goes)
-      further
+      further refl
       (attach_commits takes.was takes.changes takes.schedule.going are now_under (Joins join) join.run call
       alone none_commits refl of attaching next_is refl tt
       (ap (λ (c : Client). slice_get (calls_of script actor) (c.begun - 1)) further.1 ∙ is) for_call joins.begins.of

@@ -53,7 +53,7 @@ use Rattle.schedule.proofs.AttachUses.{refused_plain, sync_plain}
 use Rattle.schedule.proofs.Coming.{goes_for_attach}
 use Rattle.schedule.proofs.Fitting.{TellsOut, attach_fits}
 use Rattle.schedule.proofs.Going.{attach_goes as going_goes, attach_stops as going_stops, one_commit}
-use Rattle.schedule.proofs.LeavesPool.{KeepsCommit}
+use Rattle.schedule.proofs.LeavesPool.{same_keeps}
 use Rattle.schedule.proofs.Recording.{recorded_goes}
 use Rattle.schedule.proofs.Refusals.{IsRefusal, device_cause, device_caused, device_refusal, device_tells, refusal_answers, refusal_map, refusal_right, sync_cause}
 use Rattle.schedule.proofs.RunsEnd.{answers_call as runs_answer}
@@ -88,15 +88,6 @@ looked {before = before} {clients = clients} after going is lawful unchanged run
       (read_touches (IsOnInUse before.core.reach before.core.pool.out) unchanged) runs.stands
       (runs.attaches other its under run is does);
 }
-
-keeps_same_core : (old now : Core) → now ≡ old → KeepsCommit old now
-keeps_same_core old now same = subst (KeepsCommit old) (sym same) (record {
-  committing = refl;
-  attaching = refl;
-  commits = λ run of. of;
-  attaches = λ run of. of;
-  many = λ many. many;
-})
 
 -- One that makes no commit made no group.
 made_none : (run : AttachRun) → attach_commit run ≡ None → made_by (work.Attach run) ≡ None
@@ -150,8 +141,8 @@ module _ {script : Script} {actor : ℕ} {before after : Station} {clients news 
       → HoldsAttach (setting_now runs) runs.last runs.begun after.state.disk next)
       → LeavesGoing actor call before after under (More (work.Attach next)) → ItComes
   attach_looks next core unchanged next_early of holds further = comes_further takes call under (work.Attach run) does_is
-      under_is is (work.Attach next) on further
-      (going_goes takes.was takes.changes takes.schedule.going are (keeps_same_core old now core)
+      under_is is (work.Attach next) on further refl
+      (going_goes takes.was takes.changes takes.schedule.going are (same_keeps old now core)
       (work_no_commit under_is (λ makes. none_there no_commit makes))
       (record { at = under.at; work = work.Attach next }) next next_is refl
       (ap (λ (c : Core). c.attaching) core ∙ of_core.1) (record {

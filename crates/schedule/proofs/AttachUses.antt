@@ -22,7 +22,7 @@ use Rattle.schedule.proofs.UsingTurns.{commit_begun, same_core, same_parts}
 attaching_goes : {old : Core} {group : ℕ} (now : Core) (by : Option ℕ) → GoesWith old now group
     → GoesWith old (record now { attaching = by }) group
 attaching_goes now by goes = record {
-  uses = record { taken = goes.uses.taken; held = goes.uses.held; holds = goes.uses.holds };
+  uses = record { taken = goes.uses.taken; held = goes.uses.held; holds = goes.uses.holds; few = goes.uses.few };
   group_is = goes.group_is;
   stays = record {
     group = goes.stays.group;

@@ -154,7 +154,7 @@ module _ {script : Script} {actor : ℕ} {before after : Station} {clients news 
       → Comes script actor before after clients news
   join_joins further = comes_further takes call under (work.Attach (Joins join)) does_is under_is is
       (work.Attach (Signs made None)) (goes_for_attach script actor (before.client.begun - 1) call is asked.0 goes)
-      further
+      further refl
       (attach_commits takes.was takes.changes takes.schedule.going
       (subst (AreCallsOf now) (sym same)
       (core_calls (reaching_on old) now (calls_under_way clients) core goes.0.out.still

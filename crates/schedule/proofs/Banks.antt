@@ -16,8 +16,8 @@ use Rattle.schedule.specs.declared.client.UnderWay.{UnderWay}
 use Rattle.schedule.specs.declared.client.Work.{Work}
 use Rattle.schedule.specs.InTurn.{HaveTaken, IsTurnOf}
 use Rattle.schedule.specs.Replaying.{blank_client}
-use Rattle.schedule.specs.Turned.{Station, LeavesBegun, LeavesGoing, Turned, Nothing, Began, Went, entry_for, group_by, group_with, listed_of}
-use Rattle.schedule.specs.Works.{made_by}
+use Rattle.schedule.specs.Turned.{Station, LeavesBegun, LeavesGoing, Turned, Nothing, Began, Went, entry_for, group_by, group_with, listed_of, listed_on}
+use Rattle.schedule.specs.Works.{begun_at, commit_in, made_by, made_in}
 use Rattle.schedule.specs.Turns.{Turns, TurnTaken, AreListedWith, bank_when, last_left}
 
 -- ---- a turn lists items at the end, or none
@@ -40,9 +40,17 @@ begun_grows actor call before after (More does) leaves = let same = ap length le
 begun_grows actor call before after (Busy by) leaves = let same = ap length leaves.0 in omega (arith, same)
 begun_grows actor call before after (Done given) leaves = one_longer before.items after.items _ leaves.0
 
+-- Nor is the journal shorter where a call goes on.
+on_grows : (widths : Reflow) (items now : List Item) (at : ℕ) (made : Option ℕ) → now ≡ listed_on widths items at made
+    → length items ≤ length now
+on_grows widths items now at None is = let same = ap length is in omega (arith, same)
+on_grows widths items now at (Some number) is = one_longer items now (Group (group_with widths at number)) is
+
 gone_grows : (actor : ℕ) (call : ScriptCall) (before after : Station) (under : UnderWay) (turn : Turn Work)
     → LeavesGoing actor call before after under turn → length before.items ≤ length after.items
-gone_grows actor call before after under (More does) leaves = let same = ap length leaves.0 in omega (arith, same)
+gone_grows actor call before after under (More does) leaves =
+    on_grows after.state.core.pool.uber.reflow before.items after.items
+    (begun_at (commit_in does) (commit_in under.work) under.at (length before.items)) (made_in does) leaves.0
 gone_grows actor call before after under (Busy by) leaves = absurd leaves
 gone_grows actor call before after under (Done given) leaves =
     listed_grows after.state.core.pool.uber.reflow before.items after.items under.at

@@ -1,6 +1,7 @@
 -- The turns of calls.
 use Rattle.std.proofs.Common.{◌≡◌, ◌⊎◌, inl, inr, ⊎_elim, ℕ, zero, suc, ◌+◌, length, Option, Some, None, Result, Ok, Err, refl, sym, ap, subst, arith}
-use Rattle.std.specs.Prelude.{OnOk, OnErr}
+use Rattle.std.specs.Prelude.{OnOk, OnErr, IsTrue, is_some, ◌≤◌}
+use Rattle.std.proofs.lemmas.Bool.{false≢true}
 use Rattle.bank_trait.specs.Disk.{Disk, Unchanged}
 use Rattle.row_layout.specs.Layout.{rows_of}
 use Rattle.uberblock_ring.specs.Uberblock.{Uber}
@@ -16,7 +17,10 @@ use Rattle.client_script.specs.declared.call.ScriptCall.{ScriptCall}
 use Rattle.client_script.specs.Lines.{fill_bytes, pattern_from}
 use Rattle.core_turns.specs.declared.attaching.AttachRun.{AttachRun}
 use Rattle.core_turns.specs.declared.attaching.AttachRun.TheVariants.{Reads, Checked, Joins, Signs}
+use Rattle.core_turns.specs.declared.rounds.CopyRound.{CopyRound}
+use Rattle.core_turns.specs.declared.rounds.CopyRound.TheVariants.{Rests, Copies, Commits}
 use Rattle.core_turns.specs.Attaching.{IsMoreAttach, StepsAttach}
+use Rattle.core_turns.specs.Rounds.{IsMoreRound, StepsCopy}
 use Rattle.core_turns.specs.declared.getting.GetRun.{GetRun}
 use Rattle.core_turns.specs.declared.getting.OutOfMemory.{OutOfMemory}
 use Rattle.core_blocks.specs.Blocks.{Blocks, IsUnderWay}
@@ -31,8 +35,11 @@ use Rattle.core_turns.proofs.GetTurns.{reads_reaching}
 use Rattle.core_turns.proofs.PutTurns.{fills_of}
 use Rattle.schedule.specs.declared.client.Work.{Work}
 use Rattle.schedule.specs.declared.client.Work.TheVariants as work
-use Rattle.schedule.specs.Turned.{AnswersAtOnce, Waits, BeginsWork, BeginsCall, GoesOnBy, IsFilledIn, PutGoesOn, ReadGoesOn, attach_turn, read_turn}
+use Rattle.schedule.specs.Playing.{MakesRoom, taken_for}
+use Rattle.schedule.specs.Turned.{AnswersAtOnce, Waits, BeginsWork, BeginsCall, GoesOnBy, IsFilledIn, PutGoesOn, ReadGoesOn, WorkGoesOn, attach_turn, copy_turn, group_by, read_turn}
+use Rattle.schedule.specs.Works.{made_by, made_in}
 use Rattle.schedule.proofs.LeavesPool.{pool_goes}
+use Rattle.schedule.proofs.Rooms.{taken_one}
 
 -- ---- first turns
 
@@ -190,3 +197,51 @@ attach_by before after call run (Busy by) steps of = never run steps
     never (Checked ring) steps = steps
     never (Joins join) steps = steps
     never (Signs commit because) steps = steps
+
+-- ---- copies
+
+-- So is one of a copy.
+pub copy_by : (before after : CoreState) (call : ScriptCall) (round : CopyRound) (turn : Turn CopyRound)
+    → StepsCopy before round after turn → IsMoreRound after.core turn
+    → GoesOnBy before after call (work.Copy round) (copy_turn turn)
+copy_by before after call round (More next) steps of = (steps, of)
+copy_by before after call round (Done given) steps of = inl steps
+copy_by before after call round (Busy by) steps of = never round steps
+  where
+    never : (round : CopyRound) → StepsCopy before round after (Busy by) → ⊥
+    never (Rests actor made) steps = steps
+    never (Copies run) steps = steps
+    never (Commits run) steps = steps
+
+-- One for whose next group memory is wanting ends there, and nothing is done.
+pub lacks_room : (state : CoreState) (call : ScriptCall) (does : Work) (made : Option ℕ) → made ≡ made_in does
+    → IsTrue (is_some made) → GoesOnBy state state call does (Done answer.NoMemory)
+lacks_room state call (work.Copy (Rests actor (Some group))) made is some = inr (refl, refl)
+lacks_room state call (work.Copy (Rests actor None)) made is some =
+    absurd (false≢true (subst (λ (m : Option ℕ). IsTrue (is_some m)) is some))
+lacks_room state call other made is some = absurd (false≢true (subst (λ (m : Option ℕ). IsTrue (is_some m)) is some))
+
+-- So it goes on as every turn does,
+pub lacking_goes : (core : Core) (disk : Disk) (does : Work) (made : Option ℕ) → made ≡ made_in does
+    → IsTrue (is_some made) → WorkGoesOn does (at_disk core disk) (at_disk core disk)
+lacking_goes core disk (work.Copy round) made is some = pool_goes core core core.pool.blocks core.holds disk refl
+lacking_goes core disk other made is some = absurd (false≢true (subst (λ (m : Option ℕ). IsTrue (is_some m)) is some))
+
+-- and room is left for its answer.
+pub lacking_room : (does : Work) (made : Option ℕ) (before after : ℕ) → made ≡ made_in does
+    → IsTrue (is_some made) → before ≤ after → MakesRoom does before after (Done answer.NoMemory)
+lacking_room (work.Copy (Rests actor (Some group))) made before after is some kept = omega (arith, kept)
+lacking_room (work.Copy (Rests actor None)) made before after is some kept =
+    absurd (false≢true (subst (λ (m : Option ℕ). IsTrue (is_some m)) is some))
+lacking_room other made before after is some kept =
+    absurd (false≢true (subst (λ (m : Option ℕ). IsTrue (is_some m)) is some))
+
+-- Where memory was there room is left for the next group and for what the turn lists.
+pub makes_room : (does : Work) (made : Option ℕ) (before after : ℕ) (turn : Turn Work) → made ≡ made_in does
+    → before + taken_for made ≤ after → MakesRoom does before after turn
+makes_room does made before after (More next) is more = let same = ap taken_for is in omega (arith, more, same)
+makes_room does made before after (Busy by) is more = tt
+makes_room does made before after (Done given) is more =
+    let same = ap taken_for is in
+    let one = taken_one (group_by given (made_by does)) in
+    omega (arith, more, same, one)

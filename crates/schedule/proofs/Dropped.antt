@@ -110,6 +110,8 @@ begun_untold old new devices actor call kind.Sum None run cause did tells = did
 begun_untold old new devices actor call kind.Sum (Some id) run cause did tells = did
 begun_untold old new devices actor call kind.Sync None run cause did tells = did
 begun_untold old new devices actor call kind.Sync (Some id) run cause did tells = did
+begun_untold old new devices actor call kind.Copy None run cause did tells = did
+begun_untold old new devices actor call kind.Copy (Some id) run cause did tells = did
 begun_untold old new devices actor call asked id run cause did tells = did
 
 -- ---- a turn of a client
@@ -149,6 +151,10 @@ module _ (calls : List ScriptCall) (actor : ℕ) (before after : Station) (clien
       apart same = cc
   went_told under call (work.Sync run) (work.Sync now) next going does_is goes did same tells =
       absurd (sync_no_attach now next same)
+  went_told under call (work.Copy round) (work.Copy now) next going does_is goes did same tells = absurd (apart same)
+    where
+      apart : work.Copy now ≡ work.Attach next → ⊥
+      apart same = cc
   went_told under call does now next going does_is goes did same tells = absurd did
 
   -- What its client has under way then.

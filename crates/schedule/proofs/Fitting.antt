@@ -43,19 +43,32 @@ NoLimit given = (reached : ℕ) → given ≡ answer.Limit reached → ⊥
 pub plain_no_limit : (given : Answer) → IsPlain given → NoLimit given
 plain_no_limit given plain reached is = subst IsPlain is plain
 
--- A call that is no attach has no cause of one's.
-pub no_attach_cause : (devices : ℕ) (dropped : WhyDropped → Type 0) (asked : Kind) (given : Answer) → asked ≢ kind.Attach
-    → IsAnswerOf asked given → IsAttachCause devices dropped given
-no_attach_cause devices dropped asked (answer.NewDeviceFailed device) other of = absurd (other of)
-no_attach_cause devices dropped asked (answer.DeviceOut device) other of = absurd (other of)
-no_attach_cause devices dropped asked (answer.NoDevice there width) other of = absurd (other of)
-no_attach_cause devices dropped asked given other of = tt
-
--- The call is no free and no attach.
+-- The call is no free, no attach and no copy.
 abbrev pub IsPlainKind : Kind → Type 0
 IsPlainKind kind.Free = ⊥
 IsPlainKind kind.Attach = ⊥
+IsPlainKind kind.Copy = ⊥
 IsPlainKind other = ⊤
+
+-- An answer to the call may tell of a device that it lacks.
+abbrev pub LacksDevices : Kind → Type 0
+LacksDevices kind.Attach = ⊤
+LacksDevices kind.Copy = ⊤
+LacksDevices other = ⊥
+
+plain_lacks_none : (asked : Kind) → IsPlainKind asked → LacksDevices asked → ⊥
+plain_lacks_none kind.Attach plain lacks = plain
+plain_lacks_none kind.Copy plain lacks = plain
+plain_lacks_none other plain lacks = lacks
+
+-- No other call has the cause of one that does.
+pub no_attach_cause : (devices : ℕ) (dropped : WhyDropped → Type 0) (asked : Kind) (given : Answer)
+    → (LacksDevices asked → ⊥) → IsAnswerOf asked given → IsAttachCause devices dropped given
+no_attach_cause devices dropped asked (answer.NewDeviceFailed device) none of = absurd (none (subst LacksDevices (sym of) tt))
+no_attach_cause devices dropped asked (answer.DeviceOut device) none of = absurd (none (subst LacksDevices (sym of) tt))
+no_attach_cause devices dropped asked (answer.NoDevice there width) none of = absurd (none (subst LacksDevices (sym of) tt))
+no_attach_cause devices dropped asked (answer.Paused device) none of = absurd (none (subst LacksDevices (sym of) tt))
+no_attach_cause devices dropped asked given none of = tt
 
 pub read_plain_kind : (asked : Kind) → IsReadKind asked → IsPlainKind asked
 read_plain_kind kind.Get read = tt
@@ -71,24 +84,29 @@ fits {devices} {dropped} core asked given of tells no_limit plain = record {
   tells = tells;
   limit = λ reached is. absurd (no_limit reached is);
   memory = λ wanting free. subst IsPlainKind free plain;
-  attach = no_attach_cause devices dropped asked given (λ attach. subst IsPlainKind attach plain) of;
+  attach = no_attach_cause devices dropped asked given (plain_lacks_none asked plain) of;
 }
 
--- and an attach with its cause.
+-- and a call that makes groups with its cause.
+pub group_fits : {devices : ℕ} {dropped : WhyDropped → Type 0} (core : Core) (asked : Kind) (given : Answer)
+    → IsGroupKind asked → IsAnswerOf asked given → TellsOut core given
+    → ((reached : ℕ) → given ≡ answer.Limit reached → reached ≡ max_group) → IsAttachCause devices dropped given
+    → Fits core devices dropped asked given
+group_fits core asked given group of tells limit cause = record {
+  of_kind = of;
+  tells = tells;
+  limit = λ reached told. (group, limit reached told);
+  memory = λ wanting free. subst IsGroupKind free group;
+  attach = cause;
+}
+
+-- So it is of an attach.
 pub attach_fits : {devices : ℕ} {dropped : WhyDropped → Type 0} (core : Core) (asked : Kind) (given : Answer)
     → asked ≡ kind.Attach → IsAnswerOf kind.Attach given → TellsOut core given
     → ((reached : ℕ) → given ≡ answer.Limit reached → reached ≡ max_group) → IsAttachCause devices dropped given
     → Fits core devices dropped asked given
-attach_fits core asked given is of tells limit cause = record {
-  of_kind = subst (λ (k : Kind). IsAnswerOf k given) (sym is) of;
-  tells = tells;
-  limit = λ reached told. (subst IsGroupKind (sym is) tt, limit reached told);
-  memory = λ wanting free. apart (sym is ∙ free);
-  attach = cause;
-}
-  where
-    apart : kind.Attach ≡ kind.Free → ⊥
-    apart same = cc
+attach_fits core asked given is of = group_fits core asked given (subst IsGroupKind (sym is) tt)
+    (subst (λ (k : Kind). IsAnswerOf k given) (sym is) of)
 
 -- Its cause stands for whoever has come further.
 pub attach_cause : (devices : ℕ) (dropped further : WhyDropped → Type 0) (given : Answer)
@@ -97,6 +115,7 @@ pub attach_cause : (devices : ℕ) (dropped further : WhyDropped → Type 0) (gi
 attach_cause devices dropped further (answer.NewDeviceFailed device) on is = on (why.NewDeviceFailed device) is
 attach_cause devices dropped further (answer.DeviceOut device) on is = on (why.DeviceOut device) is
 attach_cause devices dropped further (answer.NoDevice there width) on is = is
+attach_cause devices dropped further (answer.Paused device) on is = on (why.DeviceOut device) is
 attach_cause devices dropped further other on is = tt
 
 -- What is listed in a turn is what was listed before, or fits its call.
@@ -108,6 +127,12 @@ FitSince before after = (index : ℕ) (entry : Entry) → CallAt after.items ind
 pub fit_same : (before after : Turns) → after.items ≡ before.items → FitSince before after
 fit_same before after items index entry there =
     inl (subst (λ (l : List Item). slice_get l index ≡ Some (CallItem entry)) items there)
+
+-- or a group alone, which answers no call,
+pub fit_group : (before after : Turns) (group : GroupItem) → after.items ≡ before.items ++ Group group ∷ []
+    → FitSince before after
+fit_group before after group items index entry there = inl (group_apart before.items group index entry
+    (subst (λ (l : List Item). slice_get l index ≡ Some (CallItem entry)) items there))
 
 module _ (before after : Turns) (last : Entry)
     (fit : Fits before.state.core before.state.disk.devices (HasDropCause before after) last.kind last.answer)
@@ -139,7 +164,7 @@ module _ (before after : Turns) (last : Entry)
   fit_entry items index entry there = with_last before.items index entry
       (subst (λ (l : List Item). slice_get l index ≡ Some (CallItem entry)) items there)
 
-  -- and where a group was before it, which answers no call.
+  -- and where a group was before it.
   pub fit_both : (group : GroupItem) → after.items ≡ (before.items ++ Group group ∷ []) ++ CallItem last ∷ []
       → FitSince before after
   fit_both group items index entry there = elim (with_last (before.items ++ Group group ∷ []) index entry

@@ -81,9 +81,6 @@ module _ {script : Script} {actor : ℕ} {before after : Station} {clients news 
   free_no_put : kind.Free ≡ kind.Put → ⊥
   free_no_put same = cc
 
-  free_no_attach : kind.Free ≡ kind.Attach → ⊥
-  free_no_attach same = cc
-
   -- A free is answered at once.
   pub free_at_once : Comes script actor before after clients news
   free_at_once =
@@ -96,7 +93,8 @@ module _ {script : Script} {actor : ℕ} {before after : Station} {clients news 
         limit = λ reached told. absurd (plain_no_limit given of.1 reached told);
         memory = λ wanting. absurd (subst (FreesBlock before.state.core after.state.core id) wanting frees.frees);
         attach = no_attach_cause before.state.disk.devices
-            (HasDropCause (turns_of before.state before.items clients) (turns_of after.state after.items news)) kind.Free given free_no_attach of.0;
+            (HasDropCause (turns_of before.state before.items clients) (turns_of after.state after.items news)) kind.Free given
+            (λ lacks. lacks) of.0;
       })
       (λ full. absurd (put_alone kind.Free given free_no_put of.0 full))
       (frees_calls before.state.core after.state.core id given (calls_under_way clients) frees.frees frees.under

@@ -27,6 +27,7 @@ use Rattle.open_pool.proofs.Holding.{entry_held}
 use Rattle.journal_law.proofs.Grown.{map_at_end, new_or_before}
 use Rattle.journal_law.proofs.ManyIds.{call_puts, held_or_put, one_too_many}
 use Rattle.core_turns.specs.declared.putting.PutRun.{PutRun}
+use Rattle.core_turns.specs.declared.rounds.CopyRound.TheVariants.{Rests, Copies, Commits}
 use Rattle.core_turns.specs.Core.{Core}
 use Rattle.core_turns.specs.Getting.{IsReadKind}
 use Rattle.core_turns.specs.UnderWay.{HoldingCall, Putting, Reading, Copying, ranges_of}
@@ -96,6 +97,12 @@ put_asked (work.Read other) run call held asked = absurd (apart (only_one (Readi
     apart same = cc
 put_asked (work.Sync other) run call held asked = absurd (none_listed (Putting run) held)
 put_asked (work.Attach other) run call held asked = absurd (none_listed (Putting run) held)
+put_asked (work.Copy (Copies other)) run call held asked = absurd (apart (only_one (Copying other) (Putting run) held))
+  where
+    apart : Copying other ≡ Putting run → ⊥
+    apart same = cc
+put_asked (work.Copy (Rests actor made)) run call held asked = absurd (none_listed (Putting run) held)
+put_asked (work.Copy (Commits other)) run call held asked = absurd (none_listed (Putting run) held)
 
 -- An id that is reserved is one that a call of the script puts.
 reserved_put : (script : Script) (core : Core) (clients : List Client) (opening : Map) (id : ℕ)
@@ -196,7 +203,12 @@ module _ (script : Script) (before after : Turns) where
       subst (FullIsCaused script world.opening) (sym items)
       (full_entry script world.opening before.items last (λ is. many is world past handed runs) caused)
 
-  -- and one that lists a group before the answer to the sync that made it.
+  -- one that lists a group,
+  pub full_made : (group : GroupItem) → after.items ≡ before.items ++ Group group ∷ [] → FullStays script before after
+  full_made group items world past handed runs caused = subst (FullIsCaused script world.opening) (sym items)
+      (full_group script world.opening before.items group caused)
+
+  -- and one that lists a group before the answer to the call that made it.
   pub full_synced : (group : GroupItem) (last : Entry)
       → after.items ≡ (before.items ++ Group group ∷ []) ++ CallItem last ∷ [] → last.answer ≢ answer.Full
       → FullStays script before after

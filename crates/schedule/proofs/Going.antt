@@ -255,12 +255,12 @@ module _ {script : Script} {core now : Core} {clients news : List Client} {index
       commits_as under commit call (others_none alone) only (attach_is under run client_is does attaching)
       (λ its is_attach. (subst (IsAttachRunOf now) (same_attach (sym does ∙ is_attach)) of, attaching)) client_is
 
-  -- or it has ended.
-  pub commit_ends : KeepsAttach core now → client.under_way ≡ None → OnlyIt clients index → IsNoAttach old.under_way
+  -- or it has ended, and the client's work makes none.
+  pub commit_ends : KeepsAttach core now → OnlyIt clients index → IsNoAttach old.under_way
+      → ((under : UnderWay) → client.under_way ≡ Some under → IsWorkOf script now index client under.work)
       → ((actor : ℕ) → now.committing ≡ Some actor → HasTooManyOut now) → AreGoing script now news
-  commit_ends keeps ended only no_attach none =
-      commits (others_early keeps only) only (still_theirs keeps no_attach)
-      (no_one (λ its. IsWorkOf script now index client its.work) ended)
+  commit_ends keeps only no_attach mine none =
+      commits (others_early keeps only) only (still_theirs keeps no_attach) mine
       (λ actor its. inl (none actor its))
 
   -- An attach ends with its commit.

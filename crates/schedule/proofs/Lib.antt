@@ -11,6 +11,8 @@ pub mod Lists
 pub mod Answered
 pub mod Running
 pub mod Fulls
+pub mod CommitWorks
+pub mod CopyRefused
 pub mod RunsGoOn
 pub mod RunsEnd
 pub mod Using
@@ -18,6 +20,7 @@ pub mod Stays
 pub mod UsingTurns
 pub mod UsingEnds
 pub mod AttachUses
+pub mod CopyUses
 pub mod UsingWorks
 pub mod NewDevices
 pub mod Numbered
@@ -32,6 +35,7 @@ pub mod Refusals
 pub mod AttachAnswers
 pub mod SyncComes
 pub mod AttachComes
+pub mod CopyComes
 pub mod AttachReads
 pub mod AttachJoins
 pub mod AttachCommits
@@ -39,6 +43,7 @@ pub mod AttachWidens
 pub mod AttachCut
 pub mod AttachEnds
 pub mod SyncGoes
+pub mod CopyGoes
 pub mod Puts
 pub mod PutComes
 pub mod PutEnds
@@ -52,6 +57,7 @@ pub mod Stations
 pub mod Opened
 pub mod UsingOpened
 pub mod Whole
+pub mod Holders
 pub mod Shared
 pub mod Dropped
 pub mod TurnTaken

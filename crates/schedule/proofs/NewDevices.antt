@@ -29,6 +29,7 @@ work_there old new (work.Put run) same there = there
 work_there old new (work.Read run) same there = there
 work_there old new (work.Sync run) same there = there
 work_there old new (work.Attach run) same there = attach_there old new run same there
+work_there old new (work.Copy round) same there = there
 
 under_there : (old new : Disk) (its : Option UnderWay) → new.devices ≡ old.devices → HasDeviceUnder old its
     → HasDeviceUnder new its

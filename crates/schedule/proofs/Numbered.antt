@@ -1,5 +1,5 @@
 -- The groups of a journal stay numbered, turn by turn.
-use Rattle.std.proofs.Common.{◌≡◌, inl, inr, ℕ, zero, suc, ◌+◌, ◌<◌, List, [], ◌∷◌, ◌++◌, length, Some, sym, ◌∙◌, ap, subst, arith, refl}
+use Rattle.std.proofs.Common.{◌≡◌, inl, inr, ℕ, zero, suc, ◌+◌, ◌<◌, List, [], ◌∷◌, ◌++◌, length, Option, Some, None, sym, ◌∙◌, ap, subst, arith, refl}
 use Rattle.std.specs.Prelude.{slice_get}
 use Rattle.uberblock_ring.specs.Uberblock.{Uber}
 use Rattle.core_state.specs.declared.item.Entry.{Entry}
@@ -7,21 +7,26 @@ use Rattle.core_state.specs.declared.item.Group.{Group as GroupItem}
 use Rattle.core_state.specs.declared.item.Item.{Item}
 use Rattle.core_state.specs.declared.item.Item.TheVariants.{Group, Call as CallItem}
 use Rattle.core_state.specs.Legal.{GroupAt, IsGroupBefore}
+use Rattle.core_commit.specs.CommitTurns.{CommitRun}
 use Rattle.client_script.specs.Script.{Script, calls_of}
 use Rattle.journal_law.proofs.Grown.{group_before_first, new_or_before}
 use Rattle.journal_law.proofs.GrownGroups.{latest_alone, latest_grown_call, latest_grown_group}
 use Rattle.open_pool.specs.Pool.{Pool, first_item}
+use Rattle.core_turns.specs.declared.copying.CopyRun.{CopyRun}
 use Rattle.core_turns.specs.declared.turn.Turn.TheVariants.{More, Busy, Done}
+use Rattle.core_turns.specs.Committing.{IsCommitOf}
 use Rattle.core_turns.specs.Core.{Core, IsCore}
 use Rattle.schedule.specs.declared.client.Client.{Client}
+use Rattle.schedule.specs.declared.client.UnderWay.{UnderWay}
 use Rattle.schedule.specs.Numbered.{GroupsAreNumbered, IsNumbered}
 use Rattle.schedule.specs.Running.{AreGoing}
-use Rattle.schedule.specs.Turned.{Station, Turned, Nothing, Began, Went, entry_for, group_for}
-use Rattle.schedule.specs.Works.{made_by}
+use Rattle.schedule.specs.Turned.{Station, Turned, Nothing, Began, Went, entry_for, group_for, listed_on}
+use Rattle.schedule.specs.Works.{begun_at, commit_in, made_by, made_in}
 use Rattle.schedule.proofs.BothListed.{one_latest}
 use Rattle.schedule.proofs.Opened.{resting}
 use Rattle.schedule.proofs.UsingWorks.{group_listed, plain_listed, works_end, works_go}
-use Rattle.schedule.proofs.UsingTurns.{answers_with, waits_with, works_begin}
+use Rattle.schedule.proofs.UsingEnds.{ListsOn}
+use Rattle.schedule.proofs.UsingTurns.{answers_with, job_in, waits_with, works_begin}
 
 call_no_group : (entry : Entry) (group : GroupItem) → CallItem entry ≡ Group group → ⊥
 call_no_group entry group is = cc
@@ -109,6 +114,23 @@ module _ (script : Script) (actor : ℕ) (before after : Station) (clients : Lis
     numbered = numbered_call before.items stood.numbered entry;
   })
 
+  -- a group,
+  lists_made : (group : GroupItem) → new.pool.uber.group ≡ group.group → group.group ≡ old.pool.uber.group + 1
+      → after.items ≡ before.items ++ Group group ∷ [] → IsNumbered after.items new
+  lists_made group number next items = subst (λ (l : List Item). IsNumbered l new) (sym items) (record {
+    group = group;
+    latest = latest_grown_group before.items group;
+    number = number;
+    numbered = numbered_group before.items stood.numbered stood.group group stood.latest
+        (next ∙ ap (λ (n : ℕ). n + 1) stood.number);
+  })
+
+  -- nothing or a group, where the call goes on,
+  lists_on : (was now : Option CopyRun) (at : ℕ) (made : Option ℕ) → ListsOn old new was now made
+      → after.items ≡ listed_on new.pool.uber.reflow before.items at made → IsNumbered after.items new
+  lists_on was now at None on items = lists_none on.group_is items
+  lists_on was now at (Some number) on items = lists_made (group_for new at number) on.0.group_is on.1 items
+
   -- or a group and its answer.
   lists_group : (group : GroupItem) → new.pool.uber.group ≡ group.group → group.group ≡ old.pool.uber.group + 1
       → (entry : Entry) → after.items ≡ (before.items ++ Group group ∷ []) ++ CallItem entry ∷ []
@@ -121,6 +143,12 @@ module _ (script : Script) (actor : ℕ) (before after : Station) (clients : Lis
         (numbered_group before.items stood.numbered stood.group group stood.latest
         (next ∙ ap (λ (n : ℕ). n + 1) stood.number)) entry;
   })
+
+  -- The commit under way is the client's.
+  its_commit : (under : UnderWay) → before.client.under_way ≡ Some under → (run : CommitRun)
+      → commit_in under.work ≡ Some run → IsCommitOf old run
+  its_commit under is_under run does =
+      ((going.each actor before.client under (record { there = was; under_way = is_under })).commit run does).0
 
   pub turn_numbers : Turned (calls_of script actor) actor before after → IsNumbered after.items after.state.core
   turn_numbers (Nothing nothing) = lists_none (ap (λ (s : Station). s.state.core.pool.uber.group) nothing.same)
@@ -136,11 +164,12 @@ module _ (script : Script) (actor : ℕ) (before after : Station) (clients : Lis
       lists_entry (ap (λ (u : Uber). u.group) with.uber)
       (entry_for begins.call actor (before.client.begun + 1) (length before.items) given) leaves.0
   turn_numbers (Went under (More does) goes leaves) =
-      lists_none (works_go before.state after.state is goes.call under.work does goes.did).group_is leaves.0
+      lists_on (job_in under.work) (job_in does)
+      (begun_at (commit_in does) (commit_in under.work) under.at (length before.items)) (made_in does)
+      (works_go before.state after.state is goes.call under.work does (its_commit under goes.going) goes.did) leaves.0
   turn_numbers (Went under (Busy by) goes leaves) = absurd leaves
   turn_numbers (Went under (Done given) goes leaves) = elim (works_end before.state after.state is goes.call under.work
-      given (λ run does. ((going.each actor before.client under
-      (record { there = was; under_way = goes.going })).commit run does).0) goes.did) [
+      given (its_commit under goes.going) goes.did) [
         | inl plain ↦ lists_entry plain.1.group_is (entry_for goes.call actor before.client.begun under.at given)
             (leaves.0 ∙ plain_listed new before.items under.at
             (entry_for goes.call actor before.client.begun under.at given) (made_by under.work) given plain.0)

@@ -1,12 +1,13 @@
 -- Where no turns are listed the journal follows the lines of the script.
 use Rattle.std.proofs.Common.{◌≡◌, ◌≢◌, ◌⊎◌, inl, inr, ⊎_elim, ℕ, zero, suc, ◌+◌, ◌-◌, ◌<◌, ◌≤◌, List, [], ◌∷◌, ◌++◌, length, Option, Some, None, Bool, true, false, refl, sym, ◌∙◌, ap, subst, arith}
-use Rattle.std.specs.Prelude.{slice_get, map, take, All, is_some, ◌||◌}
+use Rattle.std.specs.Prelude.{slice_get, map, take, All, is_some, ◌||◌, ⊤}
 use Rattle.std.proofs.lemmas.Bool.{cases_eq, true≢false}
 use Rattle.std.proofs.lemmas.List.{append-nil}
 use Rattle.std.proofs.lemmas.Option.{slice_get_within}
 use Rattle.core_state.specs.declared.answer.Answer.{Answer}
 use Rattle.core_state.specs.declared.answer.Answer.TheVariants as answer
 use Rattle.core_state.specs.declared.answer.Kind.{Kind}
+use Rattle.core_state.specs.declared.answer.Kind.TheVariants as kind
 use Rattle.core_state.specs.declared.item.Entry.{Entry}
 use Rattle.core_state.specs.declared.item.Group.{Group as GroupItem}
 use Rattle.core_state.specs.declared.item.Item.{Item}
@@ -16,6 +17,7 @@ use Rattle.core_commit.specs.CommitTurns.{CommitRun}
 use Rattle.client_script.specs.declared.call.ScriptCall.{ScriptCall}
 use Rattle.client_script.specs.InOrder.{given_of}
 use Rattle.client_script.specs.Script.{Placed, Script, calls_of}
+use Rattle.core_turns.specs.declared.rounds.CopyRound.TheVariants.{Rests, Copies, Commits}
 use Rattle.core_turns.specs.declared.turn.Turn.{Turn}
 use Rattle.core_turns.specs.declared.turn.Turn.TheVariants.{More, Busy, Done}
 use Rattle.core_turns.specs.Core.{Core, CoreState}
@@ -24,6 +26,7 @@ use Rattle.journal_law.proofs.Grown.{new_or_before}
 use Rattle.schedule.specs.declared.client.Client.{Client}
 use Rattle.schedule.specs.declared.client.UnderWay.{UnderWay}
 use Rattle.schedule.specs.declared.client.Work.{Work}
+use Rattle.schedule.specs.declared.client.Work.TheVariants as work
 use Rattle.schedule.specs.declared.whole_run.Ended.{Ended}
 use Rattle.schedule.specs.declared.whole_run.Ended.TheVariants.{Whole, NoMemory, Limit}
 use Rattle.schedule.specs.Clients.{Changes, answered_of}
@@ -31,11 +34,14 @@ use Rattle.schedule.specs.InTurn.{Cursor, Goes, InOrder, InRest, InRound, IsCall
 use Rattle.schedule.specs.OfLines.{FollowsLines, actors_in, callers_in}
 use Rattle.schedule.specs.Playing.{EndsAs}
 use Rattle.schedule.specs.Replaying.{AreIdle, blank_client, blank_clients}
-use Rattle.schedule.specs.Turned.{Station, Turned, Nothing, Began, Went, LeavesBegun, LeavesGoing, entry_for, group_by, group_for, listed_for, listed_of}
-use Rattle.schedule.specs.Works.{begun_at, commit_in, made_by}
+use Rattle.schedule.specs.Turned.{Station, Turned, Nothing, Began, Went, BeginsCall, BeginsWork, GoesOnBy, LeavesBegun, LeavesGoing, entry_for, group_by, group_for, listed_for, listed_of, listed_on}
+use Rattle.schedule.specs.Works.{begun_at, commit_in, made_by, made_in}
 use Rattle.schedule.specs.Turns.{Turns, TurnTaken}
 use Rattle.schedule.specs.WholeRun.{first_turns}
 use Rattle.schedule.proofs.CallTaken.{given_more, given_own}
+use Rattle.schedule.proofs.CopyUses.{copy_plain}
+use Rattle.schedule.proofs.UsingEnds.{EndsPlainly}
+use Rattle.schedule.proofs.UsingWorks.{plain_listed}
 use Rattle.schedule.proofs.InTurn.{busy_in_rest, left_begun, left_in_rest, none_in_rest, none_left_begun, not_busy_idle, rest_next}
 use Rattle.schedule.proofs.Opened.{blank_is}
 use Rattle.schedule.proofs.Theirs.{none_some, some_is}
@@ -171,14 +177,29 @@ IsPlaced script answered (InRound actor) = ⊥
 IsPlaced script answered (InRest given) = (given ≡ answered)
     ⊎ ((given + 1 ≡ answered) ⊎ ((answered ≡ length script.calls) × (answered ≤ given)))
 
+-- Nothing was listed since a call under way began, unless it is a copy that may have made groups since; nor was anything
+-- since the commit began that a copy has under way.
+abbrev AtEndOf : Work → ℕ → ℕ → Type 0
+AtEndOf (work.Copy (Rests actor made)) at now = ⊤
+AtEndOf (work.Copy (Copies run)) at now = ⊤
+AtEndOf other at now = at ≡ now
+
+-- A copy is a call of its kind.
+abbrev IsCopyFor : Kind → Work → Type 0
+IsCopyFor asked (work.Copy round) = asked ≡ kind.Copy
+IsCopyFor asked other = ⊤
+
 -- A client has answered as many calls as are its among those that are answered. One under way is the call after these,
 -- and began when all items had been listed.
 record IsInLine (script : Script) (items : List Item) (answered : ℕ) (cursor : Cursor) (actor : ℕ) (client : Client)
     : Type 0 where
   counted : answered_of client.begun client.under_way ≡ given_of script answered actor
-  under : (under : UnderWay) → client.under_way ≡ Some under → (under.at ≡ length items) × (1 ≤ client.begun)
+  under : (under : UnderWay) → client.under_way ≡ Some under
+      → AtEndOf under.work under.at (length items) × (1 ≤ client.begun)
       × (cursor ≡ InRest answered) × (placed : Placed) × (slice_get script.calls answered ≡ Some placed)
       × (placed.actor ≡ actor)
+  asked : (under : UnderWay) (call : ScriptCall) → client.under_way ≡ Some under
+      → slice_get (calls_of script actor) (client.begun - 1) ≡ Some call → IsCopyFor call.kind under.work
 
 record GoesByLines (script : Script) (items : List Item) (clients : List Client) (cursor : Cursor) : Type 0 where
   follows : Follows script items
@@ -226,22 +247,44 @@ module _ (script : Script) (items : List Item) (clients news : List Client) (giv
         (λ (apart : actor ≢ placed.actor). others actor client apart (sym (changes.others actor apart) ∙ is))
         (cases_eq actor placed.actor)
 
-  -- It began, waits or goes on.
-  goes_on_by : answered_of now.begun now.under_way ≡ given_of script answered placed.actor
-      → ((under : UnderWay) → now.under_way ≡ Some under → (under.at ≡ length items) × (1 ≤ now.begun))
-      → given ≡ answered → GoesByLines script items news (InRest given)
-  goes_on_by counted under at = record {
-    follows = goes.follows;
-    few = goes.few;
-    place = goes.place;
+  -- A client whose call is not the next one has none under way, and as many calls are answered.
+  other_line : (more : List Item) (now_answered : ℕ) (actor : ℕ) (client : Client) → actor ≢ placed.actor
+      → slice_get clients actor ≡ Some client → given_of script now_answered actor ≡ given_of script answered actor
+      → IsInLine script more now_answered (InRest given) actor client
+  other_line more now_answered actor client apart is same = record {
+    counted = (goes.each actor client is).counted ∙ sym same;
+    under = λ its going. absurd (only_next actor client its apart is going);
+    asked = λ its call going called. absurd (only_next actor client its apart is going);
+  }
+
+  -- It began, waits or goes on, and lists no answer.
+  goes_on_by : (more : List Item) (follows : Follows script more) → follows.answered ≡ answered
+      → answered_of now.begun now.under_way ≡ given_of script answered placed.actor
+      → ((under : UnderWay) → now.under_way ≡ Some under
+      → AtEndOf under.work under.at (length more) × (1 ≤ now.begun))
+      → ((under : UnderWay) (call : ScriptCall) → now.under_way ≡ Some under
+      → slice_get (calls_of script placed.actor) (now.begun - 1) ≡ Some call → IsCopyFor call.kind under.work)
+      → given ≡ answered → GoesByLines script more news (InRest given)
+  goes_on_by more follows same counted under asked at = record {
+    follows = follows;
+    few = subst (λ (n : ℕ). n ≤ length script.calls) (sym same) goes.few;
+    place = inl (at ∙ sym same);
     there = still_there;
-    each = each_client {T = λ actor client. IsInLine script items answered (InRest given) actor client}
+    each = each_client {T = λ actor client. IsInLine script more follows.answered (InRest given) actor client}
         (record {
-          counted = counted;
-          under = λ its going. let has = under its going in
-              (has.0, has.1, ap InRest at, placed, next, refl);
+          counted = counted ∙ sym (ap (λ (n : ℕ). given_of script n placed.actor) same);
+          under = λ its going. let has = under its going in (
+            has.0,
+            has.1,
+            ap InRest (at ∙ sym same),
+            placed,
+            subst (λ (n : ℕ). slice_get script.calls n ≡ Some placed) (sym same) next,
+            refl,
+          );
+          asked = asked;
         })
-        (λ actor client apart is. let line = goes.each actor client is in line);
+        (λ actor client apart is. other_line more follows.answered actor client apart is
+        (ap (λ (n : ℕ). given_of script n actor) same));
   }
 
   -- It is answered.
@@ -259,12 +302,10 @@ module _ (script : Script) (items : List Item) (clients news : List Client) (giv
               ∙ sym (given_own script answered placed.actor placed next refl)
               ∙ sym (ap (λ (n : ℕ). given_of script n placed.actor) one);
           under = λ its going. absurd (none_some (sym idle ∙ going));
+          asked = λ its call going called. absurd (none_some (sym idle ∙ going));
         })
-        (λ actor client apart is. record {
-          counted = (goes.each actor client is).counted ∙ sym (as_before actor apart)
-              ∙ sym (ap (λ (n : ℕ). given_of script n actor) one);
-          under = λ its going. absurd (only_next actor client its apart is going);
-        });
+        (λ actor client apart is. other_line more follows.answered actor client apart is
+        (ap (λ (n : ℕ). given_of script n actor) one ∙ as_before actor apart));
   }
     where
       as_before : (actor : ℕ) → actor ≢ placed.actor
@@ -320,6 +361,94 @@ begun_now None was at now same = same
 begun_now (Some run) None at now same = refl
 begun_now (Some run) (Some before) at now same = same
 
+-- What began when all items had been listed is at their end, whatever it does.
+at_end : (does : Work) (at now : ℕ) → at ≡ now → AtEndOf does at now
+at_end (work.Copy (Rests actor made)) at now same = tt
+at_end (work.Copy (Copies run)) at now same = tt
+at_end (work.Copy (Commits run)) at now same = same
+at_end (work.Put run) at now same = same
+at_end (work.Read run) at now same = same
+at_end (work.Sync run) at now same = same
+at_end (work.Attach run) at now same = same
+
+-- A copy that has made a group rests.
+made_rests : (does : Work) (number at now : ℕ) → made_in does ≡ Some number → AtEndOf does at now
+made_rests (work.Copy (Rests actor made)) number at now is = tt
+made_rests other number at now is = absurd (none_some is)
+
+module _ (before after : CoreState) (call : ScriptCall) where
+  -- A call that goes on is at their end as it was, or as its commit began,
+  went_at_end : (does next : Work) (at now : ℕ) → GoesOnBy before after call does (More next) → AtEndOf does at now
+      → AtEndOf next (begun_at (commit_in next) (commit_in does) at now) now
+  went_at_end (work.Copy (Rests actor made)) (work.Copy (Rests whose next)) at now goes end = tt
+  went_at_end (work.Copy (Rests actor made)) (work.Copy (Copies next)) at now goes end = tt
+  went_at_end (work.Copy (Rests actor made)) (work.Copy (Commits next)) at now goes end = refl
+  went_at_end (work.Copy (Copies run)) (work.Copy (Rests whose next)) at now goes end = tt
+  went_at_end (work.Copy (Copies run)) (work.Copy (Copies next)) at now goes end = tt
+  went_at_end (work.Copy (Copies run)) (work.Copy (Commits next)) at now goes end = absurd goes.0
+  went_at_end (work.Copy (Commits run)) (work.Copy (Rests whose next)) at now goes end = tt
+  went_at_end (work.Copy (Commits run)) (work.Copy (Copies next)) at now goes end = tt
+  went_at_end (work.Copy (Commits run)) (work.Copy (Commits next)) at now goes end = end
+  went_at_end (work.Put run) (work.Put next) at now goes end = end
+  went_at_end (work.Read run) (work.Read next) at now goes end = end
+  went_at_end (work.Sync run) (work.Sync next) at now goes end = end
+  went_at_end (work.Attach run) (work.Attach next) at now goes end =
+      begun_now (commit_in (work.Attach next)) (commit_in (work.Attach run)) at now end
+  went_at_end does next at now goes end = absurd goes
+
+  -- and the commit of a group that is listed began there.
+  made_at_end : (does next : Work) (at now number : ℕ) → GoesOnBy before after call does (More next)
+      → made_in next ≡ Some number → AtEndOf does at now
+      → begun_at (commit_in next) (commit_in does) at now ≡ now
+  made_at_end (work.Copy (Rests actor made)) (work.Copy (Rests whose next)) at now number goes is end =
+      absurd (none_some (sym goes.0.0.1 ∙ is))
+  made_at_end (work.Copy (Copies run)) (work.Copy (Rests whose next)) at now number goes is end =
+      absurd (none_some (sym goes.0.0.1 ∙ is))
+  made_at_end (work.Copy (Commits run)) (work.Copy (Rests whose next)) at now number goes is end = end
+  made_at_end (work.Copy round) (work.Copy (Copies next)) at now number goes is end = absurd (none_some is)
+  made_at_end (work.Copy round) (work.Copy (Commits next)) at now number goes is end = absurd (none_some is)
+  made_at_end (work.Put run) (work.Put next) at now number goes is end = absurd (none_some is)
+  made_at_end (work.Read run) (work.Read next) at now number goes is end = absurd (none_some is)
+  made_at_end (work.Sync run) (work.Sync next) at now number goes is end = absurd (none_some is)
+  made_at_end (work.Attach run) (work.Attach next) at now number goes is end = absurd (none_some is)
+  made_at_end does next at now number goes is end = absurd goes
+
+  -- What goes on is a copy if it was one.
+  still_copy : (does next : Work) → GoesOnBy before after call does (More next) → IsCopyFor call.kind does
+      → IsCopyFor call.kind next
+  still_copy (work.Copy round) (work.Copy next) goes of = of
+  still_copy (work.Put run) (work.Put next) goes of = tt
+  still_copy (work.Read run) (work.Read next) goes of = tt
+  still_copy (work.Sync run) (work.Sync next) goes of = tt
+  still_copy (work.Attach run) (work.Attach next) goes of = tt
+  still_copy does next goes of = absurd goes
+
+  -- A call that ends began when all items had been listed, or is a copy, which is answered without a group, and speaks
+  -- of no point.
+  ends_right : (does : Work) (given : Answer) (at now : ℕ) → GoesOnBy before after call does (Done given)
+      → AtEndOf does at now → IsCopyFor call.kind does
+      → (at ≡ now) ⊎ (EndsPlainly given (made_by does)
+      × (point_after call.kind at given ≡ point_after call.kind now given))
+  ends_right (work.Copy round) given at now goes end of = inr (
+    copy_plain before after call round given goes,
+    ap (λ (k : Kind). point_after k at given) of ∙ sym (ap (λ (k : Kind). point_after k now given) of),
+  )
+  ends_right (work.Put run) given at now goes end of = inl end
+  ends_right (work.Read run) given at now goes end of = inl end
+  ends_right (work.Sync run) given at now goes end of = inl end
+  ends_right (work.Attach run) given at now goes end of = inl end
+
+-- A call that begins is a copy where it is to be one.
+begun_copy : (old new : Core) (devices actor : ℕ) (call : ScriptCall) (asked : Kind) (id : Option ℕ) (does : Work)
+    → BeginsWork old new devices actor call asked id does → IsCopyFor asked does
+begun_copy old new devices actor call kind.Put (Some id) (work.Put run) begins = tt
+begun_copy old new devices actor call kind.Get (Some id) (work.Read run) begins = tt
+begun_copy old new devices actor call kind.Sum (Some id) (work.Read run) begins = tt
+begun_copy old new devices actor call kind.Sync None (work.Sync run) begins = tt
+begun_copy old new devices actor call kind.Attach None (work.Attach run) begins = tt
+begun_copy old new devices actor call kind.Copy None (work.Copy round) begins = refl
+begun_copy old new devices actor call asked id does begins = absurd begins
+
 -- Whatever the next call's client does, the run goes by the lines.
 module _ (script : Script) (before after : Station) (clients news : List Client) (given : ℕ)
     (goes : GoesByLines script before.items clients (InRest given)) (placed : Placed)
@@ -336,59 +465,140 @@ module _ (script : Script) (before after : Station) (clients news : List Client)
       → answered_of before.client.begun under ≡ given_of script goes.follows.answered placed.actor
   counted_by under is = ap (answered_of before.client.begun) (sym is) ∙ its.counted
 
+  -- It is the last call that the client has begun, by how many it has.
+  abbrev Calls : ℕ → ScriptCall → Type 0
+  Calls begun call = slice_get (calls_of script placed.actor) (begun - 1) ≡ Some call
+
   stays : after.items ≡ before.items → after.client ≡ before.client → Now after.items
   stays items client = subst Now (sym items)
-      (goes_on_by script before.items clients news given goes placed next after.client changes
+      (goes_on_by script before.items clients news given goes placed next after.client changes before.items goes.follows
+      refl
       (ap (λ (c : Client). answered_of c.begun c.under_way) client ∙ its.counted)
       (λ under going. let has = its.under under (sym (ap (λ (c : Client). c.under_way) client) ∙ going) in
-      (has.0, let same = ap (λ (c : Client). c.begun) client in let some = has.1 in omega (arith, same, some))) at)
+      (has.0, let same = ap (λ (c : Client). c.begun) client in let some = has.1 in omega (arith, same, some)))
+      (λ under call going is. its.asked under call (sym (ap (λ (c : Client). c.under_way) client) ∙ going)
+      (subst (λ (n : ℕ). Calls n call) (ap (λ (c : Client). c.begun) client) is))
+      at)
 
-  goes_on_from : (begun : ℕ) (under : UnderWay) → after.items ≡ before.items
+  -- The call goes on, and lists no answer.
+  goes_on_from : (begun : ℕ) (under : UnderWay) (call : ScriptCall) (more : List Item) (follows : Follows script more)
+      → follows.answered ≡ goes.follows.answered → after.items ≡ more
       → after.client ≡ record { begun = begun; under_way = Some under }
-      → begun - 1 ≡ given_of script goes.follows.answered placed.actor → 1 ≤ begun → under.at ≡ length before.items
-      → Now after.items
-  goes_on_from begun under items client counted some began = subst Now (sym items)
-      (goes_on_by script before.items clients news given goes placed next after.client changes
+      → begun - 1 ≡ given_of script goes.follows.answered placed.actor → 1 ≤ begun
+      → AtEndOf under.work under.at (length more) → Calls begun call → IsCopyFor call.kind under.work → Now after.items
+  goes_on_from begun under call more follows same items client counted some began is of = subst Now (sym items)
+      (goes_on_by script before.items clients news given goes placed next after.client changes more follows same
       (ap (λ (c : Client). answered_of c.begun c.under_way) client ∙ counted)
-      (λ now going.
-      let same = some_is (sym (ap (λ (c : Client). c.under_way) client) ∙ going) in (
-        ap (λ (u : UnderWay). u.at) (sym same) ∙ began,
-        let is = ap (λ (c : Client). c.begun) client in omega (arith, is, some),
-      )) at)
+      (λ now going. (
+        subst (λ (u : UnderWay). AtEndOf u.work u.at (length more)) (under_is now going) began,
+        let begun_is = ap (λ (c : Client). c.begun) client in omega (arith, begun_is, some),
+      ))
+      (λ now other going asked. subst (λ (u : UnderWay). IsCopyFor other.kind u.work) (under_is now going)
+      (subst (λ (c : ScriptCall). IsCopyFor c.kind under.work)
+      (some_is (sym is ∙ subst (λ (n : ℕ). Calls n other) (ap (λ (c : Client). c.begun) client) asked)) of))
+      at)
+    where
+      under_is : (now : UnderWay) → after.client.under_way ≡ Some now → under ≡ now
+      under_is now going = some_is (sym (ap (λ (c : Client). c.under_way) client) ∙ going)
 
   begins : (turn : Turn Work) (call : ScriptCall) → before.client.under_way ≡ None
+      → slice_get (calls_of script placed.actor) before.client.begun ≡ Some call
+      → BeginsCall before.state.core after.state.core before.state.disk.devices placed.actor call turn
       → LeavesBegun placed.actor call before after turn → Now after.items
-  begins (More does) call idle leaves =
-      goes_on_from (before.client.begun + 1) (record { at = length before.items; work = does }) leaves.0 leaves.1
-      (let counted = counted_by None idle in omega (arith, counted)) (omega arith) refl
-  begins (Busy by) call idle leaves = stays leaves.0 leaves.1
-  begins (Done answer) call idle leaves = subst Now (sym leaves.0)
+  begins (More does) call idle is did leaves =
+      goes_on_from (before.client.begun + 1) (record { at = length before.items; work = does }) call before.items
+      goes.follows refl leaves.0 leaves.1
+      (let counted = counted_by None idle in omega (arith, counted)) (omega arith)
+      (at_end does (length before.items) (length before.items) refl)
+      (let same : before.client.begun ≡ before.client.begun + 1 - 1 = omega arith in
+      subst (λ (n : ℕ). slice_get (calls_of script placed.actor) n ≡ Some call) same is)
+      (begun_copy before.state.core after.state.core before.state.disk.devices placed.actor call call.kind call.id does
+      did)
+  begins (Busy by) call idle is did leaves = stays leaves.0 leaves.1
+  begins (Done answer) call idle is did leaves = subst Now (sym leaves.0)
       (answers_alone script before.items clients news given goes placed next after.client changes before.client was at
       call (before.client.begun + 1) (before.client.begun + 1) answer leaves.1
       (ap (λ (n : ℕ). n + 1) (counted_by None idle)))
 
+  -- A call goes on, and lists the group that it made, if it made one.
+  goes_listing : (call : ScriptCall) (under : UnderWay) (does : Work) → before.client.under_way ≡ Some under
+      → Calls before.client.begun call → GoesOnBy before.state after.state call under.work (More does)
+      → LeavesGoing placed.actor call before after under (More does) → (made : Option ℕ) → made_in does ≡ made
+      → Now after.items
+  unfolding follows_group
+  goes_listing call under does going is did leaves None none =
+      let has = its.under under going in
+      goes_on_from before.client.begun _ call before.items goes.follows refl
+      (leaves.0 ∙ ap (listed_on after.state.core.pool.uber.reflow before.items began) none)
+      leaves.1 (counted_by (Some under) going) has.1
+      (went_at_end before.state after.state call under.work does under.at (length before.items) did has.0) is
+      (still_copy before.state after.state call under.work does did (its.asked under call going is))
+    where
+      began : ℕ
+      began = begun_at (commit_in does) (commit_in under.work) under.at (length before.items)
+  goes_listing call under does going is did leaves (Some number) made =
+      let has = its.under under going in
+      goes_on_from before.client.begun _ call (before.items ++ Group group ∷ [])
+      (follows_group script before.items goes.follows group
+      (made_at_end before.state after.state call under.work does under.at (length before.items) number did made has.0))
+      refl (leaves.0 ∙ ap (listed_on after.state.core.pool.uber.reflow before.items began) made)
+      leaves.1 (counted_by (Some under) going) has.1
+      (made_rests does number began (length (before.items ++ Group group ∷ [])) made) is
+      (still_copy before.state after.state call under.work does did (its.asked under call going is))
+    where
+      began : ℕ
+      began = begun_at (commit_in does) (commit_in under.work) under.at (length before.items)
+
+      group : GroupItem
+      group = group_for after.state.core began number
+
   goes_further : (turn : Turn Work) (call : ScriptCall) (under : UnderWay) → before.client.under_way ≡ Some under
+      → Calls before.client.begun call → GoesOnBy before.state after.state call under.work turn
       → LeavesGoing placed.actor call before after under turn → Now after.items
-  goes_further (More does) call under going leaves =
+  goes_further (More does) call under going is did leaves =
+      goes_listing call under does going is did leaves (made_in does) refl
+  goes_further (Busy by) call under going is did leaves = absurd leaves
+  goes_further (Done answer) call under going is did leaves =
       let has = its.under under going in
-      goes_on_from before.client.begun _ leaves.0 leaves.1 (counted_by (Some under) going) has.1
-      (begun_now (commit_in does) (commit_in under.work) under.at (length before.items) has.0)
-  goes_further (Busy by) call under going leaves = absurd leaves
-  goes_further (Done answer) call under going leaves =
-      let has = its.under under going in
-      let counted = counted_by (Some under) going in
       let some = has.1 in
+      let counted = counted_by (Some under) going in
+      let begun : before.client.begun ≡ given_of script goes.follows.answered placed.actor + 1 =
+      omega (arith, counted, some) in
+      ⊎_elim
+      (λ (now : under.at ≡ length before.items).
       subst Now (sym (leaves.0 ∙ ap (λ (n : ℕ). listed_for after.state.core before.items n
-      (entry_for call placed.actor before.client.begun n answer) (made_by under.work) answer) has.0))
+      (entry_for call placed.actor before.client.begun n answer) (made_by under.work) answer) now))
       (answers_listed script before.items clients news given goes placed next after.client changes before.client was at
-      after.state.core call before.client.begun before.client.begun (made_by under.work) answer leaves.1
-      (omega (arith, counted, some)))
+      after.state.core call before.client.begun before.client.begun (made_by under.work) answer leaves.1 begun))
+      (λ plain.
+      subst Now (sym (leaves.0
+      ∙ plain_listed after.state.core before.items under.at
+      (entry_for call placed.actor before.client.begun under.at answer) (made_by under.work) answer plain.0
+      ∙ ap (λ (e : Entry). before.items ++ Call e ∷ []) (same_entry call under.at answer plain.1)))
+      (answers_alone script before.items clients news given goes placed next after.client changes before.client was at
+      call before.client.begun before.client.begun answer leaves.1 begun))
+      (ends_right before.state after.state call under.work answer under.at (length before.items) did has.0
+      (its.asked under call going is))
+    where
+      -- Where both speak of one point the entry is the same.
+      same_entry : (call : ScriptCall) (since : ℕ) (answer : Answer)
+          → point_after call.kind since answer ≡ point_after call.kind (length before.items) answer
+          → entry_for call placed.actor before.client.begun since answer
+          ≡ entry_for call placed.actor before.client.begun (length before.items) answer
+      same_entry call since answer point i = record {
+        caller = placed.actor;
+        call = before.client.begun;
+        kind = call.kind;
+        id = call.id;
+        at = point i;
+        answer = answer;
+      }
 
   turn_by_lines : Turned (calls_of script placed.actor) placed.actor before after → Now after.items
   turn_by_lines (Nothing nothing) =
       stays (ap (λ (s : Station). s.items) nothing.same) (ap (λ (s : Station). s.client) nothing.same)
-  turn_by_lines (Began turn begun leaves) = begins turn begun.call begun.idle leaves
-  turn_by_lines (Went under turn goes leaves) = goes_further turn goes.call under goes.going leaves
+  turn_by_lines (Began turn begun leaves) = begins turn begun.call begun.idle begun.next begun.did leaves
+  turn_by_lines (Went under turn went leaves) = goes_further turn went.call under went.going went.is went.did leaves
 
 -- ---- step after step
 
@@ -419,6 +629,7 @@ module _ (script : Script) (before after : Replay) (passed more : List TurnTaken
         each = λ actor client is. record {
           counted = (here.each actor client is).counted;
           under = λ under going. absurd (not_there ((here.each actor client is).under under going).2);
+          asked = (here.each actor client is).asked;
         };
       })
     where
@@ -454,6 +665,7 @@ module _ (script : Script) (before after : Replay) (passed more : List TurnTaken
               let low = slice_get_within script.calls here.follows.answered its.3 its.4 in
               let all = (all_answered here past).0 in
               absurd (omega (arith, low, all));
+          asked = (here.each actor client is).asked;
         };
       })
     where
@@ -503,6 +715,7 @@ module _ (script : Script) (before after : Replay) (passed more : List TurnTaken
             counted = (here.each actor client is).counted;
             under = λ under going.
                 absurd (not_same (rest_number ((here.each actor client is).under under going).2));
+            asked = (here.each actor client is).asked;
           };
         })
       where
@@ -633,6 +846,8 @@ begins_by_lines script start opened actors first = record {
   each = λ actor client there. record {
     counted = ap (λ (c : Client). answered_of c.begun c.under_way) (blank_is script.clients actor client there);
     under = λ under going. absurd (none_some
+        (sym (ap (λ (c : Client). c.under_way) (blank_is script.clients actor client there)) ∙ going));
+    asked = λ under call going is. absurd (none_some
         (sym (ap (λ (c : Client). c.under_way) (blank_is script.clients actor client there)) ∙ going));
   };
 }

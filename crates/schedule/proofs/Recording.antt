@@ -26,7 +26,7 @@ use Rattle.journal_law.specs.Parity.{HaveParityOf}
 use Rattle.journal_law.proofs.Parity.{parity_with}
 use Rattle.journal_law.proofs.Grown.{map_before}
 use Rattle.journal_law.proofs.GrownAnswers.{answers_grown_call, answers_grown_group}
-use Rattle.journal_law.proofs.GrownGroups.{groups_grown_call, latest_grown_call, latest_grown_group, group_of_grown, after_listed, width_step_where}
+use Rattle.journal_law.proofs.GrownGroups.{groups_grown_call, latest_grown_call, latest_grown_group, group_of_grown, after_listed, width_step_where, groups_grown_group}
 use Rattle.journal_law.proofs.GrownRun.{groups_call, groups_end, groups_begun, groups_cut}
 use Rattle.journal_law.proofs.Moments.{contains_one}
 use Rattle.journal_law.proofs.Rows.{row_among}
@@ -301,19 +301,15 @@ module _ {world : World} {past : Past} {items : List Item} {item : GroupItem} {l
   recorded_whole Lays so_far = recorded_comes so_far
   recorded_whole Signs so_far = so_far
 
--- A commit has ended the group that was begun, and the call that asked for it is answered.
+-- A commit has ended the group that was begun.
 module _ {world : World} {past : Past} {items : List Item} {item : GroupItem} {last next : Kept} {now : Disk}
     (so_far : Recorded world past items item last (next ∷ []) now) {after : ℕ} {attached : Type 0}
     (is : IsBegunAt world items item after attached next) (reach : ℕ)
     (knows : Knows (record world.setting { reach = reach }) next [] now)
     {group : GroupItem} (number : group.group ≡ next.uber.group) (after_is : group.after ≡ after)
-    (from_is : group.from ≡ next.uber.reflow.from) (group_to_is : group.to ≡ next.uber.reflow.to)
-    (entry : Entry) where
+    (from_is : group.from ≡ next.uber.reflow.from) (group_to_is : group.to ≡ next.uber.reflow.to) where
   abbrev with_group : List Item
   with_group = items ++ Group group ∷ []
-
-  abbrev both : List Item
-  both = (items ++ Group group ∷ []) ++ Call entry ∷ []
 
   within : group.after ≤ length items
   within = let few = is.listed.1 in omega (arith, few, after_is)
@@ -327,8 +323,9 @@ module _ {world : World} {past : Past} {items : List Item} {item : GroupItem} {l
         ∙ sym (map_before world.handed world.opening items (Group group ∷ []) group.after within));
   }
 
-  follows : (attached → IsAttachOf both (item.from + 1) group.group) → Follows both (length items) item group
-  follows told = record {
+  follows : (whole : List Item) → (attached → IsAttachOf whole (item.from + 1) group.group)
+      → Follows whole (length items) item group
+  follows whole told = record {
     number = number ∙ is.number;
     later = (let low = is.listed.0 in omega (arith, low, after_is));
     listed = within;
@@ -340,12 +337,46 @@ module _ {world : World} {past : Past} {items : List Item} {item : GroupItem} {l
     }) is.widths);
   }
 
-  -- The group's item is listed before the answer. A group that begins an expansion is answered as an attach's.
-  pub recorded_ends : (attached → IsAttachOf both (item.from + 1) group.group)
+  next_parity : HaveParityOf world.known (next ∷ [])
+  next_parity one known kept has = parity_now so_far one known kept (contains_tail last (next ∷ []) kept has)
+
+  -- The group's item is listed alone, where it begins no expansion,
+  pub recorded_makes : (attached → ⊥) → past.banks (length items + 1) ≡ now
+      → Recorded world past with_group group next [] now
+  recorded_makes none here =
+      let left = groups_none so_far.groups in
+      let ended = groups_end world.calls world.handed world.opening world.known items left.0 left.2 group next next_is
+      so_far.in_order in
+      let answered_are = ended.1 ∙ ap (λ (l : List Kept). l ++ next ∷ []) left.1 in
+      let row = ended_row world.known so_far.groups.answered so_far.groups.begun ended.0.answered ended.0.begun next
+      so_far.begun_are answered_are ended.2 in
+      let latest = latest_grown_group items group in
+      let now_latest = latest_of ended.0 ended.2 latest next_is next_parity in
+      record {
+        groups = ended.0;
+        earlier = so_far.groups.answered;
+        answered_are = answered_are;
+        begun_are = ended.2;
+        latest = latest;
+        item_is = next_is;
+        in_order = groups_grown_group items group so_far.in_order item so_far.latest
+            (follows with_group (λ attached. absurd (none attached)));
+        right = answers_grown_group world.handed world.opening items group so_far.right;
+        sound = each_grown_group IsSound items group so_far.sound;
+        caused = caused_group items group past.banks so_far.caused;
+        since = subst (λ (l : List Kept). KeepsSince world.setting l past.origin.clock now) row so_far.since;
+        parity = subst (HaveParityOf world.known) row so_far.parity;
+        no_older = kept_more so_far.no_older (some_items so_far) (latest_now so_far) so_far.kept_on (Group group) here;
+        kept_on = on_listed items (Group group) past here (on_now reach now_latest knows);
+      }
+
+  -- or before the answer. A group that begins an expansion is answered as an attach's.
+  pub recorded_ends : (entry : Entry)
+      → (attached → IsAttachOf ((items ++ Group group ∷ []) ++ Call entry ∷ []) (item.from + 1) group.group)
       → IsRightNext world (items ++ Group group ∷ []) entry now → IsAnswerOf entry.kind entry.answer
       → past.banks (length items + 1) ≡ now → past.banks (length with_group + 1) ≡ now
       → Recorded world past ((items ++ Group group ∷ []) ++ Call entry ∷ []) group next [] now
-  recorded_ends told right is_answer here then =
+  recorded_ends entry told right is_answer here then =
       let left = groups_none so_far.groups in
       let ended = groups_end world.calls world.handed world.opening world.known items left.0 left.2 group next next_is
       so_far.in_order in
@@ -358,8 +389,6 @@ module _ {world : World} {past : Past} {items : List Item} {item : GroupItem} {l
       (omega (arith, within, length-append items (Group group ∷ []))) next_is in
       let row = ended_row world.known so_far.groups.answered so_far.groups.begun grown.0.answered grown.0.begun next
       so_far.begun_are (grown.1 ∙ answered_are) grown.2 in
-      let next_parity : HaveParityOf world.known (next ∷ []) = λ one known kept has. parity_now so_far one known kept
-      (contains_tail last (next ∷ []) kept has) in
       let now_latest = latest_of ended.0 ended.2 latest next_is next_parity in
       record {
         groups = grown.0;
@@ -368,7 +397,8 @@ module _ {world : World} {past : Past} {items : List Item} {item : GroupItem} {l
         begun_are = grown.2;
         latest = latest_both;
         item_is = both_is;
-        in_order = both_right items group entry item so_far.in_order so_far.latest (follows told);
+        in_order = both_right items group entry item so_far.in_order so_far.latest
+            (follows (with_group ++ Call entry ∷ []) told);
         right = answers_grown_call world.handed world.opening with_group entry
             (answers_grown_group world.handed world.opening items group so_far.right) right.right is_answer;
         sound = each_grown_call IsSound with_group entry (each_grown_group IsSound items group so_far.sound) right.sound;

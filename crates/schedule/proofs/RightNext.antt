@@ -11,7 +11,7 @@ use Rattle.core_state.specs.declared.item.Group.{Group as GroupItem}
 use Rattle.core_state.specs.declared.item.Item.{Item}
 use Rattle.core_state.specs.declared.item.Item.TheVariants.{Group, Call}
 use Rattle.core_state.specs.Map.{Map, PutBytes, map_of, map_after}
-use Rattle.core_state.specs.Legal.{IsAnsweredGroup, IsPrevious, IsGroupBefore, IsReadOf, IsCutShort, IsRightAttach, IsRightRead, IsRightFree, IsRightSync, IsRightCall}
+use Rattle.core_state.specs.Legal.{IsAnsweredGroup, IsPrevious, IsGroupBefore, IsReadOf, IsCutShort, IsRightAttach, IsRightCopy, IsRightRead, IsRightFree, IsRightSync, IsRightCall}
 use Rattle.core_state.specs.World.{World}
 use Rattle.uberblock_ring.specs.Uberblock.{max_group}
 use Rattle.core_turns.specs.Getting.{IsReadKind}
@@ -60,7 +60,7 @@ stopped_cut (answer.TooManyFailed out) stopped = tt
 stopped_cut answer.NoMemory stopped = tt
 stopped_cut other stopped = absurd stopped
 
--- A sync or an attach that was cut short tells of no group.
+-- A sync or an attach that was cut short tells of no group, and a copy of no end.
 cut_sync : (items : List Item) (previous index : ℕ) (given : Answer) → IsCutShort given
     → IsRightSync items previous index given
 cut_sync items previous index (answer.TooManyFailed out) cut = tt
@@ -75,12 +75,19 @@ cut_attach items previous index (answer.Limit reached) cut = tt
 cut_attach items previous index answer.NoMemory cut = tt
 cut_attach items previous index other cut = absurd cut
 
+cut_copy : (items : List Item) (index : ℕ) (given : Answer) → IsCutShort given → IsRightCopy items index given
+cut_copy items index (answer.TooManyFailed out) cut = tt
+cut_copy items index (answer.Limit reached) cut = tt
+cut_copy items index answer.NoMemory cut = tt
+cut_copy items index other cut = absurd cut
+
 cut_group : (handed : PutBytes) (opening : Map) (items : List Item) (previous index : ℕ) (entry : Entry) (asked : Kind)
     → IsGroupKind asked → IsCutShort entry.answer → IsRightCall handed opening items previous index entry asked
 cut_group handed opening items previous index entry kind.Sync group cut =
     cut_sync items previous index entry.answer cut
 cut_group handed opening items previous index entry kind.Attach group cut =
     cut_attach items previous index entry.answer cut
+cut_group handed opening items previous index entry kind.Copy group cut = cut_copy items index entry.answer cut
 cut_group handed opening items previous index entry other group cut = absurd group
 
 -- What a read answers of a map is plain.
@@ -150,7 +157,7 @@ module _ (world : World) (items : List Item) (entry : Entry) (disk : Disk) where
       (sym (map_before world.handed world.opening items (Call entry ∷ []) (length items) (omega arith)
       ∙ map_at_end world.handed world.opening items)) is))
 
-  -- A sync or an attach that was cut short.
+  -- A sync, an attach or a copy that was cut short.
   pub group_cut_right : IsGroupKind entry.kind → IsStopped entry.answer → IsRightNext world items entry disk
   group_cut_right asked stopped = next_plain (stopped_plain entry.answer stopped) (λ previous previous_is.
       cut_group world.handed world.opening with_entry previous (length items) entry entry.kind asked
@@ -170,6 +177,11 @@ module _ (world : World) (items : List Item) (entry : Entry) (disk : Disk) where
     where
       apart : answer.Limit max_group ≡ answer.Damaged → ⊥
       apart is = cc
+
+  -- A copy that is done, where the last group before it has this one width, or that told of another end.
+  pub copy_right : entry.kind ≡ kind.Copy → IsPlain entry.answer → IsRightCopy with_entry (length items) entry.answer
+      → IsRightNext world items entry disk
+  copy_right asked plain right = next_plain plain (subst IsRightAs (sym asked) (λ previous previous_is. right))
 
   -- An attach that told of no group.
   pub untold_right : entry.kind ≡ kind.Attach → entry.answer ≢ answer.Damaged

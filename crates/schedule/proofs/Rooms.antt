@@ -1,67 +1,167 @@
 -- Room in a journal for the answers of calls.
-use Rattle.std.proofs.Common.{◌≡◌, ℕ, ◌+◌, ◌*◌, ◌≤◌, ◌<◌, ◌≢◌, ⊎_elim, List, [], ◌∷◌, length, Option, Some, None, zero, suc, refl, sym, ◌∙◌, ap, subst, arith, eq-eqb, ne_eqb, slice_set}
+use Rattle.std.proofs.Common.{◌≡◌, ℕ, ◌+◌, ◌-◌, ◌*◌, ◌≤◌, ◌<◌, ◌≢◌, ⊎_elim, List, [], ◌∷◌, length, Option, Some, None, zero, suc, refl, sym, ◌∙◌, ap, subst, arith, eq-eqb, ne_eqb, slice_set}
 use Rattle.std.specs.Prelude.{Bool, filter, slice_get, ◌==◌, if◌then◌else◌}
 use Rattle.std.proofs.lemmas.Bool.{cases_eq}
 use Rattle.std.proofs.lemmas.List.{length-map}
+use Rattle.core_state.specs.declared.answer.Answer.{Answer}
+use Rattle.core_state.specs.declared.item.Entry.{Entry}
+use Rattle.client_script.specs.declared.call.ScriptCall.{ScriptCall}
 use Rattle.client_script.specs.Script.{Placed, Script}
+use Rattle.core_turns.specs.declared.turn.Turn.TheVariants.{More, Done}
 use Rattle.schedule.specs.declared.client.Client.{Client}
 use Rattle.schedule.specs.declared.client.UnderWay.{UnderWay}
+use Rattle.schedule.specs.declared.client.Work.{Work}
 use Rattle.schedule.specs.Clients.{answered_of}
-use Rattle.schedule.specs.Playing.{HasRoomForAnswers, UsesRoom, all_unanswered, calls_by, unanswered}
+use Rattle.schedule.specs.Playing.{HasRoomForAnswers, MakesRoom, UsesRoom, all_owed, calls_by, owed, taken_for, taken_of, taken_under}
 use Rattle.schedule.specs.Replaying.{blank_clients}
+use Rattle.schedule.specs.Turned.{entry_for, group_by}
+use Rattle.schedule.specs.Works.{made_by, made_in}
 use Rattle.schedule.proofs.Theirs.{none_some, some_is}
 
--- No more calls are answered than were begun.
-pub answered_few : (begun : ℕ) (under : Option UnderWay) → answered_of begun under ≤ begun
-answered_few begun None = omega arith
-answered_few begun (Some under) = omega arith
+-- A group takes room for one item.
+pub taken_one : (made : Option ℕ) → taken_for made ≤ 1
+taken_one None = omega arith
+taken_one (Some group) = omega arith
+
+-- A client takes no more room than its calls have.
+pub taken_few : (calls : ℕ) (client : Client) → client.begun ≤ calls
+    → ((under : UnderWay) → client.under_way ≡ Some under → 1 ≤ client.begun) → taken_of client ≤ 2 * calls
+taken_few calls client few some = by client.under_way refl
+  where
+    by : (its : Option UnderWay) → client.under_way ≡ its
+        → 2 * answered_of client.begun its + taken_under its ≤ 2 * calls
+    by None is = omega (arith, few)
+    by (Some under) is =
+        let begun = some under is in let least = taken_one (made_in under.work) in omega (arith, few, begun, least)
+
+-- ---- a turn of one client
+
+-- Room for what a client's next call lists is there,
+pub room_to_begin : (calls room : ℕ) (client : Client) → client.under_way ≡ None → owed calls client ≤ room
+    → client.begun < calls → 2 ≤ room
+room_to_begin calls room client idle enough low =
+    let none = ap (λ (u : Option UnderWay). 2 * answered_of client.begun u + taken_under u) idle in
+    omega (arith, enough, low, none)
+
+-- and none is taken of it where that call begins,
+pub begun_uses : (room : ℕ) (client : Client) (under : UnderWay) → client.under_way ≡ None
+    → UsesRoom room room client (record { begun = client.begun + 1; under_way = Some under })
+begun_uses room client under idle =
+    let none = ap (λ (u : Option UnderWay). 2 * answered_of client.begun u + taken_under u) idle in
+    omega (arith, none)
+
+-- or that of its answer where it is answered at once.
+pub answered_uses : (before after : ℕ) (client : Client) (left : Option UnderWay) → client.under_way ≡ None
+    → left ≡ None → before ≤ after + 1
+    → UsesRoom before after client (record { begun = client.begun + 1; under_way = left })
+answered_uses before after client left idle none uses =
+    let was = ap (λ (u : Option UnderWay). 2 * answered_of client.begun u + taken_under u) idle in
+    let now = ap (λ (u : Option UnderWay). 2 * answered_of (client.begun + 1) u + taken_under u) none in
+    omega (arith, was, now, uses)
+
+-- A client whose call under way was taken, and none was, takes what it takes.
+pub idle_uses : (before after : ℕ) (client now : Client) (left : Option UnderWay) → client.under_way ≡ None
+    → left ≡ None → UsesRoom before after (record { begun = client.begun; under_way = left }) now
+    → UsesRoom before after client now
+idle_uses before after client now left idle none uses =
+    let was = ap (λ (u : Option UnderWay). 2 * answered_of client.begun u + taken_under u) idle in
+    let same = ap (λ (u : Option UnderWay). 2 * answered_of client.begun u + taken_under u) none in
+    omega (arith, was, same, uses)
+
+-- The entry of an answer, with the group that was made, takes as much room as these.
+pub listed_room : (call : ScriptCall) (actor number at : ℕ) (entry : Entry) (group : Option ℕ) (given : Answer)
+    (made : Option ℕ) → entry ≡ entry_for call actor number at given → group ≡ made
+    → taken_for (group_by entry.answer group) ≡ taken_for (group_by given made)
+listed_room call actor number at entry group given made entry_is made_is i =
+    taken_for (group_by (entry_is i).answer (made_is i))
+
+-- A call under way of a client that has room for its calls.
+module _ (calls before room : ℕ) (client : Client) (under : UnderWay) (going : client.under_way ≡ Some under)
+    (some : 1 ≤ client.begun) where
+  its_taken : taken_of client ≡ 2 * (client.begun - 1) + taken_for (made_in under.work)
+  its_taken = ap (λ (u : Option UnderWay). 2 * answered_of client.begun u + taken_under u) going
+
+  -- Once room was made there is some for the group that it lists,
+  pub room_to_go : (next : Work) → client.begun ≤ calls → owed calls client ≤ before
+      → MakesRoom under.work before room (More next) → taken_for (made_in next) ≤ room
+  room_to_go next few enough makes =
+      let taken = its_taken in
+      let one = taken_one (made_in next) in
+      omega (arith, taken, some, few, enough, makes, one)
+
+  -- or for its answer and the group that comes with it,
+  pub room_to_end : (given : Answer) → client.begun ≤ calls → owed calls client ≤ before
+      → MakesRoom under.work before room (Done given)
+      → taken_for (group_by given (made_by under.work)) + 1 ≤ room
+  room_to_end given few enough makes =
+      let taken = its_taken in
+      let one = taken_one (made_in under.work) in
+      let other = taken_one (group_by given (made_by under.work)) in
+      omega (arith, taken, some, few, enough, makes, one, other)
+
+  -- and no more is taken than what these need.
+  pub going_uses : (after at : ℕ) (next : Work) → MakesRoom under.work before room (More next)
+      → room ≤ after + taken_for (made_in next)
+      → UsesRoom before after client (record {
+        begun = client.begun;
+        under_way = Some (record { at = at; work = next });
+      })
+  going_uses after at next makes uses = let taken = its_taken in omega (arith, taken, makes, uses)
+
+  pub ended_uses : (after : ℕ) (given : Answer) (left : Option UnderWay) → left ≡ None
+      → MakesRoom under.work before room (Done given)
+      → room ≤ after + (taken_for (group_by given (made_by under.work)) + 1)
+      → UsesRoom before after client (record { begun = client.begun; under_way = left })
+  ended_uses after given left none makes uses =
+      let taken = its_taken in
+      let now = ap (λ (u : Option UnderWay). 2 * answered_of client.begun u + taken_under u) none in
+      omega (arith, taken, now, some, makes, uses)
 
 -- ---- one client among all
 
--- Its calls that aren't answered are among those of all,
-unanswered_few : (calls : ℕ → ℕ) (clients : List Client) (index : ℕ) (client : Client)
-    → slice_get clients index ≡ Some client → unanswered (calls index) client ≤ all_unanswered calls clients
-unanswered_few calls [] index client there = absurd (none_some there)
-unanswered_few calls (first ∷ clients) zero client there =
-    let same = ap (unanswered (calls 0)) (some_is there) in omega (arith, same)
-unanswered_few calls (first ∷ clients) (suc index) client there =
-    let few = unanswered_few (λ actor. calls (suc actor)) clients index client there in omega (arith, few)
+-- What its calls have still is among what all have,
+owed_few : (calls : ℕ → ℕ) (clients : List Client) (index : ℕ) (client : Client)
+    → slice_get clients index ≡ Some client → owed (calls index) client ≤ all_owed calls clients
+owed_few calls [] index client there = absurd (none_some there)
+owed_few calls (first ∷ clients) zero client there =
+    let same = ap (owed (calls 0)) (some_is there) in omega (arith, same)
+owed_few calls (first ∷ clients) (suc index) client there =
+    let few = owed_few (λ actor. calls (suc actor)) clients index client there in omega (arith, few)
 
--- and where it has other ones, all have as many more or fewer.
-unanswered_set : (calls : ℕ → ℕ) (clients : List Client) (place : ℕ) (was now : Client)
+-- and where it has more or less, all have as much more or less.
+owed_set : (calls : ℕ → ℕ) (clients : List Client) (place : ℕ) (was now : Client)
     → slice_get clients place ≡ Some was
-    → all_unanswered calls (slice_set clients place now) + unanswered (calls place) was
-    ≡ all_unanswered calls clients + unanswered (calls place) now
-unanswered_set calls [] place was now there = absurd (none_some there)
-unanswered_set calls (first ∷ clients) zero was now there =
-    let same = ap (unanswered (calls 0)) (some_is there) in omega (arith, same)
-unanswered_set calls (first ∷ clients) (suc place) was now there =
-    let same = unanswered_set (λ actor. calls (suc actor)) clients place was now there in omega (arith, same)
+    → all_owed calls (slice_set clients place now) + owed (calls place) was
+    ≡ all_owed calls clients + owed (calls place) now
+owed_set calls [] place was now there = absurd (none_some there)
+owed_set calls (first ∷ clients) zero was now there =
+    let same = ap (owed (calls 0)) (some_is there) in omega (arith, same)
+owed_set calls (first ∷ clients) (suc place) was now there =
+    let same = owed_set (λ actor. calls (suc actor)) clients place was now there in omega (arith, same)
 
 -- ---- turns
 
--- Where a client has a call that isn't answered, there is room for its items.
+-- There is room for what a client's calls have still.
 pub room_left : (script : Script) (actor room : ℕ) (clients : List Client) (client : Client)
     → HasRoomForAnswers script clients room → slice_get clients actor ≡ Some client
-    → 1 ≤ unanswered (calls_by script actor) client → 2 ≤ room
-room_left script actor room clients client has there some =
-    let few = unanswered_few (calls_by script) clients actor client there in
+    → owed (calls_by script actor) client ≤ room
+room_left script actor room clients client has there =
+    let few = owed_few (calls_by script) clients actor client there in
     let enough = has.enough in
-    omega (arith, few, enough, some)
+    omega (arith, few, enough)
 
 -- After a turn there is room for what is left.
 pub room_after : (script : Script) (place actor before after : ℕ) (clients : List Client) (was now : Client)
     → place ≡ actor → HasRoomForAnswers script clients before → slice_get clients actor ≡ Some was
-    → was.begun ≤ calls_by script actor → now.begun ≤ calls_by script actor → UsesRoom before after was now
+    → taken_of was ≤ 2 * calls_by script actor → taken_of now ≤ 2 * calls_by script actor
+    → UsesRoom before after was now
     → HasRoomForAnswers script (slice_set clients place now) after
 room_after script place actor before after clients was now same has there few few_now uses =
     subst (λ (n : ℕ). HasRoomForAnswers script (slice_set clients n now) after) (sym same) (record {
       enough =
           let enough = has.enough in
-          let set = unanswered_set (calls_by script) clients actor was now there in
-          let first = answered_few was.begun was.under_way in
-          let second = answered_few now.begun now.under_way in
-          omega (arith, enough, set, first, second, few, few_now, uses);
+          let set = owed_set (calls_by script) clients actor was now there in
+          omega (arith, enough, set, few, few_now, uses);
     })
 
 -- ---- before the first turn
@@ -121,13 +221,13 @@ calls_few (first ∷ calls) caller count =
     let one = one_call_more first calls caller count in
     omega (arith, few, one)
 
--- Clients that have begun no call have all of theirs left,
-blank_unanswered : (script : Script) (calls : ℕ → ℕ) (caller count : ℕ)
+-- Clients that have begun no call have the room of all of theirs,
+blank_owed : (script : Script) (calls : ℕ → ℕ) (caller count : ℕ)
     → ((actor : ℕ) → calls actor ≡ calls_by script (caller + actor))
-    → all_unanswered calls (blank_clients count) ≡ calls_from script.calls caller count
-blank_unanswered script calls caller zero each = refl
-blank_unanswered script calls caller (suc count) each =
-    let later = blank_unanswered script (λ actor. calls (suc actor)) (caller + 1) count
+    → all_owed calls (blank_clients count) ≡ 2 * calls_from script.calls caller count
+blank_owed script calls caller zero each = refl
+blank_owed script calls caller (suc count) each =
+    let later = blank_owed script (λ actor. calls (suc actor)) (caller + 1) count
     (λ actor. let same : caller + suc actor ≡ caller + 1 + actor = omega arith in
     each (suc actor) ∙ ap (calls_by script) same) in
     let first : caller + 0 ≡ caller = omega arith in
@@ -136,12 +236,12 @@ blank_unanswered script calls caller (suc count) each =
     let its = length-map placed (λ (placed : Placed). placed.call) in
     omega (arith, later, here, its)
 
--- and room for an answer of each call of a script is enough for them.
+-- and room for two items of each call of a script is enough for them.
 pub room_at_first : (script : Script) (count room : ℕ) → 2 * length script.calls ≤ room
     → HasRoomForAnswers script (blank_clients count) room
 room_at_first script count room enough = record {
   enough =
-      let all = blank_unanswered script (calls_by script) 0 count
+      let all = blank_owed script (calls_by script) 0 count
       (λ actor. let same : actor ≡ 0 + actor = omega arith in ap (calls_by script) same) in
       let few = calls_few script.calls 0 count in
       omega (arith, all, few, enough);

@@ -1,6 +1,7 @@
 -- What stands between two turns stands after a client's next one.
-use Rattle.std.proofs.Common.{◌≡◌, ◌≢◌, inl, inr, ℕ, ◌≤◌, List, [], ◌∷◌, ◌++◌, length, refl, sym, ◌∙◌, ap, arith, length-append, eq-eqb, ne_eqb}
+use Rattle.std.proofs.Common.{◌≡◌, ◌≢◌, inl, inr, ⊎_elim, ℕ, ◌≤◌, List, [], ◌∷◌, ◌++◌, length, refl, sym, ◌∙◌, ap, subst, arith, length-append, eq-eqb, ne_eqb}
 use Rattle.std.specs.Prelude.{Bool, IsSome, Option, Some, None, ◌==◌, if◌then◌else◌}
+use Rattle.std.proofs.lemmas.Bool.{cases_eq}
 use Rattle.core_state.specs.declared.item.Entry.{Entry}
 use Rattle.core_state.specs.declared.item.Group.{Group as GroupItem}
 use Rattle.core_state.specs.declared.item.Item.{Item}
@@ -16,6 +17,7 @@ use Rattle.client_script.specs.Script.{Script}
 use Rattle.journal_law.proofs.Grown.{map_before, new_or_before}
 use Rattle.journal_law.proofs.GrownGroups.{width_step_where}
 use Rattle.journal_law.proofs.GrownRun.{awaits_grown}
+use Rattle.core_turns.specs.declared.rounds.CopyRound.TheVariants.{Rests, Copies, Commits}
 use Rattle.core_turns.specs.Attaching.{attach_commit}
 use Rattle.core_turns.specs.UnderWay.{SetsContent}
 use Rattle.schedule.specs.declared.client.Client.{Client}
@@ -34,6 +36,7 @@ content_grown world items more call at content (work.Read run) low has =
     ap (λ (map : Map). map run.entry.id) (map_before world.handed world.opening items more at low) ∙ has
 content_grown world items more call at content (work.Sync run) low has = has
 content_grown world items more call at content (work.Attach run) low has = has
+content_grown world items more call at content (work.Copy round) low has = has
 
 pub begun_grown : {attached told : Type 0} (world : World) (items more : List Item) (item : GroupItem) (after : ℕ)
     (next : Kept) → (attached → told) → IsBegunAt world items item after attached next
@@ -66,11 +69,18 @@ group_grown world items more item begun at (work.Put run) is = is
 group_grown world items more item begun at (work.Read run) is = is
 group_grown world items more item begun at (work.Attach run) is =
     in_grown world items more item begun at (attach_commit run) is
+group_grown world items more item begun at (work.Copy (Commits run)) (next, is, was) =
+    (next, is, begun_grown world items more item at next (λ none. none) was)
+group_grown world items more item begun at (work.Copy (Rests actor made)) is = is
+group_grown world items more item begun at (work.Copy (Copies run)) is = is
 
 -- Work that makes no commit knows nothing of groups.
 pub group_free : (world : World) (items : List Item) (item : GroupItem) (begun : List Kept) (at : ℕ) (does : Work)
     → (MakesCommit does → ⊥) → HasBegunBy world items item begun at does
 group_free world items item begun at (work.Sync run) none = absurd (none refl)
+group_free world items item begun at (work.Copy (Commits run)) none = absurd (none refl)
+group_free world items item begun at (work.Copy (Rests actor made)) none = tt
+group_free world items item begun at (work.Copy (Copies run)) none = tt
 group_free world items item begun at (work.Put run) none = tt
 group_free world items item begun at (work.Read run) none = tt
 group_free world items item begun at (work.Attach run) none = in_free (attach_commit run) none
@@ -109,6 +119,17 @@ pub with_other : (contents : ℕ → List ℕ) (index : ℕ) (content : List ℕ
     → with_content contents index content other ≡ contents other
 with_other contents index content other apart =
     ap (λ (own : Bool). if own then content else contents other) (ne_eqb other index apart)
+
+-- Those that one has already change none.
+pub with_same : (contents : ℕ → List ℕ) (index : ℕ) → with_content contents index (contents index) ≡ contents
+with_same contents index = λ i other. each other i
+  where
+    each : (other : ℕ) → with_content contents index (contents index) other ≡ contents other
+    each other = ⊎_elim
+        (λ (same : other ≡ index). subst (λ (n : ℕ). with_content contents index (contents index) n ≡ contents n) (sym same)
+        (with_own contents index (contents index)))
+        (λ apart. with_other contents index (contents index) other apart)
+        (cases_eq other index)
 
 pub sets_content : (contents : ℕ → List ℕ) (index : ℕ) (content : List ℕ)
     → SetsContent contents (with_content contents index content) index content

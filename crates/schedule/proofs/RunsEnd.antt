@@ -1,5 +1,5 @@
 -- What stood before a turn of one client stands after it, where its call is answered.
-use Rattle.std.proofs.Common.{◌≡◌, ℕ, List, [], ◌∷◌, ◌++◌, Some, None, sym, ◌∙◌, ap, subst, length, ◌+◌, ◌<◌, arith, ◌≤◌, length-append, Option}
+use Rattle.std.proofs.Common.{◌≡◌, ℕ, List, [], ◌∷◌, ◌++◌, Some, None, sym, ◌∙◌, ap, subst, length, ◌+◌, ◌-◌, ◌<◌, arith, ◌≤◌, length-append, Option}
 use Rattle.std.specs.Prelude.{slice_get}
 use Rattle.bank_trait.specs.Disk.{Disk}
 use Rattle.core_state.specs.declared.item.Entry.{Entry}
@@ -13,7 +13,8 @@ use Rattle.core_state.specs.Keeps.{Kept}
 use Rattle.core_state.specs.Certain.{Knows}
 use Rattle.core_state.specs.World.{World}
 use Rattle.core_commit.specs.CommitTurns.{CommitRun}
-use Rattle.client_script.specs.Script.{Script}
+use Rattle.client_script.specs.declared.call.ScriptCall.{ScriptCall}
+use Rattle.client_script.specs.Script.{Script, calls_of}
 use Rattle.journal_law.proofs.Grown.{map_grown_call, map_grown_group}
 use Rattle.core_turns.specs.declared.attaching.AttachRun.{AttachRun}
 use Rattle.core_turns.specs.Attaching.{HoldsAttach}
@@ -21,13 +22,14 @@ use Rattle.core_turns.specs.Core.{CoreState}
 use Rattle.core_turns.specs.UnderWay.{Stands, shown_of}
 use Rattle.schedule.specs.declared.client.Client.{Client}
 use Rattle.schedule.specs.declared.client.UnderWay.{UnderWay}
+use Rattle.schedule.specs.declared.client.Work.{Work}
 use Rattle.schedule.specs.declared.client.Work.TheVariants as work
 use Rattle.schedule.specs.Clients.{Changes}
 use Rattle.schedule.specs.Recorded.{Recorded, IsRightNext, IsBegunAt}
-use Rattle.schedule.specs.Running.{HasBegun, IsClient, IsGoing, IsTheirs, MakesCommit, Runs, calls_under_way, setting_now}
-use Rattle.schedule.proofs.Theirs.{IsNoCommit, OnlyIt, before_commit, each_going, idle_no_commit, no_one, commit_gone, commit_stays}
+use Rattle.schedule.specs.Running.{HasBegun, HasContent, IsClient, IsGoing, IsTheirs, MakesCommit, Runs, calls_under_way, setting_now}
+use Rattle.schedule.proofs.Theirs.{IsNoCommit, OnlyIt, before_commit, each_going, idle_no_commit, no_one, commit_gone, commit_stays, the_one, work_no_commit}
 use Rattle.schedule.proofs.Running.{head_is, client_grown, entry_apart, group_apart, group_grown, group_free}
-use Rattle.schedule.proofs.Recording.{recorded_answers, recorded_ends}
+use Rattle.schedule.proofs.Recording.{recorded_answers, recorded_ends, recorded_makes}
 use Rattle.schedule.proofs.RunsGoOn.{early_known}
 use Rattle.schedule.specs.Moments.{Past}
 use Rattle.schedule.specs.Turns.{IsListedWith}
@@ -107,7 +109,7 @@ module _ {world : World} {script : Script} {past : Past} {before : CoreState} {i
 
     -- A commit is cut short, and none is under way.
     pub commit_is_cut : commit ≡ None → OnlyIt clients index → StandsNow → Runs world script past after grown news
-    commit_is_cut none only = answered_with (subst (IsTheirs news) (sym none) (commit_gone was changes ended only))
+    commit_is_cut none only = answered_with (subst (IsTheirs news) (sym none) (commit_gone was changes (idle_no_commit ended) only))
 
   -- A commit ends its group, whose item is listed before its entry.
   module _ {attached : Type 0} (under : UnderWay) (next : Kept) (group : GroupItem) (entry : Entry)
@@ -188,13 +190,97 @@ module _ {world : World} {script : Script} {past : Past} {before : CoreState} {i
       recorded = recorded_end;
       stands = subst (λ (m : Map). Stands (setting_now runs) next [] m runs.contents (calls_under_way news) None after)
           (sym map_both) stands;
-      theirs = commit_gone was changes ended only;
+      theirs = commit_gone was changes (idle_no_commit ended) only;
       each = each_end;
       attaches = λ other its its_under run is. each_going was changes
           {T = λ other its under. (run : AttachRun) → under.work ≡ work.Attach run
           → HoldsAttach (setting_now runs) next [] after.disk run}
           (no_one (λ under. (run : AttachRun) → under.work ≡ work.Attach run
           → HoldsAttach (setting_now runs) next [] after.disk run) ended)
+          (λ other its under apart going run does.
+          subst (λ (d : Disk). HoldsAttach (setting_now runs) next [] d run) (sym disk)
+          (early_known (setting_now runs) (setting_now runs) runs.last next runs.begun [] before.disk run
+          (before_commit run (λ makes. apart (only other its under going (subst MakesCommit (sym does) makes))))
+          (runs.attaches other its under run going does)))
+          other its its_under is run;
+    }
+
+  -- A commit ends its group, whose item is listed alone: the call that made it goes on, with this work.
+  module _ (under : UnderWay) (does : Work) (next : Kept) (group : GroupItem)
+      (old_is : old.under_way ≡ Some under)
+      (client_is : client ≡ record { begun = old.begun; under_way = Some (record { at = under.at; work = does }) })
+      (no_commit : MakesCommit does → ⊥) (no_attach : (run : AttachRun) → does ≡ work.Attach run → ⊥)
+      (has : (asked : ScriptCall) → slice_get (calls_of script index) (client.begun - 1) ≡ Some asked
+      → HasContent world (items ++ Group group ∷ []) asked under.at (runs.contents index) does)
+      (has_begun : HasBegun world items runs.item runs.begun under.at ⊥)
+      (so_far : Recorded world past items runs.item runs.last runs.begun before.disk) (begun_is : runs.begun ≡ next ∷ [])
+      (only : OnlyIt clients index) (disk : after.disk ≡ before.disk)
+      (group_is : group ≡ record {
+        group = next.uber.group;
+        after = under.at;
+        from = next.uber.reflow.from;
+        to = next.uber.reflow.to;
+      })
+      (knows : Knows (setting_now runs) next [] before.disk)
+      (with : IsListedWith past.banks items (items ++ Group group ∷ []) after.disk)
+      (stands : Stands (setting_now runs) next [] map runs.contents (calls_under_way news) None after) where
+    abbrev with_one : List Item
+    with_one = items ++ Group group ∷ []
+
+    is_made : IsBegunAt world items runs.item under.at ⊥ next
+    is_made = subst (IsBegunAt world items runs.item under.at ⊥) (head_is (sym has_begun.1 ∙ begun_is)) has_begun.2
+
+    recorded_group : Recorded world past with_one group next [] after.disk
+    recorded_group = subst (Recorded world past with_one group next []) (sym disk)
+        (recorded_makes
+        (subst (λ (l : List Kept). Recorded world past items runs.item runs.last l before.disk) begun_is so_far)
+        is_made runs.reach knows
+        (ap (λ (g : GroupItem). g.group) group_is) (ap (λ (g : GroupItem). g.after) group_is)
+        (ap (λ (g : GroupItem). g.from) group_is) (ap (λ (g : GroupItem). g.to) group_is) (λ attached. attached)
+        (with (length items + 1) (omega arith) (omega (arith, length-append items (Group group ∷ []))) ∙ disk))
+
+    going_now : client.under_way ≡ Some (record { at = under.at; work = does })
+    going_now = ap (λ (c : Client). c.under_way) client_is
+
+    mine : IsClient world script items runs.item runs.begun (runs.contents index) index old under
+    mine = runs.each index old under (record { there = was; under_way = old_is })
+
+    each_on : (other : ℕ) (its_client : Client) (its_under : UnderWay) → IsGoing news other its_client its_under
+        → IsClient world script with_one group [] (runs.contents other) other its_client its_under
+    each_on = each_going was changes {T = λ other its its_under.
+        IsClient world script with_one group [] (runs.contents other) other its its_under}
+        (the_one (IsClient world script with_one group [] (runs.contents index) index client) going_now (record {
+          at = (mine.at.0, (let low = mine.at.1 in omega (arith, low, length-append items (Group group ∷ []))));
+          after = λ place entry there caller. mine.after place entry (group_apart items group place entry there) caller;
+          group = group_free world with_one group [] under.at does no_commit;
+          content = λ asked asked_is. has asked asked_is;
+        }))
+        (λ other its its_under apart is.
+        client_grown world script items (Group group ∷ []) runs.item group runs.begun [] (runs.contents other)
+        other its its_under
+        (λ was. group_free world with_one group [] its_under.at its_under.work
+        (λ makes. apart (only other its its_under is makes)))
+        (λ place one there its. group_apart items group place one there)
+        (runs.each other its its_under is))
+
+    pub commit_makes : Runs world script past after with_one news
+    commit_makes = record {
+      last = next;
+      begun = [];
+      contents = runs.contents;
+      commit = None;
+      item = group;
+      reach = runs.reach;
+      recorded = recorded_group;
+      stands = subst (λ (m : Map). Stands (setting_now runs) next [] m runs.contents (calls_under_way news) None after)
+          (sym (map_grown_group world.handed world.opening items group)) stands;
+      theirs = commit_gone was changes (work_no_commit going_now no_commit) only;
+      each = each_on;
+      attaches = λ other its its_under run is. each_going was changes
+          {T = λ other its under. (run : AttachRun) → under.work ≡ work.Attach run
+          → HoldsAttach (setting_now runs) next [] after.disk run}
+          (the_one (λ under. (run : AttachRun) → under.work ≡ work.Attach run
+          → HoldsAttach (setting_now runs) next [] after.disk run) going_now (λ run is_attach. absurd (no_attach run is_attach)))
           (λ other its under apart going run does.
           subst (λ (d : Disk). HoldsAttach (setting_now runs) next [] d run) (sym disk)
           (early_known (setting_now runs) (setting_now runs) runs.last next runs.begun [] before.disk run

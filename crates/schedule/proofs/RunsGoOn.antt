@@ -288,15 +288,15 @@ module _ {world : World} {script : Script} {past : Past} {before : CoreState} {i
       no_commit : MakesCommit (work.Attach run) → ⊥
       no_commit = none_there none
 
-  -- A commit begins, which calls no device. No image shows its group.
-  pub commit_begins : (does : Work) (run : CommitRun) (next : Kept) → MineHolds (next ∷ []) → runs.begun ≡ [] → runs.commit ≡ None
+  -- A commit begins, in the first turn of a call or in a later one, which calls no device. No image shows its group.
+  pub commit_begins : (number : ℕ) (does : Work) (run : CommitRun) (next : Kept) → MineHolds (next ∷ []) → runs.begun ≡ [] → runs.commit ≡ None
       → commit_in does ≡ Some run → run.stage ≡ Lays → after.disk ≡ before.disk
-      → client ≡ record { begun = old.begun + 1; under_way = Some (record { at = length items; work = does }) }
+      → client ≡ record { begun = number; under_way = Some (record { at = length items; work = does }) }
       → HasBegunBy world items runs.item (next ∷ []) (length items) does
       → ((asked : ScriptCall) → HasContent world items asked (length items) (runs.contents index) does)
       → Stands (setting_now runs) runs.last (next ∷ []) map runs.contents (calls_under_way news) (Some run) after
       → Runs world script past after items news
-  commit_begins does run next mine_holds none_begun no_commit does_is stage disk client_is begun has stands = record {
+  commit_begins number does run next mine_holds none_begun no_commit does_is stage disk client_is begun has stands = record {
     last = runs.last;
     begun = next ∷ [];
     contents = runs.contents;

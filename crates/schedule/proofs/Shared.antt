@@ -1,49 +1,29 @@
--- Where neither a copy nor a commit is under way all holds are shared, so that no call waits for one.
-use Rattle.std.proofs.Common.{◌≡◌, inl, inr, ⊎_elim, ℕ, ◌+◌, ◌<◌, ◌≤◌, List, length, Option, Some, None, refl, sym, ◌∙◌, ap, arith}
+-- Where no call is under way no hold is in the way of another call, so that none waits.
+use Rattle.std.proofs.Common.{◌≡◌, inl, inr, ⊎_elim, ℕ, ◌+◌, ◌<◌, ◌≤◌, List, [], ◌∷◌, length, Option, Some, None, refl, sym, ◌∙◌, ap, arith}
 use Rattle.std.specs.Prelude.{Contains}
+use Rattle.std.proofs.lemmas.List.Sums.{sum_by-cons}
 use Rattle.range_locks.specs.declared.hold.Hold.{Hold}
+use Rattle.range_locks.specs.declared.hold.HoldKind.{HoldKind}
 use Rattle.range_locks.specs.declared.hold.HoldKind.TheVariants.{Shared, Exclusive}
 use Rattle.range_locks.specs.Holds.{IsBusyBy}
 use Rattle.range_locks.specs.Order.{exclusive_count}
+use Rattle.uberblock_ring.specs.Devices.{count_of}
+use Rattle.uberblock_ring.proofs.DeviceSets.{count_none}
 use Rattle.core_state.specs.declared.answer.Kind.{Kind}
 use Rattle.core_state.specs.declared.answer.Kind.TheVariants as kind
 use Rattle.client_script.specs.declared.call.ScriptCall.{ScriptCall}
+use Rattle.core_state.proofs.Listed.{contains_cases, contains_none}
 use Rattle.core_turns.specs.declared.turn.Turn.TheVariants.{More, Busy, Done}
 use Rattle.core_turns.specs.Core.{Core, IsCore, alone_below, jobs_begun}
 use Rattle.core_turns.specs.Getting.{HasTooManyOut}
-use Rattle.core_turns.proofs.Holds.{below_all, none_below}
+use Rattle.core_turns.specs.Rounds.{IsRoundBusy}
+use Rattle.core_turns.proofs.Holds.{below_all, none_below, one_if}
 use Rattle.schedule.specs.declared.client.Client.{Client}
 use Rattle.schedule.specs.declared.client.UnderWay.{UnderWay}
-use Rattle.client_script.specs.Script.{Script, calls_of}
-use Rattle.schedule.specs.Comes.{TakesTurn}
+use Rattle.schedule.specs.Playing.{is_shared_hold, shared_count}
 use Rattle.schedule.proofs.Theirs.{none_some}
-use Rattle.schedule.proofs.UsingTurns.{answers_with, waits_with, works_begin}
-use Rattle.schedule.proofs.UsingWorks.{works_end, works_go}
+use Rattle.schedule.proofs.UsingTurns.{adds_shared}
 use Rattle.schedule.specs.Turned.{Station, Turned, Nothing, Began, Went, Waits}
-
--- ---- who copies
-
--- Who copies stays so after whatever turn of a client.
-pub turned_copying : {script : Script} {actor : ℕ} {before after : Station} {clients news : List Client}
-    → TakesTurn script actor before after clients news → Turned (calls_of script actor) actor before after
-    → after.state.core.copying ≡ before.state.core.copying
-turned_copying takes (Nothing left) = ap (λ (s : Station). s.state.core.copying) left.same
-turned_copying {actor = actor} {before} {after} takes (Began (More does) begins leaves) =
-    (works_begin before.state.core after.state.core takes.is before.state.disk.devices actor begins.call begins.call.kind begins.call.id does begins.did).begins.copying
-turned_copying {actor = actor} {before} {after} takes (Began (Busy by) begins leaves) =
-    (waits_with before.state.core after.state.core takes.is before.state.disk.devices actor begins.call begins.call.kind begins.call.id by begins.did).copying
-turned_copying {actor = actor} {before} {after} takes (Began (Done given) begins leaves) =
-    (answers_with before.state.core after.state.core takes.is before.state.disk.devices actor begins.call begins.call.kind begins.call.id given begins.did).copying
-turned_copying {before = before} {after} takes (Went under (More does) goes leaves) =
-    (works_go before.state after.state takes.is goes.call under.work does goes.did).copying
-turned_copying takes (Went under (Busy by) goes leaves) = absurd leaves
-turned_copying {actor = actor} {before} {after} takes (Went under (Done given) goes leaves) = elim (works_end
-    before.state after.state takes.is goes.call under.work given
-    (λ run does. ((takes.schedule.going.each actor before.client under
-    (record { there = takes.was; under_way = goes.going })).commit run does).0) goes.did) [
-      | inl plain ↦ plain.1.copying
-      | inr synced ↦ synced.2.copying
-    ]
 
 -- ---- no call waits
 
@@ -81,37 +61,85 @@ none_busy holds lo hi by alone busy = ⊎_elim
     apart : Shared ≡ Exclusive → ⊥
     apart same = cc
 
+-- No hold is shared where none is counted,
+none_shared : (holds : List Hold) → shared_count holds ≡ 0 → (hold : Hold) → Contains holds hold
+    → hold.kind ≡ Shared → ⊥
+none_shared [] none hold listed shared = contains_none hold listed
+none_shared (first ∷ holds) none hold listed shared =
+    let more = sum_by-cons (one_if is_shared_hold) first holds in
+    ⊎_elim
+    (λ (same : hold ≡ first).
+    let one = adds_shared hold shared in
+    let its = ap (one_if is_shared_hold) same in
+    absurd (omega (arith, more, none, one, its)))
+    (λ there. none_shared holds (omega (arith, more, none)) hold there shared)
+    (contains_cases first holds hold listed)
+
+-- and so nothing is in the way of a job where none is held alone either.
+none_held : (holds : List Hold) (lo hi by : ℕ) → HasNoneAlone holds → shared_count holds ≡ 0
+    → IsBusyBy holds lo hi Exclusive by → ⊥
+none_held holds lo hi by alone none busy = by_kind busy.hold.kind refl
+  where
+    by_kind : (kind : HoldKind) → busy.hold.kind ≡ kind → ⊥
+    by_kind Shared is = none_shared holds none busy.hold busy.listed is
+    by_kind Exclusive is = alone busy.hold busy.listed is
+
+-- No device is none.
+none_counted : count_of 0 ≡ 0
+unfolding count_of
+none_counted = count_none 64
+
+-- Where no device is out these are not too many.
+whole_few : (core : Core) → core.pool.out ≡ 0 → HasTooManyOut core → ⊥
+whole_few core whole many =
+    let same = ap count_of whole in let none = none_counted in omega (arith, many, same, none)
+
+-- So no round of a copy waits.
+no_round_waits : (core : Core) (by : ℕ) → IsCore core → core.copying ≡ None → shared_count core.holds ≡ 0
+    → ((HasTooManyOut core → ⊥) → (other : ℕ) → core.committing ≡ Some other → ⊥) → IsRoundBusy core by → ⊥
+no_round_waits core by is copying shared none busy = elim busy [
+  | inl (expands, whole, inl copies) ↦ none_some (sym copying ∙ copies)
+  | inl (expands, whole, inr (job, due, held)) ↦
+      none_held core.holds _ _ by (core_alone core is copying none (whole_few core whole)) shared held
+  | inr (due, commits) ↦ none (whole_few core due.whole) by commits
+]
+
 none_waits : (old new : Core) (devices actor : ℕ) (call : ScriptCall) (asked : Kind) (id : Option ℕ) (by : ℕ)
-    → IsCore old → old.copying ≡ None → ((HasTooManyOut old → ⊥) → (other : ℕ) → old.committing ≡ Some other → ⊥)
+    → IsCore old → old.copying ≡ None → shared_count old.holds ≡ 0
+    → ((HasTooManyOut old → ⊥) → (other : ℕ) → old.committing ≡ Some other → ⊥)
     → ((other : ℕ) → old.attaching ≡ Some other → ⊥)
     → Waits old new devices actor call asked id by → ⊥
-none_waits old new devices actor call kind.Put (Some id) by is copying none no_attach waits =
+none_waits old new devices actor call kind.Put (Some id) by is copying shared none no_attach waits =
     none_busy old.holds _ _ by (core_alone old is copying none waits.0) waits.2.busy
-none_waits old new devices actor call kind.Get (Some id) by is copying none no_attach waits =
+none_waits old new devices actor call kind.Get (Some id) by is copying shared none no_attach waits =
     none_busy old.holds _ _ by (core_alone old is copying none waits.0) waits.2.2
-none_waits old new devices actor call kind.Sum (Some id) by is copying none no_attach waits =
+none_waits old new devices actor call kind.Sum (Some id) by is copying shared none no_attach waits =
     none_busy old.holds _ _ by (core_alone old is copying none waits.0) waits.2.2
-none_waits old new devices actor call kind.Sync None by is copying none no_attach waits = none waits.0 by waits.1
-none_waits old new devices actor call kind.Attach None by is copying none no_attach waits = ⊎_elim
+none_waits old new devices actor call kind.Sync None by is copying shared none no_attach waits = none waits.0 by waits.1
+none_waits old new devices actor call kind.Attach None by is copying shared none no_attach waits = ⊎_elim
     (λ attaches. no_attach by attaches) (λ commits. none waits.0 by commits.1) waits.1
-none_waits old new devices actor call asked id by is copying none no_attach waits = absurd waits
+none_waits old new devices actor call kind.Copy None by is copying shared none no_attach waits =
+    no_round_waits old by is copying shared none waits.0
+none_waits old new devices actor call asked id by is copying shared none no_attach waits = absurd waits
 
--- Where neither a copy, a commit nor an attach is under way, a client's next call begins.
+-- Where no call is under way, a client's next call begins.
 pub turned_begins : (calls : List ScriptCall) (actor : ℕ) (before after : Station)
     → Turned calls actor before after → IsCore before.state.core → before.state.core.copying ≡ None
+    → shared_count before.state.core.holds ≡ 0
     → ((HasTooManyOut before.state.core → ⊥) → (other : ℕ) → before.state.core.committing ≡ Some other → ⊥)
     → ((other : ℕ) → before.state.core.attaching ≡ Some other → ⊥)
     → before.client.under_way ≡ None → before.client.begun < length calls
     → after.client.begun ≡ before.client.begun + 1
-turned_begins calls actor before after (Nothing left) is copying none no_attach idle low = absurd (omega (arith, left.none, low))
-turned_begins calls actor before after (Began (More does) begins leaves) is copying none no_attach idle low =
+turned_begins calls actor before after (Nothing left) is copying shared none no_attach idle low =
+    absurd (omega (arith, left.none, low))
+turned_begins calls actor before after (Began (More does) begins leaves) is copying shared none no_attach idle low =
     ap (λ (c : Client). c.begun) leaves.1
-turned_begins calls actor before after (Began (Busy by) begins leaves) is copying none no_attach idle low =
+turned_begins calls actor before after (Began (Busy by) begins leaves) is copying shared none no_attach idle low =
     absurd (none_waits before.state.core after.state.core before.state.disk.devices actor begins.call begins.call.kind
-    begins.call.id by is copying none no_attach begins.did)
-turned_begins calls actor before after (Began (Done given) begins leaves) is copying none no_attach idle low =
+    begins.call.id by is copying shared none no_attach begins.did)
+turned_begins calls actor before after (Began (Done given) begins leaves) is copying shared none no_attach idle low =
     ap (λ (c : Client). c.begun) leaves.1
-turned_begins calls actor before after (Went under turn goes leaves) is copying none no_attach idle low =
+turned_begins calls actor before after (Went under turn goes leaves) is copying shared none no_attach idle low =
     absurd (none_some (sym idle ∙ goes.going))
 
 -- A turn takes back no call,

@@ -13,8 +13,8 @@ use Rattle.core_turns.specs.Core.{Core, CoreState, IsCore}
 use Rattle.schedule.specs.declared.client.Client.{Client}
 use Rattle.schedule.specs.declared.client.UnderWay.{UnderWay}
 use Rattle.schedule.specs.declared.client.Work.{Work}
-use Rattle.schedule.specs.Turned.{Station, Turned, Began, Went, BeginsCall, GoesOnBy, HasTableOf, WorkGoesOn, entry_for, listed_with, station_of}
-use Rattle.schedule.specs.Works.{begun_at, commit_in, made_by}
+use Rattle.schedule.specs.Turned.{Station, Turned, Began, Went, BeginsCall, GoesOnBy, HasTableOf, WorkGoesOn, entry_for, listed_on, listed_with, station_of}
+use Rattle.schedule.specs.Works.{begun_at, commit_in, made_by, made_in}
 
 -- A client whose call under way was taken, and none was, is as it was.
 pub idle_turn : (calls : List ScriptCall) (actor : ℕ) (core : Core) (disk : Disk) (items : List Item) (client : Client)
@@ -72,35 +72,43 @@ module _ (calls : List ScriptCall) (actor : ℕ) (core new : Core) (disk : Disk)
     λ i. record { begun = client.begun + 1; under_way = idle i },
   )
 
--- Its call under way had its next one.
-module _ (calls : List ScriptCall) (actor : ℕ) (before after : CoreState) (items : List Item) (client : Client)
+-- Its call under way had its next one, in which the journal had the same items until it listed some.
+module _ (calls : List ScriptCall) (actor : ℕ) (before after : CoreState) (items middle : List Item) (client : Client)
     (under : UnderWay) (call : ScriptCall) (going : client.under_way ≡ Some under)
     (is : slice_get calls (client.begun - 1) ≡ Some call) (goes : WorkGoesOn under.work before after)
-    (core : IsCore after.core) where
-  pub went_more : (does : Work) (at : ℕ) → GoesOnBy before after call under.work (More does)
-      → at ≡ begun_at (commit_in does) (commit_in under.work) under.at (length items)
+    (core : IsCore after.core) (same : middle ≡ items) where
+  pub went_more : (does : Work) (at now : ℕ) (widths : Reflow) (listed : List Item) (made : Option ℕ)
+      → GoesOnBy before after call under.work (More does)
+      → at ≡ begun_at (commit_in does) (commit_in under.work) under.at now → now ≡ length middle
+      → widths ≡ after.core.pool.uber.reflow → made ≡ made_in does → listed ≡ listed_on widths middle at made
       → Turned calls actor (record { state = before; items = items; client = client }) (record {
         state = after;
-        items = items;
+        items = listed;
         client = record {
           begun = client.begun;
           under_way = Some (record { at = at; work = does });
         };
       })
-  went_more does at did at_is = Went under (More does) (record {
+  went_more does at now widths listed made did at_is now_is widths_is made_is rest = Went under (More does) (record {
     going = going;
     call = call;
     is = is;
     did = did;
     goes = goes;
     core = core;
-  }) (refl, λ i. record { begun = client.begun; under_way = Some (record { at = at_is i; work = does }) })
+  }) (
+    rest ∙ (λ i. listed_on (widths_is i) (same i) (began i) (made_is i)),
+    λ i. record { begun = client.begun; under_way = Some (record { at = began i; work = does }) },
+  )
+    where
+      began : at ≡ begun_at (commit_in does) (commit_in under.work) under.at (length items)
+      began = at_is ∙ ap (begun_at (commit_in does) (commit_in under.work) under.at) (now_is ∙ ap length same)
 
   pub went_done : (given : Answer) (widths : Reflow) (entry : Entry) (listed : List Item) (made : Option ℕ)
       (left : Option UnderWay)
       → GoesOnBy before after call under.work (Done given) → widths ≡ after.core.pool.uber.reflow
       → entry ≡ entry_for call actor client.begun under.at given
-      → listed ≡ listed_with widths items under.at entry made entry.answer → made ≡ made_by under.work → left ≡ None
+      → listed ≡ listed_with widths middle under.at entry made entry.answer → made ≡ made_by under.work → left ≡ None
       → Turned calls actor (record { state = before; items = items; client = client }) (record {
         state = after;
         items = listed;
@@ -114,8 +122,8 @@ module _ (calls : List ScriptCall) (actor : ℕ) (before after : CoreState) (ite
     goes = goes;
     core = core;
   }) (
-    listed_is ∙ ap (λ (e : Entry). listed_with widths items under.at e made e.answer) entry_is
-        ∙ (λ i. listed_with (widths_is i) items under.at (entry_for call actor client.begun under.at given) (made_is i)
-        given),
+    listed_is ∙ ap (λ (e : Entry). listed_with widths middle under.at e made e.answer) entry_is
+        ∙ (λ i. listed_with (widths_is i) (same i) under.at (entry_for call actor client.begun under.at given)
+        (made_is i) given),
     λ i. record { begun = client.begun; under_way = left_is i },
   )

@@ -1,5 +1,5 @@
 -- What the first turn of a sync comes to, among the other clients' calls.
-use Rattle.std.proofs.Common.{◌≡◌, ℕ, ◌+◌, ◌-◌, List, [], ◌∷◌, length, Option, Some, None, refl, sym, ◌∙◌, ap, subst, arith}
+use Rattle.std.proofs.Common.{◌≡◌, ℕ, ◌+◌, ◌-◌, ◌≤◌, List, [], ◌∷◌, length, Option, Some, None, refl, sym, ◌∙◌, ap, subst, arith}
 use Rattle.std.specs.Prelude.{slice_get}
 use Rattle.std.proofs.lemmas.Option.{slice_get_within}
 use Rattle.bank_trait.specs.Disk.{Disk}
@@ -8,6 +8,7 @@ use Rattle.block_table.specs.Table.{IsTable}
 use Rattle.uberblock_ring.specs.Uberblock.{Uber}
 use Rattle.mark_advance.specs.Behind.{KeepsOrEnds}
 use Rattle.core_state.specs.declared.answer.Answer.{Answer}
+use Rattle.core_state.specs.declared.answer.Kind.{Kind}
 use Rattle.core_state.specs.declared.answer.Kind.TheVariants as kind
 use Rattle.core_state.specs.Map.{Map, map_of}
 use Rattle.core_commit.specs.CommitTurns.{CommitRun}
@@ -15,7 +16,7 @@ use Rattle.client_script.specs.declared.call.ScriptCall.{ScriptCall}
 use Rattle.client_script.specs.Script.{Script, calls_of}
 use Rattle.core_turns.specs.declared.turn.Turn.TheVariants.{More, Busy, Done}
 use Rattle.core_turns.specs.Core.{Core, at_disk}
-use Rattle.core_turns.specs.Committing.{BeginsCommit, IsSyncRefused}
+use Rattle.core_turns.specs.Committing.{BeginsCommit, BeginsCommitSo, IsSyncRefused}
 use Rattle.core_turns.specs.UnderWay.{AreCallsOf, Stands, HoldingCall}
 use Rattle.core_turns.proofs.Commits.{few_out, rests}
 use Rattle.core_turns.proofs.CommitStands.{commit_begins_calls, commit_begins_stands}
@@ -24,13 +25,15 @@ use Rattle.schedule.specs.Dropping.{HasDropCause}
 use Rattle.schedule.specs.Turns.{turns_of}
 use Rattle.schedule.specs.declared.client.Client.{Client}
 use Rattle.schedule.specs.declared.client.UnderWay.{UnderWay}
+use Rattle.schedule.specs.declared.client.Work.{Work}
 use Rattle.schedule.specs.declared.client.Work.TheVariants as work
-use Rattle.schedule.specs.Running.{calls_under_way, held_under, setting_now}
+use Rattle.schedule.specs.Running.{call_of_client, calls_under_way, held_under, setting_now}
 use Rattle.schedule.specs.Turned.{Station, LeavesBegun}
 use Rattle.schedule.specs.Comes.{TakesTurn, Comes}
 use Rattle.schedule.specs.Fitting.{IsGroupKind}
-use Rattle.schedule.proofs.Theirs.{OnlyIt, calls_stay, idle_no_attach, none_some, other_no_attach, run_of, sync_no_attach}
-use Rattle.schedule.proofs.Answered.{answered, answered_idle}
+use Rattle.schedule.proofs.CommitWorks.{MakesGroups, sync_makes}
+use Rattle.schedule.proofs.Theirs.{IsNoAttach, OnlyIt, calls_stay, idle_no_attach, none_some, other_no_attach, run_of}
+use Rattle.schedule.proofs.Answered.{answered, answered_going, answered_idle}
 use Rattle.schedule.proofs.Coming.{goes_for}
 use Rattle.schedule.proofs.Begun.{begun_now}
 use Rattle.schedule.proofs.Going.{commits_on, keeps_attach}
@@ -40,6 +43,101 @@ use Rattle.schedule.proofs.LeavesPool.{holds_left}
 use Rattle.schedule.proofs.TurnComes.{RunsOn, first_entry, comes_nowhere, comes_on, comes_at_once}
 use Rattle.schedule.proofs.Refusals.{sync_cause}
 use Rattle.schedule.proofs.Syncs.{no_commit, refused_tells, refused_map, refused_answers, refused_right}
+
+-- ---- a commit begins
+
+module _ {script : Script} {actor : ℕ} {before after : Station} {clients news : List Client} {asked : Kind}
+    {does : CommitRun → Work} (makes : MakesGroups asked does) (call : ScriptCall)
+    (takes : TakesTurn script actor before after clients news) (asked_is : (call.kind ≡ asked) × (call.id ≡ None))
+    (no_call : call_of_client before.client ≡ []) (no_attach : IsNoAttach before.client.under_way)
+    (disk : after.state.disk ≡ before.state.disk) where
+  abbrev core : Core
+  core = before.state.core
+
+  abbrev next_core : Core
+  next_core = after.state.core
+
+  -- In the first turn of a call or in a later one a commit begins, which makes the group after the last one.
+  pub commit_comes : (number : ℕ) (run : CommitRun) → IsTable core.pool.blocks.table
+      → BeginsCommitSo core next_core actor run → slice_get (calls_of script actor) (number - 1) ≡ Some call
+      → after.items ≡ before.items
+      → after.client ≡ record {
+        begun = number;
+        under_way = Some (record { at = length before.items; work = does run });
+      }
+      → answered before.client + 1 ≡ number → number ≤ length (calls_of script actor)
+      → Comes script actor before after clients news
+  commit_comes number run table begins is items client_is number_is low =
+      comes_on takes
+      (goes_for script (turn_still before.state after.state (ap (λ (c : Core). c.pool.uber) begins.rest)
+      (ap (λ (c : Core). c.reach) begins.rest)
+      (ap (λ (c : Core). c.pool.out) begins.rest) disk))
+      items (answered_going after.client under_is ∙ one_less) (omega (arith, low, begun_is))
+      (λ its_under is. omega (arith, begun_is, number_is))
+      (commits_on takes.was takes.changes takes.schedule.going are under run call
+      (keeps_attach core next_core (ap (λ (c : Core). c.pool.uber.reflow) begins.rest) (ap (λ (c : Core). c.reach) begins.rest)
+      (ap (λ (c : Core). c.attaching) begins.rest))
+      none_commits no_attach (makes.no_attach run) under_is (makes.commit run) (makes.its actor run)
+      (ap (λ (c : Client). slice_get (calls_of script actor) (c.begun - 1)) client_is ∙ is)
+      (makes.for call run asked_is) begins.of (ap (λ (c : Core). c.committing) begins.rest))
+      on
+    where
+      under : UnderWay
+      under = record { at = length before.items; work = does run }
+
+      under_is : after.client.under_way ≡ Some under
+      under_is = ap (λ (c : Client). c.under_way) client_is
+
+      begun_is : after.client.begun ≡ number
+      begun_is = ap (λ (c : Client). c.begun) client_is
+
+      one_less : after.client.begun - 1 ≡ answered before.client
+      one_less = omega (arith, begun_is, number_is)
+
+      -- No client makes a commit.
+      none_commits : OnlyIt clients actor
+      none_commits other its its_under is makes_one =
+          let its_run = run_of its_under.work makes_one in
+          absurd (none_some (sym begins.none
+          ∙ ((takes.schedule.going.each other its its_under is).commit its_run.0 its_run.1).1))
+
+      same_calls : calls_under_way news ≡ calls_under_way clients
+      same_calls = calls_stay takes.was takes.changes no_call (ap held_under under_is ∙ makes.holds run)
+
+      are : AreCallsOf next_core (calls_under_way news)
+      are = subst (AreCallsOf next_core) (sym same_calls)
+          (commit_begins_calls core next_core (calls_under_way clients) actor run begins takes.schedule.going.are)
+
+      on : RunsOn script before after clients news before.items
+      on world past handed within listed runs =
+          let map : Map = map_of world.handed world.opening before.items in
+          let calls = calls_under_way clients in
+          let none : runs.commit ≡ None =
+          no_commit (setting_now runs) runs.last runs.begun calls runs.commit before.state begins.none runs.stands.groups in
+          let alone : Stands (setting_now runs) runs.last runs.begun map runs.contents calls None before.state =
+          subst (λ (c : Option CommitRun). Stands (setting_now runs) runs.last runs.begun map runs.contents calls c before.state)
+          none runs.stands in
+          let empty : runs.begun ≡ [] = (alone.groups.whole (few_out core begins.few)).0 in
+          let made = commit_begins_stands takes.lawful takes.is table begins takes.schedule.going.are alone in
+          let last : core.pool.uber.group ≡ runs.last.uber.group = ap (λ (u : Uber). u.group) runs.stands.alike in
+          let rest = rests core takes.is begins.none in
+          let begun : next_core.begun ≡ core.begun + 1 = ap (λ (c : Core). c.begun) begins.rest in
+          let its = begun_now runs.recorded (let group = made.2 in omega (arith, group, begun, rest, last))
+          (subst (λ (r : Reflow). KeepsOrEnds r made.0.uber.reflow) (ap (λ (u : Uber). u.reflow) runs.stands.alike) made.3)
+          (λ id. ap (λ (m : Map). m id) made.1) in
+          commit_begins after.state takes.was takes.changes runs number (does run) run made.0
+          (none_holds after.state takes.was takes.changes runs (made.0 ∷ [])
+          (other_no_attach under_is refl (makes.no_attach run))) empty none (makes.commit run)
+          (ap (λ (r : CommitRun). r.stage) begins.run_is) disk client_is
+          (makes.begins world before.items runs.item (made.0 ∷ []) (length before.items) run (made.0, refl, its))
+          (λ asked. makes.content world before.items asked (length before.items) (runs.contents actor) run)
+          (subst (λ (l : List HoldingCall). Stands (setting_now runs) runs.last (made.0 ∷ []) map runs.contents l (Some run)
+          after.state)
+          (sym same_calls)
+          (subst (λ (d : Disk). Stands (setting_now runs) runs.last (made.0 ∷ []) map runs.contents calls (Some run)
+          (at_disk next_core d)) (sym disk) made.5))
+
+-- ---- a sync
 
 module _ {script : Script} {actor : ℕ} {before after : Station} {clients news : List Client} (call : ScriptCall)
     (takes : TakesTurn script actor before after clients news) (asked : call.kind ≡ kind.Sync) (no_id : call.id ≡ None)
@@ -52,78 +150,18 @@ module _ {script : Script} {actor : ℕ} {before after : Station} {clients news 
   abbrev now : Core
   now = after.state.core
 
-  -- A sync begins: its commit makes the group after the last one.
+  -- A sync begins with its commit.
   pub sync_begins : (run : CommitRun) → IsTable old.pool.blocks.table → BeginsCommit old now actor (More run)
       → LeavesBegun actor call before after (More (work.Sync run)) → Comes script actor before after clients news
   sync_begins run table begins leaves =
-      comes_on takes
-      (goes_for script (turn_still before.state after.state (ap (λ (c : Core). c.pool.uber) begins.rest)
-      (ap (λ (c : Core). c.reach) begins.rest)
-      (ap (λ (c : Core). c.pool.out) begins.rest) disk))
-      leaves.0 (ap answered leaves.1 ∙ number ∙ sym (answered_idle before.client idle))
-      (let low = slice_get_within (calls_of script actor) before.client.begun call next in omega (arith, low, begun_is))
-      (λ its_under is. omega (arith, begun_is))
-      (commits_on takes.was takes.changes takes.schedule.going are under run call
-      (keeps_attach old now (ap (λ (c : Core). c.pool.uber.reflow) begins.rest) (ap (λ (c : Core). c.reach) begins.rest)
-      (ap (λ (c : Core). c.attaching) begins.rest))
-      none_commits (idle_no_attach idle) (sync_no_attach run) under_is refl tt
-      (ap (λ (c : Client). slice_get (calls_of script actor) (c.begun - 1)) leaves.1
-      ∙ ap (slice_get (calls_of script actor)) number ∙ next)
-      (asked, no_id) begins.of (ap (λ (c : Core). c.committing) begins.rest))
-      on
+      commit_comes sync_makes call takes (asked, no_id) (ap held_under idle) (idle_no_attach idle) disk
+      (before.client.begun + 1) run table begins
+      (ap (slice_get (calls_of script actor)) one_less ∙ next) leaves.0 leaves.1
+      (ap (λ (n : ℕ). n + 1) (answered_idle before.client idle))
+      (let low = slice_get_within (calls_of script actor) before.client.begun call next in omega (arith, low))
     where
-      under : UnderWay
-      under = record { at = length before.items; work = work.Sync run }
-
-      under_is : after.client.under_way ≡ Some under
-      under_is = ap (λ (c : Client). c.under_way) leaves.1
-
-      begun_is : after.client.begun ≡ before.client.begun + 1
-      begun_is = ap (λ (c : Client). c.begun) leaves.1
-
-      number : before.client.begun + 1 - 1 ≡ before.client.begun
-      number = omega arith
-
-      -- No client makes a commit.
-      none_commits : OnlyIt clients actor
-      none_commits other its its_under is makes =
-          let its_run = run_of its_under.work makes in
-          absurd (none_some (sym begins.none
-          ∙ ((takes.schedule.going.each other its its_under is).commit its_run.0 its_run.1).1))
-
-      same_calls : calls_under_way news ≡ calls_under_way clients
-      same_calls = calls_stay takes.was takes.changes (ap held_under idle) (ap held_under under_is)
-
-      are : AreCallsOf now (calls_under_way news)
-      are = subst (AreCallsOf now) (sym same_calls)
-          (commit_begins_calls old now (calls_under_way clients) actor run begins takes.schedule.going.are)
-
-      on : RunsOn script before after clients news before.items
-      on world past handed within listed runs =
-          let map : Map = map_of world.handed world.opening before.items in
-          let calls = calls_under_way clients in
-          let none : runs.commit ≡ None =
-          no_commit (setting_now runs) runs.last runs.begun calls runs.commit before.state begins.none runs.stands.groups in
-          let alone : Stands (setting_now runs) runs.last runs.begun map runs.contents calls None before.state =
-          subst (λ (c : Option CommitRun). Stands (setting_now runs) runs.last runs.begun map runs.contents calls c before.state)
-          none runs.stands in
-          let empty : runs.begun ≡ [] = (alone.groups.whole (few_out old begins.few)).0 in
-          let made = commit_begins_stands takes.lawful takes.is table begins takes.schedule.going.are alone in
-          let last : old.pool.uber.group ≡ runs.last.uber.group = ap (λ (u : Uber). u.group) runs.stands.alike in
-          let rest = rests old takes.is begins.none in
-          let begun : now.begun ≡ old.begun + 1 = ap (λ (c : Core). c.begun) begins.rest in
-          let its = begun_now runs.recorded (let number = made.2 in omega (arith, number, begun, rest, last))
-          (subst (λ (r : Reflow). KeepsOrEnds r made.0.uber.reflow) (ap (λ (u : Uber). u.reflow) runs.stands.alike) made.3)
-          (λ id. ap (λ (m : Map). m id) made.1) in
-          commit_begins after.state takes.was takes.changes runs (work.Sync run) run made.0
-          (none_holds after.state takes.was takes.changes runs (made.0 ∷ [])
-          (other_no_attach under_is refl (sync_no_attach run))) empty none refl
-          (ap (λ (r : CommitRun). r.stage) begins.run_is) disk leaves.1 (made.0, refl, its) (λ asked. tt)
-          (subst (λ (l : List HoldingCall). Stands (setting_now runs) runs.last (made.0 ∷ []) map runs.contents l (Some run)
-          after.state)
-          (sym same_calls)
-          (subst (λ (d : Disk). Stands (setting_now runs) runs.last (made.0 ∷ []) map runs.contents calls (Some run)
-          (at_disk now d)) (sym disk) made.5))
+      one_less : before.client.begun + 1 - 1 ≡ before.client.begun
+      one_less = omega arith
 
   -- A sync waits for another's.
   pub sync_waits : (by : ℕ) → BeginsCommit old now actor (Busy by) → LeavesBegun actor call before after (Busy by)

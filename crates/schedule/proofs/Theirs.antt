@@ -12,7 +12,8 @@ use Rattle.core_turns.specs.declared.attaching.AttachRun.{AttachRun}
 use Rattle.core_turns.specs.declared.attaching.AttachRun.TheVariants.{Reads, Checked, Joins, Signs}
 use Rattle.core_turns.specs.Attaching.{attach_commit}
 use Rattle.core_turns.specs.Core.{Core}
-use Rattle.core_turns.specs.UnderWay.{HoldingCall, Putting, Reading, actor_of}
+use Rattle.core_turns.specs.declared.rounds.CopyRound.TheVariants.{Rests, Copies, Commits}
+use Rattle.core_turns.specs.UnderWay.{HoldingCall, Copying, Putting, Reading, actor_of}
 use Rattle.core_turns.proofs.AttachBeside.{IsBeforeCommit}
 use Rattle.schedule.specs.declared.client.Client.{Client}
 use Rattle.schedule.specs.declared.client.UnderWay.{UnderWay}
@@ -20,7 +21,7 @@ use Rattle.schedule.specs.declared.client.Work.{Work}
 use Rattle.schedule.specs.declared.client.Work.TheVariants as work
 use Rattle.schedule.specs.Clients.{Changes}
 use Rattle.schedule.specs.Running.{AreGoing, IsGoing, IsHoldOf, IsTheirs, MakesCommit, call_of_client, calls_under_way, commit_in, held_by, held_under}
-use Rattle.schedule.specs.Works.{begun_at}
+use Rattle.schedule.specs.Works.{begun_at, made_in}
 
 pub some_is : {A : Type 0} {one two : A} → Some one ≡ Some two → one ≡ two
 some_is same = cc
@@ -97,6 +98,9 @@ its_actor index (work.Put run) call its held = ap actor_of (sym (only_one (Putti
 its_actor index (work.Read run) call its held = ap actor_of (sym (only_one (Reading run) call held)) ∙ its
 its_actor index (work.Sync run) call its held = absurd (none_listed call held)
 its_actor index (work.Attach run) call its held = absurd (none_listed call held)
+its_actor index (work.Copy (Copies run)) call its held = ap actor_of (sym (only_one (Copying run) call held)) ∙ its
+its_actor index (work.Copy (Rests actor made)) call its held = absurd (none_listed call held)
+its_actor index (work.Copy (Commits run)) call its held = absurd (none_listed call held)
 
 -- ---- who has a call under way
 
@@ -106,15 +110,24 @@ pub none_going : {clients : List Client} {index : ℕ} {client its : Client} {un
 none_going was idle is =
     none_some (sym idle ∙ ap (λ (c : Client). c.under_way) (some_is (sym was ∙ is.there)) ∙ is.under_way)
 
--- Where it has none, all calls under way are others'.
-pub calls_of_others : {script : Script} {core : Core} {clients : List Client} {index : ℕ} {client : Client}
-    → slice_get clients index ≡ Some client → client.under_way ≡ None → AreGoing script core clients
+-- Where it holds no sectors, all calls under way that do are others',
+pub held_by_others : {script : Script} {core : Core} {clients : List Client} {index : ℕ} {client : Client}
+    → slice_get clients index ≡ Some client → call_of_client client ≡ [] → AreGoing script core clients
     → (call : HoldingCall) → Contains (calls_under_way clients) call → actor_of call ≢ index
-calls_of_others {clients = clients} was idle going call listed its =
+held_by_others {clients = clients} {client = client} was none going call listed its =
     let found = whose clients call listed in
     let actor = its_actor found.index found.under.work call
     (going.each found.index found.client found.under found.going).hold found.held in
-    none_going was idle (subst (λ (n : ℕ). IsGoing clients n found.client found.under) (sym actor ∙ its) found.going)
+    let here = subst (λ (n : ℕ). IsGoing clients n found.client found.under) (sym actor ∙ its) found.going in
+    let same : found.client ≡ client = some_is (sym here.there ∙ was) in
+    none_listed call (subst (λ (l : List HoldingCall). Contains l call)
+    (ap held_under (sym here.under_way ∙ ap (λ (c : Client). c.under_way) same) ∙ none) found.held)
+
+-- as where it has none under way.
+pub calls_of_others : {script : Script} {core : Core} {clients : List Client} {index : ℕ} {client : Client}
+    → slice_get clients index ≡ Some client → client.under_way ≡ None → AreGoing script core clients
+    → (call : HoldingCall) → Contains (calls_under_way clients) call → actor_of call ≢ index
+calls_of_others was idle = held_by_others was (ap held_under idle)
 
 -- A work makes a commit where it has one,
 pub makes_commit : (does : Work) (run : CommitRun) → commit_in does ≡ Some run → MakesCommit does
@@ -266,13 +279,26 @@ pub other_no_attach : {its : Option UnderWay} {under : UnderWay} {does : Work} �
 other_no_attach is does_is none under run its_is attach =
     none run (sym does_is ∙ ap (λ (u : UnderWay). u.work) (some_is (sym is ∙ its_is)) ∙ attach)
 
--- A work that holds sectors is none.
+-- A work that holds sectors is none,
 pub held_no_attach : {does : Work} {held : HoldingCall} → held_by does ≡ held ∷ [] → (run : AttachRun)
     → does ≡ work.Attach run → ⊥
 held_no_attach holds run does = apart (sym (ap held_by does) ∙ holds)
   where
     apart : {held : HoldingCall} → [] ≡ held ∷ [] → ⊥
     apart same = cc
+
+-- nor has it made a group in the turn before.
+pub held_none_made : (does : Work) {held : HoldingCall} → held_by does ≡ held ∷ [] → made_in does ≡ None
+held_none_made (work.Put run) holds = refl
+held_none_made (work.Read run) holds = refl
+held_none_made (work.Sync run) holds = refl
+held_none_made (work.Attach run) holds = refl
+held_none_made (work.Copy (Copies run)) holds = refl
+held_none_made (work.Copy (Commits run)) holds = refl
+held_none_made (work.Copy (Rests actor made)) {held} holds = absurd (apart held holds)
+  where
+    apart : (held : HoldingCall) → [] ≡ held ∷ [] → ⊥
+    apart held same = cc
 
 pub same_attach : {one other : AttachRun} → work.Attach one ≡ work.Attach other → one ≡ other
 same_attach same = cc
@@ -335,6 +361,6 @@ module _ {clients news : List Client} {index : ℕ} {old client : Client} (was :
   )
 
   -- The one commit has ended.
-  pub commit_gone : client.under_way ≡ None → OnlyIt clients index → IsTheirs news None
-  commit_gone ended only = each_going {T = λ other its under. MakesCommit under.work → ⊥} (no_one (λ under. MakesCommit under.work → ⊥) ended)
+  pub commit_gone : IsNoCommit client.under_way → OnlyIt clients index → IsTheirs news None
+  commit_gone ended only = each_going {T = λ other its under. MakesCommit under.work → ⊥} (no_commit_under ended)
       (λ other its under apart its_going makes. apart (only other its under its_going makes))

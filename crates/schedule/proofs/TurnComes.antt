@@ -16,6 +16,7 @@ use Rattle.core_state.specs.Map.{Map, map_of, map_after_answer}
 use Rattle.core_state.specs.World.{World}
 use Rattle.client_script.specs.declared.call.ScriptCall.{ScriptCall}
 use Rattle.client_script.specs.Script.{Script, calls_of}
+use Rattle.core_turns.specs.declared.attaching.AttachRun.{AttachRun}
 use Rattle.core_turns.specs.Core.{Core}
 use Rattle.core_turns.specs.UnderWay.{HoldingCall, AreCallsOf, Stands, TurnGoesOn, shown_of}
 use Rattle.core_turns.specs.declared.turn.Turn.TheVariants.{More, Done}
@@ -23,15 +24,17 @@ use Rattle.core_turns.proofs.CommitGoes.{turn_still}
 use Rattle.schedule.specs.declared.client.Client.{Client}
 use Rattle.schedule.specs.declared.client.UnderWay.{UnderWay}
 use Rattle.schedule.specs.declared.client.Work.{Work}
+use Rattle.schedule.specs.declared.client.Work.TheVariants as work
 use Rattle.schedule.specs.Clients.{ClientsAreAnswered}
 use Rattle.schedule.specs.Coming.{GoesOnFor, IsWorldOf, LeadTo}
 use Rattle.schedule.specs.Turns.{turns_of, Turns, taken_by, IsListedWith}
 use Rattle.schedule.specs.Running.{AreGoing, HasContent, IsGoing, IsHoldOf, IsWorkFor, IsWorkOf, MakesCommit, Runs, call_of_client, calls_under_way, held_by, held_under, setting_now}
 use Rattle.schedule.specs.Dropping.{HasDropCause}
 use Rattle.schedule.specs.Recorded.{IsRightNext}
-use Rattle.schedule.specs.Turned.{HasDeviceUnder, Station, LeavesBegun, LeavesGoing, entry_for}
+use Rattle.schedule.specs.Turned.{HasDeviceUnder, Station, LeavesBegun, LeavesGoing, entry_for, listed_on}
+use Rattle.schedule.specs.Works.{begun_at, commit_in, made_in}
 use Rattle.schedule.specs.Comes.{TakesTurn, Comes}
-use Rattle.schedule.proofs.Theirs.{IsNoAttach, begun_before, call_begins, call_ends, call_goes, calls_stay, held_no_attach, idle_no_attach, idle_no_commit, makes_commit, no_one, other_no_attach, same_list, some_is, the_one, work_no_commit}
+use Rattle.schedule.proofs.Theirs.{IsNoAttach, begun_before, call_begins, call_ends, call_goes, calls_stay, held_no_attach, held_none_made, idle_no_attach, idle_no_commit, makes_commit, no_one, other_no_attach, same_list, some_is, the_one, work_no_commit}
 use Rattle.schedule.proofs.Answered.{answered, answers_same, answers_call, answered_going, answered_idle}
 use Rattle.schedule.proofs.Going.{goes as going_goes}
 use Rattle.schedule.proofs.NewDevices.{devices_there}
@@ -311,9 +314,11 @@ module _ {script : Script} {actor : ℕ} {before after : Station} {clients news 
 
     -- The turn lists nothing, and the call goes on.
     pub comes_further : (next : Work) → GoesOnFor script before.state after.state
-        → LeavesGoing actor call before after under (More next)
+        → LeavesGoing actor call before after under (More next) → made_in next ≡ None
         → AreGoing script now news → RunsOn script before after clients news before.items → ItComes
-    comes_further next goes further = comes_on goes further.0
+    comes_further next goes further none = comes_on goes
+        (further.0 ∙ ap (listed_on now.pool.uber.reflow before.items
+        (begun_at (commit_in next) (commit_in under.work) under.at (length before.items))) none)
         (ap answered further.1 ∙ sym (answered_going before.client under_is))
         (let few = takes.schedule.answered.few actor before.client takes.was in omega (arith, few, begun_is))
         (λ its_under its_is. let some = takes.schedule.answered.some actor before.client under takes.was under_is in
@@ -322,28 +327,26 @@ module _ {script : Script} {actor : ℕ} {before after : Station} {clients news 
         begun_is : after.client.begun ≡ before.client.begun
         begun_is = ap (λ (c : Client). c.begun) further.1
 
-    -- It holds sectors.
-    module _ (held : HoldingCall) (was_holds : held_by does ≡ held ∷ []) (was_no_commit : MakesCommit does → ⊥)
+    -- It makes no commit, and is no attach.
+    module _ (was_no_commit : MakesCommit does → ⊥) (was_plain : (run : AttachRun) → does ≡ work.Attach run → ⊥)
         (goes : TurnGoesOn before.state after.state) where
-      was_held : call_of_client before.client ≡ held ∷ []
-      was_held = ap held_under under_is ∙ ap held_by does_is ∙ was_holds
-
       no_commit : MakesCommit under.work → ⊥
       no_commit makes = was_no_commit (subst MakesCommit does_is makes)
 
       was_no_attach : IsNoAttach before.client.under_way
-      was_no_attach = other_no_attach under_is does_is (held_no_attach was_holds)
+      was_no_attach = other_no_attach under_is does_is was_plain
 
-      -- It goes on.
-      module _ (held_next : HoldingCall) (next : Work) (further : LeavesGoing actor call before after under (More next))
-          (holds : held_by next ≡ held_next ∷ []) (next_no_commit : MakesCommit next → ⊥) where
+      -- It goes on as such a call.
+      module _ (next : Work) (further : LeavesGoing actor call before after under (More next))
+          (next_no_commit : MakesCommit next → ⊥) (next_plain : (run : AttachRun) → next ≡ work.Attach run → ⊥)
+          (none_made : made_in next ≡ None) where
         next_is : after.client.under_way ≡ Some (record { at = under.at; work = next })
         next_is = ap (λ (c : Client). c.under_way) further.1
             ∙ ap (λ (at : ℕ). Some (record { at = at; work = next })) (begun_before next under.work under.at
             (length before.items) next_no_commit)
 
         no_attach : IsNoAttach after.client.under_way
-        no_attach = other_no_attach next_is refl (held_no_attach holds)
+        no_attach = other_no_attach next_is refl next_plain
 
         client_is : after.client
             ≡ record { begun = before.client.begun; under_way = Some (record { at = under.at; work = next }) }
@@ -352,12 +355,10 @@ module _ {script : Script} {actor : ℕ} {before after : Station} {clients news 
           under_way = Some (record { at = at; work = next });
         }) (begun_before next under.work under.at (length before.items) next_no_commit)
 
-        -- Another stands in its place.
-        pub held_moves : (rest : List HoldingCall) × Gains rest (calls_under_way clients) held
-            × Gains rest (calls_under_way news) held_next
-        held_moves = call_goes takes.was takes.changes was_held (ap held_under next_is ∙ holds)
+        pub next_held : call_of_client after.client ≡ held_by next
+        next_held = ap held_under next_is
 
-        pub comes_going : KeepsCommit old now → IsHoldOf actor next → IsWorkFor call next
+        pub comes_working : KeepsCommit old now → IsHoldOf actor next → IsWorkFor call next
             → AreCallsOf now (calls_under_way news)
             → ((world : World) (past : Past) → (runs : Runs world script past before.state before.items clients)
             → GoesOnSince (setting_now runs) runs.last (shown_of runs.begun runs.commit) before.state.disk after.state.disk
@@ -365,7 +366,7 @@ module _ {script : Script} {actor : ℕ} {before after : Station} {clients news 
             → HasContent world before.items call under.at (runs.contents actor) next)
             × StandsNow world past runs runs.contents (map_of world.handed world.opening before.items))
             → ItComes
-        comes_going keeps its asked are stands = comes_further next (goes_for script goes) further
+        comes_working keeps its asked are stands = comes_further next (goes_for script goes) further none_made
             (going_goes takes.was takes.changes takes.schedule.going are keeps (work_no_commit under_is no_commit)
             was_no_attach
             (the_one (λ its_under. IsWorkOf script now actor after.client its_under.work) next_is (record {
@@ -374,7 +375,7 @@ module _ {script : Script} {actor : ℕ} {before after : Station} {clients news 
               there = ap (λ (c : Client). slice_get (calls_of script actor) (c.begun - 1)) further.1 ∙ is;
               asked = asked;
               commit = λ run run_is. absurd (next_no_commit (makes_commit next run run_is));
-              attach = λ run run_is. absurd (held_no_attach holds run run_is);
+              attach = λ run run_is. absurd (next_plain run run_is);
             })))
             (λ world past handed within listed runs.
             let now = stands world past runs in
@@ -388,17 +389,72 @@ module _ {script : Script} {actor : ℕ} {before after : Station} {clients news 
             (some_is (sym is ∙ other_is)) (now.1 (its_content runs)))
             now.2)
 
+      -- It is answered, and its entry alone is listed.
+      module _ (given : Answer) (ended : LeavesGoing actor call before after under (Done given)) where
+        abbrev last_entry : Entry
+        last_entry = entry_for call actor before.client.begun under.at given
+
+        pub idle_now : after.client.under_way ≡ None
+        idle_now = ap (λ (c : Client). c.under_way) ended.1
+
+        pub comes_finished : after.items ≡ before.items ++ CallItem last_entry ∷ [] → LeavesPool old now
+            → after.state.disk ≡ before.state.disk → FitsNow call.kind given → given ≢ answer.Full
+            → AreCallsOf now (calls_under_way news)
+            → ((world : World) (past : Past) → IsWorldOf script world
+            → (runs : Runs world script past before.state before.items clients)
+            → IsRightNext world before.items last_entry after.state.disk
+            × StandsNow world past runs runs.contents
+            (map_after_answer world.handed (map_of world.handed world.opening before.items) last_entry given))
+            → ItComes
+        comes_finished listed leaves disk fit other are stands = comes_answered call before.client.begun under.at given
+            its_number its_place (goes_for script goes) listed ended.1 fit (λ full. absurd (other full))
+            (going_goes takes.was takes.changes takes.schedule.going are (leaves_commit leaves)
+            (work_no_commit under_is no_commit) was_no_attach
+            (no_one (λ its_under. IsWorkOf script now actor after.client its_under.work) idle_now))
+            (λ world past handed within with runs.
+            let now = stands world past handed runs in
+            runs_answer after.state takes.was takes.changes runs runs.commit runs.recorded last_entry refl idle_now disk
+            (stands_know runs.stands) now.0 fit.of_kind with runs.theirs (work_no_commit under_is no_commit) now.1)
+
+    -- It holds sectors.
+    module _ (held : HoldingCall) (was_holds : held_by does ≡ held ∷ []) (was_no_commit : MakesCommit does → ⊥)
+        (goes : TurnGoesOn before.state after.state) where
+      was_held : call_of_client before.client ≡ held ∷ []
+      was_held = ap held_under under_is ∙ ap held_by does_is ∙ was_holds
+
+      -- It goes on.
+      module _ (held_next : HoldingCall) (next : Work) (further : LeavesGoing actor call before after under (More next))
+          (holds : held_by next ≡ held_next ∷ []) (next_no_commit : MakesCommit next → ⊥) where
+        none_made : made_in next ≡ None
+        none_made = held_none_made next holds
+
+        -- Another stands in its place.
+        pub held_moves : (rest : List HoldingCall) × Gains rest (calls_under_way clients) held
+            × Gains rest (calls_under_way news) held_next
+        held_moves = call_goes takes.was takes.changes was_held
+            (next_held was_no_commit (held_no_attach was_holds) goes next further next_no_commit (held_no_attach holds)
+            none_made ∙ holds)
+
+        pub comes_going : KeepsCommit old now → IsHoldOf actor next → IsWorkFor call next
+            → AreCallsOf now (calls_under_way news)
+            → ((world : World) (past : Past) → (runs : Runs world script past before.state before.items clients)
+            → GoesOnSince (setting_now runs) runs.last (shown_of runs.begun runs.commit) before.state.disk after.state.disk
+            × (HasContent world before.items call under.at (runs.contents actor) does
+            → HasContent world before.items call under.at (runs.contents actor) next)
+            × StandsNow world past runs runs.contents (map_of world.handed world.opening before.items))
+            → ItComes
+        comes_going = comes_working was_no_commit (held_no_attach was_holds) goes next further next_no_commit
+            (held_no_attach holds) none_made
+
       -- It ends, and its entry alone is listed.
       module _ (given : Answer) (ended : LeavesGoing actor call before after under (Done given)) where
         abbrev entry : Entry
         entry = entry_for call actor before.client.begun under.at given
 
-        idle_now : after.client.under_way ≡ None
-        idle_now = ap (λ (c : Client). c.under_way) ended.1
-
         -- The others' calls are left.
         pub held_gone : Gains (calls_under_way news) (calls_under_way clients) held
-        held_gone = call_ends takes.was takes.changes was_held (ap held_under idle_now)
+        held_gone = call_ends takes.was takes.changes was_held
+            (ap held_under (ap (λ (c : Client). c.under_way) ended.1))
 
         pub comes_ended : after.items ≡ before.items ++ CallItem entry ∷ [] → LeavesPool old now
             → after.state.disk ≡ before.state.disk → FitsNow call.kind given → given ≢ answer.Full
@@ -409,12 +465,4 @@ module _ {script : Script} {actor : ℕ} {before after : Station} {clients news 
             × StandsNow world past runs runs.contents
             (map_after_answer world.handed (map_of world.handed world.opening before.items) entry given))
             → ItComes
-        comes_ended listed leaves disk fit other are stands = comes_answered call before.client.begun under.at given its_number
-            its_place (goes_for script goes) listed ended.1 fit (λ full. absurd (other full))
-            (going_goes takes.was takes.changes takes.schedule.going are (leaves_commit leaves)
-            (work_no_commit under_is no_commit) was_no_attach
-            (no_one (λ its_under. IsWorkOf script now actor after.client its_under.work) idle_now))
-            (λ world past handed within with runs.
-            let now = stands world past handed runs in
-            runs_answer after.state takes.was takes.changes runs runs.commit runs.recorded entry refl idle_now disk
-            (stands_know runs.stands) now.0 fit.of_kind with runs.theirs (work_no_commit under_is no_commit) now.1)
+        comes_ended = comes_finished was_no_commit (held_no_attach was_holds) goes given ended

@@ -14,6 +14,7 @@ use Rattle.client_script.specs.Script.{Script, MayHave, IsAllowed, calls_of}
 use Rattle.core_turns.specs.declared.turn.Turn.{Turn}
 use Rattle.core_turns.specs.declared.turn.Turn.TheVariants.{More, Busy, Done}
 use Rattle.core_turns.specs.declared.attaching.AttachRun.TheVariants.{Reads, Checked, Joins, Signs}
+use Rattle.core_turns.specs.declared.rounds.CopyRound.TheVariants.{Rests, Copies, Commits}
 use Rattle.core_turns.specs.declared.getting.GetRun.{GetRun}
 use Rattle.core_turns.specs.Core.{IsCore}
 use Rattle.core_turns.specs.Getting.{IsReadKind, BeginsGet}
@@ -36,7 +37,10 @@ use Rattle.schedule.proofs.PutComes.{put_begins, put_waits, put_at_once}
 use Rattle.schedule.proofs.PutGoes.{put_goes_on, put_ends}
 use Rattle.schedule.proofs.ReadComes.{read_begins, read_waits, read_at_once, read_goes_on, read_ends}
 use Rattle.schedule.proofs.SyncComes.{sync_begins, sync_waits, sync_at_once}
-use Rattle.schedule.proofs.SyncGoes.{sync_goes_on, sync_ends}
+use Rattle.schedule.proofs.CommitWorks.{copy_makes, sync_makes}
+use Rattle.schedule.proofs.CopyComes.{copy_at_once, copy_begins, copy_commits, copy_waits}
+use Rattle.schedule.proofs.CopyGoes.{commits_cut, commits_make, copies_cut, copies_end, copies_on, rests_commits, rests_copies, rests_ends, rests_lacks, rests_on}
+use Rattle.schedule.proofs.SyncGoes.{commit_goes_further, sync_ends}
 
 -- What a put may have are bytes.
 put_bytes : (id : Option ℕ) (bytes : List ℕ) → MayHave kind.Put id bytes → AreBytes bytes
@@ -82,6 +86,10 @@ module _ {script : Script} {actor : ℕ} {before after : Station} {clients news 
         sync_begins call takes asked id_is idle next disk run table did leaves
     begins_by kind.Attach None (work.Attach run) asked id_is did table leaves =
         attach_begins call takes asked id_is idle next disk run did leaves
+    begins_by kind.Copy None (work.Copy (Copies run)) asked id_is did table leaves =
+        copy_begins call takes asked id_is idle next disk run did leaves
+    begins_by kind.Copy None (work.Copy (Commits run)) asked id_is did table leaves =
+        copy_commits call takes asked id_is idle next disk run did leaves
     begins_by asked id does asked_is id_is did table leaves = absurd did
 
     -- one that waits,
@@ -100,6 +108,8 @@ module _ {script : Script} {actor : ℕ} {before after : Station} {clients news 
         sync_waits call takes asked id_is idle next disk by did leaves
     waits_by kind.Attach None by asked id_is did leaves =
         attach_waits call takes asked id_is idle next disk by did leaves
+    waits_by kind.Copy None by asked id_is did leaves =
+        copy_waits call takes asked id_is idle next disk by did leaves
     waits_by asked id by asked_is id_is did leaves = absurd did
 
     -- and one that is answered at once.
@@ -121,6 +131,8 @@ module _ {script : Script} {actor : ℕ} {before after : Station} {clients news 
         sync_at_once call takes asked id_is idle next disk given did leaves
     answers_by kind.Attach None given asked id_is did leaves =
         attach_at_once call takes asked id_is idle next disk given did leaves
+    answers_by kind.Copy None given asked id_is did leaves =
+        copy_at_once call takes asked id_is idle next disk given did leaves
     answers_by asked id given asked_is id_is did leaves = absurd did
 
     began_by : (turn : Turn Work) → BeginsCall before.state.core after.state.core before.state.disk.devices actor call turn
@@ -144,9 +156,9 @@ module _ {script : Script} {actor : ℕ} {before after : Station} {clients news 
     went_by (work.Read run) (Done given) does_is goes did leaves =
         read_ends takes call under run does_is going is goes given did leaves
     went_by (work.Sync run) (More (work.Sync next)) does_is goes did leaves =
-        sync_goes_on call takes under run does_is going is goes next did leaves
+        commit_goes_further sync_makes call takes under run does_is going is goes next did leaves
     went_by (work.Sync run) (Done given) does_is goes did leaves =
-        sync_ends call takes under run does_is going is goes given did leaves
+        sync_ends sync_makes call takes under run does_is going is goes refl given did leaves
     went_by (work.Attach (Reads ring)) (More (work.Attach (Reads next))) does_is goes did leaves =
         reads_next call takes under ring going is goes next does_is did.0 did.1 leaves
     went_by (work.Attach (Reads ring)) (More (work.Attach (Checked next))) does_is goes did leaves =
@@ -175,6 +187,37 @@ module _ {script : Script} {actor : ℕ} {before after : Station} {clients news 
         (λ ends. attach_ends call takes under commit because does_is going is goes still given ends leaves)
         did
     went_by (work.Attach run) (More (work.Attach next)) does_is goes did leaves = absurd did.0
+    went_by (work.Copy (Rests whose made)) (More (work.Copy (Rests next now_made))) does_is goes did leaves =
+        rests_on call takes under going is goes whose made does_is next now_made did.0 leaves
+    went_by (work.Copy (Rests whose made)) (More (work.Copy (Copies run))) does_is goes did leaves =
+        rests_copies call takes under going is goes whose made does_is run did.0.0 did.0.1 leaves
+    went_by (work.Copy (Rests whose made)) (More (work.Copy (Commits run))) does_is goes did leaves =
+        rests_commits call takes under going is goes whose made does_is run did.0 leaves
+    went_by (work.Copy (Rests whose None)) (Done given) does_is goes did leaves = ⊎_elim
+        (λ refused. rests_ends call takes under going is goes whose None does_is given refused leaves)
+        (λ lacks. absurd lacks)
+        did
+    went_by (work.Copy (Rests whose (Some made))) (Done given) does_is goes did leaves = ⊎_elim
+        (λ refused. rests_ends call takes under going is goes whose (Some made) does_is given refused leaves)
+        (λ lacks. rests_lacks call takes under going is goes whose (Some made) does_is given lacks.0 lacks.1 leaves)
+        did
+    went_by (work.Copy (Copies run)) (More (work.Copy (Copies next))) does_is goes did leaves =
+        copies_on call takes under going is goes run does_is next did.0 did.1 leaves
+    went_by (work.Copy (Copies run)) (More (work.Copy (Rests whose made))) does_is goes did leaves =
+        copies_end call takes under going is goes run does_is whose made did.0 leaves
+    went_by (work.Copy (Copies run)) (Done given) does_is goes did leaves = ⊎_elim
+        (λ stops. copies_cut call takes under going is goes run does_is given stops leaves)
+        (λ lacks. absurd lacks)
+        did
+    went_by (work.Copy (Commits run)) (More (work.Copy (Commits next))) does_is goes did leaves =
+        commit_goes_further copy_makes call takes under run does_is going is goes next did.0 leaves
+    went_by (work.Copy (Commits run)) (More (work.Copy (Rests whose made))) does_is goes did leaves =
+        commits_make call takes under going is goes run does_is whose made did.0 leaves
+    went_by (work.Copy (Commits run)) (Done given) does_is goes did leaves = ⊎_elim
+        (λ stops. commits_cut call takes under going is goes run does_is given stops leaves)
+        (λ lacks. absurd lacks)
+        did
+    went_by (work.Copy round) (More (work.Copy next)) does_is goes did leaves = absurd did.0
     went_by does turn does_is goes did leaves = absurd did
 
   -- **A turn of a client comes to a state in which the next turn may be taken, and what stood between two turns

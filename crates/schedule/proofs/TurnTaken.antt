@@ -1,5 +1,5 @@
 -- One turn of a client of a script: what it needs before, and what stands after it.
-use Rattle.std.proofs.Common.{◌≡◌, ◌≢◌, ⊎_elim, ℕ, ◌-◌, ◌<◌, ◌≤◌, List, [], ◌∷◌, length, Some, None, zero, suc, refl, sym, ◌∙◌, ap, subst, arith, slice_index_or, slice_set}
+use Rattle.std.proofs.Common.{◌≡◌, ◌≢◌, ⊎_elim, ℕ, ◌-◌, ◌*◌, ◌<◌, ◌≤◌, List, [], ◌∷◌, length, Some, zero, suc, refl, sym, ◌∙◌, ap, subst, arith, slice_index_or, slice_set}
 use Rattle.std.specs.Prelude.{All, Contains, filter, slice_get, ◌==◌}
 use Rattle.std.proofs.lemmas.List.Elements.{All-filter, All-map, All-get_or}
 use Rattle.std.proofs.lemmas.Option.{get_or_from_slice_get, slice_get-get_or, slice_get_within}
@@ -8,7 +8,8 @@ use Rattle.client_script.specs.declared.call.ScriptCall.{ScriptCall}
 use Rattle.client_script.specs.Script.{Placed, Script, IsAllowed, calls_of}
 use Rattle.core_turns.specs.Core.{Core, IsCore}
 use Rattle.core_turns.specs.Getting.{HasTooManyOut}
-use Rattle.core_turns.specs.UnderWay.{HoldingCall, Putting, Reading}
+use Rattle.core_turns.specs.declared.rounds.CopyRound.TheVariants.{Rests, Copies, Commits}
+use Rattle.core_turns.specs.UnderWay.{HoldingCall, Copying, Putting, Reading}
 use Rattle.core_turns.proofs.Calls.{range_listed}
 use Rattle.schedule.specs.declared.client.Client.{Client}
 use Rattle.schedule.specs.declared.client.UnderWay.{UnderWay}
@@ -18,13 +19,15 @@ use Rattle.schedule.specs.Clients.{Changes}
 use Rattle.schedule.specs.Comes.{Comes, TakesTurn}
 use Rattle.schedule.specs.Coming.{IsSchedule}
 use Rattle.schedule.specs.Turns.{Turns, turns_of, taken_by}
-use Rattle.schedule.specs.Playing.{HasRoomForAnswers, IsReady}
+use Rattle.schedule.specs.Playing.{AreCopiers, AreSharers, HasRoomForAnswers, IsReady, calls_by, taken_of}
 use Rattle.schedule.specs.Replaying.{AreIdle, HasTurn, TakesOne}
 use Rattle.schedule.specs.Running.{AreGoing, IsGoing, IsWorkFor, IsWorkOf, calls_under_way, commit_in, held_by}
 use Rattle.schedule.specs.Turned.{HasDeviceUnder, MayGoOn, Station, Turned}
 use Rattle.schedule.proofs.Coming.{came_nowhere}
 use Rattle.schedule.proofs.Dropped.{turn_drops}
-use Rattle.schedule.proofs.Shared.{turned_begins, turned_copying, turned_further, turned_still}
+use Rattle.schedule.proofs.Holders.{copiers_after, none_copies, none_shares, sharers_after}
+use Rattle.schedule.proofs.Rooms.{taken_few}
+use Rattle.schedule.proofs.Shared.{turned_begins, turned_further, turned_still}
 use Rattle.schedule.proofs.Theirs.{none_some, some_is, is_among}
 use Rattle.schedule.proofs.TurnLaw.{turned_comes}
 use Rattle.schedule.specs.Numbered.{IsNumbered}
@@ -74,6 +77,10 @@ going_may script core clients index client under call going is asked =
         (among (work.Read run) (Reading run) same (first_listed (Reading run) []))
     may (work.Sync run) same for = (mine.commit run (ap commit_in same)).0
     may (work.Attach run) same for = (mine.attach run same).0
+    may (work.Copy (Copies run)) same for = going.are.each (Copying run)
+        (among (work.Copy (Copies run)) (Copying run) same (first_listed (Copying run) []))
+    may (work.Copy (Rests actor made)) same for = tt
+    may (work.Copy (Commits run)) same for = (mine.commit run (ap commit_in same)).0
 
 -- ---- after a turn
 
@@ -156,7 +163,8 @@ none_attaches script core clients going idle other is =
 -- A client of the script took a turn.
 module _ (script : Script) (actor : ℕ) (before after : Station) (clients news : List Client)
     (takes : TakesTurn script actor before after clients news)
-    (allowed : All (λ placed. IsAllowed placed.call) script.calls) (copying : before.state.core.copying ≡ None)
+    (allowed : All (λ placed. IsAllowed placed.call) script.calls) (copying : AreCopiers clients before.state.core)
+    (sharing : AreSharers clients before.state.core)
     (turned : Turned (calls_of script actor) actor before after) where
   comes : Comes script actor before after clients news
   comes = turned_comes takes (allowed_of script actor allowed) turned
@@ -166,7 +174,8 @@ module _ (script : Script) (actor : ℕ) (before after : Station) (clients news 
     there = takes.changes.there;
     further = turned_further (calls_of script actor) actor before after turned;
     still = λ under going. turned_still (calls_of script actor) actor before after under turned going;
-    begins = λ idle low. turned_begins (calls_of script actor) actor before after turned takes.is copying
+    begins = λ idle low. turned_begins (calls_of script actor) actor before after turned takes.is
+        (none_copies before.state.core clients copying idle) (none_shares before.state.core clients sharing idle)
         (none_commits script before.state.core clients takes.schedule.going idle)
         (none_attaches script before.state.core clients takes.schedule.going idle)
         (idle.each actor before.client takes.was) low;
@@ -195,16 +204,21 @@ module _ (script : Script) (actor : ℕ) (before after : Station) (clients news 
     );
   }
 
-  -- It has begun no more calls than it has.
-  pub turn_few : after.client.begun ≤ length (calls_of script actor)
-  turn_few = comes.schedule.answered.few actor after.client takes.changes.there
+  -- It has taken no more room than its calls have.
+  pub turn_few : taken_of after.client ≤ 2 * calls_by script actor
+  turn_few = taken_few (calls_by script actor) after.client
+      (comes.schedule.answered.few actor after.client takes.changes.there)
+      (λ under going. comes.schedule.answered.some actor after.client under takes.changes.there going)
 
   -- The next turn may be taken then.
   pub turn_ready : (left : ℕ) → length clients ≡ script.clients → length news ≡ length clients
       → HasRoomForAnswers script news left → IsReady script (turns_of after.state after.items news) left
   turn_ready left counted same enough = record {
     schedule = comes.schedule;
-    copying = turned_copying takes turned ∙ copying;
+    copying = copiers_after takes turned comes.schedule.going copying;
+    sharing = sharers_after takes
+        (λ under call going asked. going_may script before.state.core clients actor before.client under call
+        takes.schedule.going (record { there = takes.was; under_way = going }) asked) turned sharing;
     counted = same ∙ counted;
     enough = enough;
   }

@@ -21,6 +21,7 @@ use Rattle.core_commit.proofs.Stepping.{ready_keeps}
 use Rattle.open_pool.specs.Answered.{blocks_behind}
 use Rattle.open_pool.specs.Pool.{Pool}
 use Rattle.client_script.specs.declared.call.ScriptCall.{ScriptCall}
+use Rattle.core_turns.specs.declared.copying.CopyRun.{CopyRun}
 use Rattle.core_turns.specs.declared.getting.GetRun.{GetRun}
 use Rattle.core_turns.specs.declared.putting.PutRun.{PutRun}
 use Rattle.core_turns.specs.declared.turn.Turn.{Turn}
@@ -34,23 +35,38 @@ use Rattle.core_turns.specs.Committing.{AnswersGroup, IsCommitOf, StepsCommit}
 use Rattle.schedule.specs.Turned.{EndsPutting, EndsReading, group_by}
 use Rattle.schedule.proofs.Stays.{Stays, answers_stays, stays_same}
 use Rattle.schedule.proofs.Theirs.{none_some}
-use Rattle.schedule.proofs.UsingTurns.{UsesNoMore, given_up, one_less, same_core, same_parts, stored}
+use Rattle.schedule.proofs.UsingTurns.{UsesNoMore, copier_after, dropped_few, ended_few, given_up, one_less, same_core, same_parts, stored}
 
--- The group is this one after a turn, which goes on with no more runs. The pool stays, and who copies.
-pub record GoesWith (old new : Core) (group : ℕ) : Type 0 where
+-- The group is this one after a turn, which goes on with no more runs. The pool stays, and who copies follows from the
+-- call's job before the turn and after it.
+pub record GoesAs (old new : Core) (group : ℕ) (was now : Option CopyRun) : Type 0 where
   pub uses : UsesNoMore old new
   pub group_is : new.pool.uber.group ≡ group
   pub stays : Stays old new
-  pub copying : new.copying ≡ old.copying
+  pub copying : new.copying ≡ copier_after was now old.copying
 
-pub goes_still : (old new : Core) → new.pool.uber ≡ old.pool.uber → new.copying ≡ old.copying
-    → UsesNoMore old new → GoesWith old new old.pool.uber.group
-goes_still old new uber copying uses = record {
+-- It is no job's turn: who copies stays so.
+abbrev pub GoesWith : Core → Core → ℕ → Type 0
+GoesWith old new group = GoesAs old new group None None
+
+pub goes_as : (old new : Core) (was now : Option CopyRun) → new.pool.uber ≡ old.pool.uber
+    → new.copying ≡ copier_after was now old.copying → UsesNoMore old new
+    → GoesAs old new old.pool.uber.group was now
+goes_as old new was now uber copying uses = record {
   uses = uses;
   group_is = ap (λ (u : Uber). u.group) uber;
   stays = stays_same old new uber;
   copying = copying;
 }
+
+pub goes_still : (old new : Core) → new.pool.uber ≡ old.pool.uber → new.copying ≡ old.copying
+    → UsesNoMore old new → GoesWith old new old.pool.uber.group
+goes_still old new uber copying uses = goes_as old new None None uber copying uses
+
+-- A turn after which a call goes on lists no group, or the next one.
+abbrev pub ListsOn : Core → Core → Option CopyRun → Option CopyRun → Option ℕ → Type 0
+ListsOn old new was now None = GoesAs old new old.pool.uber.group was now
+ListsOn old new was now (Some number) = GoesAs old new number was now × (number ≡ old.pool.uber.group + 1)
 
 -- An answer that neither comes with a group nor tells of no space.
 abbrev pub IsPlainEnd : Answer → Type 0
@@ -80,11 +96,15 @@ plain_ends given made plain = record {
     none (answer.DeviceOut device) plain = absurd plain
     none other plain = refl
 
--- A call ends so: with none in the same group, or with its group, which is the next one.
-abbrev pub EndsWith : Core → Core → Answer → Option ℕ → Type 0
-EndsWith old new given made = (EndsPlainly given made × GoesWith old new old.pool.uber.group)
-    ⊎ ((number : ℕ) × (group_by given made ≡ Some number) × GoesWith old new number
+-- A call ends so, whose job was this: with none in the same group, or with its group, which is the next one.
+abbrev pub EndsAs : Core → Core → Answer → Option ℕ → Option CopyRun → Type 0
+EndsAs old new given made was = (EndsPlainly given made × GoesAs old new old.pool.uber.group was None)
+    ⊎ ((number : ℕ) × (group_by given made ≡ Some number) × GoesAs old new number was None
     × (number ≡ old.pool.uber.group + 1))
+
+-- So it does where it was no job.
+abbrev pub EndsWith : Core → Core → Answer → Option ℕ → Type 0
+EndsWith old new given made = EndsAs old new given made None
 
 -- With a group no want of space is told.
 pub group_space : (given : Answer) (made : Option ℕ) (number : ℕ) → group_by given made ≡ Some number → (size : ℕ)
@@ -172,6 +192,7 @@ module _ (before after : CoreState) (is : IsCore before.core) where
         held = λ run listed. inl (subst (λ (s : Space). Contains s.held run)
             (ap (λ (c : Core). c.pool.blocks.space) rest) listed);
         holds = λ other listed shared. one_less old new hold ends other listed;
+        few = ended_few old.holds new.holds hold ends;
       })
 
   -- What was solved is answered plainly.
@@ -221,6 +242,7 @@ module _ (before after : CoreState) (is : IsCore before.core) where
           (λ dropped. one_less old new _ dropped.1 hold listed)
           (λ none. subst (λ (l : List Hold). Contains l hold) none.1 listed)
           answers.answers.holds;
+      few = dropped_few old.holds new.holds _ answers.answers.holds;
     };
     group_is = ap (λ (c : Core). c.pool.uber.group) answers.answers.rest
         ∙ ap (λ (u : Uber). u.group) (ready_keeps old.pool.out run answers.ended answers.ends.is_ready).uber

@@ -1,5 +1,5 @@
 -- A put finds no space only where the blocks and the puts of the script are many, turn by turn.
-use Rattle.std.proofs.Common.{◌≡◌, ◌⊎◌, inl, inr, ℕ, ◌+◌, ◌-◌, ◌*◌, ◌≤◌, ◌==◌, if◌then◌else◌, List, [], ◌∷◌, ◌++◌, length, Option, Some, None, sym, ◌∙◌, ap, subst, arith}
+use Rattle.std.proofs.Common.{◌≡◌, ◌⊎◌, inl, inr, ℕ, ◌+◌, ◌-◌, ◌*◌, ◌≤◌, ◌==◌, if◌then◌else◌, List, [], ◌∷◌, ◌++◌, length, Option, Some, None, refl, sym, ◌∙◌, ap, subst, arith}
 use Rattle.std.specs.Prelude.{option_map, slice_get, take, unwrap_or}
 use Rattle.std.proofs.Math.Nat.{mul-le-mul_left}
 use Rattle.std.proofs.lemmas.List.{take_all}
@@ -19,6 +19,7 @@ use Rattle.core_commit.specs.CommitTurns.{CommitRun}
 use Rattle.client_script.specs.declared.call.ScriptCall.{ScriptCall}
 use Rattle.client_script.specs.Lines.{fill_bytes}
 use Rattle.client_script.specs.Script.{Placed, Script, calls_of, handed_by}
+use Rattle.core_turns.specs.declared.copying.CopyRun.{CopyRun}
 use Rattle.core_turns.specs.declared.turn.Turn.TheVariants.{More, Busy, Done}
 use Rattle.core_turns.specs.Core.{Core, IsCore, groups_begun}
 use Rattle.core_turns.specs.Committing.{IsCommitOf}
@@ -28,13 +29,14 @@ use Rattle.schedule.specs.declared.client.Client.{Client}
 use Rattle.schedule.specs.declared.client.UnderWay.{UnderWay}
 use Rattle.schedule.specs.Clients.{Changes}
 use Rattle.schedule.specs.Running.{AreGoing, commit_in}
-use Rattle.schedule.specs.Turned.{AnswersAtOnce, Station, Turned, Nothing, Began, Went, entry_for, group_for}
-use Rattle.schedule.specs.Works.{made_by}
+use Rattle.schedule.specs.Turned.{AnswersAtOnce, Station, Turned, Nothing, Began, Went, entry_for, group_for, listed_on}
+use Rattle.schedule.specs.Works.{begun_at, made_by, made_in}
 use Rattle.schedule.specs.Using.{AreLeft, AreRunsOf, AreUsed, HasToldWidths, HasUsedRuns, IsOpenSince, sizes_of}
 use Rattle.schedule.proofs.Stays.{Stays, opened_stays, same_births, stays_same}
 use Rattle.schedule.proofs.Using.{full_by_runs, left_next, left_same, most_next, tight_below}
-use Rattle.schedule.proofs.UsingTurns.{BeginsWith, FitsPut, answers_with, none_fits, runs_still, same_core, waits_with, works_begin}
-use Rattle.schedule.proofs.UsingEnds.{GoesWith, group_space}
+use Rattle.schedule.proofs.CopyUses.{round_plain}
+use Rattle.schedule.proofs.UsingTurns.{BeginsWith, FitsPut, answers_with, job_in, none_fits, runs_still, same_core, waits_with, works_begin}
+use Rattle.schedule.proofs.UsingEnds.{GoesAs, ListsOn, group_space}
 use Rattle.schedule.proofs.UsingWorks.{group_listed, plain_listed, works_end, works_go}
 use Rattle.schedule.specs.Numbered.{IsNumbered}
 
@@ -49,6 +51,8 @@ first_none old new devices actor call kind.Sum (Some id) size answers = absurd a
 first_none old new devices actor call kind.Free (Some id) size answers = absurd answers.frees
 first_none old new devices actor call kind.Sync None size answers = absurd answers.0
 first_none old new devices actor call kind.Attach None size answers = absurd answers.0.3
+first_none old new devices actor call kind.Copy None size answers =
+    absurd ((round_plain old (answer.NoSpace size) answers.0).space size refl)
 first_none old new devices actor call asked id size answers = absurd answers
 
 module _ (script : Script) (actor : ℕ) (before after : Station) (clients news : List Client)
@@ -81,8 +85,9 @@ module _ (script : Script) (actor : ℕ) (before after : Station) (clients news 
     most = stood.used.most;
   }
 
-  used_next : (call : ScriptCall) → slice_get (calls_of script actor) before.client.begun ≡ Some call
-      → after.client.begun ≡ before.client.begun + 1 → (more : List Run) → BeginsWith old new more
+  used_next : {job : Option CopyRun} {sharing : ℕ} (call : ScriptCall)
+      → slice_get (calls_of script actor) before.client.begun ≡ Some call
+      → after.client.begun ≡ before.client.begun + 1 → (more : List Run) → BeginsWith old new more job sharing
       → FitsPut uber more (length_put call.kind (fill_bytes call.fill)) → AreUsed script uber entries new news
   used_next call next begun more begins fits = by (left_next script clients news actor before.client after.client changes
       was stood.used.left stood.used.are_left call next begun)
@@ -138,8 +143,37 @@ module _ (script : Script) (actor : ℕ) (before after : Station) (clients news 
   }) used (subst (NoSpaceIsCaused script uber entries) (sym items)
       (no_space_call script uber entries before.items stood.caused entry finds))
 
+  -- a group,
+  lists_made : {was now : Option CopyRun} (number at : ℕ) → GoesAs old new number was now
+      → AreUsed script uber entries new news
+      → after.items ≡ before.items ++ Group (group_for new at number) ∷ []
+      → HasUsedRuns script uber entries new after.items news
+  lists_made number at with used items = uses with.stays (record {
+    from = sym (width_told_group uber.reflow.from before.items group) ∙ ap (width_told uber.reflow.from) (sym items);
+    births = with.stays.births
+        ∙ (λ i. if new.pool.uber.reflow.from == stood.told.from i then stood.told.births i
+        else births_after (stood.told.births i) (with.group_is i))
+        ∙ sym (births_told_group uber.births uber.reflow.from before.items group)
+        ∙ ap (births_told uber.births uber.reflow.from) (sym items);
+  }) used (subst (NoSpaceIsCaused script uber entries) (sym items)
+      (no_space_group script uber entries before.items stood.caused group))
+    where
+      group : GroupItem
+      group = group_for new at number
+
+  -- nothing or a group, where the call goes on,
+  lists_on : (was now : Option CopyRun) (at : ℕ) (made : Option ℕ) → ListsOn old new was now made
+      → after.client.begun ≡ before.client.begun
+      → after.items ≡ listed_on new.pool.uber.reflow before.items at made
+      → HasUsedRuns script uber entries new after.items news
+  lists_on was now at None on begun items =
+      lists_none on.stays on.group_is (used_still (runs_still old new on.uses) begun) items
+  lists_on was now at (Some number) on begun items =
+      lists_made number at on.0 (used_still (runs_still old new on.0.uses) begun) items
+
   -- or a group and its answer.
-  lists_group : (number at : ℕ) → GoesWith old new number → AreUsed script uber entries new news → (entry : Entry)
+  lists_group : {was now : Option CopyRun} (number at : ℕ) → GoesAs old new number was now
+      → AreUsed script uber entries new news → (entry : Entry)
       → after.items ≡ (before.items ++ Group (group_for new at number) ∷ []) ++ CallItem entry ∷ []
       → ((size : ℕ) → entry.answer ≡ answer.NoSpace size → ⊥)
       → HasUsedRuns script uber entries new after.items news
@@ -246,8 +280,10 @@ module _ (script : Script) (actor : ℕ) (before after : Station) (clients news 
       (subst (λ (a : Answer). AnswersAtOnce old new before.state.disk.devices actor begins.call begins.call.kind begins.call.id a) told begins.did) in
       finds begins.call given size begins.next why.0 why.1)
   turn_uses (Went under (More does) goes leaves) =
-      let with = works_go before.state after.state is goes.call under.work does goes.did in
-      lists_none with.stays with.group_is (used_still (runs_still old new with.uses) (ap (λ (c : Client). c.begun) leaves.1)) leaves.0
+      lists_on (job_in under.work) (job_in does)
+      (begun_at (commit_in does) (commit_in under.work) under.at (length before.items)) (made_in does)
+      (works_go before.state after.state is goes.call under.work does (its_commit under goes.going) goes.did)
+      (ap (λ (c : Client). c.begun) leaves.1) leaves.0
   turn_uses (Went under (Busy by) goes leaves) = absurd leaves
   turn_uses (Went under (Done given) goes leaves) = elim (works_end before.state after.state is goes.call under.work given
       (its_commit under goes.going) goes.did) [

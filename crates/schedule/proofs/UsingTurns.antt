@@ -1,10 +1,12 @@
--- What the first turn of a call leaves of the runs of sectors that were taken.
-use Rattle.std.proofs.Common.{◌≡◌, ◌⊎◌, inl, inr, ⊎_elim, ℕ, ◌+◌, ◌≤◌, List, [], ◌∷◌, ◌++◌, length, Option, Some, None, sym, ◌∙◌, ap, subst, arith}
-use Rattle.std.specs.Prelude.{Contains, map, sum}
+-- What the first turn of a call leaves of the runs of sectors that were taken, and of who holds some.
+use Rattle.std.proofs.Common.{◌≡◌, ◌⊎◌, inl, inr, ⊎_elim, ℕ, ◌+◌, ◌≤◌, List, [], ◌∷◌, ◌++◌, length, Option, Some, None, refl, sym, ◌∙◌, ap, subst, arith}
+use Rattle.std.specs.Prelude.{Contains, cond, map, sum}
 use Rattle.width_map.specs.declared.birth.Birth.{Birth}
 use Rattle.width_map.specs.Births.{first_width}
 use Rattle.range_locks.specs.declared.hold.Hold.{Hold}
 use Rattle.range_locks.specs.declared.hold.HoldKind.TheVariants.{Shared, Exclusive}
+use Rattle.range_locks.specs.declared.hold.HoldKind.{HoldKind}
+use Rattle.range_locks.specs.Gaining.{Gains}
 use Rattle.range_locks.specs.Holds.{EndsHold}
 use Rattle.row_layout.specs.Layout.{Layout, allocated_of}
 use Rattle.space_alloc.specs.Space.{Run, HeldRun, Space}
@@ -24,29 +26,99 @@ use Rattle.core_blocks.proofs.Lists.{first_listed, rest_listed, gains_old, gains
 use Rattle.client_script.specs.declared.call.ScriptCall.{ScriptCall}
 use Rattle.client_script.specs.Lines.{fill_bytes}
 use Rattle.core_commit.specs.CommitTurns.{CommitRun}
+use Rattle.core_turns.specs.declared.copying.CopyRun.{CopyRun}
 use Rattle.core_turns.specs.declared.getting.GetRun.{GetRun}
 use Rattle.core_turns.specs.declared.putting.PutRun.{PutRun}
+use Rattle.core_turns.specs.declared.rounds.CopyRound.{CopyRound}
+use Rattle.core_turns.specs.declared.rounds.CopyRound.TheVariants.{Rests, Copies, Commits}
 use Rattle.core_turns.specs.declared.turn.Turn.TheVariants.{More}
 use Rattle.core_turns.specs.Core.{Core, IsCore, as_begun}
-use Rattle.core_turns.specs.Committing.{BeginsCommitSo, hold_for}
+use Rattle.core_turns.specs.Committing.{BeginsCommitSo, DropsHold, TakesHold, hold_for}
+use Rattle.core_turns.specs.Copying.{BeginsJobSo}
 use Rattle.core_turns.specs.Getting.{BeginsGet, hold_of}
 use Rattle.core_turns.specs.Freeing.{FreesBlock}
 use Rattle.core_turns.specs.Putting.{BeginsPutSo, BeginsPutTurn, GivesUp, IsPutRefused, LeavesBlocks, StoresBlock}
+use Rattle.core_turns.specs.Rounds.{BeginsRound}
+use Rattle.core_turns.proofs.Holds.{count_ended, count_gained, one_if}
 use Rattle.journal_law.specs.NoSpace.{length_put, largest_size}
 use Rattle.journal_law.proofs.NoSpace.{largest}
 use Rattle.schedule.specs.declared.client.Work.{Work}
 use Rattle.schedule.specs.declared.client.Work.TheVariants as work
+use Rattle.schedule.specs.Playing.{is_shared, is_shared_hold, shared_count, sharing_in}
 use Rattle.schedule.specs.Turned.{AnswersAtOnce, BeginsWork, Waits}
 use Rattle.schedule.specs.Using.{AreRunsOf, IsHeldIn, IsOpenSince}
 
+-- ---- holds
+
+-- A shared hold adds one to their number, and one that is held alone none.
+pub adds_shared : (hold : Hold) → hold.kind ≡ Shared → one_if is_shared_hold hold ≡ 1
+adds_shared hold shared = ap (λ (kind : HoldKind). cond (is_shared kind) 1 0) shared
+
+adds_no_shared : (hold : Hold) → hold.kind ≡ Exclusive → one_if is_shared_hold hold ≡ 0
+adds_no_shared hold exclusive = ap (λ (kind : HoldKind). cond (is_shared kind) 1 0) exclusive
+
+-- So there is at most one more where a shared hold is taken,
+pub shared_more : (old new : List Hold) (hold : Hold) → hold.kind ≡ Shared → Gains old new hold
+    → shared_count new ≤ shared_count old + 1
+shared_more old new hold shared gains =
+    let more = count_gained is_shared_hold old new hold gains in
+    let one = adds_shared hold shared in
+    omega (arith, more, one)
+
+-- and no more where one is taken that is held alone,
+pub alone_taken : (old new : List Hold) (hold : Hold) → hold.kind ≡ Exclusive → Gains old new hold
+    → shared_count new ≤ shared_count old
+alone_taken old new hold exclusive gains =
+    let more = count_gained is_shared_hold old new hold gains in
+    let none = adds_no_shared hold exclusive in
+    omega (arith, more, none)
+
+-- as by a commit, where that takes one.
+pub commit_taken : (old new : List Hold) (hold : Hold) → hold.kind ≡ Exclusive → TakesHold old new hold
+    → shared_count new ≤ shared_count old
+commit_taken old new hold exclusive (inl taken) = alone_taken old new hold exclusive taken.1
+commit_taken old new hold exclusive (inr none) = let same = ap shared_count none.1 in omega (arith, same)
+
+-- There is one less where a shared hold ends,
+pub shared_less : (old new : List Hold) (hold : Hold) → hold.kind ≡ Shared → EndsHold old new hold
+    → shared_count new + 1 ≤ shared_count old
+shared_less old new hold shared ends =
+    let less = count_ended is_shared_hold old new hold ends in
+    let one = adds_shared hold shared in
+    omega (arith, less, one)
+
+-- and no more where any ends,
+pub ended_few : (old new : List Hold) (hold : Hold) → EndsHold old new hold → shared_count new ≤ shared_count old
+ended_few old new hold ends = let less = count_ended is_shared_hold old new hold ends in omega (arith, less)
+
+-- as that of a commit, where that had one.
+pub dropped_few : (old new : List Hold) (hold : Hold) → DropsHold old new hold → shared_count new ≤ shared_count old
+dropped_few old new hold (inl dropped) = ended_few old new hold dropped.1
+dropped_few old new hold (inr none) = let same = ap shared_count none.1 in omega (arith, same)
+
+-- ---- who copies
+
+-- the job of a work, if it is one
+abbrev pub job_in : Work → Option CopyRun
+job_in (work.Copy (Copies run)) = Some run
+job_in other = None
+
+-- who copies after a turn, by the call's job before it and after it, and by who copied before: whose job there is then;
+-- nobody where the call's job has ended; and else who did before
+abbrev pub copier_after : Option CopyRun → Option CopyRun → Option ℕ → Option ℕ
+copier_after before (Some run) copier = Some run.hold.actor
+copier_after (Some run) None copier = None
+copier_after None None copier = copier
+
 -- ---- runs
 
--- All that is in use was in use before, and what is shared was shared.
+-- All that is in use was in use before, and what is shared was shared. No more holds are shared.
 pub record UsesNoMore (old new : Core) : Type 0 where
   pub taken : (run : Run) → Contains new.pool.blocks.space.taken run → Contains old.pool.blocks.space.taken run
   pub held : (run : HeldRun) → Contains new.pool.blocks.space.held run
       → Contains old.pool.blocks.space.held run ⊎ Contains old.pool.blocks.space.taken (held_sectors run)
   pub holds : (hold : Hold) → Contains new.holds hold → hold.kind ≡ Shared → Contains old.holds hold
+  pub few : shared_count new.holds ≤ shared_count old.holds
 
 -- So the runs are the same.
 pub runs_still : (old new : Core) → UsesNoMore old new → (runs : List Run) → AreRunsOf runs old → AreRunsOf runs new
@@ -72,6 +144,7 @@ module _ (old new : Core) where
     taken = λ run listed. subst (λ (c : Core). Contains c.pool.blocks.space.taken run) same listed;
     held = λ run listed. inl (subst (λ (c : Core). Contains c.pool.blocks.space.held run) same listed);
     holds = λ hold listed shared. subst (λ (c : Core). Contains c.holds hold) same listed;
+    few = let still = ap (λ (c : Core). shared_count c.holds) same in omega (arith, still);
   }
 
   pub same_parts : new.pool.blocks.space ≡ old.pool.blocks.space → new.holds ≡ old.holds → UsesNoMore old new
@@ -79,6 +152,7 @@ module _ (old new : Core) where
     taken = λ run listed. subst (λ (s : Space). Contains s.taken run) space listed;
     held = λ run listed. inl (subst (λ (s : Space). Contains s.held run) space listed);
     holds = λ hold listed shared. subst (λ (l : List Hold). Contains l hold) holds listed;
+    few = let still = ap shared_count holds in omega (arith, still);
   }
 
   -- A commit that begins holds its sectors alone.
@@ -95,16 +169,38 @@ module _ (old new : Core) where
         (gains_cases old.holds new.holds (hold_for old.pool.uber.reflow run.uber.reflow actor) hold taken.1 listed))
         (λ none. subst (λ (l : List Hold). Contains l hold) none.1 listed)
         begins.holds;
+    few = commit_taken old.holds new.holds (hold_for old.pool.uber.reflow run.uber.reflow actor) refl begins.holds;
   }
     where
       alone : Shared ≡ Exclusive → ⊥
       alone same = cc
+
+  -- So does a job.
+  pub job_begun : (run : CopyRun) (actor : ℕ) → BeginsJobSo old new actor run → UsesNoMore old new
+  job_begun run actor begins = record {
+    taken = λ other listed. subst (λ (s : Space). Contains s.taken other)
+        (ap (λ (c : Core). c.pool.blocks.space) begins.rest) listed;
+    held = λ other listed. inl (subst (λ (s : Space). Contains s.held other)
+        (ap (λ (c : Core). c.pool.blocks.space) begins.rest) listed);
+    holds = λ hold listed shared. ⊎_elim
+        (λ same. absurd (alone (sym shared ∙ sym (ap (λ (h : Hold). h.kind) same) ∙ exclusive)))
+        (λ was. was)
+        (gains_cases old.holds new.holds run.hold hold begins.holds listed);
+    few = alone_taken old.holds new.holds run.hold exclusive begins.holds;
+  }
+    where
+      alone : Shared ≡ Exclusive → ⊥
+      alone same = cc
+
+      exclusive : run.hold.kind ≡ Exclusive
+      exclusive = ap (λ (r : CopyRun). r.hold.kind) begins.run_is
 
   left_blocks : LeavesBlocks old new → UsesNoMore old new
   left_blocks leaves = record {
     taken = leaves.taken;
     held = λ run listed. inl (subst (λ (l : List HeldRun). Contains l run) leaves.held listed);
     holds = λ hold listed shared. subst (λ (l : List Hold). Contains l hold) (ap (λ (c : Core). c.holds) leaves.rest) listed;
+    few = let still = ap (λ (c : Core). shared_count c.holds) leaves.rest in omega (arith, still);
   }
 
   pub one_less : (hold : Hold) → EndsHold old.holds new.holds hold → (other : Hold) → Contains new.holds other
@@ -118,18 +214,21 @@ module _ (old new : Core) where
         gives.dropped.taken listed;
     held = λ other listed. inl (subst (λ (l : List HeldRun). Contains l other) gives.dropped.held listed);
     holds = λ hold listed shared. one_less run.hold gives.ends hold listed;
+    few = ended_few old.holds new.holds run.hold gives.ends;
   }
 
   -- or hold it back.
   held_back : (parity : ℕ) (births : List Birth) (group : ℕ) (gone : Option IndexEntry)
       → HoldsBack parity births old.pool.blocks.space new.pool.blocks.space group gone
-      → ((hold : Hold) → Contains new.holds hold → Contains old.holds hold) → UsesNoMore old new
-  held_back parity births group None same holds = record {
+      → ((hold : Hold) → Contains new.holds hold → Contains old.holds hold)
+      → shared_count new.holds ≤ shared_count old.holds → UsesNoMore old new
+  held_back parity births group None same holds few = record {
     taken = λ run listed. subst (λ (s : Space). Contains s.taken run) same listed;
     held = λ run listed. inl (subst (λ (s : Space). Contains s.held run) same listed);
     holds = λ hold listed shared. holds hold listed;
+    few = few;
   }
-  held_back parity births group (Some entry) holding holds = record {
+  held_back parity births group (Some entry) holding holds few = record {
     taken = λ run listed. gains_old new.pool.blocks.space.taken old.pool.blocks.space.taken (run_of parity births entry)
         run holding.taken listed;
     held = λ run listed. ⊎_elim
@@ -138,35 +237,52 @@ module _ (old new : Core) where
         (λ was. inl was)
         (gains_cases old.pool.blocks.space.held new.pool.blocks.space.held _ run holding.held listed);
     holds = λ hold listed shared. holds hold listed;
+    few = few;
   }
 
   pub stored : (run : PutRun) → StoresBlock old new run → UsesNoMore old new
   stored run stores = held_back old.pool.blocks.parity old.pool.blocks.births (old.begun + 1)
       (entry_of old.pool.blocks.table.entries run.range.id) stores.held (one_less run.hold stores.ends)
+      (ended_few old.holds new.holds run.hold stores.ends)
 
   freed : (id : ℕ) (given : Answer) → FreesBlock old new id given → UsesNoMore old new
   freed id answer.Freed frees = held_back old.pool.blocks.parity old.pool.blocks.births (old.begun + 1) (Some frees.1)
       frees.2.held (λ hold listed. subst (λ (l : List Hold). Contains l hold)
       (ap (λ (c : Core). c.holds) frees.2.rest) listed)
+      (let still = ap (λ (c : Core). shared_count c.holds) frees.2.rest in omega (arith, still))
   freed id answer.Absent frees = same_parts frees.1.space (ap (λ (c : Core). c.holds) frees.1.rest)
   freed id (answer.TooManyFailed out) frees = same_core frees.2
   freed id other frees = absurd frees
 
+-- A job that begins is that of who copies.
+pub job_copies : {old new : Core} (actor : ℕ) (run : CopyRun) → BeginsJobSo old new actor run
+    → new.copying ≡ Some run.hold.actor
+job_copies actor run begins = ap (λ (c : Core). c.copying) begins.rest
+    ∙ sym (ap (λ (r : CopyRun). Some r.hold.actor) begins.run_is)
+
 -- ---- first turns
 
--- A turn begins a call, with these runs more. Who copies stays so.
-pub record BeginsWith (old new : Core) (more : List Run) : Type 0 where
+-- A turn begins a call, with these runs more, with this job, if it is one, and so many shared holds more.
+pub record BeginsWith (old new : Core) (more : List Run) (job : Option CopyRun) (sharing : ℕ) : Type 0 where
   pub uber : new.pool.uber ≡ old.pool.uber
-  pub copying : new.copying ≡ old.copying
+  pub copying : new.copying ≡ copier_after None job old.copying
+  pub shared : shared_count new.holds ≤ shared_count old.holds + sharing
   pub runs : (runs : List Run) → AreRunsOf runs old → AreRunsOf (more ++ runs) new
 
-begins_still : (old new : Core) → new.pool.uber ≡ old.pool.uber → new.copying ≡ old.copying → UsesNoMore old new
-    → BeginsWith old new []
-begins_still old new uber copying uses = record {
+-- A turn that takes no run begins a call so,
+begins_as : (old new : Core) (job : Option CopyRun) → new.pool.uber ≡ old.pool.uber
+    → new.copying ≡ copier_after None job old.copying → UsesNoMore old new → BeginsWith old new [] job 0
+begins_as old new job uber copying uses = record {
   uber = uber;
   copying = copying;
+  shared = let few = uses.few in omega (arith, few);
   runs = runs_still old new uses;
 }
+
+-- and where that is no job who copies stays so.
+begins_still : (old new : Core) → new.pool.uber ≡ old.pool.uber → new.copying ≡ old.copying → UsesNoMore old new
+    → BeginsWith old new [] None 0
+begins_still old new uber copying uses = begins_as old new None uber copying uses
 
 -- The runs are no more than what is put, at the pool's first width.
 pub record FitsPut (uber : Uber) (more : List Run) (lengths : List ℕ) : Type 0 where
@@ -177,26 +293,27 @@ pub none_fits : (uber : Uber) (lengths : List ℕ) → FitsPut uber [] lengths
 none_fits uber lengths = record { few = omega arith; sectors = omega arith }
 
 -- A call of the script begins so, whatever it puts.
-pub record BeginsOn (old new : Core) (lengths : List ℕ) : Type 0 where
+pub record BeginsOn (old new : Core) (lengths : List ℕ) (job : Option CopyRun) (sharing : ℕ) : Type 0 where
   pub more : List Run
-  pub begins : BeginsWith old new more
+  pub begins : BeginsWith old new more job sharing
   pub fits : (uber : Uber) → IsOpenSince uber old → FitsPut uber more lengths
 
 module _ (old new : Core) (is : IsCore old) where
-  same_begins : new ≡ old → BeginsWith old new []
+  same_begins : new ≡ old → BeginsWith old new [] None 0
   same_begins same = begins_still old new (ap (λ (c : Core). c.pool.uber) same) (ap (λ (c : Core). c.copying) same)
       (same_core old new same)
 
-  left_begins : LeavesBlocks old new → BeginsWith old new []
+  left_begins : LeavesBlocks old new → BeginsWith old new [] None 0
   left_begins leaves = begins_still old new (ap (λ (c : Core). c.pool.uber) leaves.rest)
       (ap (λ (c : Core). c.copying) leaves.rest) (left_blocks old new leaves)
 
   -- A put takes one run, and holds it.
   put_takes : (actor id len : ℕ) (run : PutRun) → BeginsPutSo old new actor id len run
-      → BeginsWith old new (put_run run.range ∷ [])
+      → BeginsWith old new (put_run run.range ∷ []) None 1
   put_takes actor id len run begins = record {
     uber = ap (λ (c : Core). c.pool.uber) begins.rest;
     copying = ap (λ (c : Core). c.copying) begins.rest;
+    shared = shared_more old.holds new.holds run.hold (ap (λ (h : Hold). h.kind) begins.hold_is) begins.holds;
     runs = λ runs are. record {
       taken = λ other listed. ⊎_elim
           (λ same. subst (Contains (put_run run.range ∷ runs)) same (first_listed (put_run run.range) runs))
@@ -237,7 +354,7 @@ module _ (old new : Core) (is : IsCore old) where
       omega (arith, size, same, most, first)
 
   put_begins : (actor id len : ℕ) (run : PutRun) → BeginsPutTurn old new actor id len (More run)
-      → BeginsOn old new (len ∷ [])
+      → BeginsOn old new (len ∷ []) None 1
   put_begins actor id len run begins = record {
     more = put_run run.range ∷ [];
     begins = put_takes actor id len run begins;
@@ -249,10 +366,11 @@ module _ (old new : Core) (is : IsCore old) where
 
   -- A read holds its block's sectors, which are taken.
   get_begins : (actor id : ℕ) (asked : Kind) (run : GetRun) → BeginsGet old new actor asked id (More run)
-      → BeginsWith old new []
+      → BeginsWith old new [] None 1
   get_begins actor id asked run begins = record {
     uber = ap (λ (c : Core). c.pool.uber) begins.6;
     copying = ap (λ (c : Core). c.copying) begins.6;
+    shared = shared_more old.holds new.holds run.hold (ap (λ (h : Hold). h.kind) begins.4) begins.9;
     runs = λ runs are. record {
       taken = λ other listed. are.taken other
           (subst (λ (c : Core). Contains c.pool.blocks.space.taken other) begins.6 listed);
@@ -283,14 +401,14 @@ module _ (old new : Core) (is : IsCore old) where
         ends = omega arith;
       }
 
-  put_refused : (id len : ℕ) (given : Answer) → IsPutRefused old new id len given → BeginsWith old new []
+  put_refused : (id len : ℕ) (given : Answer) → IsPutRefused old new id len given → BeginsWith old new [] None 0
   put_refused id len (answer.TooManyFailed out) refused = same_begins refused.2
   put_refused id len answer.Full refused = left_begins refused.2
   put_refused id len (answer.NoSpace sectors) refused = left_begins refused.3
   put_refused id len answer.NoMemory refused = left_begins refused.1
   put_refused id len other refused = absurd refused
 
-  free_begins : (id : ℕ) (given : Answer) → FreesBlock old new id given → BeginsWith old new []
+  free_begins : (id : ℕ) (given : Answer) → FreesBlock old new id given → BeginsWith old new [] None 0
   free_begins id answer.Freed frees =
       begins_still old new (ap (λ (c : Core). c.pool.uber) frees.2.rest) (ap (λ (c : Core). c.copying) frees.2.rest)
       (freed old new id answer.Freed frees)
@@ -300,12 +418,24 @@ module _ (old new : Core) (is : IsCore old) where
   free_begins id (answer.TooManyFailed out) frees = same_begins frees.2
   free_begins id other frees = absurd frees
 
-  on_none : (lengths : List ℕ) → BeginsWith old new [] → BeginsOn old new lengths
+  -- A round of a copy begins with a job or a commit.
+  round_begins : (actor : ℕ) (round : CopyRound) → BeginsRound old new actor (More round)
+      → BeginsWith old new [] (job_in (work.Copy round)) 0
+  round_begins actor (Rests whose made) begins = absurd begins
+  round_begins actor (Copies run) begins = begins_as old new (Some run) (ap (λ (c : Core). c.pool.uber) begins.rest)
+      (job_copies actor run begins) (job_begun old new run actor begins)
+  round_begins actor (Commits run) begins = begins_still old new (ap (λ (c : Core). c.pool.uber) begins.2.rest)
+      (ap (λ (c : Core). c.copying) begins.2.rest) (commit_begun old new run actor begins.2)
+
+  -- A call that puts nothing takes no run.
+  on_none : {job : Option CopyRun} {sharing : ℕ} (lengths : List ℕ) → BeginsWith old new [] job sharing
+      → BeginsOn old new lengths job sharing
   on_none lengths begins = record { more = []; begins = begins; fits = λ uber since. none_fits uber lengths }
 
   -- A first turn: one that goes on,
   pub works_begin : (devices actor : ℕ) (call : ScriptCall) (asked : Kind) (id : Option ℕ) (does : Work)
-      → BeginsWork old new devices actor call asked id does → BeginsOn old new (length_put asked (fill_bytes call.fill))
+      → BeginsWork old new devices actor call asked id does
+      → BeginsOn old new (length_put asked (fill_bytes call.fill)) (job_in does) (sharing_in does)
   works_begin devices actor call kind.Put (Some id) (work.Put run) begins =
       put_begins actor id (length (fill_bytes call.fill)) run begins
   works_begin devices actor call kind.Get (Some id) (work.Read run) begins =
@@ -320,21 +450,23 @@ module _ (old new : Core) (is : IsCore old) where
       (ap (λ (c : Core). c.copying) begins.rest)
       (same_parts old new (ap (λ (c : Core). c.pool.blocks.space) begins.rest)
       (ap (λ (c : Core). c.holds) begins.rest)))
+  works_begin devices actor call kind.Copy None (work.Copy round) begins = on_none [] (round_begins actor round begins)
   works_begin devices actor call asked id does begins = absurd begins
 
   -- one that waits,
   pub waits_with : (devices actor : ℕ) (call : ScriptCall) (asked : Kind) (id : Option ℕ) (by : ℕ)
-      → Waits old new devices actor call asked id by → BeginsWith old new []
+      → Waits old new devices actor call asked id by → BeginsWith old new [] None 0
   waits_with devices actor call kind.Put (Some id) by waits = left_begins waits.1
   waits_with devices actor call kind.Get (Some id) by waits = same_begins waits.1
   waits_with devices actor call kind.Sum (Some id) by waits = same_begins waits.1
   waits_with devices actor call kind.Sync None by waits = same_begins waits.2
   waits_with devices actor call kind.Attach None by waits = same_begins waits.2
+  waits_with devices actor call kind.Copy None by waits = same_begins waits.1
   waits_with devices actor call asked id by waits = absurd waits
 
   -- and one that is answered at once.
   pub answers_with : (devices actor : ℕ) (call : ScriptCall) (asked : Kind) (id : Option ℕ) (given : Answer)
-      → AnswersAtOnce old new devices actor call asked id given → BeginsWith old new []
+      → AnswersAtOnce old new devices actor call asked id given → BeginsWith old new [] None 0
   answers_with devices actor call kind.Put (Some id) given answers =
       put_refused id (length (fill_bytes call.fill)) given answers
   answers_with devices actor call kind.Get (Some id) given answers = same_begins answers.0
@@ -342,4 +474,5 @@ module _ (old new : Core) (is : IsCore old) where
   answers_with devices actor call kind.Free (Some id) given answers = free_begins id given answers.frees
   answers_with devices actor call kind.Sync None given answers = same_begins answers.1
   answers_with devices actor call kind.Attach None given answers = same_begins answers.1
+  answers_with devices actor call kind.Copy None given answers = same_begins answers.1
   answers_with devices actor call asked id given answers = absurd answers

@@ -12,9 +12,11 @@ use Rattle.core_turns.specs.declared.turn.Turn.TheVariants.{More, Done}
 use Rattle.schedule.specs.declared.client.Work.{Work}
 use Rattle.schedule.specs.declared.client.Work.TheVariants as work
 use Rattle.schedule.specs.Turned.{GoesOnBy, group_by, group_for, listed_for, listed_of}
-use Rattle.schedule.specs.Works.{commit_in, made_by}
+use Rattle.schedule.specs.Works.{commit_in, made_by, made_in}
 use Rattle.schedule.proofs.AttachUses.{attach_ends, attach_goes}
-use Rattle.schedule.proofs.UsingEnds.{EndsPlainly, EndsWith, GoesWith, core_goes, plain_ends, put_ends, read_ends, sync_ends}
+use Rattle.schedule.proofs.CopyUses.{copy_ends, copy_goes}
+use Rattle.schedule.proofs.UsingEnds.{EndsAs, EndsPlainly, ListsOn, core_goes, plain_ends, put_ends, read_ends, sync_ends}
+use Rattle.schedule.proofs.UsingTurns.{job_in}
 
 -- ---- what is listed
 
@@ -37,21 +39,26 @@ module _ (before after : CoreState) (is : IsCore before.core) where
   new = after.core
 
   -- A later turn: one after which the call goes on,
-  pub works_go : (call : ScriptCall) (does next : Work) → GoesOnBy before after call does (More next)
-      → GoesWith old new old.pool.uber.group
-  works_go call (work.Put run) (work.Put next) goes = core_goes before after is new.pool.out goes.writes.rest
-  works_go call (work.Read run) (work.Read next) goes = core_goes before after is new.pool.out goes.reads.2
-  works_go call (work.Sync run) (work.Sync next) goes = core_goes before after is new.pool.out goes.2
-  works_go call (work.Attach run) (work.Attach next) goes = attach_goes before after is run next goes.0
-  works_go call does next goes = absurd goes
+  pub works_go : (call : ScriptCall) (does next : Work)
+      → ((run : CommitRun) → commit_in does ≡ Some run → IsCommitOf old run)
+      → GoesOnBy before after call does (More next)
+      → ListsOn old new (job_in does) (job_in next) (made_in next)
+  works_go call (work.Put run) (work.Put next) commits goes = core_goes before after is new.pool.out goes.writes.rest
+  works_go call (work.Read run) (work.Read next) commits goes = core_goes before after is new.pool.out goes.reads.2
+  works_go call (work.Sync run) (work.Sync next) commits goes = core_goes before after is new.pool.out goes.2
+  works_go call (work.Attach run) (work.Attach next) commits goes = attach_goes before after is run next goes.0
+  works_go call (work.Copy round) (work.Copy next) commits goes =
+      copy_goes before after is round next commits goes.0 goes.1
+  works_go call does next commits goes = absurd goes
 
   -- and its last.
   pub works_end : (call : ScriptCall) (does : Work) (given : Answer)
       → ((run : CommitRun) → commit_in does ≡ Some run → IsCommitOf old run)
-      → GoesOnBy before after call does (Done given) → EndsWith old new given (made_by does)
+      → GoesOnBy before after call does (Done given) → EndsAs old new given (made_by does) (job_in does)
   works_end call (work.Put run) given commits goes =
       let ends = put_ends before after is call run given goes in inl (plain_ends given None ends.0, ends.1)
   works_end call (work.Read run) given commits goes =
       let ends = read_ends before after is run given goes in inl (plain_ends given None ends.0, ends.1)
   works_end call (work.Sync run) given commits goes = sync_ends before after is run given (commits run refl) goes
   works_end call (work.Attach run) given commits goes = attach_ends before after is run given commits goes
+  works_end call (work.Copy round) given commits goes = copy_ends before after is call round given goes

@@ -17,13 +17,15 @@ use Rattle.schedule.specs.Turns.{Turns}
 abbrev pub IsGroupKind : Kind → Type 0
 IsGroupKind kind.Sync = ⊤
 IsGroupKind kind.Attach = ⊤
+IsGroupKind kind.Copy = ⊤
 IsGroupKind other = ⊥
 
 -- Why an attach brought no device: the new one failed, or one of the pool is out, where these have come so; or the bank
--- has no device more, or a pool may have none.
+-- has no device more, or a pool may have none. A copy is paused where one of the pool's is out.
 abbrev pub IsAttachCause : ℕ → (WhyDropped → Type 0) → Answer → Type 0
 IsAttachCause devices dropped (answer.NewDeviceFailed device) = dropped (why.NewDeviceFailed device)
 IsAttachCause devices dropped (answer.DeviceOut device) = dropped (why.DeviceOut device)
+IsAttachCause devices dropped (answer.Paused device) = dropped (why.DeviceOut device)
 IsAttachCause devices dropped (answer.NoDevice there width) = (there ≡ devices) × ((width ≡ 16) ⊎ (devices ≤ width))
 IsAttachCause devices dropped other = ⊤
 

@@ -14,6 +14,7 @@ use Rattle.client_script.specs.declared.call.ScriptCall.{ScriptCall}
 use Rattle.client_script.specs.Lines.{fill_bytes}
 use Rattle.client_script.specs.Script.{Script, calls_of}
 use Rattle.core_turns.specs.declared.attaching.AttachRun.{AttachRun}
+use Rattle.core_turns.specs.declared.rounds.CopyRound.TheVariants.{Rests, Copies, Commits}
 use Rattle.core_turns.specs.Attaching.{HoldsAttach, IsAttachRunOf, attach_commit}
 use Rattle.core_turns.specs.Core.{Core, CoreState}
 use Rattle.core_turns.specs.Getting.{HasTooManyOut}
@@ -46,12 +47,15 @@ call_of_client client = held_under client.under_way
 abbrev pub calls_under_way : List Client → List HoldingCall
 calls_under_way clients = flat_map call_of_client clients
 
--- The hold of a work is that of this client.
+-- The hold of a work is that of this client, and so is a copy.
 abbrev pub IsHoldOf : ℕ → Work → Type 0
 IsHoldOf index (work.Put run) = run.hold.actor ≡ index
 IsHoldOf index (work.Read run) = run.hold.actor ≡ index
 IsHoldOf index (work.Sync run) = ⊤
 IsHoldOf index (work.Attach run) = ⊤
+IsHoldOf index (work.Copy (Rests actor made)) = actor ≡ index
+IsHoldOf index (work.Copy (Copies run)) = run.hold.actor ≡ index
+IsHoldOf index (work.Copy (Commits run)) = ⊤
 
 -- The work is what a call of the script asks for.
 abbrev pub IsWorkFor : ScriptCall → Work → Type 0
@@ -60,6 +64,7 @@ IsWorkFor call (work.Put run) = (call.kind ≡ kind.Put) × (call.id ≡ Some ru
 IsWorkFor call (work.Read run) = (call.kind ≡ run.kind) × (call.id ≡ Some run.entry.id)
 IsWorkFor call (work.Sync run) = (call.kind ≡ kind.Sync) × (call.id ≡ None)
 IsWorkFor call (work.Attach run) = (call.kind ≡ kind.Attach) × (call.id ≡ None)
+IsWorkFor call (work.Copy round) = (call.kind ≡ kind.Copy) × (call.id ≡ None)
 
 -- A client's call under way has the client's hold, if it has one, and is what the script asks for. The commit that it
 -- makes is the core's, and so is an attach.
@@ -104,12 +109,14 @@ HasBegunIn world items item begun at None = ⊤
 HasBegunIn world items item begun at (Some run) =
     HasBegun world items item begun at (AwaitsAttach world.calls items at)
 
--- So it is of each work that makes a commit. The group of a sync begins no expansion.
+-- So it is of each work that makes a commit. The group of a sync or of a copy begins no expansion.
 abbrev pub HasBegunBy : World → List Item → GroupItem → List Kept → ℕ → Work → Type 0
 HasBegunBy world items item begun at (work.Put run) = ⊤
 HasBegunBy world items item begun at (work.Read run) = ⊤
 HasBegunBy world items item begun at (work.Sync run) = HasBegun world items item begun at ⊥
 HasBegunBy world items item begun at (work.Attach run) = HasBegunIn world items item begun at (attach_commit run)
+HasBegunBy world items item begun at (work.Copy (Commits run)) = HasBegun world items item begun at ⊥
+HasBegunBy world items item begun at (work.Copy round) = ⊤
 
 -- A put has the bytes that the script hands it, a read the block that its id had when the read began.
 abbrev pub HasContent : World → List Item → ScriptCall → ℕ → List ℕ → Work → Type 0
@@ -118,6 +125,7 @@ HasContent world items call at content (work.Read run) =
     map_after world.handed world.opening items at run.entry.id ≡ Some content
 HasContent world items call at content (work.Sync run) = ⊤
 HasContent world items call at content (work.Attach run) = ⊤
+HasContent world items call at content (work.Copy round) = ⊤
 
 -- A client's call under way began after some items, those of its own calls before it.
 pub record IsClient (world : World) (script : Script) (items : List Item) (item : GroupItem) (begun : List Kept)

@@ -32,17 +32,20 @@ use Rattle.core_turns.specs.Putting.{IsPutOf, BeginsPutTurn, FillsPut, WritesTur
 use Rattle.core_turns.specs.Committing.{IsCommitOf, BeginsCommit, StepsCommit}
 use Rattle.core_turns.specs.declared.attaching.AttachRun.{AttachRun}
 use Rattle.core_turns.specs.Attaching.{AttachGoesOn, BeginsAttach, HasNewDevice, IsAttachRunOf, StepsAttach}
+use Rattle.core_turns.specs.declared.rounds.CopyRound.{CopyRound}
+use Rattle.core_turns.specs.declared.rounds.CopyRound.TheVariants.{Rests}
+use Rattle.core_turns.specs.Rounds.{BeginsRound, IsRoundOf, StepsCopy}
 use Rattle.core_turns.specs.UnderWay.{TurnGoesOn}
 use Rattle.journal_law.specs.Points.{point_after}
 use Rattle.schedule.specs.declared.client.Client.{Client}
 use Rattle.schedule.specs.declared.client.UnderWay.{UnderWay}
 use Rattle.schedule.specs.declared.client.Work.{Work}
 use Rattle.schedule.specs.declared.client.Work.TheVariants as work
-use Rattle.schedule.specs.Works.{begun_at, commit_in, made_by}
+use Rattle.schedule.specs.Works.{begun_at, commit_in, made_by, made_in}
 
 -- ---- the turns of works
 
--- a put's turn, a read's, a commit's and an attach's, as that of a call
+-- a put's turn, a read's, a commit's, an attach's and a copy's, as that of a call
 abbrev pub put_turn : Turn PutRun → Turn Work
 put_turn (More run) = More (work.Put run)
 put_turn (Busy by) = Busy by
@@ -63,6 +66,11 @@ attach_turn (More run) = More (work.Attach run)
 attach_turn (Busy by) = Busy by
 attach_turn (Done given) = Done given
 
+abbrev pub copy_turn : Turn CopyRound → Turn Work
+copy_turn (More round) = More (work.Copy round)
+copy_turn (Busy by) = Busy by
+copy_turn (Done given) = Done given
+
 -- ---- first turns
 
 -- A free took a block away; puts under way stay so, and no sector of a block that a group up to now keeps is free.
@@ -81,6 +89,7 @@ AnswersAtOnce old new devices actor call kind.Sum (Some id) given = BeginsGet ol
 AnswersAtOnce old new devices actor call kind.Free (Some id) given = Frees old new id given
 AnswersAtOnce old new devices actor call kind.Sync None given = BeginsCommit old new actor (Done given)
 AnswersAtOnce old new devices actor call kind.Attach None given = BeginsAttach old new devices actor (Done given)
+AnswersAtOnce old new devices actor call kind.Copy None given = BeginsRound old new actor (Done given)
 AnswersAtOnce old new devices actor call asked id given = ⊥
 
 -- what a call that finds another's in its way comes to
@@ -91,6 +100,7 @@ Waits old new devices actor call kind.Get (Some id) by = BeginsGet old new actor
 Waits old new devices actor call kind.Sum (Some id) by = BeginsGet old new actor kind.Sum id (Busy by)
 Waits old new devices actor call kind.Sync None by = BeginsCommit old new actor (Busy by)
 Waits old new devices actor call kind.Attach None by = BeginsAttach old new devices actor (Busy by)
+Waits old new devices actor call kind.Copy None by = BeginsRound old new actor (Busy by)
 Waits old new devices actor call asked id by = ⊥
 
 -- what a call that goes on comes to
@@ -102,6 +112,7 @@ BeginsWork old new devices actor call kind.Sum (Some id) (work.Read run) = Begin
 BeginsWork old new devices actor call kind.Sync None (work.Sync run) = BeginsCommit old new actor (More run)
 BeginsWork old new devices actor call kind.Attach None (work.Attach run) =
     BeginsAttach old new devices actor (More run)
+BeginsWork old new devices actor call kind.Copy None (work.Copy round) = BeginsRound old new actor (More round)
 BeginsWork old new devices actor call asked id does = ⊥
 
 abbrev pub BeginsCall : Core → Core → ℕ → ℕ → ScriptCall → Turn Work → Type 0
@@ -166,16 +177,25 @@ ReadGoesOn before after run (More next) = GoesOnReading before after run next
 ReadGoesOn before after run (Busy by) = ⊥
 ReadGoesOn before after run (Done given) = EndsReading before after run given
 
+-- The journal has no room for another group of a copy, so it ends. Nothing was done.
+abbrev pub LacksRoom : CopyRound → CoreState → CoreState → Answer → Type 0
+LacksRoom (Rests actor (Some group)) before after given = (given ≡ answer.NoMemory) × (after ≡ before)
+LacksRoom round before after given = ⊥
+
 abbrev pub GoesOnBy : CoreState → CoreState → ScriptCall → Work → Turn Work → Type 0
 GoesOnBy before after call (work.Put run) (More (work.Put next)) = GoesOnPutting before after call run next
 GoesOnBy before after call (work.Read run) (More (work.Read next)) = GoesOnReading before after run next
 GoesOnBy before after call (work.Sync run) (More (work.Sync next)) = StepsCommit before run after (More next)
 GoesOnBy before after call (work.Attach run) (More (work.Attach next)) = StepsAttach before run after (More next)
     × IsAttachRunOf after.core next
+GoesOnBy before after call (work.Copy round) (More (work.Copy next)) = StepsCopy before round after (More next)
+    × IsRoundOf after.core next
 GoesOnBy before after call (work.Put run) (Done given) = EndsPutting before after call run given
 GoesOnBy before after call (work.Read run) (Done given) = EndsReading before after run given
 GoesOnBy before after call (work.Sync run) (Done given) = StepsCommit before run after (Done given)
 GoesOnBy before after call (work.Attach run) (Done given) = StepsAttach before run after (Done given)
+GoesOnBy before after call (work.Copy round) (Done given) = StepsCopy before round after (Done given)
+    ⊎ LacksRoom round before after given
 GoesOnBy before after call does turn = ⊥
 
 -- ---- what is listed
@@ -218,6 +238,11 @@ listed_with widths items at entry made given = listed_of widths items at entry (
 
 abbrev pub listed_for : Core → List Item → ℕ → Entry → Option ℕ → Answer → List Item
 listed_for core items at entry made given = listed_with core.pool.uber.reflow items at entry made given
+
+-- the journal with the group that a call made which goes on, where it made one
+abbrev pub listed_on : Reflow → List Item → ℕ → Option ℕ → List Item
+listed_on widths items at None = items
+listed_on widths items at (Some number) = items ++ Group (group_with widths at number) ∷ []
 
 -- ---- a turn
 
@@ -274,7 +299,8 @@ LeavesBegun actor call before after (Done given) =
     × (after.client ≡ record { begun = before.client.begun + 1; under_way = None })
 
 abbrev pub LeavesGoing : ℕ → ScriptCall → Station → Station → UnderWay → Turn Work → Type 0
-LeavesGoing actor call before after under (More does) = (after.items ≡ before.items)
+LeavesGoing actor call before after under (More does) = (after.items ≡ listed_on after.state.core.pool.uber.reflow
+    before.items (begun_at (commit_in does) (commit_in under.work) under.at (length before.items)) (made_in does))
     × (after.client ≡ record {
       begun = before.client.begun;
       under_way = Some (record {
@@ -305,6 +331,7 @@ MayGoOn core call (work.Put run) = IsPutOf core run × IsUnderWay core.pool.bloc
 MayGoOn core call (work.Read run) = IsReadKind run.kind × IsGetOf core run
 MayGoOn core call (work.Sync run) = IsCommitOf core run
 MayGoOn core call (work.Attach run) = IsAttachRunOf core run
+MayGoOn core call (work.Copy round) = IsRoundOf core round
 
 -- The bank has the device that an attach is to bring.
 abbrev pub HasDeviceFor : Disk → Work → Type 0

@@ -1,9 +1,9 @@
 // What a client has come to.
 ghost use Rattle.std.specs.Prelude.{◌≡◌, ◌↔◌, IsTrue, None};
-ghost use Rattle.schedule.specs.Works.{MakesCommit, made_by};
+ghost use Rattle.schedule.specs.Works.{MakesCommit, made_by, made_in};
 
 use core_commit::CommitRun;
-use core_turns::{AttachRun, GetRun, PutRun};
+use core_turns::{AttachRun, CopyRound, GetRun, PutRun};
 
 /// What a call under way does.
 #[derive(Drop)]
@@ -12,6 +12,7 @@ pub enum Work {
     Read(GetRun),
     Sync(CommitRun),
     Attach(AttachRun),
+    Copy(CopyRound),
 }
 
 impl Work {
@@ -21,8 +22,20 @@ impl Work {
     {
         matches!(
             self,
-            Work::Sync(_) | Work::Attach(AttachRun::Joins(_) | AttachRun::Signs { .. })
+            Work::Sync(_)
+                | Work::Attach(AttachRun::Joins(_) | AttachRun::Signs { .. })
+                | Work::Copy(CopyRound::Commits(_))
         )
+    }
+
+    /// The group that a commit of a copy made in the turn before, where it did. The copy goes on.
+    pub fn made(&self) -> Option<u64>
+        ensures { result ≡ made_in self.now }
+    {
+        match self {
+            Work::Copy(CopyRound::Rests { actor: _, made }) => *made,
+            _ => None,
+        }
     }
 
     /// The group of an attach's commit, once its uberblocks are being written.

@@ -1,13 +1,13 @@
 // A turn of one client.
-ghost use Rattle.std.specs.Prelude.{◌≡◌, ◌↔◌, ◌≤◌, ◌<◌, ◌+◌, ◌-◌, ℕ, IsSome, IsTrue, None, Option as OptionOf, Some, length, slice_get};
+ghost use Rattle.std.specs.Prelude.{◌≡◌, ◌↔◌, ◌+◌, OnErr, OnOk, is_some, ◌≤◌, ◌<◌, ◌-◌, ℕ, IsSome, IsTrue, None, Option as OptionOf, Some, length, slice_get};
 ghost use Rattle.bank_trait.specs.Disk.{Disk, Lawful};
 ghost use Rattle.client_script.specs.declared.call.ScriptCall.{ScriptCall as CallOf};
 ghost use Rattle.client_script.specs.Script.{IsAllowed};
 ghost use Rattle.core_commit.specs.CommitTurns.{CommitRun as RunOf};
-ghost use Rattle.core_turns.specs.Core.{IsCore, HasBankOf};
+ghost use Rattle.core_turns.specs.Core.{IsCore, HasBankOf, at_disk};
 ghost use Rattle.schedule.specs.declared.client.UnderWay.{UnderWay as UnderWayOf};
-ghost use Rattle.schedule.specs.Playing.{UsesRoom, unanswered};
-ghost use Rattle.schedule.specs.Turned.{HasDeviceUnder, MayGoOn, Turned, entry_for, group_by, listed_with, station_of};
+ghost use Rattle.schedule.specs.Playing.{MakesRoom, UsesRoom, owed, taken_for};
+ghost use Rattle.schedule.specs.Turned.{GoesOnBy, HasDeviceFor, HasDeviceForTurn, HasDeviceUnder, MayGoOn, Turned, WorkGoesOn, entry_for, group_by, group_with, listed_on, listed_with, station_of};
 ghost use Rattle.schedule.specs.Works.{begun_at, commit_in};
 
 use crate::client::{Client, UnderWay, Work};
@@ -18,7 +18,7 @@ use core_state::{Answer, Entry, Group, Item, Journal};
 use core_turns::{Core, Turn};
 use journal_law::point_after;
 use reflow_mark::Reflow;
-use std::alloc::Global;
+use std::alloc::{AllocError, Global};
 
 /// The entry of a call of this number, which began after so many items.
 fn entry_for(call: &ScriptCall, actor: u8, number: usize, at: usize, answer: Answer) -> Entry
@@ -45,21 +45,52 @@ fn group_by(answer: &Answer, made: Option<u64>) -> Option<u64>
     }
 }
 
+/// The item of a group of these widths, whose commit began after so many items.
+fn group_with(widths: &Reflow, group: u64, at: usize) -> Group
+    ensures { result ≡ group_with widths.now at group }
+{
+    Group {
+        group,
+        after: at as u64,
+        from: widths.from,
+        to: widths.to,
+    }
+}
+
 /// Lists an answer, and before it the group that its call made, if it made one.
 fn list_answer(journal: &mut Journal, widths: &Reflow, at: usize, made: Option<u64>, entry: Entry)
-    requires room { 2 ≤ journal.old.room }
+    requires room { taken_for (group_by entry.answer made) + 1 ≤ journal.old.room }
     ensures items { journal.new.items ≡ listed_with widths.now journal.old.items at entry made entry.answer }
-    ensures room { journal.old.room ≤ journal.new.room + 2 }
+    ensures room { journal.old.room ≤ journal.new.room + (taken_for (group_by entry.answer made) + 1) }
 {
     if let Some(group) = group_by(&entry.answer, made) {
-        journal.list(Item::Group(Group {
-            group,
-            after: at as u64,
-            from: widths.from,
-            to: widths.to,
-        }));
+        journal.list(Item::Group(group_with(widths, group, at)));
     }
     journal.list(Item::Call(entry));
+}
+
+/// Lists the group that a call made which goes on, if it made one.
+fn list_made(journal: &mut Journal, widths: &Reflow, at: usize, made: Option<u64>)
+    requires room { taken_for made ≤ journal.old.room }
+    ensures items { journal.new.items ≡ listed_on widths.now journal.old.items at made }
+    ensures room { journal.old.room ≤ journal.new.room + taken_for made }
+{
+    if let Some(group) = made {
+        journal.list(Item::Group(group_with(widths, group, at)));
+    }
+}
+
+/// Makes room for the next group of a copy that has made one.
+fn make_room(journal: &mut Journal, made: Option<u64>) -> Result<(), AllocError>
+    ensures items { journal.new.items ≡ journal.old.items }
+    ensures more { OnOk result (journal.old.room + taken_for made ≤ journal.new.room) }
+    ensures kept { OnErr result (journal.old.room ≤ journal.new.room) }
+    ensures some { OnErr result (IsTrue (is_some made)) }
+{
+    match made {
+        Some(_) => journal.reserve_more(1),
+        None => Ok(()),
+    }
 }
 
 /// How many items the journal had when the group of a work began: as many as it has now, where its commit begins in this
@@ -71,6 +102,34 @@ fn begun_at(work: &Work, makes: bool, at: usize, now: usize) -> usize
         now
     } else {
         at
+    }
+}
+
+/// The next turn of a call under way, once there is room for the next group of a copy that has made one.
+/// Where memory is wanting for that the copy ends, and nothing is done.
+fn go_further<B: Bank>(
+    alloc: Global,
+    bank: &mut B,
+    core: &mut Core,
+    journal: &mut Journal,
+    call: &ScriptCall,
+    work: Work,
+) -> Turn<Work>
+    requires may { MayGoOn core.old call.now work }
+    requires there { HasDeviceFor (B.disk bank.old) work }
+    requires bank { HasBankOf core.old (B.disk bank.old) }
+    ensures goes { GoesOnBy (at_disk core.old (B.disk bank.old)) (at_disk core.new (B.disk bank.new))
+        call.now work result }
+    ensures goes_on { WorkGoesOn work (at_disk core.old (B.disk bank.old))
+        (at_disk core.new (B.disk bank.new)) }
+    ensures there { HasDeviceForTurn (B.disk bank.new) result }
+    ensures bank { HasBankOf core.new (B.disk bank.new) }
+    ensures items { journal.new.items ≡ journal.old.items }
+    ensures room { MakesRoom work journal.old.room journal.new.room result }
+{
+    match make_room(journal, work.made()) {
+        Ok(()) => go_on(alloc, bank, core, call, work),
+        Err(AllocError) => Turn::Done(Answer::NoMemory),
     }
 }
 
@@ -125,7 +184,7 @@ pub fn take_turn<B: Bank>(
     client: &mut Client,
 )
     requires allowed { (number : ℕ) (call : CallOf) → slice_get calls.now number ≡ Some call → IsAllowed call }
-    requires room { 1 ≤ unanswered (length calls.now) client.old → 2 ≤ journal.old.room }
+    requires room { owed (length calls.now) client.old ≤ journal.old.room }
     requires bank { HasBankOf core.old (B.disk bank.old) }
     requires few { client.old.begun ≤ length calls.now }
     requires begun { (under : UnderWayOf) → client.old.under_way ≡ Some under → 1 ≤ client.old.begun }
@@ -150,11 +209,12 @@ pub fn take_turn<B: Bank>(
     let UnderWay { at, work } = under_way;
     let made = work.group();
     let makes = work.makes_commit();
-    let turn = go_on(alloc, bank, core, call, work);
+    let turn = go_further(alloc, bank, core, journal, call, work);
     let widths = core.reflow();
     match turn {
         Turn::More(work) => {
             let at = begun_at(&work, makes, at, journal.len());
+            list_made(journal, &widths, at, work.made());
             client.under_way = Some(UnderWay { at, work });
         }
         Turn::Busy { by: _ } => unreachable!(),

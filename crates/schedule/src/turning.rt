@@ -12,14 +12,14 @@ ghost use Rattle.core_turns.specs.Core.{Core as CoreOf, at_disk, HasBankOf};
 ghost use Rattle.core_turns.specs.Getting.{IsGetOf, IsReadKind};
 ghost use Rattle.core_turns.specs.Putting.{IsPutOf};
 ghost use Rattle.core_turns.specs.UnderWay.{TurnGoesOn};
-ghost use Rattle.schedule.specs.Turned.{BeginsCall, GoesOnBy, HasDeviceFor, HasDeviceForTurn, HasTableOf, IsFilledIn, MayGoOn, PutGoesOn, ReadGoesOn, WorkGoesOn, WritesOn, attach_turn, put_turn, read_turn, sync_turn};
+ghost use Rattle.schedule.specs.Turned.{BeginsCall, GoesOnBy, HasDeviceFor, HasDeviceForTurn, HasTableOf, IsFilledIn, MayGoOn, PutGoesOn, ReadGoesOn, WorkGoesOn, WritesOn, attach_turn, copy_turn, put_turn, read_turn, sync_turn};
 
 use crate::client::Work;
 use bank_trait::Bank;
 use client_script::{Fill, ScriptCall};
 use core_commit::CommitRun;
 use core_state::Kind;
-use core_turns::{AttachRun, Core, GetRun, PutRun, Turn};
+use core_turns::{AttachRun, CopyRound, Core, GetRun, PutRun, Turn};
 use std::alloc::Global;
 
 /// How many bytes a put is handed.
@@ -74,6 +74,16 @@ fn attach_turn(turn: Turn<AttachRun>) -> Turn<Work>
     }
 }
 
+fn copy_turn(turn: Turn<CopyRound>) -> Turn<Work>
+    ensures { result ≡ copy_turn turn }
+{
+    match turn {
+        Turn::More(round) => Turn::More(Work::Copy(round)),
+        Turn::Busy { by } => Turn::Busy { by },
+        Turn::Done(answer) => Turn::Done(answer),
+    }
+}
+
 /// The first turn of a call.
 pub fn begin_call<B: Bank>(
     alloc: Global,
@@ -113,6 +123,7 @@ fn begin_pool_call<B: Bank>(
 {
     match call.kind {
         Kind::Attach => attach_turn(core.attach_begin(bank, actor)),
+        Kind::Copy => copy_turn(core.copy_begin(alloc, actor)),
         _ => sync_turn(core.commit_begin(alloc, actor)),
     }
 }
@@ -245,5 +256,6 @@ pub fn go_on<B: Bank>(
         Work::Read(run) => read_turn(go_on_reading(alloc, bank, core, run)),
         Work::Sync(run) => sync_turn(core.commit_step(bank, run)),
         Work::Attach(run) => attach_turn(core.attach_step(alloc, bank, run)),
+        Work::Copy(round) => copy_turn(core.copy_step(alloc, bank, round)),
     }
 }

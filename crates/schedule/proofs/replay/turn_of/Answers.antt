@@ -4,10 +4,10 @@ use Rattle.client_script.specs.declared.call.ScriptCall.{ScriptCall as CallOf}
 use Rattle.client_script.specs.Script.{calls_of}
 use Rattle.schedule.specs.Comes.{TakesTurn}
 use Rattle.schedule.specs.InTurn.{turns_by}
-use Rattle.schedule.specs.Playing.{unanswered}
+use Rattle.schedule.specs.Playing.{calls_by, owed}
 use Rattle.schedule.specs.Turned.{Turned, station_of}
 use Rattle.schedule.proofs.TurnTaken.{allowed_of, client_there, going_may, turn_few, turn_none, takes_turn, turn_ready, turn_taken}
-use Rattle.schedule.proofs.Rooms.{room_after, room_left}
+use Rattle.schedule.proofs.Rooms.{room_after, room_left, taken_few}
 use Rattle.schedule.proofs.replay.turn_of.Goals as goal
 
 pub take_turn-requires-clause-allowed : goal.take_turn-requires-clause-allowed
@@ -15,11 +15,14 @@ take_turn-requires-clause-allowed g c = λ number call is. allowed_of c.args.scr
     (subst (λ (calls : List CallOf). slice_get calls number ≡ Some call) c.calls.ensures is)
 
 pub take_turn-requires-clause-room : goal.take_turn-requires-clause-room
-take_turn-requires-clause-room g c = λ some. room_left c.args.script.now c.args.actor c.args.journal.now.room
-    c.args.progress.now.clients.items c.index_mut-client.result.now c.requires.ready.enough
+take_turn-requires-clause-room g c =
+    subst (λ (calls : List CallOf). owed (length calls) c.index_mut-client.result.now ≤ c.args.journal.now.room)
+    (sym c.calls.ensures)
+    (room_left c.args.script.now c.args.actor c.args.journal.now.room c.args.progress.now.clients.items
+    c.index_mut-client.result.now c.requires.ready.enough
     (client_there c.args.progress.now.clients.items c.from-place.result c.args.actor c.index_mut-client.result.now
-    c.from-place.ensures (omega (arith, c.if-place-len.true, c.len.ensures, c.args.progress.now.clients.ok)) c.index_mut-client.ensures.value)
-    (subst (λ (calls : List CallOf). 1 ≤ unanswered (length calls) c.index_mut-client.result.now) c.calls.ensures some)
+    c.from-place.ensures (omega (arith, c.if-place-len.true, c.len.ensures, c.args.progress.now.clients.ok))
+    c.index_mut-client.ensures.value))
 
 pub take_turn-requires-clause-few : goal.take_turn-requires-clause-few
 take_turn-requires-clause-few g c =
@@ -69,7 +72,8 @@ returns-then-place-len-clause-turn g c =
     let takes : TakesTurn c.args.script.now c.args.actor before after clients news =
     takes_turn c.args.script.now c.from-place.result c.args.actor before after clients c.requires.ready.schedule there
     c.from-place.ensures low c.take_turn.ensures.is c.take_turn.ensures.lawful c.take_turn.ensures.there turned in
-    turn_taken c.args.script.now c.args.actor before after clients news takes c.requires.allowed c.requires.ready.copying turned
+    turn_taken c.args.script.now c.args.actor before after clients news takes c.requires.allowed
+    c.requires.ready.copying c.requires.ready.sharing turned
 
 pub returns-then-place-len-clause-ready : goal.returns-then-place-len-clause-ready
 returns-then-place-len-clause-ready g c =
@@ -87,12 +91,16 @@ returns-then-place-len-clause-ready g c =
     let takes : TakesTurn c.args.script.now c.args.actor before after clients news =
     takes_turn c.args.script.now c.from-place.result c.args.actor before after clients c.requires.ready.schedule there
     c.from-place.ensures low c.take_turn.ensures.is c.take_turn.ensures.lawful c.take_turn.ensures.there turned in
-    turn_ready c.args.script.now c.args.actor before after clients news takes c.requires.allowed c.requires.ready.copying turned
+    turn_ready c.args.script.now c.args.actor before after clients news takes c.requires.allowed
+    c.requires.ready.copying c.requires.ready.sharing turned
     c.take_turn.new.journal.room c.requires.ready.counted (length-set clients c.from-place.result c.take_turn.new.client)
     (room_after c.args.script.now c.from-place.result c.args.actor c.args.journal.now.room c.take_turn.new.journal.room
     clients client c.take_turn.new.client c.from-place.ensures c.requires.ready.enough there
+    (taken_few (calls_by c.args.script.now c.args.actor) client
     (c.requires.ready.schedule.answered.few c.args.actor client there)
-    (turn_few c.args.script.now c.args.actor before after clients news takes c.requires.allowed c.requires.ready.copying turned)
+    (λ under going. c.requires.ready.schedule.answered.some c.args.actor client under there going))
+    (turn_few c.args.script.now c.args.actor before after clients news takes c.requires.allowed
+    c.requires.ready.copying c.requires.ready.sharing turned)
     c.take_turn.ensures.room)
 
 pub returns-else-place-len-clause-turn : goal.returns-else-place-len-clause-turn

@@ -1,6 +1,6 @@
-use Rattle.std.proofs.Common.{◌+◌, length, refl, ap, arith}
+use Rattle.std.proofs.Common.{length, refl, arith}
 use Rattle.std.proofs.lemmas.Option.{slice_get_read, slice_get_within}
-use Rattle.schedule.specs.Clients.{answered_of}
+use Rattle.schedule.proofs.Rooms.{answered_uses, begun_uses}
 use Rattle.schedule.proofs.Stations.{begun_more, begun_busy, begun_done}
 use Rattle.schedule.proofs.station.begin_next.Goals as goal
 
@@ -37,11 +37,9 @@ list-requires g c =
     let room = c.requires.room low in omega (arith, room)
 
 pub returns-in-More-clause-room : goal.returns-in-More-clause-room
-returns-in-More-clause-room g c =
-    let none = ap (answered_of c.args.client.now.begun) c.requires.idle in omega (arith, none)
+returns-in-More-clause-room g c = begun_uses c.args.journal.now.room c.args.client.now
+    (record { at = c.len-at.result; work = c.in-More.work }) c.requires.idle
 
 pub returns-in-Done-clause-room : goal.returns-in-Done-clause-room
-returns-in-Done-clause-room g c =
-    let none = ap (answered_of c.args.client.now.begun) c.requires.idle in
-    let still = ap (answered_of (c.args.client.now.begun + 1)) c.requires.idle in
-    let used = c.list.ensures.room in omega (arith, none, still, used)
+returns-in-Done-clause-room g c = answered_uses c.args.journal.now.room c.list.new.self.room c.args.client.now
+    c.args.client.now.under_way c.requires.idle c.requires.idle c.list.ensures.room

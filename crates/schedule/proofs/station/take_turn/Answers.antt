@@ -1,9 +1,10 @@
-use Rattle.std.proofs.Common.{◌≤◌, ◌-◌, ◌∙◌, length, refl, sym, ap, subst, arith}
+use Rattle.std.proofs.Common.{◌≤◌, ◌+◌, ◌-◌, ◌∙◌, ℕ, Option, length, refl, sym, subst, arith}
 use Rattle.std.proofs.lemmas.Option.{slice_get_read}
 use Rattle.core_turns.specs.Core.{at_disk}
-use Rattle.schedule.specs.Clients.{answered_of}
+use Rattle.schedule.specs.Playing.{taken_for}
 use Rattle.schedule.specs.Turned.{HasDeviceUnder, station_of}
-use Rattle.schedule.specs.Works.{begun_at, commit_in}
+use Rattle.schedule.specs.Works.{commit_in, made_by}
+use Rattle.schedule.proofs.Rooms.{ended_uses, going_uses, idle_uses, listed_room, room_to_begin, room_to_end, room_to_go}
 use Rattle.schedule.proofs.Stations.{idle_turn, went_more, went_done}
 use Rattle.schedule.proofs.station.take_turn.Goals as goal
 
@@ -23,14 +24,15 @@ returns-in-More-clause-turned g c =
     let begun : 1 ≤ c.args.client.now.begun = c.requires.begun c.in-Some.under_way going in
     let few = c.requires.few in
     went_more c.args.calls.now c.args.actor (at_disk c.args.core.now (g.B.Bank.disk c.args.bank.now))
-    (at_disk c.go_on-turn.new.core (g.B.Bank.disk c.go_on-turn.new.bank)) c.args.journal.now.items c.args.client.now
-    c.in-Some.under_way c.index-calls-client.result going
+    (at_disk c.go_further-turn.new.core (g.B.Bank.disk c.go_further-turn.new.bank)) c.args.journal.now.items
+    c.go_further-turn.new.journal.items c.args.client.now c.in-Some.under_way c.index-calls-client.result going
     (slice_get_read c.args.calls.now (length c.args.calls.now) (c.args.client.now.begun - 1) c.index-calls-client.result refl
     (omega (arith, begun, few)) c.index-calls-client.is)
-    c.go_on-turn.ensures.goes_on c.reflow-widths-2.ensures.is c.in-More.work c.begun_at-at.result c.in-More.ensures.goes
-    (c.begun_at-at.ensures (commit_in c.in-Some.under_way.work) c.makes_commit-makes.ensures
-    ∙ ap (begun_at (commit_in c.in-More.work) (commit_in c.in-Some.under_way.work) c.in-Some.under_way.at)
-    c.len.ensures)
+    c.go_further-turn.ensures.goes_on c.reflow-widths-2.ensures.is c.go_further-turn.ensures.items c.in-More.work
+    c.begun_at-at.result c.len.result c.reflow-widths-2.result c.list_made.new.journal.items c.made.result
+    c.in-More.ensures.goes
+    (c.begun_at-at.ensures (commit_in c.in-Some.under_way.work) c.makes_commit-makes.ensures) c.len.ensures
+    c.reflow-widths-2.ensures.value c.made.ensures c.list_made.ensures.items
 
 pub returns-in-Done-clause-turned : goal.returns-in-Done-clause-turned
 returns-in-Done-clause-turned g c =
@@ -38,16 +40,18 @@ returns-in-Done-clause-turned g c =
     let begun : 1 ≤ c.args.client.now.begun = c.requires.begun c.in-Some.under_way going in
     let few = c.requires.few in
     went_done c.args.calls.now c.args.actor (at_disk c.args.core.now (g.B.Bank.disk c.args.bank.now))
-    (at_disk c.go_on-turn.new.core (g.B.Bank.disk c.go_on-turn.new.bank)) c.args.journal.now.items c.args.client.now
-    c.in-Some.under_way c.index-calls-client.result going
+    (at_disk c.go_further-turn.new.core (g.B.Bank.disk c.go_further-turn.new.bank)) c.args.journal.now.items
+    c.go_further-turn.new.journal.items c.args.client.now c.in-Some.under_way c.index-calls-client.result going
     (slice_get_read c.args.calls.now (length c.args.calls.now) (c.args.client.now.begun - 1) c.index-calls-client.result refl
     (omega (arith, begun, few)) c.index-calls-client.is)
-    c.go_on-turn.ensures.goes_on c.reflow-widths-2.ensures.is c.in-Done.answer c.reflow-widths-2.result c.entry_for-entry.result c.list_answer.new.journal.items
-    c.group-made.result c.take.new.self c.in-Done.ensures.goes c.reflow-widths-2.ensures.value c.entry_for-entry.ensures c.list_answer.ensures.items c.group-made.ensures
+    c.go_further-turn.ensures.goes_on c.reflow-widths-2.ensures.is c.go_further-turn.ensures.items c.in-Done.answer
+    c.reflow-widths-2.result c.entry_for-entry.result c.list_answer.new.journal.items c.group-made.result
+    c.take.new.self c.in-Done.ensures.goes c.reflow-widths-2.ensures.value c.entry_for-entry.ensures
+    c.list_answer.ensures.items c.group-made.ensures
     c.take.ensures.after
 
-pub go_on-turn-requires-clause-may : goal.go_on-turn-requires-clause-may
-go_on-turn-requires-clause-may g c =
+pub go_further-turn-requires-clause-may : goal.go_further-turn-requires-clause-may
+go_further-turn-requires-clause-may g c =
     let going = sym c.take.ensures.value ∙ c.in-Some.is in
     let begun : 1 ≤ c.args.client.now.begun = c.requires.begun c.in-Some.under_way going in
     let few = c.requires.few in
@@ -55,39 +59,56 @@ go_on-turn-requires-clause-may g c =
     (slice_get_read c.args.calls.now (length c.args.calls.now) (c.args.client.now.begun - 1) c.index-calls-client.result refl
     (omega (arith, begun, few)) c.index-calls-client.is)
 
-pub go_on-turn-requires-clause-there : goal.go_on-turn-requires-clause-there
-go_on-turn-requires-clause-there g c =
+pub go_further-turn-requires-clause-there : goal.go_further-turn-requires-clause-there
+go_further-turn-requires-clause-there g c =
     subst (HasDeviceUnder (g.B.Bank.disk c.args.bank.now)) (sym c.take.ensures.value ∙ c.in-Some.is) c.requires.there
 
 pub begin_next-requires-clause-room : goal.begin_next-requires-clause-room
-begin_next-requires-clause-room g c = λ low.
-    let idle = sym c.take.ensures.value ∙ c.in_default.is in
-    let none = ap (answered_of c.args.client.now.begun) idle in
-    c.requires.room (omega (arith, none, low))
+begin_next-requires-clause-room g c = room_to_begin (length c.args.calls.now) c.args.journal.now.room c.args.client.now
+    (sym c.take.ensures.value ∙ c.in_default.is) c.requires.room
+
+pub list_made-requires : goal.list_made-requires
+list_made-requires g c =
+    let going = sym c.take.ensures.value ∙ c.in-Some.is in record {
+      room = subst (λ (made : Option ℕ). taken_for made ≤ c.go_further-turn.new.journal.room) (sym c.made.ensures)
+          (room_to_go (length c.args.calls.now) c.args.journal.now.room c.go_further-turn.new.journal.room
+          c.args.client.now c.in-Some.under_way going (c.requires.begun c.in-Some.under_way going) c.in-More.work
+          c.requires.few c.requires.room c.in-More.ensures.room);
+    }
 
 pub list_answer-requires : goal.list_answer-requires
 list_answer-requires g c =
-    let going = sym c.take.ensures.value ∙ c.in-Some.is in
-    let begun : 1 ≤ c.args.client.now.begun = c.requires.begun c.in-Some.under_way going in
-    let few = c.requires.few in
-    let last = ap (answered_of c.args.client.now.begun) going in
-    record { room = c.requires.room (omega (arith, begun, few, last)) }
+    let going = sym c.take.ensures.value ∙ c.in-Some.is in record {
+      room = subst (λ (n : ℕ). n + 1 ≤ c.go_further-turn.new.journal.room) (sym (listed_room
+          c.index-calls-client.result c.args.actor c.args.client.now.begun c.in-Some.under_way.at
+          c.entry_for-entry.result c.group-made.result c.in-Done.answer (made_by c.in-Some.under_way.work)
+          c.entry_for-entry.ensures c.group-made.ensures))
+          (room_to_end (length c.args.calls.now) c.args.journal.now.room c.go_further-turn.new.journal.room
+          c.args.client.now c.in-Some.under_way going (c.requires.begun c.in-Some.under_way going) c.in-Done.answer
+          c.requires.few c.requires.room c.in-Done.ensures.room);
+    }
 
 pub returns-in_default-clause-room : goal.returns-in_default-clause-room
-returns-in_default-clause-room g c =
-    let idle = sym c.take.ensures.value ∙ c.in_default.is in
-    let was = ap (answered_of c.args.client.now.begun) idle in
-    let left = ap (answered_of c.args.client.now.begun) c.take.ensures.after in
-    let used = c.begin_next.ensures.room in omega (arith, was, left, used)
+returns-in_default-clause-room g c = idle_uses c.args.journal.now.room c.begin_next.new.journal.room c.args.client.now
+    c.begin_next.new.client c.take.new.self (sym c.take.ensures.value ∙ c.in_default.is) c.take.ensures.after
+    c.begin_next.ensures.room
 
 pub returns-in-More-clause-room : goal.returns-in-More-clause-room
 returns-in-More-clause-room g c =
-    let last = ap (answered_of c.args.client.now.begun) (sym c.take.ensures.value ∙ c.in-Some.is) in omega (arith, last)
+    let going = sym c.take.ensures.value ∙ c.in-Some.is in
+    going_uses (length c.args.calls.now) c.args.journal.now.room c.go_further-turn.new.journal.room c.args.client.now
+    c.in-Some.under_way going (c.requires.begun c.in-Some.under_way going) c.list_made.new.journal.room
+    c.begun_at-at.result c.in-More.work c.in-More.ensures.room
+    (subst (λ (made : Option ℕ). c.go_further-turn.new.journal.room ≤ c.list_made.new.journal.room + taken_for made)
+    c.made.ensures c.list_made.ensures.room)
 
 pub returns-in-Done-clause-room : goal.returns-in-Done-clause-room
 returns-in-Done-clause-room g c =
     let going = sym c.take.ensures.value ∙ c.in-Some.is in
-    let begun : 1 ≤ c.args.client.now.begun = c.requires.begun c.in-Some.under_way going in
-    let last = ap (answered_of c.args.client.now.begun) going in
-    let none = ap (answered_of c.args.client.now.begun) c.take.ensures.after in
-    let used = c.list_answer.ensures.room in omega (arith, begun, last, none, used)
+    ended_uses (length c.args.calls.now) c.args.journal.now.room c.go_further-turn.new.journal.room c.args.client.now
+    c.in-Some.under_way going (c.requires.begun c.in-Some.under_way going) c.list_answer.new.journal.room
+    c.in-Done.answer c.take.new.self c.take.ensures.after c.in-Done.ensures.room
+    (subst (λ (n : ℕ). c.go_further-turn.new.journal.room ≤ c.list_answer.new.journal.room + (n + 1))
+    (listed_room c.index-calls-client.result c.args.actor c.args.client.now.begun c.in-Some.under_way.at
+    c.entry_for-entry.result c.group-made.result c.in-Done.answer (made_by c.in-Some.under_way.work)
+    c.entry_for-entry.ensures c.group-made.ensures) c.list_answer.ensures.room)
