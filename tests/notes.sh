@@ -146,7 +146,7 @@ wrong 2 'clients 1\na sync \n' 'one space stands between two words, and none at 
 wrong 2 'clients 2\nc sync\n' 'there is no such client: the first is a'
 wrong 2 'clients 1\nb sync\n' 'there is one client, a'
 wrong 2 'clients 1\nsync\n' "a call is a client's letter, a space, and its words"
-wrong 2 'clients 1\na read 7\n' 'the calls are put, puthex, get, sum, free, sync and attach'
+wrong 2 'clients 1\na read 7\n' 'the calls are put, puthex, get, sum, free, sync, attach and copy'
 wrong 2 'clients 1\na put 7 0 1\n' 'a block has one byte at least'
 wrong 2 'clients 1\na put 7 65537 1\n' 'a block has at most 65,536 bytes'
 wrong 2 'clients 1\na put 07 1 1\n' "$number"
@@ -155,8 +155,9 @@ wrong 2 'clients 1\na put 7 1\n' '`put ID LEN SEED` or `puthex ID DIGITS`'
 wrong 2 'clients 1\na puthex 7 6G\n' 'two digits stand for each byte, 0 to 9 and a to f'
 wrong 2 'clients 1\na puthex 7 6A\n' 'two digits stand for each byte, 0 to 9 and a to f'
 wrong 2 'clients 1\na get 7 8\n' 'get, sum and free have an id, and nothing behind it'
-wrong 2 'clients 1\na sync 7\n' 'sync and attach have nothing behind them'
-wrong 2 'clients 1\na attach 7\n' 'sync and attach have nothing behind them'
+wrong 2 'clients 1\na sync 7\n' 'sync, attach and copy have nothing behind them'
+wrong 2 'clients 1\na attach 7\n' 'sync, attach and copy have nothing behind them'
+wrong 2 'clients 1\na copy 7\n' 'sync, attach and copy have nothing behind them'
 wrong 2 'clients 1\norder ab\n' '`order LETTERS`: letters of the clients side by side, one at least'
 
 # What the words of a command are.

@@ -30,7 +30,7 @@ call_allowed text actor Sum (Some id) Nothing is = is.id_fits
 call_allowed text actor Free (Some id) Nothing is = is.id_fits
 call_allowed text actor Sync None Nothing is = refl
 call_allowed text actor Attach None Nothing is = refl
-call_allowed text actor Copy None Nothing is = absurd is.served
+call_allowed text actor Copy None Nothing is = refl
 call_allowed text actor Scrub None Nothing is = absurd is.served
 call_allowed text actor kind id fill is = absurd (omega (arith, is.some))
 

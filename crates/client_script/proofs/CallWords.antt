@@ -53,7 +53,7 @@ hex_of words rest led Sum (Some n) Nothing is = absurd (omega (arith, first_lett
 hex_of words rest led Free (Some n) Nothing is = absurd (omega (arith, first_letter words rest _ 102 led is.spelled))
 hex_of words rest led Sync None Nothing is = absurd (omega (arith, first_letter words rest _ 115 led is.spelled))
 hex_of words rest led Attach None Nothing is = absurd (omega (arith, first_letter words rest _ 97 led is.spelled))
-hex_of words rest led Copy None Nothing is = absurd is.served
+hex_of words rest led Copy None Nothing is = absurd (omega (arith, first_letter words rest _ 99 led is.spelled))
 hex_of words rest led Scrub None Nothing is = absurd is.served
 hex_of words rest led kind id fill is = absurd (omega (arith, is.some))
 

@@ -3,7 +3,7 @@ use Rattle.std.proofs.Common.{◌≡◌, ◌≢◌, inl, inr, ℕ, ◌*◌, ◌<
 use Rattle.std.specs.Prelude.{All, codes}
 use Rattle.std.proofs.lemmas.List.Elements.{All-head, All-tail}
 use Rattle.core_state.specs.declared.answer.Kind.{Kind}
-use Rattle.core_state.specs.declared.answer.Kind.TheVariants.{Put, Get, Sum, Free, Sync, Attach}
+use Rattle.core_state.specs.declared.answer.Kind.TheVariants.{Put, Get, Sum, Free, Sync, Attach, Copy}
 use Rattle.client_script.specs.declared.call.Fill.TheVariants.{Nothing, Pattern, Hex}
 use Rattle.client_script.specs.declared.call_fault.CallFault.TheVariants.{UnknownCall, Number, PutWords, NoBytes, TooManyBytes, HexDigits, IdAlone, WordAlone}
 use Rattle.client_script.specs.Lines.{with_byte}
@@ -177,7 +177,8 @@ bare_words word kind is = record { served = is.0; some = is.1; spelled = is.2; i
 
 bare_alone : (word : List ℕ) → IsBareName word → HasNoCall word → ⊥
 bare_alone word (inl sync) isnt = isnt Sync None Nothing (bare_words word Sync (tt, omega arith, sync))
-bare_alone word (inr attach) isnt = isnt Attach None Nothing (bare_words word Attach (tt, omega arith, attach))
+bare_alone word (inr (inl attach)) isnt = isnt Attach None Nothing (bare_words word Attach (tt, omega arith, attach))
+bare_alone word (inr (inr copy)) isnt = isnt Copy None Nothing (bare_words word Copy (tt, omega arith, copy))
 
 pub unknown_alone : (word : List ℕ) → All (λ byte. byte ≢ 32) word → HasNoCall word → (IsPutName word → ⊥) → (IsIdName word → ⊥) → IsCallFault word UnknownCall
 unknown_alone word none isnt no_put no_id = (word, [], split_alone word none, no_name)

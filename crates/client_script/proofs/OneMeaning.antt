@@ -20,6 +20,7 @@ pub data Asked : Type 0 where
   OfFree : (id : ℕ) → Asked
   OfSync : Asked
   OfAttach : Asked
+  OfCopy : Asked
 
 abbrev words_of : Asked → List ℕ
 words_of (OfPattern id len seed) = codes "put " ++ (decimal id ++ 32 ∷ (decimal len ++ 32 ∷ decimal seed))
@@ -29,6 +30,7 @@ words_of (OfSum id) = codes "sum " ++ decimal id
 words_of (OfFree id) = codes "free " ++ decimal id
 words_of OfSync = codes "sync"
 words_of OfAttach = codes "attach"
+words_of OfCopy = codes "copy"
 
 abbrev Fits : Asked → Type 0
 Fits (OfPattern id len seed) = (id < 2 ^ 64) × (len < 2 ^ 64) × (seed < 2 ^ 64)
@@ -38,6 +40,7 @@ Fits (OfSum id) = id < 2 ^ 64
 Fits (OfFree id) = id < 2 ^ 64
 Fits OfSync = ⊤
 Fits OfAttach = ⊤
+Fits OfCopy = ⊤
 
 -- a call's line
 abbrev line_of : ℕ → Asked → Line
@@ -48,6 +51,7 @@ line_of actor (OfSum id) = CallLine actor Sum (Some id) Nothing
 line_of actor (OfFree id) = CallLine actor Free (Some id) Nothing
 line_of actor OfSync = CallLine actor Sync None Nothing
 line_of actor OfAttach = CallLine actor Attach None Nothing
+line_of actor OfCopy = CallLine actor Copy None Nothing
 
 -- A call's line is one of these.
 pub record IsAsked (text : List ℕ) (actor : ℕ) (line : Line) : Type 0 where
@@ -78,7 +82,7 @@ asked_by_line text actor Sum (Some id) Nothing is = record { asked = OfSum id; s
 asked_by_line text actor Free (Some id) Nothing is = record { asked = OfFree id; spelled = is.spelled; fits = is.id_fits; line_is = refl }
 asked_by_line text actor Sync None Nothing is = record { asked = OfSync; spelled = is.spelled; fits = tt; line_is = refl }
 asked_by_line text actor Attach None Nothing is = record { asked = OfAttach; spelled = is.spelled; fits = tt; line_is = refl }
-asked_by_line text actor Copy None Nothing is = absurd is.served
+asked_by_line text actor Copy None Nothing is = record { asked = OfCopy; spelled = is.spelled; fits = tt; line_is = refl }
 asked_by_line text actor Scrub None Nothing is = absurd is.served
 asked_by_line text actor kind id fill is = absurd (omega (arith, is.some))
 
@@ -123,6 +127,7 @@ same_asked (OfSum id) (OfSum other) fits fit e = ap OfSum (same_number id other 
 same_asked (OfFree id) (OfFree other) fits fit e = ap OfFree (same_number id other fits fit (ap (drop 5) e))
 same_asked OfSync OfSync fits fit e = refl
 same_asked OfAttach OfAttach fits fit e = refl
+same_asked OfCopy OfCopy fits fit e = refl
 same_asked one other fits fit e =
     let first = ap (λ (l : List ℕ). get_or l 0 0) e in
     let second = ap (λ (l : List ℕ). get_or l 1 0) e in

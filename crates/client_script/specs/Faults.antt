@@ -30,7 +30,7 @@ IsPutName word = (word ≡ codes "put") ⊎ (word ≡ codes "puthex")
 
 -- The name of a call that has nothing else.
 abbrev pub IsBareName : List ℕ → Type 0
-IsBareName word = (word ≡ codes "sync") ⊎ (word ≡ codes "attach")
+IsBareName word = (word ≡ codes "sync") ⊎ ((word ≡ codes "attach") ⊎ (word ≡ codes "copy"))
 
 -- The name of a call.
 abbrev pub IsCallName : List ℕ → Type 0

@@ -84,6 +84,7 @@ IsServedKind Sum = ⊤
 IsServedKind Free = ⊤
 IsServedKind Sync = ⊤
 IsServedKind Attach = ⊤
+IsServedKind Copy = ⊤
 IsServedKind kind = ⊥
 
 -- A call is spelled so: its letter, a space, its words.

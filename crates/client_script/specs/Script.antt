@@ -3,7 +3,7 @@ use Rattle.std.specs.Prelude.{◌≡◌, ◌⊎◌, ℕ, ◌+◌, ◌-◌, ◌^�
 use Rattle.std.proofs.Common.{inl, inr}
 use Rattle.std.specs.List.{AllZip}
 use Rattle.core_state.specs.declared.answer.Kind.{Kind}
-use Rattle.core_state.specs.declared.answer.Kind.TheVariants.{Put, Get, Sum, Free, Sync, Attach}
+use Rattle.core_state.specs.declared.answer.Kind.TheVariants.{Put, Get, Sum, Free, Sync, Attach, Copy}
 use Rattle.core_state.specs.Journal.{Asked}
 use Rattle.client_script.specs.declared.call.Fill.{Fill}
 use Rattle.client_script.specs.declared.call.ScriptCall.{ScriptCall}
@@ -145,6 +145,7 @@ MayHave Sum id bytes = NamesBlock id
 MayHave Free id bytes = NamesBlock id
 MayHave Sync id bytes = id ≡ None
 MayHave Attach id bytes = id ≡ None
+MayHave Copy id bytes = id ≡ None
 MayHave kind id bytes = ⊥
 
 -- A call has what its kind may have.

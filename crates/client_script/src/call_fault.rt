@@ -24,7 +24,7 @@ pub enum CallFault {
     HexDigits,
     /// A call that has an id alone has none, or more.
     IdAlone,
-    /// A sync or an attach has more than its name.
+    /// A sync, an attach or a copy has more than its name.
     WordAlone,
 }
 
@@ -70,7 +70,7 @@ fn is_id_name(word: &[u8]) -> bool
 fn is_bare_name(word: &[u8]) -> bool
     ensures { IsTrue result ↔ IsBareName word.now }
 {
-    is_word(word, b"sync") || is_word(word, b"attach")
+    is_word(word, b"sync") || is_word(word, b"attach") || is_word(word, b"copy")
 }
 
 // What is wrong with one word.

@@ -117,6 +117,7 @@ fn bare_kind(word: &[u8]) -> Option<Kind>
     match word {
         b"sync" => Some(Kind::Sync),
         b"attach" => Some(Kind::Attach),
+        b"copy" => Some(Kind::Copy),
         _ => None,
     }
 }

@@ -71,7 +71,7 @@ fn limit(reached: u64) -> Option<ParseRefused> {
 #[test]
 fn the_first_line_that_breaks_a_rule_decides(rt: HostRuntime) {
     let alloc = rt.alloc();
-    let rows: [(&[u8], Option<ParseRefused>); 44] = [
+    let rows: [(&[u8], Option<ParseRefused>); 45] = [
         (b"", fault(1, LineFault::NoClients)),
         (b"\n", fault(2, LineFault::NoClients)),
         (b"# only this", fault(2, LineFault::NoClients)),
@@ -144,10 +144,7 @@ fn the_first_line_that_breaks_a_rule_decides(rt: HostRuntime) {
             None,
         ),
         (b"clients 1\na attach\n", None),
-        (
-            b"clients 1\na copy\n",
-            fault_in_call(2, CallFault::UnknownCall),
-        ),
+        (b"clients 1\na copy\n", None),
         (
             b"clients 1\na scrub\n",
             fault_in_call(2, CallFault::UnknownCall),
@@ -177,6 +174,10 @@ fn the_first_line_that_breaks_a_rule_decides(rt: HostRuntime) {
         ),
         (
             b"clients 1\na attach 3\n",
+            fault_in_call(2, CallFault::WordAlone),
+        ),
+        (
+            b"clients 1\na copy 3\n",
             fault_in_call(2, CallFault::WordAlone),
         ),
     ];
@@ -218,17 +219,18 @@ fn is_call(call: &ScriptCall, line: u64, kind: Kind, id: Option<u64>) -> bool {
 fn a_script_is_kept_by_client_and_by_line(rt: HostRuntime) -> Result<(), Fail> {
     let alloc = rt.alloc();
     let text =
-        b"# two\nclients 2\na puthex 7 616263\nb get 7\n\na sync\norder ab\norder ba\nb put 1 3 5\na attach";
+        b"# two\nclients 2\na puthex 7 616263\nb get 7\n\na sync\norder ab\norder ba\nb put 1 3 5\na attach\na copy";
     let script = parse(alloc, text)?;
     assert_eq!(rt; script.clients(), 2);
     assert_eq!(rt; script.order(), [0, 1, 1, 0].as_slice());
-    assert_eq!(rt; script.in_line_order(), [0, 1, 0, 1, 0].as_slice());
-    let [put, sync, attach] = script.calls(0) else {
-        return Err(Fail::from("three calls of a"));
+    assert_eq!(rt; script.in_line_order(), [0, 1, 0, 1, 0, 0].as_slice());
+    let [put, sync, attach, copy] = script.calls(0) else {
+        return Err(Fail::from("four calls of a"));
     };
     assert!(rt; is_call(put, 3, Kind::Put, Some(7)));
     assert!(rt; is_call(sync, 6, Kind::Sync, None));
     assert!(rt; is_call(attach, 10, Kind::Attach, None));
+    assert!(rt; is_call(copy, 11, Kind::Copy, None));
     assert_eq!(rt; put.fill.to_bytes(alloc)?.as_slice(), b"abc".as_slice());
     assert_eq!(rt; sync.fill.to_bytes(alloc)?.len(), 0);
     assert_eq!(rt; attach.fill.to_bytes(alloc)?.len(), 0);

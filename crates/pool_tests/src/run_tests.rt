@@ -190,7 +190,7 @@ fn a_script_that_breaks_a_rule_is_told_and_changes_nothing(rt: HostRuntime) -> R
             b"script line 2\n",
         ),
         (
-            b"clients 1\na copy\n",
+            b"clients 1\na scrub\n",
             script_fault(2, UNKNOWN_CALL),
             b"script line 2\n",
         ),

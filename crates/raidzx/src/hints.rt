@@ -21,14 +21,14 @@ fn line_hint(why: LineFault) -> &'static str {
 /// What a user may do about the words of a call.
 fn call_hint(why: CallFault) -> &'static str {
     match why {
-        CallFault::UnknownCall => "the calls are put, puthex, get, sum, free, sync and attach",
+        CallFault::UnknownCall => "the calls are put, puthex, get, sum, free, sync, attach and copy",
         CallFault::Number => "a number is decimal and below 2^64, without sign or leading zeros",
         CallFault::PutWords => "`put ID LEN SEED` or `puthex ID DIGITS`",
         CallFault::NoBytes => "a block has one byte at least",
         CallFault::TooManyBytes => "a block has at most 65,536 bytes",
         CallFault::HexDigits => "two digits stand for each byte, 0 to 9 and a to f",
         CallFault::IdAlone => "get, sum and free have an id, and nothing behind it",
-        CallFault::WordAlone => "sync and attach have nothing behind them",
+        CallFault::WordAlone => "sync, attach and copy have nothing behind them",
     }
 }
 

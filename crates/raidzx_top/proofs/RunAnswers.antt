@@ -23,7 +23,6 @@ all_at P xs index x all is = subst P (get_or_from_slice_get xs index x x is)
 
 -- a call of a client
 abbrev pub IsClients : Kind → Type 0
-IsClients kind.Copy = ⊥
 IsClients kind.Scrub = ⊥
 IsClients other = ⊤
 
@@ -34,7 +33,7 @@ allowed_clients kind.Sum id bytes may = tt
 allowed_clients kind.Free id bytes may = tt
 allowed_clients kind.Sync id bytes may = tt
 allowed_clients kind.Attach id bytes may = tt
-allowed_clients kind.Copy id bytes may = absurd may
+allowed_clients kind.Copy id bytes may = tt
 allowed_clients kind.Scrub id bytes may = absurd may
 
 -- The calls of a script are clients'.

@@ -291,7 +291,8 @@ module _ (order : Order) (call : TopCall) (lawful : Lawful call.old)
         none_rose device (subst (IsAttachCause call.old.devices (IsDropCause call.old call.new out)) is
         (run.fits index entry there).attach)
     is_smooth index entry there (answer.Paused device) is =
-        absurd (of_client index entry there kind.Copy (answers index entry there (answer.Paused device) is))
+        none_out device (subst (IsAttachCause call.old.devices (IsDropCause call.old call.new out)) is
+        (run.fits index entry there).attach)
     is_smooth index entry there other is = tt
 
     completes : CompletesAll order call
