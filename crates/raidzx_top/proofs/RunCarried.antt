@@ -27,7 +27,7 @@ use Rattle.raidzx_top.specs.declared.running.Trouble.TheVariants as trouble
 use Rattle.raidzx_top.specs.declared.status.Status.{Status}
 use Rattle.raidzx_top.specs.declared.status.Status.TheVariants as status
 use Rattle.schedule.specs.Dropping.{IsDropCause}
-use Rattle.schedule.specs.Fitting.{IsAttachCause}
+use Rattle.schedule.specs.Fitting.{IsDeviceCause}
 use Rattle.schedule.specs.WholeRun.{HasRun, RunKeeps, banks_of}
 use Rattle.schedule.specs.declared.whole_run.Ran.{Ran}
 use Rattle.raidzx_top.specs.declared.order.Order.{Order}
@@ -285,14 +285,14 @@ module _ (order : Order) (call : TopCall) (lawful : Lawful call.old)
     is_smooth index entry there (answer.TooManyFailed listed) is =
         few listed (λ image holds. many_listed index listed entry there is image holds)
     is_smooth index entry there (answer.DeviceOut device) is =
-        none_out device (subst (IsAttachCause call.old.devices (IsDropCause call.old call.new out)) is
-        (run.fits index entry there).attach)
+        none_out device (subst (IsDeviceCause call.old.devices (IsDropCause call.old call.new out)) is
+        (run.fits index entry there).device)
     is_smooth index entry there (answer.NewDeviceFailed device) is =
-        none_rose device (subst (IsAttachCause call.old.devices (IsDropCause call.old call.new out)) is
-        (run.fits index entry there).attach)
+        none_rose device (subst (IsDeviceCause call.old.devices (IsDropCause call.old call.new out)) is
+        (run.fits index entry there).device)
     is_smooth index entry there (answer.Paused device) is =
-        none_out device (subst (IsAttachCause call.old.devices (IsDropCause call.old call.new out)) is
-        (run.fits index entry there).attach)
+        none_out device (subst (IsDeviceCause call.old.devices (IsDropCause call.old call.new out)) is
+        (run.fits index entry there).device)
     is_smooth index entry there other is = tt
 
     completes : CompletesAll order call

@@ -13,7 +13,7 @@ use Rattle.join_commit.specs.declared.join_run.WhyDropped.{WhyDropped}
 use Rattle.join_commit.specs.declared.join_run.WhyDropped.TheVariants as why
 use Rattle.core_turns.specs.Attaching.{attach_answer}
 use Rattle.schedule.specs.Caused.{IsAnswerCause}
-use Rattle.schedule.specs.Fitting.{IsAttachCause}
+use Rattle.schedule.specs.Fitting.{IsDeviceCause}
 use Rattle.schedule.proofs.Refusals.{IsRefusal}
 
 -- The device was attached, or not: it failed, or one of the pool is out.
@@ -42,7 +42,7 @@ end_caused items index disk (why.DeviceOut device) width group = tt
 -- and its cause is the one that was known when the commit was made.
 pub end_cause : (devices : ℕ) (dropped : WhyDropped → Type 0) (because : Option WhyDropped) (width group : ℕ)
     → ((cause : WhyDropped) → because ≡ Some cause → dropped cause)
-    → IsAttachCause devices dropped (attach_answer because width group)
+    → IsDeviceCause devices dropped (attach_answer because width group)
 end_cause devices dropped None width group known = tt
 end_cause devices dropped (Some (why.NewDeviceFailed device)) width group known = known (why.NewDeviceFailed device) refl
 end_cause devices dropped (Some (why.DeviceOut device)) width group known = known (why.DeviceOut device) refl

@@ -43,7 +43,7 @@ use Rattle.schedule.specs.Caused.{IsAnswerCause}
 use Rattle.schedule.specs.Comes.{Comes, TakesTurn}
 use Rattle.schedule.specs.Coming.{GoesOnFor}
 use Rattle.schedule.specs.Dropping.{HasDropCause}
-use Rattle.schedule.specs.Fitting.{IsAttachCause}
+use Rattle.schedule.specs.Fitting.{IsDeviceCause}
 use Rattle.schedule.specs.Moments.{Past}
 use Rattle.schedule.specs.Recorded.{IsBegunAt, IsRightNext}
 use Rattle.schedule.specs.Running.{IsClient, Runs, calls_under_way, held_under, setting_now}
@@ -282,7 +282,7 @@ module _ {script : Script} {actor : ℕ} {before after : Station} {clients news 
         (fit_both (turns_of before.state before.items clients) (turns_of after.state after.items news) entry
         (attach_fits old call.kind given asked.0 (end_answers given ended)
         (λ out told. absurd (subst IsAttachEnd told ended)) (λ reached told. absurd (subst IsAttachEnd told ended))
-        (subst (IsAttachCause before.state.disk.devices dropped) (sym ends.given_is)
+        (subst (IsDeviceCause before.state.disk.devices dropped) (sym ends.given_is)
         (end_cause before.state.disk.devices dropped because now.pool.uber.reflow.to old.begun (λ cause cause_is. inr (record {
           index = actor;
           client = before.client;

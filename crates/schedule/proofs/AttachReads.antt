@@ -42,7 +42,7 @@ use Rattle.schedule.specs.declared.client.Work.TheVariants as work
 use Rattle.schedule.specs.Comes.{Comes, TakesTurn}
 use Rattle.schedule.specs.Coming.{GoesOnFor}
 use Rattle.schedule.specs.Dropping.{HasDropCause}
-use Rattle.schedule.specs.Fitting.{IsAttachCause, IsGroupKind}
+use Rattle.schedule.specs.Fitting.{IsDeviceCause, IsGroupKind}
 use Rattle.schedule.specs.Moments.{Past}
 use Rattle.schedule.specs.Recorded.{IsRightNext}
 use Rattle.schedule.specs.Running.{AreGoing, IsGoing, Runs, call_of_client, calls_under_way, commit_in, held_by, held_under, setting_now}
@@ -190,7 +190,7 @@ module _ {script : Script} {actor : ℕ} {before after : Station} {clients news 
     pub answers : IsAnswerOf kind.Attach given
     pub tells : TellsOut old given
     pub limit : (reached : ℕ) → given ≡ answer.Limit reached → reached ≡ max_group
-    pub cause : IsAttachCause before.state.disk.devices
+    pub cause : IsDeviceCause before.state.disk.devices
         (HasDropCause (turns_of before.state before.items clients) (turns_of after.state after.items news)) given
     pub no_full : given ≢ answer.Full
     pub no_block : (handed : PutBytes) (map : Map) (entry : Entry) → map_after_answer handed map entry given ≡ map

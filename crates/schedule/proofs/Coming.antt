@@ -31,10 +31,10 @@ use Rattle.core_turns.proofs.CommitGoes.{turn_bank}
 use Rattle.schedule.specs.Coming.{AttachesNone, GoesOnFor, IsWorldOf, LeadTo, KeepsUsing, StaysAsWide}
 use Rattle.schedule.specs.Turns.{Turns, TurnTaken, last_left, AreListedWith, IsListedWith, taken_by}
 use Rattle.schedule.specs.Dropping.{HasDropCause, IsDropCause, IsToBeTold}
-use Rattle.schedule.specs.Fitting.{IsAttachCause}
+use Rattle.schedule.specs.Fitting.{IsDeviceCause}
 use Rattle.schedule.specs.Numbered.{IsNumbered}
 use Rattle.schedule.specs.Running.{Runs}
-use Rattle.schedule.proofs.Fitting.{FitSince, attach_cause}
+use Rattle.schedule.proofs.Fitting.{FitSince, device_cause_on}
 use Rattle.schedule.proofs.Fulls.{FullStays}
 use Rattle.schedule.specs.Moments.{Past}
 
@@ -196,8 +196,8 @@ module _ (script : Script) (start middle now : Turns) (one two : List TurnTaken)
             (many.0, λ device out. second.out.still device (many.1 device out));
         limit = fit.limit;
         memory = fit.memory;
-        attach = attach_cause start.state.disk.devices (HasDropCause start middle) (HasDropCause start now)
-            entry.answer dropped_before fit.attach;
+        device = device_cause_on start.state.disk.devices (HasDropCause start middle) (HasDropCause start now)
+            entry.answer dropped_before fit.device;
       }))
       (first.fits index entry was))
       (λ fit. inr (record {
@@ -206,9 +206,9 @@ module _ (script : Script) (start middle now : Turns) (one two : List TurnTaken)
             (subst (λ (n : ℕ). n < count_of listed) first.parity many.0, many.1);
         limit = fit.limit;
         memory = fit.memory;
-        attach = subst (λ (n : ℕ). IsAttachCause n (HasDropCause start now) entry.answer) first.later.devices
-            (attach_cause middle.state.disk.devices (HasDropCause middle now) (HasDropCause start now) entry.answer
-            dropped_since fit.attach);
+        device = subst (λ (n : ℕ). IsDeviceCause n (HasDropCause start now) entry.answer) first.later.devices
+            (device_cause_on middle.state.disk.devices (HasDropCause middle now) (HasDropCause start now) entry.answer
+            dropped_since fit.device);
       }))
       (second.fits index entry there)
 

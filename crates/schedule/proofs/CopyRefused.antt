@@ -21,7 +21,7 @@ use Rattle.core_turns.specs.Committing.{IsSyncRefused}
 use Rattle.core_turns.specs.Copying.{IsJobRefused}
 use Rattle.core_turns.specs.Core.{Core}
 use Rattle.core_turns.specs.Rounds.{IsRoundRefused}
-use Rattle.schedule.specs.Fitting.{IsAttachCause, IsGroupKind}
+use Rattle.schedule.specs.Fitting.{IsDeviceCause, IsGroupKind}
 use Rattle.schedule.specs.Recorded.{IsRightNext}
 use Rattle.schedule.specs.Turned.{group_by}
 use Rattle.schedule.proofs.Fitting.{TellsOut}
@@ -43,7 +43,7 @@ pub record AnswersCopy (core : Core) (devices : ℕ) (dropped : WhyDropped → T
   pub tells : TellsOut core given
   pub limit : (reached : ℕ) → given ≡ answer.Limit reached → reached ≡ max_group
   pub cause : ((device : ℕ) → has_device core.pool.out device ≡ true → dropped (why.DeviceOut device))
-      → IsAttachCause devices dropped given
+      → IsDeviceCause devices dropped given
   pub alone : group_by given None ≡ None
   pub no_full : given ≢ answer.Full
   pub no_block : (handed : PutBytes) (map : Map) (entry : Entry) → map_after_answer handed map entry given ≡ map

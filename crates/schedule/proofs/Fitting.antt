@@ -18,7 +18,7 @@ use Rattle.journal_law.proofs.Grown.{new_or_before}
 use Rattle.core_turns.specs.Core.{Core}
 use Rattle.core_turns.specs.Getting.{HasTooManyOut, IsReadKind}
 use Rattle.schedule.specs.Dropping.{HasDropCause}
-use Rattle.schedule.specs.Fitting.{FitsSince, IsAttachCause, IsGroupKind}
+use Rattle.schedule.specs.Fitting.{FitsSince, IsDeviceCause, IsGroupKind}
 use Rattle.schedule.specs.Turns.{Turns}
 use Rattle.schedule.proofs.RightNext.{IsPlain}
 use Rattle.schedule.proofs.Running.{group_apart}
@@ -34,7 +34,7 @@ pub record Fits (core : Core) (devices : ℕ) (dropped : WhyDropped → Type 0) 
   pub tells : TellsOut core given
   pub limit : (reached : ℕ) → given ≡ answer.Limit reached → IsGroupKind asked × (reached ≡ max_group)
   pub memory : given ≡ answer.NoMemory → asked ≢ kind.Free
-  pub attach : IsAttachCause devices dropped given
+  pub device : IsDeviceCause devices dropped given
 
 -- An answer tells of no limit.
 abbrev pub NoLimit : Answer → Type 0
@@ -62,13 +62,13 @@ plain_lacks_none kind.Copy plain lacks = plain
 plain_lacks_none other plain lacks = lacks
 
 -- No other call has the cause of one that does.
-pub no_attach_cause : (devices : ℕ) (dropped : WhyDropped → Type 0) (asked : Kind) (given : Answer)
-    → (LacksDevices asked → ⊥) → IsAnswerOf asked given → IsAttachCause devices dropped given
-no_attach_cause devices dropped asked (answer.NewDeviceFailed device) none of = absurd (none (subst LacksDevices (sym of) tt))
-no_attach_cause devices dropped asked (answer.DeviceOut device) none of = absurd (none (subst LacksDevices (sym of) tt))
-no_attach_cause devices dropped asked (answer.NoDevice there width) none of = absurd (none (subst LacksDevices (sym of) tt))
-no_attach_cause devices dropped asked (answer.Paused device) none of = absurd (none (subst LacksDevices (sym of) tt))
-no_attach_cause devices dropped asked given none of = tt
+pub no_device_cause : (devices : ℕ) (dropped : WhyDropped → Type 0) (asked : Kind) (given : Answer)
+    → (LacksDevices asked → ⊥) → IsAnswerOf asked given → IsDeviceCause devices dropped given
+no_device_cause devices dropped asked (answer.NewDeviceFailed device) none of = absurd (none (subst LacksDevices (sym of) tt))
+no_device_cause devices dropped asked (answer.DeviceOut device) none of = absurd (none (subst LacksDevices (sym of) tt))
+no_device_cause devices dropped asked (answer.NoDevice there width) none of = absurd (none (subst LacksDevices (sym of) tt))
+no_device_cause devices dropped asked (answer.Paused device) none of = absurd (none (subst LacksDevices (sym of) tt))
+no_device_cause devices dropped asked given none of = tt
 
 pub read_plain_kind : (asked : Kind) → IsReadKind asked → IsPlainKind asked
 read_plain_kind kind.Get read = tt
@@ -84,39 +84,39 @@ fits {devices} {dropped} core asked given of tells no_limit plain = record {
   tells = tells;
   limit = λ reached is. absurd (no_limit reached is);
   memory = λ wanting free. subst IsPlainKind free plain;
-  attach = no_attach_cause devices dropped asked given (plain_lacks_none asked plain) of;
+  device = no_device_cause devices dropped asked given (plain_lacks_none asked plain) of;
 }
 
 -- and a call that makes groups with its cause.
 pub group_fits : {devices : ℕ} {dropped : WhyDropped → Type 0} (core : Core) (asked : Kind) (given : Answer)
     → IsGroupKind asked → IsAnswerOf asked given → TellsOut core given
-    → ((reached : ℕ) → given ≡ answer.Limit reached → reached ≡ max_group) → IsAttachCause devices dropped given
+    → ((reached : ℕ) → given ≡ answer.Limit reached → reached ≡ max_group) → IsDeviceCause devices dropped given
     → Fits core devices dropped asked given
 group_fits core asked given group of tells limit cause = record {
   of_kind = of;
   tells = tells;
   limit = λ reached told. (group, limit reached told);
   memory = λ wanting free. subst IsGroupKind free group;
-  attach = cause;
+  device = cause;
 }
 
 -- So it is of an attach.
 pub attach_fits : {devices : ℕ} {dropped : WhyDropped → Type 0} (core : Core) (asked : Kind) (given : Answer)
     → asked ≡ kind.Attach → IsAnswerOf kind.Attach given → TellsOut core given
-    → ((reached : ℕ) → given ≡ answer.Limit reached → reached ≡ max_group) → IsAttachCause devices dropped given
+    → ((reached : ℕ) → given ≡ answer.Limit reached → reached ≡ max_group) → IsDeviceCause devices dropped given
     → Fits core devices dropped asked given
 attach_fits core asked given is of = group_fits core asked given (subst IsGroupKind (sym is) tt)
     (subst (λ (k : Kind). IsAnswerOf k given) (sym is) of)
 
 -- Its cause stands for whoever has come further.
-pub attach_cause : (devices : ℕ) (dropped further : WhyDropped → Type 0) (given : Answer)
-    → ((cause : WhyDropped) → dropped cause → further cause) → IsAttachCause devices dropped given
-    → IsAttachCause devices further given
-attach_cause devices dropped further (answer.NewDeviceFailed device) on is = on (why.NewDeviceFailed device) is
-attach_cause devices dropped further (answer.DeviceOut device) on is = on (why.DeviceOut device) is
-attach_cause devices dropped further (answer.NoDevice there width) on is = is
-attach_cause devices dropped further (answer.Paused device) on is = on (why.DeviceOut device) is
-attach_cause devices dropped further other on is = tt
+pub device_cause_on : (devices : ℕ) (dropped further : WhyDropped → Type 0) (given : Answer)
+    → ((cause : WhyDropped) → dropped cause → further cause) → IsDeviceCause devices dropped given
+    → IsDeviceCause devices further given
+device_cause_on devices dropped further (answer.NewDeviceFailed device) on is = on (why.NewDeviceFailed device) is
+device_cause_on devices dropped further (answer.DeviceOut device) on is = on (why.DeviceOut device) is
+device_cause_on devices dropped further (answer.NoDevice there width) on is = is
+device_cause_on devices dropped further (answer.Paused device) on is = on (why.DeviceOut device) is
+device_cause_on devices dropped further other on is = tt
 
 -- What is listed in a turn is what was listed before, or fits its call.
 abbrev pub FitSince : Turns → Turns → Type 0
@@ -146,7 +146,7 @@ module _ (before after : Turns) (last : Entry)
     );
     limit = fit.limit;
     memory = fit.memory;
-    attach = fit.attach;
+    device = fit.device;
   }
 
   with_last : (items : List Item) (index : ℕ) (entry : Entry) → CallAt (items ++ CallItem last ∷ []) index entry

@@ -24,7 +24,7 @@ use Rattle.schedule.specs.Turns.{turns_of}
 use Rattle.schedule.specs.declared.client.Client.{Client}
 use Rattle.schedule.specs.Turned.{Station, Frees, LeavesBegun}
 use Rattle.schedule.specs.Comes.{TakesTurn, Comes}
-use Rattle.schedule.proofs.Fitting.{no_attach_cause, plain_no_limit}
+use Rattle.schedule.proofs.Fitting.{no_device_cause, plain_no_limit}
 use Rattle.schedule.proofs.RightNext.{IsPlain, free_right}
 use Rattle.schedule.proofs.Theirs.{none_some}
 use Rattle.schedule.proofs.LeavesPool.{LeavesPool, holds_left}
@@ -92,7 +92,7 @@ module _ {script : Script} {actor : ℕ} {before after : Station} {clients news 
             (many.0, many.1);
         limit = λ reached told. absurd (plain_no_limit given of.1 reached told);
         memory = λ wanting. absurd (subst (FreesBlock before.state.core after.state.core id) wanting frees.frees);
-        attach = no_attach_cause before.state.disk.devices
+        device = no_device_cause before.state.disk.devices
             (HasDropCause (turns_of before.state before.items clients) (turns_of after.state after.items news)) kind.Free given
             (λ lacks. lacks) of.0;
       })

@@ -21,7 +21,7 @@ use Rattle.core_turns.specs.Committing.{IsSyncRefused}
 use Rattle.core_turns.specs.Core.{Core, CoreState}
 use Rattle.core_turns.specs.Getting.{HasTooManyOut}
 use Rattle.schedule.specs.Caused.{IsAnswerCause}
-use Rattle.schedule.specs.Fitting.{IsAttachCause}
+use Rattle.schedule.specs.Fitting.{IsDeviceCause}
 use Rattle.schedule.specs.Recorded.{IsRightNext}
 use Rattle.schedule.proofs.RightNext.{same_out, untold_right}
 
@@ -113,7 +113,7 @@ device_tells before ring after other refused listed is = absurd refused
 pub refused_cause : (devices : ℕ) (dropped : WhyDropped → Type 0) (core : Core) (given : Answer)
     → IsAttachRefused core devices given
     → ((device : ℕ) → has_device core.pool.out device ≡ true → dropped (why.DeviceOut device))
-    → IsAttachCause devices dropped given
+    → IsDeviceCause devices dropped given
 refused_cause devices dropped core (answer.TooManyFailed out) refused known = tt
 refused_cause devices dropped core (answer.Expanding to) refused known = tt
 refused_cause devices dropped core (answer.DeviceOut device) refused known = known device refused.3.1
@@ -125,7 +125,7 @@ pub device_cause : (devices : ℕ) (dropped : WhyDropped → Type 0) (before : C
     (after : CoreState) (given : Answer) → IsDeviceRefused before ring after given
     → ((device : ℕ) → FaultCounted (before.disk.faults device) (after.disk.faults device)
     → dropped (why.NewDeviceFailed device))
-    → IsAttachCause devices dropped given
+    → IsDeviceCause devices dropped given
 device_cause devices dropped before ring after (answer.NewDeviceFailed device) refused known = known device refused.2
 device_cause devices dropped before ring after (answer.Taken slot) refused known = tt
 device_cause devices dropped before ring after (answer.TooManyFailed out) refused known = tt
@@ -133,7 +133,7 @@ device_cause devices dropped before ring after other refused known = absurd refu
 
 -- and as it is begun, which tells of none.
 pub sync_cause : (devices : ℕ) (dropped : WhyDropped → Type 0) (core : Core) (given : Answer) → IsSyncRefused core given
-    → IsAttachCause devices dropped given
+    → IsDeviceCause devices dropped given
 sync_cause devices dropped core (answer.TooManyFailed out) refused = tt
 sync_cause devices dropped core (answer.Limit reached) refused = tt
 sync_cause devices dropped core answer.NoMemory refused = tt

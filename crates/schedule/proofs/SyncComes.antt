@@ -180,7 +180,7 @@ module _ {script : Script} {actor : ℕ} {before after : Station} {clients news 
         tells = refused_tells old given refused.0;
         limit = λ reached told. (subst IsGroupKind (sym asked) tt, (subst (IsSyncRefused old) told refused.0).2);
         memory = λ wanting free. no_free (sym asked ∙ free);
-        attach = sync_cause before.state.disk.devices
+        device = sync_cause before.state.disk.devices
             (HasDropCause (turns_of before.state before.items clients) (turns_of after.state after.items news)) old given refused.0;
       })
       (λ full. absurd (put_alone call.kind given (λ put. no_put (sym asked ∙ put)) of full))

@@ -42,7 +42,7 @@ use Rattle.schedule.specs.declared.whole_run.Ended.TheVariants.{Whole, NoMemory,
 use Rattle.schedule.specs.Caused.{FullIsCaused}
 use Rattle.schedule.specs.Coming.{LeadTo}
 use Rattle.schedule.specs.Dropping.{HasDropCause, IsDropCause, IsToBeTold}
-use Rattle.schedule.specs.Fitting.{FitsCall, FitsSince, IsAttachCause}
+use Rattle.schedule.specs.Fitting.{FitsCall, FitsSince, IsDeviceCause}
 use Rattle.schedule.specs.Turns.{turns_of, TurnTaken, Turns, bank_when}
 use Rattle.schedule.specs.InTurn.{Cursor, InOrder, HaveTaken, Replay, replay_at}
 use Rattle.schedule.specs.Moments.{Past}
@@ -53,7 +53,7 @@ use Rattle.schedule.specs.WholeRun.{HasRun, HasRunInTurn, RunKeeps, first_turns}
 use Rattle.schedule.proofs.Banks.{are_listed, at_end as bank_at_end, at_start}
 use Rattle.schedule.proofs.Beginning.{no_call}
 use Rattle.schedule.proofs.InTurn.{gone_taken}
-use Rattle.schedule.proofs.Fitting.{attach_cause}
+use Rattle.schedule.proofs.Fitting.{device_cause_on}
 use Rattle.schedule.proofs.Numbered.{first_numbered}
 use Rattle.schedule.proofs.OfLines.{follows_lines}
 use Rattle.schedule.proofs.Opened.{none_of_blank, resting, opened_world, runs_first}
@@ -198,10 +198,10 @@ module _ (script : Script) (old mid : Disk) (pool : Pool) (silent : ℕ) (items 
     too_many = fit.too_many;
     limit = fit.limit;
     memory = fit.memory;
-    attach = subst
-        (λ (n : ℕ). IsAttachCause n (IsDropCause old final.disk final.core.pool.out) entry.answer) opened_later.devices
-        (attach_cause mid.devices (HasDropCause first_state (turns_of final items clients))
-        (IsDropCause old final.disk final.core.pool.out) entry.answer (λ cause. ⊎_elim (by cause) (λ told. absurd (none told))) fit.attach);
+    device = subst
+        (λ (n : ℕ). IsDeviceCause n (IsDropCause old final.disk final.core.pool.out) entry.answer) opened_later.devices
+        (device_cause_on mid.devices (HasDropCause first_state (turns_of final items clients))
+        (IsDropCause old final.disk final.core.pool.out) entry.answer (λ cause. ⊎_elim (by cause) (λ told. absurd (none told))) fit.device);
   }
     where
       by : (cause : WhyDropped) → IsDropCause mid final.disk final.core.pool.out cause

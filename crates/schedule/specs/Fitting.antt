@@ -22,23 +22,23 @@ IsGroupKind other = ⊥
 
 -- Why an attach brought no device: the new one failed, or one of the pool is out, where these have come so; or the bank
 -- has no device more, or a pool may have none. A copy is paused where one of the pool's is out.
-abbrev pub IsAttachCause : ℕ → (WhyDropped → Type 0) → Answer → Type 0
-IsAttachCause devices dropped (answer.NewDeviceFailed device) = dropped (why.NewDeviceFailed device)
-IsAttachCause devices dropped (answer.DeviceOut device) = dropped (why.DeviceOut device)
-IsAttachCause devices dropped (answer.Paused device) = dropped (why.DeviceOut device)
-IsAttachCause devices dropped (answer.NoDevice there width) = (there ≡ devices) × ((width ≡ 16) ⊎ (devices ≤ width))
-IsAttachCause devices dropped other = ⊤
+abbrev pub IsDeviceCause : ℕ → (WhyDropped → Type 0) → Answer → Type 0
+IsDeviceCause devices dropped (answer.NewDeviceFailed device) = dropped (why.NewDeviceFailed device)
+IsDeviceCause devices dropped (answer.DeviceOut device) = dropped (why.DeviceOut device)
+IsDeviceCause devices dropped (answer.Paused device) = dropped (why.DeviceOut device)
+IsDeviceCause devices dropped (answer.NoDevice there width) = (there ≡ devices) × ((width ≡ 16) ⊎ (devices ≤ width))
+IsDeviceCause devices dropped other = ⊤
 
 -- The answer is one of its call's kind. One that tells of too many devices lists more than there are parities, all of
 -- them out; a limit is told where a group was to be made, and is the greatest number of one; no free is told of want of
--- memory. An attach has its cause where it brought no device, in a bank of so many.
+-- memory. An attach that brought no device has its cause, in a bank of so many, and so has a copy that is paused.
 pub record FitsCall (parity devices out : ℕ) (dropped : WhyDropped → Type 0) (entry : Entry) : Type 0 where
   pub of_kind : IsAnswerOf entry.kind entry.answer
   pub too_many : (listed : ℕ) → entry.answer ≡ answer.TooManyFailed listed
       → (parity < count_of listed) × IsWithin listed out
   pub limit : (reached : ℕ) → entry.answer ≡ answer.Limit reached → IsGroupKind entry.kind × (reached ≡ max_group)
   pub memory : entry.answer ≡ answer.NoMemory → entry.kind ≢ kind.Free
-  pub attach : IsAttachCause devices dropped entry.answer
+  pub device : IsDeviceCause devices dropped entry.answer
 
 -- So it is of what was answered from one state to another.
 abbrev pub FitsSince : Turns → Turns → Entry → Type 0
