@@ -10,10 +10,11 @@ use std::marker::Model;
 #[derive(Drop)]
 pub struct Journal {
     items: Vec<Item>,
+    room: usize,
 }
 
 impl Model for Journal {
-    ghost use Rattle.std.specs.Prelude.{◌-◌, vec_len};
+    ghost use Rattle.std.specs.Prelude.{◌-◌, ◌≤◌, vec_len};
     ghost use Rattle.std.specs.Vec.{vec_capacity};
     ghost use Rattle.core_state.specs.JournalRoom.{Journal as JournalOf};
 
@@ -21,8 +22,10 @@ impl Model for Journal {
 
     ghost view = { λ j. record {
       items = j.items.items;
-      room = vec_capacity j.items - vec_len j.items;
+      room = j.room;
     } };
+
+    ghost invariant = { λ j. j.room ≤ vec_capacity j.items - vec_len j.items };
 }
 
 impl Journal {
@@ -31,6 +34,7 @@ impl Journal {
     {
         Journal {
             items: Vec::new(alloc),
+            room: 0,
         }
     }
 
@@ -57,7 +61,11 @@ impl Journal {
         ensures same { self.new.items ≡ self.old.items }
         ensures room { OnOk result (items ≤ self.new.room) }
     {
-        self.items.reserve(items)
+        self.items.reserve(items)?;
+        if self.room < items {
+            self.room = items;
+        }
+        Ok(())
     }
 
     /// Makes room for so many items beside those that there is room for.
@@ -66,11 +74,12 @@ impl Journal {
         ensures more { OnOk result (self.old.room + items ≤ self.new.room) }
         ensures kept { OnErr result (self.old.room ≤ self.new.room) }
     {
-        let spare = self.items.capacity() - self.items.len();
-        match spare.checked_add(items) {
-            Some(all) => self.items.reserve(all),
-            None => Err(AllocError),
-        }
+        let Some(room) = self.room.checked_add(items) else {
+            return Err(AllocError);
+        };
+        self.items.reserve(room)?;
+        self.room = room;
+        Ok(())
     }
 
     /// Lists one more item, in room that was made. Takes no memory.
@@ -82,5 +91,6 @@ impl Journal {
         if self.items.push(item).is_err() {
             unreachable!()
         }
+        self.room -= 1;
     }
 }
