@@ -40,7 +40,7 @@ pub enum CommitStep {
 /// the calls that are still to be made.
 #[derive(Drop)]
 pub struct CommitRun {
-    uber: Uber,
+    uber: Box<Uber>,
     entries: Vec<IndexEntry>,
     page: Vec<u8>,
     calls: Commit,
@@ -55,14 +55,14 @@ impl Model for CommitRun {
     ghost Value = { RunOf };
 
     ghost view = { λ run. record {
-      uber = run.uber;
+      uber = run.uber.value;
       entries = run.entries.items;
       calls = run.calls;
       stage = run.stage;
     } };
 
     ghost invariant = { λ run. IsCommitRun (record {
-      uber = run.uber;
+      uber = run.uber.value;
       entries = run.entries.items;
       calls = run.calls;
       stage = run.stage;
@@ -82,15 +82,15 @@ fn is_laid(next: Option<CommitCall>) -> bool
 
 impl CommitRun {
     /// The commit of a group with its index and the index page; no call is made yet.
-    pub fn new(uber: Uber, entries: Vec<IndexEntry>, page: Vec<u8>) -> CommitRun
-        requires right { IsRightUber uber }
+    pub fn new(uber: Box<Uber>, entries: Vec<IndexEntry>, page: Vec<u8>) -> CommitRun
+        requires right { IsRightUber uber.value }
         requires index { IsIndex entries.items }
         requires page { page.items ≡ index_page entries.items }
-        requires counted { length entries.items ≡ uber.count }
+        requires counted { length entries.items ≡ uber.value.count }
         ensures value { result ≡ record {
-          uber = uber;
+          uber = uber.value;
           entries = entries.items;
-          calls = plan_of uber.reflow.to uber.count;
+          calls = plan_of uber.value.reflow.to uber.value.count;
           stage = Lays;
         } }
     {

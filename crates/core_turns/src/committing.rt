@@ -111,6 +111,9 @@ impl Core {
         let before = self.uber.reflow();
         let chosen = choose(&before, self.done, &self.locks);
         let next = next_uber(&self.uber, &chosen, entries, &page, self.out);
+        let Ok(next) = Box::new(alloc, next) else {
+            return Turn::Done(Answer::NoMemory);
+        };
         let Ok(index) = Vec::from_slice(alloc, entries) else {
             return Turn::Done(Answer::NoMemory);
         };

@@ -43,7 +43,7 @@ fn the_group_lists_a_device_that_failed_in_the_first_half(rt: HostRuntime) -> Re
     let uber = Uber::first(9, 1, 2, 64);
     assert!(rt; uber.is_right() && uber.count() == 0);
     let page = encode_index(rt.alloc(), &[])?;
-    let mut run = CommitRun::new(uber, Vec::new(rt.alloc()), page);
+    let mut run = CommitRun::new(Box::new(rt.alloc(), uber)?, Vec::new(rt.alloc()), page);
     let mut out = DeviceSet::empty();
 
     assert!(rt; turn(&rt, &mut bank, &mut run, &mut out) == CommitStep::Called);
@@ -75,7 +75,7 @@ fn the_group_does_not_list_one_that_failed_later(rt: HostRuntime) -> Result<(), 
     let uber = Uber::first(9, 1, 2, 64);
     assert!(rt; uber.is_right() && uber.count() == 0);
     let page = encode_index(rt.alloc(), &[])?;
-    let mut run = CommitRun::new(uber, Vec::new(rt.alloc()), page);
+    let mut run = CommitRun::new(Box::new(rt.alloc(), uber)?, Vec::new(rt.alloc()), page);
     let mut out = DeviceSet::empty();
     for _ in 0..5 {
         assert!(rt; turn(&rt, &mut bank, &mut run, &mut out) == CommitStep::Called);

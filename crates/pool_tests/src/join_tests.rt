@@ -15,6 +15,7 @@ fn begun(rt: &impl Abort, alloc: Global) -> Result<JoinRun, Fail> {
     let uber = Uber::first(9, 1, 2, 64);
     assert!(rt; uber.is_right() && uber.count() == 0);
     let page = encode_index(alloc, &[])?;
+    let uber = Box::new(alloc, uber)?;
     Ok(JoinRun::new(CommitRun::new(uber, Vec::new(alloc), page)))
 }
 
