@@ -21,7 +21,8 @@ fn line_hint(why: LineFault) -> &'static str {
 /// What a user may do about the words of a call.
 fn call_hint(why: CallFault) -> &'static str {
     match why {
-        CallFault::UnknownCall => "the calls are put, puthex, get, sum, free, sync, attach and copy",
+        CallFault::UnknownCall =>
+            "the calls are put, puthex, get, sum, free, sync, attach and copy",
         CallFault::Number => "a number is decimal and below 2^64, without sign or leading zeros",
         CallFault::PutWords => "`put ID LEN SEED` or `puthex ID DIGITS`",
         CallFault::NoBytes => "a block has one byte at least",
