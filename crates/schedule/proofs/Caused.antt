@@ -30,6 +30,7 @@ cause_grown items more index disk given within = by given
     by (answer.NoDevice devices width) (group, before, width_is) = (group, grown group before, width_is)
     by (answer.Taken slot) (device, (group, before, width_is), taken) =
         (device, (group, grown group before, width_is), taken)
+    by (answer.Paused device) (to, (group, before, from_is, to_is)) = (to, (group, grown group before, from_is, to_is))
     by other cause = tt
 
 -- A new answer that has its cause in the items so far.

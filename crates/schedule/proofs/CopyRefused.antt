@@ -2,6 +2,7 @@
 use Rattle.std.proofs.Common.{◌≡◌, ⊎_elim, ℕ, List, ◌∷◌, [], ◌++◌, length, None, refl, sym, ◌∙◌, ap, subst, arith}
 use Rattle.std.specs.Prelude.{◌≢◌, true}
 use Rattle.bank_trait.specs.Disk.{Disk}
+use Rattle.reflow_mark.specs.Reflow.{Expands}
 use Rattle.uberblock_ring.specs.Devices.{has_device}
 use Rattle.uberblock_ring.specs.Uberblock.{max_group}
 use Rattle.core_state.specs.declared.answer.Answer.{Answer}
@@ -21,12 +22,13 @@ use Rattle.core_turns.specs.Committing.{IsSyncRefused}
 use Rattle.core_turns.specs.Copying.{IsJobRefused}
 use Rattle.core_turns.specs.Core.{Core}
 use Rattle.core_turns.specs.Rounds.{IsRoundRefused}
+use Rattle.schedule.specs.Caused.{IsAnswerCause}
 use Rattle.schedule.specs.Fitting.{IsDeviceCause, IsGroupKind}
 use Rattle.schedule.specs.Recorded.{IsRightNext}
 use Rattle.schedule.specs.Turned.{group_by}
 use Rattle.schedule.proofs.Fitting.{TellsOut}
 use Rattle.schedule.proofs.Refusals.{sync_cause}
-use Rattle.schedule.proofs.RightNext.{IsPlain, IsStopped, copy_right, group_cut_right, same_out}
+use Rattle.schedule.proofs.RightNext.{IsStopped, copy_right, group_cut_right, same_out}
 use Rattle.schedule.proofs.Syncs.{refused_answers, refused_map, refused_right, refused_tells}
 
 -- Where the last group listed has the core's widths, and is the last one begun if no commit is under way, an entry with
@@ -58,19 +60,28 @@ stopped_with core given stopped world items item entry disk asked is latest from
 completed_with : (core : Core) (width : ℕ) → core.pool.uber.reflow.from ≡ core.pool.uber.reflow.to
     → width ≡ core.pool.uber.reflow.to → IsRightWith core (answer.Completed width)
 completed_with core width one width_is world items item entry disk asked is latest from_is to_is last =
-    copy_right world items entry disk asked (subst IsPlain (sym is) tt)
+    copy_right world items entry disk asked (λ damaged. apart (sym is ∙ damaged))
     (subst (IsRightCopy (items ++ CallItem entry ∷ []) (length items)) (sym is) (
       item,
       group_before_grown items (CallItem entry ∷ []) (length items) item (omega arith) latest,
       sym from_is ∙ one ∙ sym width_is,
       sym to_is ∙ sym width_is,
     ))
+    (subst (IsAnswerCause items (length items) disk) (sym is) tt)
+  where
+    apart : answer.Completed width ≡ answer.Damaged → ⊥
+    apart same = cc
 
--- and paused where a device is out.
-paused_with : (core : Core) (device : ℕ) → IsRightWith core (answer.Paused device)
-paused_with core device world items item entry disk asked is latest from_is to_is last =
-    copy_right world items entry disk asked (subst IsPlain (sym is) tt)
+-- and paused where it expands.
+paused_with : (core : Core) (device : ℕ) → Expands core.pool.uber.reflow → IsRightWith core (answer.Paused device)
+paused_with core device expands world items item entry disk asked is latest from_is to_is last =
+    copy_right world items entry disk asked (λ damaged. apart (sym is ∙ damaged))
     (subst (IsRightCopy (items ++ CallItem entry ∷ []) (length items)) (sym is) tt)
+    (subst (IsAnswerCause items (length items) disk) (sym is)
+    (item.to, (item, latest, omega (arith, expands, from_is, to_is), refl)))
+  where
+    apart : answer.Paused device ≡ answer.Damaged → ⊥
+    apart same = cc
 
 -- Want of memory may end any copy.
 pub no_memory_answers : (core : Core) (devices : ℕ) (dropped : WhyDropped → Type 0)
@@ -117,7 +128,7 @@ job_answers core devices dropped (answer.Paused device) refused = record {
   alone = refl;
   no_full = λ full. cc;
   no_block = λ handed map entry. refl;
-  right = paused_with core device;
+  right = paused_with core device refused.1;
 }
 job_answers core devices dropped answer.NoMemory refused = no_memory_answers core devices dropped
 job_answers core devices dropped other refused = absurd refused

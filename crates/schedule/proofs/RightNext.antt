@@ -26,13 +26,14 @@ use Rattle.schedule.proofs.BothListed.{one_latest}
 pub same_out : {one other : ℕ} → answer.TooManyFailed one ≡ answer.TooManyFailed other → one ≡ other
 same_out same = cc
 
--- The answer tells neither of damage, nor of a limit, nor of what an attach found.
+-- The answer tells neither of damage, nor of a limit, nor of what an attach or a copy found.
 abbrev pub IsPlain : Answer → Type 0
 IsPlain answer.Damaged = ⊥
 IsPlain (answer.Limit reached) = ⊥
 IsPlain (answer.Expanding to) = ⊥
 IsPlain (answer.NoDevice devices width) = ⊥
 IsPlain (answer.Taken slot) = ⊥
+IsPlain (answer.Paused device) = ⊥
 IsPlain other = ⊤
 
 -- Then nothing else is needed for its cause.
@@ -42,6 +43,7 @@ plain_caused items index disk (answer.Limit reached) plain = absurd plain
 plain_caused items index disk (answer.Expanding to) plain = absurd plain
 plain_caused items index disk (answer.NoDevice devices width) plain = absurd plain
 plain_caused items index disk (answer.Taken slot) plain = absurd plain
+plain_caused items index disk (answer.Paused device) plain = absurd plain
 plain_caused items index disk other plain = tt
 
 -- The call was cut short: too many devices are out, or memory is wanting.
@@ -179,9 +181,14 @@ module _ (world : World) (items : List Item) (entry : Entry) (disk : Disk) where
       apart is = cc
 
   -- A copy that is done, where the last group before it has this one width, or that told of another end.
-  pub copy_right : entry.kind ≡ kind.Copy → IsPlain entry.answer → IsRightCopy with_entry (length items) entry.answer
+  pub copy_right : entry.kind ≡ kind.Copy → entry.answer ≢ answer.Damaged
+      → IsRightCopy with_entry (length items) entry.answer → IsAnswerCause items (length items) disk entry.answer
       → IsRightNext world items entry disk
-  copy_right asked plain right = next_plain plain (subst IsRightAs (sym asked) (λ previous previous_is. right))
+  copy_right asked sound right caused = record {
+    right = subst IsRightAs (sym asked) (λ previous previous_is. right);
+    sound = sound;
+    caused = caused;
+  }
 
   -- An attach that told of no group.
   pub untold_right : entry.kind ≡ kind.Attach → entry.answer ≢ answer.Damaged

@@ -28,13 +28,14 @@ IsWidthAt items index width = (group : GroupItem) × IsGroupBefore items index g
 
 -- Why a call was answered so, by the groups listed before it and the bank with which it was listed. No group is left;
 -- the pool expands, to so many devices; it has so many; the device behind them shows an uberblock in this slot, and in
--- none below.
+-- none below. A copy is paused only while the pool expands.
 abbrev pub IsAnswerCause : List Item → ℕ → Disk → Answer → Type 0
 IsAnswerCause items index disk (answer.Limit reached) = IsAtLastGroup items index reached
 IsAnswerCause items index disk (answer.Expanding to) = IsExpandingAt items index to
 IsAnswerCause items index disk (answer.NoDevice devices width) = IsWidthAt items index width
 IsAnswerCause items index disk (answer.Taken slot) =
     (device : ℕ) × IsWidthAt items index device × IsLowestTaken disk device 32 (Some slot)
+IsAnswerCause items index disk (answer.Paused device) = (to : ℕ) × IsExpandingAt items index to
 IsAnswerCause items index disk other = ⊤
 
 -- So it is of each answer, where the bank was this one once the journal had so many items.
