@@ -1,6 +1,6 @@
 """Opens what a stop leaves of images, at each call of a run.
 
-stops.py PROGRAM FOLDER DEVICES OLD GROUP=FILE..
+stops.py PROGRAM FOLDER DEVICES OLD EVERY GROUP=FILE..
 
 The run names so many images, of which the first OLD ones are the pool's and the others are attached. The folder holds
 the images before and after the run (`start`, `end`), its writes and syncs (`trace`, of strace), and a script that reads
@@ -9,6 +9,11 @@ A stop after some of the calls keeps each write that its device has synced since
 none, single ones, parts, or leave other bytes there. Whatever it left, the next run has to answer the blocks of a
 group that is not older than the last one synced by then, also where one more image is gone. Where images are
 attached, a run over the old ones alone has to do so too.
+Where the folder has a script that copies and then reads all blocks (`copies`), each state that a stop left is opened
+without each one of the images in turn, and the run behind the one over all images copies: it has to end the expansion
+to the width that the group chosen has, and to answer the same blocks, as has a run behind it without one of the images.
+There are many writes then, so of those of blocks and jobs one of EVERY is followed by a stop, which leaves some of what
+it may.
 """
 import pathlib
 import re
@@ -17,12 +22,18 @@ import sys
 
 SECTOR = 512
 RING = 32 * SECTOR
+# The calls that a run makes most of: those on the scratch area and on the data rows.
+INDEX = range(64 * SECTOR, 192 * SECTOR)
+# Of what a stop may leave, so many are tried where it is one of many stops.
+TRIED = 4
 CALL = re.compile(r' (pwrite64|fdatasync)\(\d+<([^>]*)>(?:, "([^"]*)", 512, (\d+))?\) += \d+$')
 ANSWER = re.compile(r'^\d+ a\.\d+ (get|sum) (\d+) at \d+ (.*)$')
+COPIED = re.compile(r'^(\d+) a\.1 copy done width (\d+)$')
 
 program, folder = sys.argv[1], pathlib.Path(sys.argv[2])
-devices, old = (int(word) for word in sys.argv[3:5])
-answers = {int(group): pathlib.Path(file).read_text() for group, file in (word.split('=') for word in sys.argv[5:])}
+devices, old, every = (int(word) for word in sys.argv[3:6])
+answers = {int(group): pathlib.Path(file).read_text() for group, file in (word.split('=') for word in sys.argv[6:])}
+copies = (folder / 'copies').exists()
 
 
 def fail(text):
@@ -62,6 +73,11 @@ def newest(image):
     return max(group_of(image[at:at + SECTOR]) for at in range(0, RING, SECTOR))
 
 
+def note_width(uberblock):
+    """The width that the pool has once the expansion of this group has ended, if it has one."""
+    widths[group_of(uberblock)] = int.from_bytes(uberblock[40:44], 'big')
+
+
 def last_synced():
     """The last group that is synced on all images that show one."""
     return min(group for group in ended.values() if group)
@@ -77,7 +93,7 @@ def choices(count, written_on):
     yield 'halves', [SECTOR // 2] * count
     for device in set(written_on):
         yield f'disk{device} alone', [SECTOR if each == device else 0 for each in written_on]
-    for one in range(count):
+    for one in sorted({0, count // 2, count - 1}) if copies else range(count):
         yield f'write {one} alone', [SECTOR if each == one else 0 for each in range(count)]
         yield f'all but write {one}', [0 if each == one else SECTOR for each in range(count)]
 
@@ -90,57 +106,101 @@ def left(synced, loose, parts):
     return stopped
 
 
+def run(script, named, name):
+    """The lines of a run of a script over the first so many images, as they stand in the folder."""
+    words = [program] + [str(folder / f'disk{device}') for device in range(named)] + ['--', 'run']
+    ran = subprocess.run(words, stdin=open(folder / script), capture_output=True, text=True)
+    if ran.returncode != 0:
+        fail(f'{name}: status {ran.returncode}, {ran.stdout}')
+    return ran.stdout.splitlines()
+
+
+def read_in(lines):
+    return ''.join(' '.join(match.groups()) + '\n' for match in map(ANSWER.match, lines) if match)
+
+
 def look(stopped, named, lowest, highest, name):
-    """Opens the first so many images; the answers have to be those of one group of these."""
+    """Opens the first so many images; the answers have to be those of one group of these, which is given."""
     for device in range(devices):
         file = folder / f'disk{device}'
         file.unlink(missing_ok=True)
         if device in stopped:
             file.write_bytes(stopped[device])
-    words = [program] + [str(folder / f'disk{device}') for device in range(named)] + ['--', 'run']
-    run = subprocess.run(words, stdin=open(folder / 'reads'), capture_output=True, text=True)
-    lines = run.stdout.splitlines()
-    if run.returncode != 0:
-        fail(f'{name}: status {run.returncode}, {run.stdout}')
+    lines = run('reads', named, name)
     chosen = int(lines[0].split()[2]) - 2
-    found = ''.join(' '.join(match.groups()) + '\n' for match in map(ANSWER.match, lines) if match)
-    if not lowest <= chosen <= highest or found != answers[chosen]:
-        fail(f'{name}: group {chosen}, of groups {lowest} to {highest}, {run.stdout}')
+    if not lowest <= chosen <= highest or read_in(lines) != answers[chosen]:
+        fail(f'{name}: group {chosen}, of groups {lowest} to {highest}, {lines}')
+    return chosen
+
+
+def copy_on(chosen, gone, name):
+    """Copies what stands in the folder to its end, and looks at it once more without an image."""
+    lines = run('copies', devices, name)
+    answered = next((match for match in map(COPIED.match, lines) if match), None)
+    if not answered:
+        fail(f'{name}: {lines}')
+    count, width = (int(word) for word in answered.groups())
+    groups = [f'{item} group {chosen + 4 + item} after {item}' for item in range(count)]
+    if width != widths[chosen] or lines[:count] != groups or read_in(lines) != answers[chosen]:
+        fail(f'{name}: from group {chosen} on {lines}')
+    (folder / f'disk{gone}').unlink()
+    lines = run('reads', devices, f'{name}, then without disk{gone}')
+    if read_in(lines) != answers[chosen]:
+        fail(f'{name}, then without disk{gone}: {lines}')
+
+
+def looks(stopped, name):
+    """Opens what a stop has left, with all images and without some."""
+    lowest, highest = last_synced(), max(begun.values())
+    chosen = look(stopped, devices, lowest, highest, name)
+    gone = opened % (devices + 1)
+    if copies and len(stopped) == devices:
+        copy_on(chosen, opened % devices, f'{name}, and copied')
+    if old < devices:
+        look(stopped, old, lowest, highest, f'{name}, and with the old images alone')
+    for gone in range(devices) if copies else [gone]:
+        if len(stopped) == devices and gone in stopped:
+            fewer = {device: image for device, image in stopped.items() if device != gone}
+            look(fewer, devices, lowest, highest, f'{name}, and without disk{gone}')
 
 
 written, synced, loose = images(folder / 'start'), images(folder / 'start'), []
 begun = {device: newest(image) for device, image in written.items()}
 ended = dict(begun)
-count = opened = 0
-for device, offset, data in [(None, None, None), *calls()]:
+widths = {}
+for image in written.values():
+    for at in range(0, RING, SECTOR):
+        note_width(image[at:at + SECTOR])
+stops = opened = on_data = 0
+for count, (device, offset, data) in enumerate([(None, None, None), *calls()]):
     if offset is not None:
         written[device][offset:offset + SECTOR] = data
         loose.append((device, offset, data))
         if offset < RING:
             begun[device] = group_of(data)
+            note_width(data)
+        elif offset not in INDEX:
+            on_data += 1
+            if on_data % every:
+                continue
     elif device is not None:
         synced[device] = bytearray(written[device])
         loose = [write for write in loose if write[0] != device]
         ended[device] = begun[device]
+    left_so = list(choices(len(loose), [write[0] for write in loose]))
+    if copies:
+        left_so = [left_so[(stops * TRIED + one) % len(left_so)] for one in range(min(TRIED, len(left_so)))]
     seen = []
-    for name, parts in choices(len(loose), [write[0] for write in loose]):
+    for name, parts in left_so:
         stopped = left(synced, loose, parts)
         if stopped in seen:
             continue
         seen.append(stopped)
-        name = f'stopped after {count} calls, {name}'
-        lowest, highest = last_synced(), max(begun.values())
-        look(stopped, devices, lowest, highest, name)
-        if old < devices:
-            look(stopped, old, lowest, highest, f'{name}, and with the old images alone')
-        gone = opened % (devices + 1)
+        looks(stopped, f'stopped after {count} calls, {name}')
         opened += 1
-        if len(stopped) == devices and gone in stopped:
-            del stopped[gone]
-            look(stopped, devices, lowest, highest, f'{name}, and without disk{gone}')
-    count += 1
+    stops += 1
 if loose:
     fail('writes that are never synced: ' + ' '.join(f'disk{device} {offset}' for device, offset, _ in loose))
 if written != images(folder / 'end'):
     fail('the calls give the images that the run has left')
-print(f'{count} stops, {opened} images')
+print(f'{stops} stops of {count + 1}, {opened} images' if every > 1 else f'{stops} stops, {opened} images')

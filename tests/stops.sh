@@ -15,11 +15,12 @@ printf 'sum 7 absent\nsum 8 absent\n' >none
 { block 7 600 2; block 8 70 1; } >two
 { echo 'sum 7 absent'; block 8 1500 3; } >three
 
-# stops NAME OLD GROUP=FILE..: traces the run of `script` on the images, of which the first so many are the pool's, and
-# stops it at each call.
+# stops NAME OLD EVERY GROUP=FILE..: traces the run of `script` on the images, of which the first so many are the
+# pool's, and stops it at each call; of the calls on data rows and the scratch area at one of so many. Where there is a
+# script `copies`, what is left is copied too.
 stops() {
-  local name=$1 old=$2 found
-  shift 2
+  local name=$1 old=$2 every=$3 found
+  shift 3
   keep start
   strace -f -y -xx -s 512 -e trace=pwrite64,pwritev,pwritev2,fdatasync,fsync,sync_file_range,ftruncate,fallocate \
     -o trace "$RAIDZX" "${IMAGES[@]}" -- run <script >/dev/null 2>told
@@ -28,34 +29,35 @@ stops() {
   mkdir stop
   mv trace start end stop
   cp reads stop
-  found=$(python3 "$TESTS/stops.py" "$RAIDZX" stop ${#IMAGES[@]} "$old" "$@") || { echo "$found"; exit 1; }
+  [ ! -f copies ] || cp copies stop
+  found=$(python3 "$TESTS/stops.py" "$RAIDZX" stop ${#IMAGES[@]} "$old" "$every" "$@") || { echo "$found"; exit 1; }
   printf 'ok %s: %s\n' "$name" "$found"
 }
 
 pool 1 3 256
 calls 'put 7 3 5' sync 'put 7 600 2' 'put 8 70 1' sync >script
-stops 'the first run of a pool' 3 1=none 3=none 4=one 5=two
+stops 'the first run of a pool' 3 1 1=none 3=none 4=one 5=two
 
 # The uberblock of group 5 stands on disk0 alone, as a stop may leave it: the opening copies it first.
 for device in 1 2; do dd if=/dev/zero of=disk$device bs=512 seek=5 count=1 conv=notrunc status=none; done
 keep torn
 calls 'free 7' 'put 8 1500 3' sync >script
-stops 'a run on what a stop has left' 3 4=one 5=two 6=one 7=two 8=three
+stops 'a run on what a stop has left' 3 1 4=one 5=two 6=one 7=two 8=three
 
 back torn
 rm disk1
-stops 'a run without an image' 3 4=one 5=two 6=one 7=two 8=three
+stops 'a run without an image' 3 1 4=one 5=two 6=one 7=two 8=three
 
 back torn
 rm disk0
-stops 'a run without the image of the newest group' 3 4=one 6=one 7=three
+stops 'a run without the image of the newest group' 3 1 4=one 6=one 7=three
 
 # A fourth image is attached, between a sync and further puts.
 pool 1 3 256
 fresh disk3 256
 IMAGES+=(disk3)
 calls 'put 7 3 5' sync attach 'put 7 600 2' 'put 8 70 1' sync >script
-stops 'a run that attaches an image' 3 1=none 3=none 4=one 5=one 6=two
+stops 'a run that attaches an image' 3 1 1=none 3=none 4=one 5=one 6=two
 
 # The uberblock of the attach's group stands on the new image alone, as a stop may leave it.
 back stop/start
@@ -63,4 +65,19 @@ calls 'put 7 3 5' sync attach >script
 "$RAIDZX" "${IMAGES[@]}" -- run <script >/dev/null
 for device in 0 1 2; do dd if=/dev/zero of=disk$device bs=512 seek=5 count=1 conv=notrunc status=none; done
 calls 'free 7' 'put 8 1500 3' sync >script
-stops 'a run on what a stop of an attach has left' 3 4=one 5=one 7=one 8=three
+stops 'a run on what a stop of an attach has left' 3 1 4=one 5=one 7=one 8=three
+
+# An image is attached and the pool copied to it, which is full but for six sectors, between a sync and further puts.
+# Blocks 2 and 4 lie across sectors 128 and 167, up to where single commits move the mark.
+pool 1 3 256
+fresh disk3 256
+IMAGES+=(disk3)
+calls 'sum 1' 'sum 2' 'sum 3' 'sum 4' 'sum 5' >reads
+for id in 1 2 3 4 5; do echo "sum $id absent"; done >none
+{ block 1 30000 1; block 2 15000 2; block 3 10000 3; block 4 5000 4; block 5 600 5; } >one
+{ sed 3q one | sed '2d'; block 2 70 6; } | sort >two
+{ echo 'sum 4 absent'; block 5 1500 7; } >>two
+calls 'put 1 30000 1' 'put 2 15000 2' 'put 3 10000 3' 'put 4 5000 4' 'put 5 600 5' sync attach copy \
+  'put 2 70 6' 'free 4' 'put 5 1500 7' sync >script
+calls copy 'sum 1' 'sum 2' 'sum 3' 'sum 4' 'sum 5' >copies
+stops 'a run that attaches an image and copies' 3 16 1=none 3=none 4=one 5=one 6=one 7=one 8=one 9=one 10=two
