@@ -227,6 +227,45 @@ $(groups 10 14 12)
 18 a.7 attach no device 5" attach attach copy copy attach copy attach
 stands 5 '0:3 10:4 16:5' none 0
 
+# Two parities: any two images may go, behind the attach, while a copy is paused, and behind it. The image that is no
+# device of the pool is not touched.
+pool 2 4 256
+for number in 4 5; do
+  fresh disk$number 256
+  IMAGES+=(disk$number)
+done
+calls 'put 1 1536 0' 'put 2 20000 1' 'put 3 40000 2' sync attach >script
+"$RAIDZX" "${IMAGES[@]}" -- run <script >/dev/null
+calls 'sum 1' 'sum 2' 'sum 3' >reads
+printf '%s\n' "sum 1 $first" "sum 2 $(summed 20000 1)" "sum 3 $(summed 40000 2)" >wanted
+# without_each_two NAME
+without_each_two() {
+  local name=$1 one other
+  keep two
+  for one in 0 1 2 3 4; do
+    for ((other = one + 1; other < 5; other++)); do
+      back two
+      rm disk$one disk$other
+      reads_wanted "$name, without disk$one and disk$other"
+    done
+  done
+  back two
+  printf 'ok %s: all blocks are read without any two images\n' "$1"
+}
+without_each_two 'two parities, an image attached'
+runs 'two parities, a pool is widened' 0 "0 group 7 after 0
+$(groups 8 12 1)
+6 a.1 copy done width 5" copy
+stands 5 '0:4 14:5' none 3
+without_each_two 'two parities, a pool that was widened'
+unused disk5 0 256
+for one in 0 4; do
+  back two
+  rm disk$one
+  runs "a copy of it without disk$one" 0 '0 group 14 after 0
+1 a.1 copy done width 5' copy
+done
+
 # Nothing to copy.
 pool_and 1
 runs 'a copy of a pool at rest' 0 '0 group 3 after 0
@@ -236,6 +275,27 @@ stands 3 0:3 none 0
 rm disk1
 runs 'also while an image is out' 0 '0 group 5 after 0
 1 a.1 copy done width 3' copy
+
+# The last group that there is: 2 to the power of 62 less one, here that of the copy's first commit. The images show the
+# attach's group, whose number is a later one.
+pool_and 1
+calls 'put 1 1536 0' sync attach >script
+"$RAIDZX" "${IMAGES[@]}" -- run <script >/dev/null
+for device in 0 1 2 3; do
+  {
+    sectors disk$device 5 1 | head -c 24
+    bytes 3ffffffffffffffc
+    sectors disk$device 5 1 | head -c 480 | tail -c 448
+  } >head
+  { cat head; bytes "$(digest head)"; } | dd of=disk$device bs=512 seek=28 conv=notrunc status=none
+done
+runs 'groups come to an end in a copy' 9 "0 group 4611686018427387902 after 0
+1 group 4611686018427387903 after 1
+2 a.1 copy limit
+3 a.2 sum 1 at 3 $first
+4 a.3 copy limit
+limit" copy 'sum 1' copy
+stands '3 to 4 mark 128 state valid' 0:3 none 1
 
 # A pool is full when an image is attached. It is copied in the next run.
 pool_and 1
