@@ -41,6 +41,11 @@ pub fn bank_of_nine_and_a_blank(alloc: Global) -> Result<MemBank, Fail> {
     bank_with_pool(alloc, 4, 1, 3)
 }
 
+/// The same, and two blank devices behind them.
+pub fn bank_of_nine_and_two_blanks(alloc: Global) -> Result<MemBank, Fail> {
+    bank_with_pool(alloc, 5, 1, 3)
+}
+
 /// Sixteen devices with pool 9, and a blank one behind them.
 pub fn bank_of_sixteen_and_a_blank(alloc: Global) -> Result<MemBank, Fail> {
     bank_with_pool(alloc, 17, 1, 16)

@@ -1,16 +1,12 @@
 // Two hundred orders, their journals checked item by item.
 use crate::banks::bank_of_nine_and_a_blank;
 use crate::calls::{REPLAY, RUN, call};
-use crate::legal_check::Journaled;
-use crate::plans::{Draw, Plan, plan_of, plan_of_lines, plan_of_reads};
-use crate::runs::{Order, run_into};
+use crate::plan_check::{check_plan, check_reads};
+use crate::plans::{Draw, Plan, plan_of, plan_of_lines};
 use bank_mem::MemBank;
-use core_state::{Group, Journal};
-use schedule::Ended;
 use std::alloc::{AllocError, Global};
 use std::process::Abort;
 use std::test::Fail;
-use uberblock_ring::DeviceSet;
 
 /// The calls on each device of the pool that make it, and most of those that open it.
 const OPENING: u64 = 65;
@@ -20,60 +16,10 @@ const NEW_DEVICE: u32 = 3;
 
 const NEW_OPENING: u64 = 32;
 
-/// Of so many calls on a device that come after, one fails.
+/// Of so many calls on a device that come after, one fails; of so many where a client copies.
 const AFTER_OPENING: u64 = 45;
 
-/// The group of a new pool's opening.
-const FIRST_OPENING: Group = Group {
-    group: 3,
-    after: 0,
-    from: 3,
-    to: 3,
-};
-
-/// The group of the opening that comes after this one.
-fn opening_after(last: &Group) -> Group {
-    Group {
-        group: last.group.wrapping_add(2),
-        after: 0,
-        from: last.from,
-        to: last.to,
-    }
-}
-
-/// Whether these devices may be out, where this one may fail, or none.
-fn may_be_out(failing: Option<u32>, out: DeviceSet) -> bool {
-    match failing {
-        None => out.is_empty(),
-        Some(device) => out.is_empty() || (out.len() == 1 && out.has(device)),
-    }
-}
-
-/// Replays a plan. Each call is answered, and no device is out but the one that may fail.
-fn replay_plan(
-    rt: &impl Abort,
-    alloc: Global,
-    bank: &mut MemBank,
-    plan: &Plan,
-    failing: Option<u32>,
-    number: u64,
-) -> Result<Journal, Fail> {
-    let mut journal = Journal::new(alloc);
-    let ran = run_into(
-        alloc,
-        bank,
-        plan.script.as_bytes(),
-        Order::AsListed,
-        &mut journal,
-    )??;
-    assert_eq!(rt; ran.ended, Ended::Whole, "order {number}");
-    assert!(rt;
-        may_be_out(failing, ran.out),
-        "order {number}: {:?}",
-        ran.out
-    );
-    Ok(journal)
-}
+const AFTER_OPENING_WITH_COPY: u64 = 300;
 
 /// An order's journal is legal, and what is read afterwards is the map of its last group.
 fn check_order(
@@ -84,29 +30,11 @@ fn check_order(
     number: u64,
 ) -> Result<(), Fail> {
     let plan = plan_of(alloc, number)?;
-    let journal = replay_plan(rt, alloc, bank, &plan, failing, number)?;
-    let told = Journaled {
-        opening_group: FIRST_OPENING,
-        opening: &[],
-        calls: plan.calls.as_slice(),
-        items: journal.as_slice(),
-    };
-    assert_eq!(rt; told.first_wrong(), None, "order {number}");
-    let last = told.last_group().ok_or("no group")?;
+    let left = check_plan(rt, alloc, bank, &plan, failing, number)?;
     if failing.is_none() {
-        assert_eq!(rt; last.to == 4, plan.attaches(), "order {number}");
+        assert_eq!(rt; left.last.to == 4, plan.attaches(), "order {number}");
     }
-    let held = told.held_after(alloc, last.after)?;
-    let reads = plan_of_reads(alloc)?;
-    let journal = replay_plan(rt, alloc, bank, &reads, failing, number)?;
-    let told = Journaled {
-        opening_group: opening_after(&last),
-        opening: held.as_slice(),
-        calls: reads.calls.as_slice(),
-        items: journal.as_slice(),
-    };
-    assert_eq!(rt; told.first_wrong(), None, "order {number}, read afterwards");
-    Ok(())
+    check_reads(rt, alloc, bank, &left, failing, number)
 }
 
 /// Checks the orders from this number up to that one.
@@ -134,7 +62,7 @@ fn the_third_fifty_orders_are_answered_rightly(rt: HostRuntime) -> Result<(), Fa
 }
 
 /// A call on a device fails, if it is made, or all from that one on. Gives the device.
-fn let_one_fail(bank: &mut MemBank, number: u64) -> Result<u32, AllocError> {
+fn let_one_fail(bank: &mut MemBank, plan: &Plan, number: u64) -> Result<u32, AllocError> {
     let mut draw = Draw::new(number.wrapping_add(1000));
     let device = draw.below(4) as u32;
     let opening = if device == NEW_DEVICE {
@@ -142,7 +70,12 @@ fn let_one_fail(bank: &mut MemBank, number: u64) -> Result<u32, AllocError> {
     } else {
         OPENING
     };
-    let call = opening + draw.below(AFTER_OPENING);
+    let after = if plan.copies() {
+        draw.below(AFTER_OPENING_WITH_COPY)
+    } else {
+        draw.below(AFTER_OPENING)
+    };
+    let call = opening.wrapping_add(after);
     if draw.below(2) == 0 {
         bank.fail_at(&[(device, call)])?;
     } else {
@@ -158,7 +91,7 @@ fn the_last_fifty_orders_are_answered_rightly_past_a_failing_device(
     let alloc = rt.alloc();
     for number in 150..200 {
         let mut bank = bank_of_nine_and_a_blank(alloc)?;
-        let device = let_one_fail(&mut bank, number)?;
+        let device = let_one_fail(&mut bank, &plan_of(alloc, number)?, number)?;
         check_order(&rt, alloc, &mut bank, Some(device), number)?;
     }
     Ok(())
@@ -175,7 +108,7 @@ fn compare_run_and_replay(rt: &impl Abort, alloc: Global, from: u64, to: u64) ->
         ];
         if number % 2 == 1 {
             for bank in &mut banks {
-                let_one_fail(bank, number)?;
+                let_one_fail(bank, &plan, number)?;
             }
         }
         let [first, second] = banks;
@@ -197,6 +130,11 @@ fn compare_run_and_replay(rt: &impl Abort, alloc: Global, from: u64, to: u64) ->
 }
 
 #[test]
-fn a_run_of_two_hundred_scripts_is_a_replay_without_an_order(rt: HostRuntime) -> Result<(), Fail> {
-    compare_run_and_replay(&rt, rt.alloc(), 200, 400)
+fn a_run_of_a_hundred_scripts_is_a_replay_without_an_order(rt: HostRuntime) -> Result<(), Fail> {
+    compare_run_and_replay(&rt, rt.alloc(), 200, 300)
+}
+
+#[test]
+fn a_run_of_a_hundred_more_is_a_replay_without_an_order(rt: HostRuntime) -> Result<(), Fail> {
+    compare_run_and_replay(&rt, rt.alloc(), 300, 400)
 }

@@ -26,8 +26,10 @@ pub struct Journaled<'a> {
 pub enum Wrong {
     /// The first item is not the opening's group.
     Opening,
-    /// A group doesn't follow the one before it, or has other widths and is no attach's.
+    /// A group doesn't follow the one before it, or has other widths, is no attach's and ends no expansion.
     Group,
+    /// A group that the answer behind it doesn't tell of, and no client copies.
+    Lone,
     /// No client makes such a call, or not after the call that it was answered last.
     Call,
     /// A call is not answered.
@@ -45,6 +47,10 @@ pub enum Wrong {
     Attach,
     /// An attach tells of an expansion, and the last group before it has none to that width.
     Expanding,
+    /// A copy has ended, and the pool hasn't this width or expands.
+    Completed,
+    /// A copy is paused, and the pool expands no more.
+    Paused,
 }
 
 /// Whether an answer is for such a call, where nothing is wanting.
@@ -65,6 +71,8 @@ fn is_answer_of(kind: Kind, answer: &Answer) -> bool {
         } => kind == Kind::Attach,
         Answer::NewDeviceFailed { device: _ } => kind == Kind::Attach,
         Answer::Taken { slot: _ } => kind == Kind::Attach,
+        Answer::Completed { width: _ } => kind == Kind::Copy,
+        Answer::Paused { device: _ } => kind == Kind::Copy,
         _ => false,
     }
 }
@@ -87,6 +95,16 @@ fn widens_to(before: &Group, group: &Group, width: u32) -> bool {
         && group.from == before.to
         && group.to == width
         && group.from.wrapping_add(1) == width
+}
+
+/// Whether a group has a pool that expands to this width.
+fn is_expanding_to(group: &Group, width: u32) -> bool {
+    group.to == width && group.from.wrapping_add(1) == width
+}
+
+/// Whether a group ends the expansion that the group before it has.
+fn ends_expansion(before: &Group, group: &Group) -> bool {
+    is_expanding_to(before, before.to) && group.from == before.to && group.to == before.to
 }
 
 /// What an id has at the opening.
@@ -190,13 +208,54 @@ impl<'a> Journaled<'a> {
         }
     }
 
-    /// Whether a group has the widths of the one before it, or is that of an attach and widens the pool.
+    /// Whether a group has the widths of the one before it or ends its expansion, or is that of an attach and widens the
+    /// pool.
     fn are_widths_right(&self, index: usize, before: &Group, group: &Group) -> bool {
         if self.is_of_attach(index, group) {
             widens_to(before, group, before.to.wrapping_add(1))
         } else {
-            group.from == before.from && group.to == before.to
+            group.from == before.from && group.to == before.to || ends_expansion(before, group)
         }
+    }
+
+    /// Whether the item behind the group at this index is the answer of a sync that names it, or of an attach that may
+    /// have made it.
+    fn is_told_of(&self, index: usize, group: &Group) -> bool {
+        let Some(Item::Call(entry)) = self.items.get(index.wrapping_add(1)) else {
+            return false;
+        };
+        match entry.answer {
+            Answer::Synced { group: named }
+            | Answer::Attached {
+                width: _,
+                group: named,
+            } => named == group.group,
+            Answer::NewDeviceFailed { device: _ } | Answer::DeviceOut { device: _ } => {
+                let (previous, _) = self.previous_of(entry.caller, index);
+                (previous as u64) < group.after
+            }
+            _ => false,
+        }
+    }
+
+    /// Whether a client copies that may have made the group at this index: its last answer before is not behind the
+    /// group's begin.
+    fn is_copied(&self, index: usize, group: &Group) -> bool {
+        for call in self.calls {
+            let (previous, number) = self.previous_of(call.caller, index);
+            if call.kind == Kind::Copy
+                && call.number == number.wrapping_add(1)
+                && (previous as u64) < group.after
+            {
+                return true;
+            }
+        }
+        false
+    }
+
+    /// Whether a group comes of some call: the opening, one whose answer tells of it, or a copy.
+    fn is_some_calls(&self, index: usize, group: &Group) -> bool {
+        index == 0 || self.is_told_of(index, group) || self.is_copied(index, group)
     }
 
     /// Whether a group follows the one before it.
@@ -208,6 +267,18 @@ impl<'a> Journaled<'a> {
             && before.after <= group.after
             && group.after <= index as u64
             && self.are_widths_right(index, &before, group)
+    }
+
+    /// What is wrong with a group.
+    fn wrong_group(&self, index: usize, group: &Group) -> Option<Wrong> {
+        if !self.is_group_right(index, group) {
+            return Some(Wrong::Group);
+        }
+        if self.is_some_calls(index, group) {
+            None
+        } else {
+            Some(Wrong::Lone)
+        }
     }
 
     /// Whether the caller makes this call, next after the one that was answered last.
@@ -280,9 +351,22 @@ impl<'a> Journaled<'a> {
     /// Whether the last group before this index has an expansion to this width.
     fn is_expanding_right(&self, index: usize, to: u32) -> bool {
         match self.group_before(index) {
-            Some(last) => last.to == to && last.from.wrapping_add(1) == to,
+            Some(last) => is_expanding_to(&last, to),
             None => false,
         }
+    }
+
+    /// What is wrong with a copy that is answered.
+    fn wrong_copy(&self, index: usize, entry: &Entry) -> Option<Wrong> {
+        let last = self.group_before(index)?;
+        let (is_right, wrong) = match entry.answer {
+            Answer::Completed { width } => {
+                (last.from == width && last.to == width, Wrong::Completed)
+            }
+            Answer::Paused { device: _ } => (is_expanding_to(&last, last.to), Wrong::Paused),
+            _ => return None,
+        };
+        if is_right { None } else { Some(wrong) }
     }
 
     /// What is wrong with an attach that is answered.
@@ -313,6 +397,7 @@ impl<'a> Journaled<'a> {
             Kind::Free => (self.is_free_right(index, entry), Wrong::Free),
             Kind::Sync => (self.is_sync_right(index, entry), Wrong::Sync),
             Kind::Attach => return self.wrong_attach(index, entry),
+            Kind::Copy => return self.wrong_copy(index, entry),
             _ => return None,
         };
         if is_right { None } else { Some(wrong) }
@@ -337,8 +422,7 @@ impl<'a> Journaled<'a> {
         }
         for (index, item) in self.items.iter().enumerate() {
             let wrong = match item {
-                Item::Group(group) if self.is_group_right(index, group) => None,
-                Item::Group(_) => Some(Wrong::Group),
+                Item::Group(group) => self.wrong_group(index, group),
                 Item::Call(entry) => self.wrong_entry(index, entry),
             };
             if let Some(wrong) = wrong {

@@ -1,4 +1,4 @@
-// Journals with an attach that the plain checker passes, and wrong ones that it refuses.
+// Journals with an attach or a copy that the plain checker passes, and wrong ones that it refuses.
 use crate::legal_check::{Journaled, Wrong};
 use crate::plans::PlannedCall;
 use core_state::{Answer, Entry, Group, Item, Kind};
@@ -14,6 +14,12 @@ const TWO_ATTACHES: &[Kind] = &[Kind::Attach, Kind::Attach];
 const SYNC: &[Kind] = &[Kind::Sync];
 
 const SYNC_AND_ATTACH: &[Kind] = &[Kind::Sync, Kind::Attach];
+
+const COPY: &[Kind] = &[Kind::Copy];
+
+const ATTACH_AND_COPY: &[Kind] = &[Kind::Attach, Kind::Copy];
+
+const SYNC_AND_COPY: &[Kind] = &[Kind::Sync, Kind::Copy];
 
 fn group_of(group: u64, after: u64, widths: (u32, u32)) -> Group {
     let (from, to) = widths;
@@ -52,6 +58,14 @@ fn expanding(call: u64, to: u32) -> Item {
 
 fn failed(call: u64) -> Item {
     answered(call, Kind::Attach, Answer::NewDeviceFailed { device: 3 })
+}
+
+fn completed(call: u64, width: u32) -> Item {
+    answered(call, Kind::Copy, Answer::Completed { width })
+}
+
+fn paused(call: u64) -> Item {
+    answered(call, Kind::Copy, Answer::Paused { device: 1 })
 }
 
 fn synced(call: u64, group: u64) -> Item {
@@ -131,14 +145,17 @@ fn an_attach_that_widens_the_pool_is_legal(rt: HostRuntime) -> Result<(), Fail> 
 fn a_group_of_other_widths_is_no_attachs(rt: HostRuntime) -> Result<(), Fail> {
     let alloc = rt.alloc();
     // The widths at the opening, the calls, those of a group behind it, and what is answered then.
-    let rows: [((u32, u32), &[Kind], (u32, u32), Item); 7] = [
+    let rows: [((u32, u32), &[Kind], (u32, u32), Item); 10] = [
         (THREE, SYNC, TO_FOUR, synced(1, 4)),
         (THREE, ATTACH, TO_FOUR, expanding(1, 4)),
         (THREE, ATTACH, TO_FOUR, failed(1)),
         (THREE, ATTACH, TO_FOUR, attached(1, 4, 3)),
         (THREE, ATTACH, THREE, attached(1, 4, 4)),
         (THREE, ATTACH, TO_FIVE, attached(1, 5, 4)),
-        (TO_FOUR, SYNC, FOUR, synced(1, 4)),
+        (TO_FOUR, SYNC, THREE, synced(1, 4)),
+        (TO_FOUR, COPY, THREE, completed(1, 3)),
+        (THREE, COPY, FOUR, completed(1, 4)),
+        (TO_FOUR, COPY, TO_FIVE, paused(1)),
     ];
     for (widths, kinds, later, answer) in rows {
         let items = [listed(3, 0, widths), listed(4, 1, later), answer];
@@ -237,5 +254,83 @@ fn an_attachs_answers_are_for_no_sync(rt: HostRuntime) -> Result<(), Fail> {
     ];
     let wrong = first_wrong(alloc, THREE, ATTACH, &items)?;
     assert_eq!(rt; wrong, Some((2, Wrong::Answer)));
+    Ok(())
+}
+
+#[test]
+fn a_copy_that_ends_the_expansion_is_legal(rt: HostRuntime) -> Result<(), Fail> {
+    let alloc = rt.alloc();
+    let items = [
+        listed(3, 0, THREE),
+        listed(4, 1, TO_FOUR),
+        attached(1, 4, 4),
+        listed(5, 3, TO_FOUR),
+        listed(6, 4, TO_FOUR),
+        listed(7, 5, FOUR),
+        completed(2, 4),
+    ];
+    assert_eq!(rt; first_wrong(alloc, THREE, ATTACH_AND_COPY, &items)?, None);
+    let items = [
+        listed(3, 0, TO_FOUR),
+        listed(4, 1, FOUR),
+        synced(1, 4),
+        completed(2, 4),
+    ];
+    assert_eq!(rt; first_wrong(alloc, TO_FOUR, SYNC_AND_COPY, &items)?, None);
+    let items = [listed(3, 0, THREE), completed(1, 3)];
+    assert_eq!(rt; first_wrong(alloc, THREE, COPY, &items)?, None);
+    let items = [listed(3, 0, TO_FOUR), listed(4, 1, TO_FOUR), paused(1)];
+    assert_eq!(rt; first_wrong(alloc, TO_FOUR, COPY, &items)?, None);
+    Ok(())
+}
+
+#[test]
+fn a_lone_group_is_a_copys(rt: HostRuntime) -> Result<(), Fail> {
+    let alloc = rt.alloc();
+    let items = [
+        listed(3, 0, THREE),
+        listed(4, 1, THREE),
+        listed(5, 2, THREE),
+        synced(1, 5),
+    ];
+    let wrong = first_wrong(alloc, THREE, SYNC, &items)?;
+    assert_eq!(rt; wrong, Some((1, Wrong::Lone)), "no client copies");
+    let items = [
+        listed(3, 0, TO_FOUR),
+        listed(4, 1, TO_FOUR),
+        synced(1, 4),
+        listed(5, 2, FOUR),
+        completed(2, 4),
+    ];
+    let wrong = first_wrong(alloc, TO_FOUR, SYNC_AND_COPY, &items)?;
+    assert_eq!(rt;
+        wrong,
+        Some((3, Wrong::Lone)),
+        "begun before the copier's last answer"
+    );
+    let items = [listed(3, 0, FOUR), completed(1, 4), listed(4, 2, FOUR)];
+    let wrong = first_wrong(alloc, FOUR, COPY, &items)?;
+    assert_eq!(rt; wrong, Some((2, Wrong::Lone)), "behind the copy");
+    Ok(())
+}
+
+#[test]
+fn a_copys_answer_fits_the_widths(rt: HostRuntime) -> Result<(), Fail> {
+    let alloc = rt.alloc();
+    for (widths, answer, wanted) in [
+        (FOUR, completed(1, 3), Wrong::Completed),
+        (TO_FOUR, completed(1, 4), Wrong::Completed),
+        (TO_FOUR, completed(1, 3), Wrong::Completed),
+        (FOUR, paused(1), Wrong::Paused),
+    ] {
+        let items = [listed(3, 0, widths), answer];
+        let wrong = first_wrong(alloc, widths, COPY, &items)?;
+        assert_eq!(rt; wrong, Some((1, wanted)), "{widths:?}");
+    }
+    for answer in [Answer::Completed { width: 3 }, Answer::Paused { device: 1 }] {
+        let items = [listed(3, 0, THREE), answered(1, Kind::Sync, answer)];
+        let wrong = first_wrong(alloc, THREE, SYNC, &items)?;
+        assert_eq!(rt; wrong, Some((1, Wrong::Answer)));
+    }
     Ok(())
 }

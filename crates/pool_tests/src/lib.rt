@@ -1,8 +1,8 @@
 //! What pools on banks in memory, and on files there, show: tests alone, of the crates from a bank to the top call.
 //!
 //! They stand here together, since a crate with tests is proved twice. `banks` makes new pools, `runs` and
-//! `calls` carry scripts and commands out on them, `plans` draws scripts from a number, and `legal_check` is
-//! a plain, slow checker of journals. `part_tests` has the worked rows of single parts.
+//! `calls` carry scripts and commands out on them, `plans` draws scripts from a number, `plan_check` replays
+//! them, and `legal_check` is a plain, slow checker of journals. `part_tests` has the worked rows of single parts.
 #![tactic(auto)]
 
 #[cfg(test)]
@@ -15,6 +15,10 @@ mod banks;
 mod calls;
 #[cfg(test)]
 mod commit_tests;
+#[cfg(test)]
+mod copy_call_tests;
+#[cfg(test)]
+mod copy_failing_tests;
 #[cfg(test)]
 mod create_tests;
 #[cfg(test)]
@@ -39,6 +43,8 @@ mod new_device_tests;
 mod opening_tests;
 #[cfg(test)]
 mod page_tests;
+#[cfg(test)]
+mod plan_check;
 #[cfg(test)]
 mod plans;
 #[cfg(test)]

@@ -12,10 +12,22 @@ const FEWEST_CALLS: u64 = 6;
 
 const MOST_CALLS: u64 = 10;
 
-/// Fewest turns of an order, also where a client attaches a device: that alone takes some fifty.
+/// How many calls more a client has where one copies.
+const MORE_BESIDE_COPY: u64 = 14;
+
+/// Fewest turns of an order, also where a client attaches a device: that alone takes some fifty. A copy takes some seven
+/// hundred.
 const TURNS: u64 = 54;
 
 const TURNS_WITH_ATTACH: u64 = 180;
+
+const TURNS_WITH_COPY: u64 = 1_100;
+
+/// One plan of so many has a client that attaches a device soon, and then copies; of plans without an order one of so
+/// many.
+const COPIES_EVERY: u64 = 5;
+
+const COPIES_EVERY_OF_LINES: u64 = 21;
 
 /// Most bytes of a pattern, a little less than three sectors, and of a put in hex.
 const MOST_BYTES: u64 = 1_500;
@@ -75,8 +87,48 @@ pub fn letter(caller: u64) -> char {
     }
 }
 
-/// The kind of a call: a put at first, and later puts more often than others, and seldom an attach.
-fn draw_kind(draw: &mut Draw, round: u64) -> Kind {
+/// What a plan is about: single blocks, or one client's copy beside them.
+#[derive(Clone, Copy, Debug, PartialEq, Eq)]
+enum Theme {
+    Blocks,
+    Copy { by: u64 },
+}
+
+impl Theme {
+    /// That of the plan of this number, where one of so many copies.
+    fn of(number: u64, every: u64) -> Theme
+        requires { 0 < every }
+    {
+        if number % every == 0 {
+            Theme::Copy {
+                by: number / every % 3,
+            }
+        } else {
+            Theme::Blocks
+        }
+    }
+
+    /// How many calls a client has more than by other themes.
+    fn more_calls(self) -> u64 {
+        match self {
+            Theme::Blocks => 0,
+            Theme::Copy { by: _ } => MORE_BESIDE_COPY,
+        }
+    }
+
+    /// The kind of a client's call that this theme fixes.
+    fn fixed(self, caller: u64, round: u64) -> Option<Kind> {
+        match self {
+            Theme::Copy { by } if by == caller && round == 1 => Some(Kind::Attach),
+            Theme::Copy { by } if by == caller && round == 2 => Some(Kind::Copy),
+            _ => None,
+        }
+    }
+}
+
+/// The kind of a call: a put at first, and later puts more often than others, and seldom an attach; or, where a client
+/// copies, also another copy.
+fn draw_kind(draw: &mut Draw, theme: Theme, round: u64) -> Kind {
     if round == 0 {
         return Kind::Put;
     }
@@ -85,13 +137,23 @@ fn draw_kind(draw: &mut Draw, round: u64) -> Kind {
         14..=19 => Kind::Get,
         20..=25 => Kind::Sum,
         26..=33 => Kind::Free,
+        38 if theme != Theme::Blocks => Kind::Copy,
         34..=38 => Kind::Sync,
         _ => Kind::Attach,
     }
 }
 
+/// Whose run of turns comes next: every other one is the copier's, where a client copies.
+fn draw_actor(draw: &mut Draw, theme: Theme) -> u64 {
+    let actor = draw.below(3);
+    match theme {
+        Theme::Copy { by } => if draw.below(2) == 0 { by } else { actor },
+        Theme::Blocks => actor,
+    }
+}
+
 /// The bytes of a pattern: byte `i` is `seed + 7 * i + i / 256`, as far as a byte holds it.
-fn pattern(alloc: Global, len: u64, seed: u64) -> Result<Vec<u8>, AllocError> {
+pub fn pattern(alloc: Global, len: u64, seed: u64) -> Result<Vec<u8>, AllocError> {
     let mut bytes = Vec::new(alloc);
     for place in 0..len {
         let value = seed
@@ -147,6 +209,7 @@ fn plan_words(
         Kind::Sum => write!(script, "sum {id}")?,
         Kind::Free => write!(script, "free {id}")?,
         Kind::Attach => write!(script, "attach")?,
+        Kind::Copy => write!(script, "copy")?,
         _ => write!(script, "sync")?,
     }
     Ok(Vec::new(alloc))
@@ -163,14 +226,35 @@ impl Plan {
         })
     }
 
-    /// Whether a client attaches a device.
-    pub fn attaches(&self) -> bool {
+    /// Whether a client has a call of this kind.
+    fn has(&self, kind: Kind) -> bool {
         for call in &self.calls {
-            if call.kind == Kind::Attach {
+            if call.kind == kind {
                 return true;
             }
         }
         false
+    }
+
+    /// Whether a client attaches a device.
+    pub fn attaches(&self) -> bool {
+        self.has(Kind::Attach)
+    }
+
+    /// Whether a client copies.
+    pub fn copies(&self) -> bool {
+        self.has(Kind::Copy)
+    }
+
+    /// Fewest turns of an order.
+    fn fewest_turns(&self) -> u64 {
+        if self.copies() {
+            TURNS_WITH_COPY
+        } else if self.attaches() {
+            TURNS_WITH_ATTACH
+        } else {
+            TURNS
+        }
     }
 
     /// One more call, on a line of its own.
@@ -188,7 +272,7 @@ impl Plan {
         let bytes = plan_words(alloc, draw, kind, id, &mut self.script)?;
         writeln!(self.script)?;
         let id = match kind {
-            Kind::Sync | Kind::Attach => None,
+            Kind::Sync | Kind::Attach | Kind::Copy => None,
             _ => Some(id),
         };
         self.calls.push(PlannedCall {
@@ -201,22 +285,17 @@ impl Plan {
         Ok(())
     }
 
-    /// About 60 turns of the three clients, or 190, in runs of so many at most.
-    fn push_order(&mut self, draw: &mut Draw, longest: u64) -> Result<(), AllocError>
+    /// About 60 turns of the three clients, or 190, or 1,100, in runs of so many at most.
+    fn push_order(&mut self, draw: &mut Draw, theme: Theme, longest: u64) -> Result<(), AllocError>
         requires { 0 < longest }
     {
         self.script.push_str("order ")?;
         let mut run = 0;
         let mut actor = 'a';
-        let fewest = if self.attaches() {
-            TURNS_WITH_ATTACH
-        } else {
-            TURNS
-        };
-        for _turn in 0..fewest.wrapping_add(draw.below(13)) {
+        for _turn in 0..self.fewest_turns().wrapping_add(draw.below(13)) {
             if run == 0 {
                 run = 1 + draw.below(longest);
-                actor = letter(draw.below(3));
+                actor = letter(draw_actor(draw, theme));
             }
             self.script.push(actor)?;
             run -= 1;
@@ -226,17 +305,21 @@ impl Plan {
     }
 }
 
-/// Three clients with 6 to 10 calls each, their lines in turns.
-fn draw_calls(alloc: Global, draw: &mut Draw) -> Result<Plan, AllocError> {
+/// Three clients with 6 to 10 calls each, their lines in turns; with 20 to 24 where one copies.
+fn draw_calls(alloc: Global, draw: &mut Draw, theme: Theme) -> Result<Plan, AllocError> {
     let mut plan = Plan::new(alloc, 3)?;
+    let more = theme.more_calls();
     let mut counts = [0; 3];
     for count in &mut counts {
-        *count = FEWEST_CALLS + draw.below(MOST_CALLS - FEWEST_CALLS + 1);
+        *count = (FEWEST_CALLS + draw.below(MOST_CALLS - FEWEST_CALLS + 1)).wrapping_add(more);
     }
-    for round in 0..MOST_CALLS {
+    for round in 0..MOST_CALLS + MORE_BESIDE_COPY {
         for caller in 0..3 {
             if round < counts[caller as usize] {
-                let kind = draw_kind(draw, round);
+                let kind = match theme.fixed(u64::from(caller), round) {
+                    Some(kind) => kind,
+                    None => draw_kind(draw, theme, round),
+                };
                 let id = draw.below(IDS).min(draw.below(IDS));
                 plan.push(alloc, draw, caller, round + 1, kind, id)?;
             }
@@ -248,24 +331,56 @@ fn draw_calls(alloc: Global, draw: &mut Draw) -> Result<Plan, AllocError> {
 /// The plan of this number: three clients, and an order.
 pub fn plan_of(alloc: Global, number: u64) -> Result<Plan, AllocError> {
     let mut draw = Draw::new(number);
-    let mut plan = draw_calls(alloc, &mut draw)?;
-    plan.push_order(&mut draw, 1 + number % 8)?;
+    let theme = Theme::of(number, COPIES_EVERY);
+    let mut plan = draw_calls(alloc, &mut draw, theme)?;
+    plan.push_order(&mut draw, theme, 1 + number % 8)?;
     Ok(plan)
 }
 
 /// The plan of this number without an order.
 pub fn plan_of_lines(alloc: Global, number: u64) -> Result<Plan, AllocError> {
     let mut draw = Draw::new(number);
-    draw_calls(alloc, &mut draw)
+    let theme = Theme::of(number, COPIES_EVERY_OF_LINES);
+    draw_calls(alloc, &mut draw, theme)
 }
 
-/// A client's get and sum of each id.
+/// A client's get and sum of each id; then it copies, and gets them again.
 pub fn plan_of_reads(alloc: Global) -> Result<Plan, AllocError> {
     let mut draw = Draw::new(0);
     let mut plan = Plan::new(alloc, 1)?;
     for id in 0..IDS {
         plan.push(alloc, &mut draw, 0, 2 * id + 1, Kind::Get, id)?;
         plan.push(alloc, &mut draw, 0, 2 * id + 2, Kind::Sum, id)?;
+    }
+    plan.push(alloc, &mut draw, 0, 2 * IDS + 1, Kind::Copy, 0)?;
+    for id in 0..IDS {
+        plan.push(alloc, &mut draw, 0, 2 * IDS + 2 + id, Kind::Get, id)?;
+    }
+    Ok(plan)
+}
+
+/// The calls of the client that widens a pool between puts.
+const WIDENING: [(Kind, u64); 11] = [
+    (Kind::Put, 0),
+    (Kind::Put, 1),
+    (Kind::Sync, 0),
+    (Kind::Attach, 0),
+    (Kind::Copy, 0),
+    (Kind::Get, 0),
+    (Kind::Put, 2),
+    (Kind::Sync, 0),
+    (Kind::Put, 3),
+    (Kind::Sum, 1),
+    (Kind::Sync, 0),
+];
+
+/// A client that puts blocks, attaches a device, copies, and puts more.
+pub fn plan_of_widening(alloc: Global) -> Result<Plan, AllocError> {
+    let mut draw = Draw::new(0);
+    let mut plan = Plan::new(alloc, 1)?;
+    for (place, (kind, id)) in WIDENING.iter().enumerate() {
+        let number = (place as u64).wrapping_add(1);
+        plan.push(alloc, &mut draw, 0, number, *kind, *id)?;
     }
     Ok(plan)
 }
