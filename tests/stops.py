@@ -25,7 +25,7 @@ RING = 32 * SECTOR
 # The calls that a run makes most of: those on the scratch area and on the data rows.
 INDEX = range(64 * SECTOR, 192 * SECTOR)
 # Of what a stop may leave, so many are tried where it is one of many stops.
-TRIED = 4
+TRIED = 3
 CALL = re.compile(r' (pwrite64|fdatasync)\(\d+<([^>]*)>(?:, "([^"]*)", 512, (\d+))?\) += \d+$')
 ANSWER = re.compile(r'^\d+ a\.\d+ (get|sum) (\d+) at \d+ (.*)$')
 COPIED = re.compile(r'^(\d+) a\.1 copy done width (\d+)$')
