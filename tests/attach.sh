@@ -5,8 +5,6 @@
 . "$(dirname "$0")/build.sh"
 
 missing='No such file or directory (os error 2)'
-# summed LEN SEED: what a sum of such a block answers.
-summed() { echo "length $1 sha $(pattern "$1" "$2" | sha256sum | cut -c 1-64)"; }
 first=$(summed 1536 0) second=$(summed 5000 2)
 all=(disk0 disk1 disk2 disk3)
 old=(disk0 disk1 disk2)
@@ -270,7 +268,6 @@ replays() {
   INPUT=script expect "$name" 0 "$text" "${IMAGES[@]}" -- replay
   tells 'nothing is told'
 }
-turns() { printf "$1%.0s" $(seq "$2"); }
 replays 'puts, gets and frees beside an attach' '0 group 3 after 0
 1 b.1 put 7 ok
 2 b.2 get 7 at 2 bytes 61

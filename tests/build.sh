@@ -144,3 +144,92 @@ was() {
     failed "$name" "status $STATUS, text: $(cat found), told: $(cat told)"
   fi
 }
+
+# summed LEN SEED: what a sum of such a block answers.
+summed() { echo "length $1 sha $(pattern "$1" "$2" | sha256sum | cut -c 1-64)"; }
+
+# pool_and COUNT: a fresh pool of three images, and so many images more that show none.
+pool_and() {
+  local number
+  pool 1 3 256
+  for ((number = 3; number < 3 + $1; number++)); do
+    fresh disk$number 256
+    IMAGES+=(disk$number)
+  done
+}
+
+# shows WIDTH BIRTHS OUT BLOCKS: what a status tells of the images that runs name, behind its first line.
+shows() {
+  local found
+  found=$("$RAIDZX" "${IMAGES[@]}" -- status 2>told | tail -n +2) || failed 'a status' "$found"
+  [ "$found" = "$(printf 'width %s\nbirths %s\nout %s\nblocks %s' "$@")" ] || failed 'a status' "$found"
+}
+
+# groups FIRST LAST ITEM: the lines of these groups, one below the other, from the item of this number on.
+groups() {
+  local group item=$3
+  for ((group = $1; group <= $2; group++, item++)); do echo "$item group $group after $item"; done
+}
+
+# reads_wanted NAME: the script `reads` is answered with the blocks that `wanted` holds.
+reads_wanted() {
+  "$RAIDZX" "${IMAGES[@]}" -- run <reads 2>told | answers | cmp -s - wanted || failed "$1" 'other blocks'
+}
+
+# without_each NAME: the images as they stand, and without each one of them in turn, give the blocks that `wanted`
+# holds.
+without_each() {
+  local name=$1 image
+  keep each
+  reads_wanted "$name"
+  for image in "${IMAGES[@]}"; do
+    back each
+    rm "$image"
+    reads_wanted "$name, without $image"
+  done
+  back each
+  printf 'ok %s: all blocks are read, also without each one of %s images\n' "$name" ${#IMAGES[@]}
+}
+
+# lies SECTOR FILE..: these stand where the pool has this sector and those behind it, in rows of WIDTH.
+lies() {
+  local sector=$1 file
+  shift
+  for file; do
+    sectors disk$((sector % WIDTH)) $((192 + sector / WIDTH)) 1 | cmp -s - "$file" || failed "sector $sector" "$file"
+    sector=$((sector + 1))
+  done
+}
+
+# spread WIDTH FIRST COUNT: so many of the pool's sectors, as rows of this width have them from a device sector on.
+spread() {
+  local sector
+  for ((sector = 0; sector < $3; sector++)); do sectors disk$((sector % $1)) $(($2 + sector / $1)) 1; done
+}
+
+# full_pool: a fresh pool of three images that 96 blocks fill, and an image that was attached. `reads` sums the blocks,
+# and `wanted` has their answers.
+full_pool() {
+  local id
+  pool_and 1
+  {
+    calls
+    for id in $(seq 0 95); do echo "a put $id 512 $id"; done
+    printf 'a %s\n' 'put 96 1 1' sync attach 'put 96 1 1'
+  } >script
+  "$RAIDZX" "${IMAGES[@]}" -- run <script >found 2>told || failed 'a full pool' "$(cat found)"
+  [ "$(tail -n 6 found)" = '97 a.97 put 96 no space 2
+98 group 4 after 98
+99 a.98 sync group 4
+100 group 5 after 100
+101 a.99 attach width 4 group 5
+102 a.100 put 96 no space 2' ] || failed 'a full pool' "$(cat found)"
+  keep full
+  { calls; for id in $(seq 0 95); do echo "a sum $id"; done; } >reads
+  "$RAIDZX" "${IMAGES[@]}" -- run <reads | answers >wanted
+  for id in 0 1 95; do grep -qx "sum $id $(summed 512 $id)" wanted || failed 'a block of a full pool' $id; done
+  back full
+}
+
+# turns LETTERS COUNT: these letters so many times, for the order of a script.
+turns() { printf "$1%.0s" $(seq "$2"); }

@@ -16,8 +16,8 @@ printf 'sum 7 absent\nsum 8 absent\n' >none
 { echo 'sum 7 absent'; block 8 1500 3; } >three
 
 # stops NAME OLD EVERY GROUP=FILE..: traces the run of `script` on the images, or its replay where COMMAND says so, of
-# which the first so many are the pool's, and stops it at each call; of the calls on data rows and the scratch area at one
-# of so many. Where there is a script `copies`, what is left is copied too.
+# which the first so many are the pool's, and stops it at each call; of the calls on data rows and the scratch area at
+# one of so many. Where there is a script `copies`, what is left is copied too.
 COMMAND=run
 stops() {
   local name=$1 old=$2 every=$3 found
@@ -83,14 +83,13 @@ calls 'put 1 30000 1' 'put 2 15000 2' 'put 3 10000 3' 'put 4 5000 4' 'put 5 600 
 calls copy 'sum 1' 'sum 2' 'sum 3' 'sum 4' 'sum 5' >copies
 stops 'a run that attaches an image and copies' 3 20 1=none 3=none 4=one 5=one 6=one 7=one 8=one 9=one 10=two
 
-# The pool is copied in another run, while a second client frees a block, puts one where that was, across sector 167, and
-# syncs. The first sync comes in the fill, the put and the second one in the drain, and the third one behind all.
+# The pool is copied in another run, while a second client frees a block, puts one where that was, across sector 167,
+# and syncs. The first sync comes in the fill, the put and the second one in the drain, and the third one behind all.
 pool 1 3 256
 fresh disk3 256
 IMAGES+=(disk3)
 calls 'put 1 30000 1' 'put 2 15000 2' 'put 3 10000 3' 'put 4 5000 4' 'put 5 600 5' sync attach >script
 "$RAIDZX" "${IMAGES[@]}" -- run <script >/dev/null
-turns() { printf "$1%.0s" $(seq "$2"); }
 printf '%s\n' 'clients 2' 'a copy' 'b free 4' 'b sync' 'b put 5 1500 7' 'b sync' 'b put 2 70 6' 'b sync' \
   "order $(turns a 100)$(turns b 19)$(turns a 200)$(turns b 25)$(turns a 500)" >script
 sed 's/^sum 4 .*/sum 4 absent/' one >freed

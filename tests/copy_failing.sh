@@ -1,0 +1,146 @@
+#!/usr/bin/env bash
+# A run that copies is killed on its way, or has an image that fails a call: what stands on the images then, what is
+# answered, and how a later run goes on.
+command -v strace >/dev/null || { echo 'skipped failing calls: there is no strace'; exit 0; }
+strace -o /dev/null true 2>/dev/null || { echo 'skipped failing calls: strace may not trace here'; exit 0; }
+[ ! -w /dev/shm ] || export TMPDIR=/dev/shm # many short runs: files in memory will do
+. "$(dirname "$0")/build.sh"
+
+first=$(summed 1536 0)
+
+# A full pool, whose copy is killed.
+full_pool
+spread 3 192 192 >narrow
+
+# killed WHEN: a copy of the full pool is killed at this sync of the last image.
+killed() {
+  back full
+  calls copy >script
+  { INPUT=script disturbed disk3 "fdatasync:signal=KILL:when=$1" "${IMAGES[@]}" -- run; } 2>/dev/null
+  [ $STATUS != 0 ] && [ ! -s found ] || failed "killed at sync $1" "status $STATUS, $(cat found)"
+}
+# The opening has two syncs of an image, and so has each commit: the copy is stopped behind its first, second and third
+# group, before an uberblock of the next one is written.
+number=1
+for way in '3 to 4 mark 128 state valid' '3 to 4 mark 128 state moved' '3 to 4 mark 167 state moved'; do
+  killed $((3 + 2 * number))
+  shows "$way" 0:3 none 96
+  if [ $number = 1 ]; then
+    spread 4 32 128 >scratch
+    head -c 65536 narrow | cmp -s - scratch || failed 'the scratch area' 'other sectors'
+  fi
+  without_each "a pool with $way"
+  for image in 0 1 2 3; do
+    back each
+    rm disk$image
+    runs "a copy of it without disk$image" 0 "0 group $((9 + number)) after 0
+1 a.1 copy paused $image" copy
+    reads_wanted 'then'
+    shows "$way" 0:3 $image 96
+    cp each/disk$image .
+    runs 'and with it again' 0 "0 group $((13 + number)) after 0
+1 a.1 copy paused $image" copy
+  done
+  back each
+  runs 'the next run goes on' 0 "0 group $((9 + number)) after 0
+$(groups $((10 + number)) 13 1)
+$((5 - number)) a.1 copy done width 4" copy
+  spread 4 192 192 >wide
+  same 'each sector lies in rows of four' narrow wide
+  shows 4 '0:3 15:4' none 96
+  without_each "a pool that was copied on from $way"
+  number=$((number + 1))
+done
+
+# An image fails a call of a run that copies, reads and syncs.
+pool_and 1
+second=$(summed 5000 2) third=$(summed 20000 1)
+calls 'put 1 1536 0' 'put 2 5000 2' 'put 3 20000 1' sync attach >script
+"$RAIDZX" "${IMAGES[@]}" -- run <script >/dev/null
+keep few
+calls 'sum 1' 'sum 2' 'sum 3' >reads
+printf '%s\n' "sum 1 $first" "sum 2 $second" "sum 3 $third" >wanted
+# lines_of GROUP COUNT ANSWER: of a run whose opening has this group, with so many groups of its copy.
+lines_of() {
+  echo "0 group $1 after 0"
+  groups $(($1 + 1)) $(($1 + $2)) 1
+  echo "$((1 + $2)) a.1 copy $3"
+}
+# fails NUMBER FAULT COUNT [ANSWER]: this image fails this call. The copy makes so many groups then, and has this
+# answer, else that it is paused. All blocks are there in that run, and in the next one, which has the same answer.
+fails() {
+  local number=$1 fault=$2 count=$3 answer=${4:-paused $1} other
+  back few
+  calls copy 'sum 1' 'sum 2' 'sum 3' sync >script
+  INPUT=script disturbed disk$number "$fault" "${IMAGES[@]}" -- run
+  grep -q INJECTED trace || failed "$fault" 'no call was made to fail'
+  was "disk$number with $fault" 0 "$(lines_of 7 "$count" "$answer")
+$((2 + count)) a.2 sum 1 at $((2 + count)) $first
+$((3 + count)) a.3 sum 2 at $((3 + count)) $second
+$((4 + count)) a.4 sum 3 at $((4 + count)) $third
+$((5 + count)) group $((8 + count)) after $((5 + count))
+$((6 + count)) a.5 sync group $((8 + count))" "raidzx: disk$number: 1 call failed in this run" \
+    "raidzx: disk$number: out of the pool for good"
+  runs "a copy past disk$number with $fault" 0 "$(lines_of $((10 + count)) 0 "$answer")
+2 a.2 sum 1 at 2 $first
+3 a.3 sum 2 at 3 $second
+4 a.4 sum 3 at 4 $third" copy 'sum 1' 'sum 2' 'sum 3'
+  rm disk$number
+  reads_wanted "disk$number with $fault, and without it"
+}
+# The number of a call, and how many groups the copy has made by then. On each image the opening writes an uberblock, a
+# commit a page and an uberblock, and the fill and the drain 32 sectors each. The last two jobs write 10 sectors and 6,
+# on the new image 9 and 7. The opening and each commit have two syncs.
+number=0
+for row in 'pwrite64 1 0' 'pwrite64 2 0' 'pwrite64 20 0' 'pwrite64 33 0' 'pwrite64 34 1' 'pwrite64 35 1' \
+  'pwrite64 36 1' 'pwrite64 52 1' 'pwrite64 67 1' 'pwrite64 68 2' 'pwrite64 69 2' 'pwrite64 70 2' 'pwrite64 78 2' \
+  'pwrite64 82 3' 'pwrite64 87 3' 'fdatasync 1 0' 'fdatasync 2 0' 'fdatasync 3 1' 'fdatasync 4 1' 'fdatasync 5 2' \
+  'fdatasync 6 2' 'fdatasync 7 3' 'fdatasync 8 3'; do
+  set -- $row
+  fails $((number % 4)) $1:error=EIO:when=$2 $3
+  fails $(((number + 3) % 4)) $1:error=ENOSPC:when=$2 $3
+  number=$((number + 1))
+done
+# Behind the last group of the copy the expansion has ended.
+for number in 0 1 2 3; do
+  for when in 88 89; do fails $number pwrite64:error=EIO:when=$when 4 'done width 4'; done
+  for when in 9 10; do fails $number fdatasync:error=EIO:when=$when 4 'done width 4'; done
+done
+# The opening reads a ring of 32 slots and a page. The old images have 43 or 42 reads of the fill, the new one none;
+# each has 32 of the drain, and then the old ones 13.
+for row in '0 1 0' '0 33 0' '0 34 0' '0 76 0' '0 77 1' '0 108 1' '0 109 2' '0 121 2' '0 122 3' '0 129 3' \
+  '1 34 0' '1 76 0' '1 108 1' '2 34 0' '2 75 0' '2 107 1' '3 32 0' '3 33 0' '3 34 1' '3 65 1'; do
+  set -- $row
+  fails $1 pread64:error=EIO:when=$2 $3
+done
+
+# Without a sync behind it nothing has recorded that the image is out: the next run copies with it from where the last
+# group stands, and then any one image may go.
+for row in '0 pread64 60 0' '1 pwrite64 20 0' '3 pwrite64 30 0' '1 pwrite64 52 1' '3 pwrite64 40 1' '2 pwrite64 75 2' \
+  '3 pwrite64 75 2' '0 pwrite64 84 3' '3 pwrite64 84 3' '2 fdatasync 4 1' '0 fdatasync 8 3'; do
+  set -- $row
+  back few
+  calls copy 'sum 1' 'sum 2' 'sum 3' >script
+  INPUT=script disturbed disk$1 "$2:error=EIO:when=$3" "${IMAGES[@]}" -- run
+  was "disk$1 with call $3 of $2" 0 "$(lines_of 7 "$4" "paused $1")
+$((2 + $4)) a.2 sum 1 at $((2 + $4)) $first
+$((3 + $4)) a.3 sum 2 at $((3 + $4)) $second
+$((4 + $4)) a.4 sum 3 at $((4 + $4)) $third" "raidzx: disk$1: 1 call failed in this run"
+  runs "disk$1 with call $3 of $2, and the next run goes on with it" 0 \
+    "$(lines_of $((9 + $4)) $((4 - $4)) 'done width 4')" copy
+  without_each 'what it has copied'
+done
+
+# Two images fail in a commit of the copy: it is refused, and so is each later call. Once they are back all is there.
+back few
+calls copy 'get 1' sync >script
+STATUS=0
+strace -f -s 0 -o trace -P "$PWD/disk0" -P "$PWD/disk1" -e trace=fdatasync -e inject=fdatasync:error=EIO:when=5+ \
+  "$RAIDZX" "${IMAGES[@]}" -- run <script >found 2>told || STATUS=$?
+was 'two images fail in a commit of a copy' 4 '0 group 7 after 0
+1 a.1 copy too many failed 0 1
+2 a.2 get 1 too many failed 0 1
+3 a.3 sync too many failed 0 1
+too many failed 0 1' 'raidzx: disk0: 1 call failed in this run' 'raidzx: disk1: 1 call failed in this run'
+runs 'the next run copies' 0 "$(lines_of 9 4 'done width 4')" copy
+without_each 'two images that are back'
