@@ -222,6 +222,23 @@ rm disk1
 runs 'also while an image is out' 0 '0 group 5 after 0
 1 a.1 copy done width 3' copy
 
+# Where there are fifteen images a group moves the mark by a fifteenth at most, so many groups are made. They take little
+# memory.
+pool 1 15 392
+fresh disk15 392
+IMAGES+=(disk15)
+calls 'put 1 65536 0' 'put 2 65536 1' 'put 3 65536 2' 'put 4 1000 3' sync attach >script
+"$RAIDZX" "${IMAGES[@]}" -- run <script >/dev/null
+calls 'sum 1' 'sum 2' 'sum 3' 'sum 4' >reads
+"$RAIDZX" "${IMAGES[@]}" -- run <reads | answers >wanted
+grep -qx "sum 4 $(summed 1000 3)" wanted || failed 'a block' "$(cat wanted)"
+runs 'a copy of 38 groups' 0 "0 group 9 after 0
+$(groups 10 47 1)
+39 a.1 copy done width 16
+40 a.2 attach no device 16" copy attach
+shows 16 '0:15 49:16' none 4
+without_each 'a pool of the greatest width'
+
 # The last group that there is: 2 to the power of 62 less one, here that of the copy's first commit. The images show the
 # attach's group, whose number is a later one.
 pool_and 1
