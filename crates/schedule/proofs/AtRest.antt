@@ -20,7 +20,8 @@ use Rattle.schedule.specs.Coming.{IsSchedule}
 use Rattle.schedule.specs.Turned.{HasDeviceUnder}
 use Rattle.schedule.specs.Turns.{turns_of}
 use Rattle.schedule.specs.InTurn.{Cursor, replay_at, replay_by, turns_by}
-use Rattle.schedule.specs.Playing.{IsReady, shared_count}
+use Rattle.range_locks.specs.Order.{shared_count}
+use Rattle.schedule.specs.Playing.{IsReady}
 use Rattle.schedule.specs.Replaying.{AreIdle, HaveBegun, IsAtRest, blank_client, blank_clients}
 use Rattle.schedule.proofs.Rooms.{room_at_first}
 use Rattle.schedule.proofs.Theirs.{none_some}

@@ -24,7 +24,8 @@ use Rattle.schedule.specs.declared.client.Work.{Work}
 use Rattle.schedule.specs.declared.client.Work.TheVariants as work
 use Rattle.schedule.specs.Clients.{Changes}
 use Rattle.schedule.specs.Comes.{TakesTurn}
-use Rattle.schedule.specs.Playing.{AreCopiers, AreSharers, shared_count, sharing_in, sharing_of, sharing_under}
+use Rattle.range_locks.specs.Order.{shared_count}
+use Rattle.schedule.specs.Playing.{AreCopiers, AreSharers, sharing_in, sharing_of, sharing_under}
 use Rattle.schedule.specs.Replaying.{AreIdle}
 use Rattle.schedule.specs.Running.{AreGoing, IsGoing, IsHoldOf}
 use Rattle.schedule.specs.Turned.{EndsPutting, EndsReading, GoesOnBy, IsFilledIn, MayGoOn, Station, Turned, Nothing, Began, Went}

@@ -20,9 +20,9 @@ use Rattle.core_turns.specs.Rounds.{IsRoundBusy}
 use Rattle.core_turns.proofs.Holds.{below_all, none_below, one_if}
 use Rattle.schedule.specs.declared.client.Client.{Client}
 use Rattle.schedule.specs.declared.client.UnderWay.{UnderWay}
-use Rattle.schedule.specs.Playing.{is_shared_hold, shared_count}
+use Rattle.range_locks.specs.Order.{shared_count}
 use Rattle.schedule.proofs.Theirs.{none_some}
-use Rattle.schedule.proofs.UsingTurns.{adds_shared}
+use Rattle.schedule.proofs.UsingTurns.{adds_shared, is_shared_hold}
 use Rattle.schedule.specs.Turned.{Station, Turned, Nothing, Began, Went, Waits}
 
 -- ---- no call waits

@@ -1,6 +1,6 @@
 -- What the first turn of a call leaves of the runs of sectors that were taken, and of who holds some.
 use Rattle.std.proofs.Common.{◌≡◌, ◌⊎◌, inl, inr, ⊎_elim, ℕ, ◌+◌, ◌≤◌, List, [], ◌∷◌, ◌++◌, length, Option, Some, None, refl, sym, ◌∙◌, ap, subst, arith}
-use Rattle.std.specs.Prelude.{Contains, cond, map, sum}
+use Rattle.std.specs.Prelude.{Bool, Contains, cond, map, sum}
 use Rattle.width_map.specs.declared.birth.Birth.{Birth}
 use Rattle.width_map.specs.Births.{first_width}
 use Rattle.range_locks.specs.declared.hold.Hold.{Hold}
@@ -44,11 +44,16 @@ use Rattle.journal_law.specs.NoSpace.{length_put, largest_size}
 use Rattle.journal_law.proofs.NoSpace.{largest}
 use Rattle.schedule.specs.declared.client.Work.{Work}
 use Rattle.schedule.specs.declared.client.Work.TheVariants as work
-use Rattle.schedule.specs.Playing.{is_shared, is_shared_hold, shared_count, sharing_in}
+use Rattle.range_locks.specs.Order.{is_shared, shared_count}
+use Rattle.schedule.specs.Playing.{sharing_in}
 use Rattle.schedule.specs.Turned.{AnswersAtOnce, BeginsWork, Waits}
 use Rattle.schedule.specs.Using.{AreRunsOf, IsHeldIn, IsOpenSince}
 
 -- ---- holds
+
+-- whether a hold is shared
+abbrev pub is_shared_hold : Hold → Bool
+is_shared_hold hold = is_shared hold.kind
 
 -- A shared hold adds one to their number, and one that is held alone none.
 pub adds_shared : (hold : Hold) → hold.kind ≡ Shared → one_if is_shared_hold hold ≡ 1

@@ -1,8 +1,6 @@
 -- What stands while a script is carried out, and how that ends.
-use Rattle.std.specs.Prelude.{◌≡◌, ℕ, suc, ◌+◌, ◌-◌, ◌*◌, ◌≤◌, List, [], ◌∷◌, length, map, count_by, Bool, true, false, Option, Some, None, ⊤}
-use Rattle.range_locks.specs.declared.hold.Hold.{Hold}
-use Rattle.range_locks.specs.declared.hold.HoldKind.{HoldKind}
-use Rattle.range_locks.specs.declared.hold.HoldKind.TheVariants.{Shared, Exclusive}
+use Rattle.std.specs.Prelude.{◌≡◌, ℕ, suc, ◌+◌, ◌-◌, ◌*◌, ◌≤◌, List, [], ◌∷◌, length, map, Option, Some, None, ⊤}
+use Rattle.range_locks.specs.Order.{shared_count}
 use Rattle.core_state.specs.declared.item.Item.{Item}
 use Rattle.client_script.specs.Script.{Script, calls_of}
 use Rattle.core_turns.specs.declared.copying.CopyRun.{CopyRun}
@@ -77,18 +75,6 @@ abbrev pub AreCopiers : List Client → Core → Type 0
 AreCopiers clients core = (actor : ℕ) → core.copying ≡ Some actor
     → (client : Client) × (under : UnderWay) × (run : CopyRun) × IsGoing clients actor client under
     × (under.work ≡ work.Copy (Copies run))
-
--- whether a kind of hold, or a hold, is shared
-abbrev pub is_shared : HoldKind → Bool
-is_shared Shared = true
-is_shared Exclusive = false
-
-abbrev pub is_shared_hold : Hold → Bool
-is_shared_hold hold = is_shared hold.kind
-
--- how many of some holds are shared
-abbrev pub shared_count : List Hold → ℕ
-shared_count holds = count_by is_shared_hold holds
 
 -- how many shared holds a work has: a put and a read have one
 abbrev pub sharing_in : Work → ℕ
