@@ -130,11 +130,21 @@ fn compare_run_and_replay(rt: &impl Abort, alloc: Global, from: u64, to: u64) ->
 }
 
 #[test]
-fn a_run_of_a_hundred_scripts_is_a_replay_without_an_order(rt: HostRuntime) -> Result<(), Fail> {
-    compare_run_and_replay(&rt, rt.alloc(), 200, 300)
+fn the_first_fifty_runs_are_replays_without_an_order(rt: HostRuntime) -> Result<(), Fail> {
+    compare_run_and_replay(&rt, rt.alloc(), 200, 250)
 }
 
 #[test]
-fn a_run_of_a_hundred_more_is_a_replay_without_an_order(rt: HostRuntime) -> Result<(), Fail> {
-    compare_run_and_replay(&rt, rt.alloc(), 300, 400)
+fn the_second_fifty_runs_are_replays_without_an_order(rt: HostRuntime) -> Result<(), Fail> {
+    compare_run_and_replay(&rt, rt.alloc(), 250, 300)
+}
+
+#[test]
+fn the_third_fifty_runs_are_replays_without_an_order(rt: HostRuntime) -> Result<(), Fail> {
+    compare_run_and_replay(&rt, rt.alloc(), 300, 350)
+}
+
+#[test]
+fn the_last_fifty_runs_are_replays_without_an_order(rt: HostRuntime) -> Result<(), Fail> {
+    compare_run_and_replay(&rt, rt.alloc(), 350, 400)
 }
