@@ -16,10 +16,15 @@ use std::alloc::{AllocError, Global};
 use std::marker::Model;
 use uberblock_ring::DeviceSet;
 
-/// A block that is read column by column, row after row, its parity too: what was read so far, and the
-/// column that comes next.
+/// A block that is read column by column, row after row, its parity too.
 #[derive(Drop)]
 pub struct BlockRead {
+    run: Box<ReadSoFar>,
+}
+
+/// What was read so far, and the column that comes next.
+#[derive(Drop)]
+struct ReadSoFar {
     layout: Layout,
     read: ColumnsRead,
     row: u32,
@@ -33,17 +38,17 @@ impl Model for BlockRead {
     ghost Value = { BlockReadOf };
 
     ghost view = { λ run. record {
-      layout = run.layout;
-      read = run.read;
-      row = run.row;
-      column = run.column;
+      layout = run.run.value.layout;
+      read = run.run.value.read;
+      row = run.run.value.row;
+      column = run.run.value.column;
     } };
 
     ghost invariant = { λ run. IsAtColumn (record {
-      layout = run.layout;
-      read = run.read;
-      row = run.row;
-      column = run.column;
+      layout = run.run.value.layout;
+      read = run.run.value.read;
+      row = run.run.value.row;
+      column = run.run.value.column;
     }) };
 }
 
@@ -54,11 +59,14 @@ impl BlockRead {
         ensures { IfOk result (IsReadBegun layout.now) }
     {
         let read = ColumnsRead::blank(alloc, layout)?;
-        Ok(BlockRead {
+        let begun = ReadSoFar {
             layout: *layout,
             read,
             row: 0,
             column: 0,
+        };
+        Ok(BlockRead {
+            run: Box::new(alloc, begun)?,
         })
     }
 
@@ -67,13 +75,13 @@ impl BlockRead {
         ensures value { IsTrue result ↔ (self.now.row ≡ rows_of self.now.layout) }
         ensures left { result ≡ false → self.now.row < rows_of self.now.layout }
     {
-        self.row == self.layout.rows()
+        self.run.row == self.run.layout.rows()
     }
 
     pub fn layout(&self) -> &Layout
         ensures { result.now ≡ self.now.layout }
     {
-        &self.layout
+        &self.run.layout
     }
 
     /// What was read so far.
@@ -81,7 +89,7 @@ impl BlockRead {
         ensures value { result.now ≡ self.now.read }
         ensures shape { IsShapedAs self.now.layout result.now }
     {
-        &self.read
+        &self.run.read
     }
 
     /// Reads the next column where its row stands. A device that is out is passed over; one whose read
@@ -97,15 +105,16 @@ impl BlockRead {
             (point_of out.new (B.disk bank.new)) }
         ensures below { (devices : ℕ) → reflow.now.to ≤ devices → out.old < 2 ^ devices → out.new < 2 ^ devices }
     {
-        let row = self.row;
-        let column = self.column;
-        let got = read_column(bank, &self.layout, reflow, row, column, out);
-        self.read.put(row, column, got);
-        if column + 1 < self.layout.columns_in(row) {
-            self.column = column + 1;
-        } else {
-            self.row = row + 1;
-            self.column = 0;
+        let run = &mut *self.run;
+        let row = run.row;
+        let column = run.column;
+        let got = read_column(bank, &run.layout, reflow, row, column, out);
+        run.read.put(row, column, got);
+        if column + 1 < run.layout.columns_in(row) {
+            run.column = column + 1;
+            return;
         }
+        run.row = row + 1;
+        run.column = 0;
     }
 }

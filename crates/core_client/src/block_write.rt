@@ -18,10 +18,15 @@ use std::alloc::{AllocError, Global};
 use std::marker::Model;
 use uberblock_ring::DeviceSet;
 
-/// A block on its way to the devices: its columns, the places that they go to, and how many of these
-/// were written or passed over.
+/// A block on its way to the devices.
 #[derive(Drop)]
 pub struct BlockWrite {
+    run: Box<WrittenSoFar>,
+}
+
+/// Its columns, the places that they go to, and how many of these were written or passed over.
+#[derive(Drop)]
+struct WrittenSoFar {
     rows: Rows,
     writes: Vec<Write>,
     next: usize,
@@ -34,12 +39,12 @@ impl Model for BlockWrite {
     ghost Value = { BlockWriteOf };
 
     ghost view = { λ run. record {
-      rows = run.rows;
-      writes = run.writes.items;
-      next = run.next;
+      rows = run.run.value.rows;
+      writes = run.run.value.writes.items;
+      next = run.run.value.next;
     } };
 
-    ghost invariant = { λ run. run.next ≤ length run.writes.items };
+    ghost invariant = { λ run. run.run.value.next ≤ length run.run.value.writes.items };
 }
 
 impl BlockWrite {
@@ -62,10 +67,13 @@ impl BlockWrite {
     {
         let rows = encode(alloc, layout, bytes)?;
         let plan = writes(alloc, layout, reflow, done)?;
-        Ok(BlockWrite {
+        let begun = WrittenSoFar {
             rows,
             writes: plan,
             next: 0,
+        };
+        Ok(BlockWrite {
+            run: Box::new(alloc, begun)?,
         })
     }
 
@@ -73,7 +81,7 @@ impl BlockWrite {
     pub fn is_done(&self) -> bool
         ensures { IsTrue result ↔ (self.now.next ≡ length self.now.writes) }
     {
-        self.next == self.writes.len()
+        self.run.next == self.run.writes.len()
     }
 
     /// Makes the next write. A device that is out is passed over; one whose write fails is out.
@@ -85,8 +93,9 @@ impl BlockWrite {
             (point_of out.new (B.disk bank.new)) }
         ensures next { self.new ≡ record self.old { next = self.old.next + 1 } }
     {
-        let write = self.writes[self.next];
-        write_column(bank, &self.rows, &write, out);
-        self.next += 1;
+        let run = &mut *self.run;
+        let write = run.writes[run.next];
+        write_column(bank, &run.rows, &write, out);
+        run.next += 1;
     }
 }

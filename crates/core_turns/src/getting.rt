@@ -164,10 +164,10 @@ impl Core {
         };
         let entry = *entry;
         let layout = layout_of(&self.uber, &entry);
+        let end = entry.start + layout.alloc_size();
         let Ok(read) = BlockRead::new(alloc, &layout) else {
             return Turn::Done(Answer::NoMemory);
         };
-        let end = entry.start + layout.alloc_size();
         let hold = match self.locks.hold_shared(entry.start, end, actor) {
             Ok(hold) => hold,
             Err(LockRefused::Busy { by }) => return Turn::Busy { by },

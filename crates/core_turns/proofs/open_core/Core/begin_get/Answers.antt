@@ -1,4 +1,8 @@
-use Rattle.std.proofs.Common.{sym, ◌∙◌, subst}
+use Rattle.std.proofs.Common.{◌≤◌, ◌*◌, sym, ◌∙◌, subst, arith, rules}
+use Rattle.std.proofs.Math.Nat.{mul-le-mul_left}
+use Rattle.row_layout.specs.Layout.{rows_of}
+use Rattle.row_layout.specs.Standing.{IsWithinLimits}
+use Rattle.row_layout.proofs.Counts.{rows_few}
 use Rattle.std.proofs.lemmas.Bool.{true≢false}
 use Rattle.core_turns.specs.declared.getting.GetRun.{GetRun}
 use Rattle.core_turns.specs.declared.getting.Solved.TheVariants.{NotYet}
@@ -36,3 +40,15 @@ returns c =
     c.in-Ok-hold_shared.hold c.in-Ok.read c.hold_shared.new.self c.self.invariant c.get.ensures.step few
     (sym c.in-Some.ensures.value) c.layout_of-layout.ensures c.alloc_size.ensures.value
     c.in-Ok-hold_shared.ensures.hold c.in-Ok.ensures c.in-Ok-hold_shared.ensures.ok c.in-Ok-hold_shared.ensures.clear)
+
+pub overflow_add-end : goal.overflow_add-end
+overflow_add-end c = record {
+  fits =
+      let layout = c.layout_of-layout.result in
+      let limits : IsWithinLimits layout = search rules in
+      let stands = c.in-Some.ensures.stands in
+      let few = c.alloc_size.ensures.few in
+      let rows : rows_of layout ≤ 128 = omega (arith, rows_few layout limits.is, limits.sectors) in
+      let parities : layout.parity * rows_of layout ≤ 3 * 128 = (let more = mul-le-mul_left layout.parity rows in omega (arith, more, limits.parity)) in
+      omega (arith, stands.start, few, limits.sectors, limits.parity, parities);
+}
