@@ -36,7 +36,7 @@ use Rattle.core_turns.proofs.PutTurns.{fills_of}
 use Rattle.schedule.specs.declared.client.Work.{Work}
 use Rattle.schedule.specs.declared.client.Work.TheVariants as work
 use Rattle.schedule.specs.Playing.{MakesRoom, taken_for}
-use Rattle.schedule.specs.Turned.{AnswersAtOnce, Waits, BeginsWork, BeginsCall, GoesOnBy, IsFilledIn, PutGoesOn, ReadGoesOn, WorkGoesOn, attach_turn, copy_turn, group_by, read_turn}
+use Rattle.schedule.specs.Turned.{AnswersAtOnce, Waits, BeginsWork, BeginsCall, GoesOnBy, IsFilledIn, PutGoesOn, WritesOn, ReadGoesOn, WorkGoesOn, attach_turn, copy_turn, group_by, read_turn}
 use Rattle.schedule.specs.Works.{made_by, made_in}
 use Rattle.schedule.proofs.LeavesPool.{pool_goes}
 use Rattle.schedule.proofs.Rooms.{taken_one}
@@ -245,3 +245,19 @@ makes_room does made before after (Done given) is more =
     let same = ap taken_for is in
     let one = taken_one (group_by given (made_by does)) in
     omega (arith, more, same, one)
+
+-- A put that is filled in goes on by its next write, or by its last turn.
+pub put_writes : (before after : CoreState) (call : ScriptCall) (run filled : PutRun) (turn : Turn PutRun) → IsFilledIn call run filled
+    → WritesOn before filled after turn → PutGoesOn before after call run turn
+put_writes before after call run filled (More next) fills on = record {
+  filled = filled;
+  fills = fills;
+  writes = ⊎_elim (λ writes. writes) (λ ends. absurd ends.1.3) on;
+}
+put_writes before after call run filled (Busy by) fills on = ⊎_elim (λ writes. writes) (λ ends. ends.1.3) on
+put_writes before after call run filled (Done given) fills on = record {
+  filled = filled;
+  fills = fills;
+  disk = ⊎_elim (λ stops. stops.1) (λ ends. ends.0) on;
+  ends = ⊎_elim (λ stops. inl stops) (λ ends. inr (inl ends.1)) on;
+}

@@ -1,4 +1,5 @@
-use Rattle.schedule.proofs.CallTurns.{filled_of, filled_under, put_gives, put_gives_goes}
+use Rattle.core_turns.specs.Core.{at_disk}
+use Rattle.schedule.proofs.CallTurns.{filled_of, filled_under, put_gives, put_gives_goes, put_writes}
 use Rattle.schedule.proofs.turning.go_on_putting.Goals as goal
 
 pub write_on-requires-clause-of : goal.write_on-requires-clause-of
@@ -18,3 +19,8 @@ returns-else-fill_in-clause-goes g c =
 pub returns-else-fill_in-clause-goes_on : goal.returns-else-fill_in-clause-goes_on
 returns-else-fill_in-clause-goes_on g c = put_gives_goes c.args.core.now c.put_give_up.new.self
     (g.B.Bank.disk c.args.bank.now) c.fill_in.new.run c.put_give_up.result c.put_give_up.ensures.gives_up
+
+pub returns-then-fill_in-clause-goes : goal.returns-then-fill_in-clause-goes
+returns-then-fill_in-clause-goes g c = put_writes (at_disk c.args.core.now (g.B.Bank.disk c.args.bank.now))
+    (at_disk c.write_on.new.core (g.B.Bank.disk c.write_on.new.bank)) c.args.call.now c.args.run c.fill_in.new.run c.write_on.result
+    (c.fill_in.ensures.fills c.if-fill_in.true) c.write_on.ensures.writes
