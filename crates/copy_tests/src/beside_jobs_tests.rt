@@ -36,10 +36,10 @@ fn a_second_job_waits_for_the_first(rt: HostRuntime) -> Result<(), Fail> {
     let alloc = rt.alloc();
     let lengths = lengths(alloc, 65, &[])?;
     let mut pool = copied_pool(alloc, lengths.as_slice(), MOVED)?;
-    let JobBegin::More(run) = pool.core.job_begin(COPIER) else {
+    let JobBegin::More(run) = pool.core.job_begin(alloc, COPIER) else {
         return Err("no job is due".into());
     };
-    let JobBegin::Busy { by } = pool.core.job_begin(CLIENT) else {
+    let JobBegin::Busy { by } = pool.core.job_begin(alloc, CLIENT) else {
         return Err("no job is in the way".into());
     };
     assert_eq!(rt; by, COPIER);
@@ -55,7 +55,7 @@ fn put_before_a_job(
     bytes: &[u8],
 ) -> Result<(), Fail> {
     let run = pool.begin_put(alloc, id, bytes)?;
-    match pool.who_is_in_the_way() {
+    match pool.who_is_in_the_way(alloc) {
         Some(CLIENT) => pool.end_put(run),
         _ => Err("the put is not in the way of a job".into()),
     }

@@ -21,7 +21,7 @@ fn a_job_is_given_up_where_a_device_fails(rt: HostRuntime) -> Result<(), Fail> {
             matches!(pool.round(alloc)?, Round::GivenUp(None)),
             "{failing}"
         );
-        let JobBegin::Done(Answer::Paused { device }) = pool.core.job_begin(COPIER) else {
+        let JobBegin::Done(Answer::Paused { device }) = pool.core.job_begin(alloc, COPIER) else {
             return Err("a job is begun while a device is out".into());
         };
         assert_eq!(rt; device, failing);
@@ -38,7 +38,7 @@ fn a_job_is_given_up_where_a_device_fails(rt: HostRuntime) -> Result<(), Fail> {
 
 /// What a job is answered that is given up behind the turn of a read with which too many devices are out.
 fn told_given_up(alloc: Global, pool: &mut PoolOnBank) -> Result<Option<Answer>, Fail> {
-    let JobBegin::More(run) = pool.core.job_begin(COPIER) else {
+    let JobBegin::More(run) = pool.core.job_begin(alloc, COPIER) else {
         return Err("no job is due".into());
     };
     pool.meet_failures(alloc, 0)?;
@@ -46,8 +46,8 @@ fn told_given_up(alloc: Global, pool: &mut PoolOnBank) -> Result<Option<Answer>,
 }
 
 /// What the next round is answered at once.
-fn told_at_once(pool: &mut PoolOnBank) -> Result<Answer, Fail> {
-    match pool.core.job_begin(COPIER) {
+fn told_at_once(alloc: Global, pool: &mut PoolOnBank) -> Result<Answer, Fail> {
+    match pool.core.job_begin(alloc, COPIER) {
         JobBegin::Done(answer) => Ok(answer),
         _ => Err("a round is not answered at once".into()),
     }
@@ -66,7 +66,7 @@ fn a_job_is_given_up_where_too_many_devices_failed(rt: HostRuntime) -> Result<()
             matches!(&told, Some(Answer::TooManyFailed { out }) if *out == both),
             "{one} and {other}"
         );
-        let told = told_at_once(&mut pool)?;
+        let told = told_at_once(alloc, &mut pool)?;
         assert!(rt;
             matches!(&told, Answer::TooManyFailed { out } if *out == both),
             "{one} and {other}"

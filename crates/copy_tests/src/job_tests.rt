@@ -8,9 +8,10 @@ use std::test::Fail;
 
 #[test]
 fn a_job_makes_one_read_and_one_write_a_sector(rt: HostRuntime) -> Result<(), Fail> {
-    let mut bank = filled_bank(&rt, rt.alloc())?;
+    let alloc = rt.alloc();
+    let mut bank = filled_bank(&rt, alloc)?;
     let written = bank.clock();
-    let Some(mut run) = begun(&rt, (at_mark(128, State::Moved), 128)) else {
+    let Some(mut run) = begun(&rt, alloc, (at_mark(128, State::Moved), 128))? else {
         return Err("no job is due".into());
     };
     assert_eq!(rt; run.job(), Job::Chunk { lo: 128, hi: 167 });
@@ -28,12 +29,13 @@ fn a_job_makes_one_read_and_one_write_a_sector(rt: HostRuntime) -> Result<(), Fa
 
 #[test]
 fn a_failed_read_leaves_nothing_to_write(rt: HostRuntime) -> Result<(), Fail> {
-    let mut bank = MemBank::new(rt.alloc(), 4, 256)?;
+    let alloc = rt.alloc();
+    let mut bank = MemBank::new(alloc, 4, 256)?;
     let (source, target) = (old_place(&rt, 128), new_place(&rt, 128));
     put(&rt, &mut bank, target, &[7; 512])?;
     bank.fail_at(&[(source.0, 0)])?;
     let written = bank.clock();
-    let Some(mut run) = begun(&rt, (at_mark(128, State::Moved), 128)) else {
+    let Some(mut run) = begun(&rt, alloc, (at_mark(128, State::Moved), 128))? else {
         return Err("no job is due".into());
     };
     let out = turn(&rt, &mut bank, &mut run);

@@ -247,10 +247,10 @@ impl PoolOnBank {
     }
 
     /// Who is in the way of the job that is due. None where nobody is; the job may have begun then.
-    pub fn who_is_in_the_way(&mut self) -> Option<u8>
+    pub fn who_is_in_the_way(&mut self, alloc: Global) -> Option<u8>
         ensures { IfSome result (λ _. self.new.core ≡ self.old.core) }
     {
-        match self.core.job_begin(COPIER) {
+        match self.core.job_begin(alloc, COPIER) {
             JobBegin::Busy { by } => Some(by),
             _ => None,
         }
@@ -258,7 +258,7 @@ impl PoolOnBank {
 
     /// A round of a copy: the job that is due, or the commit.
     pub fn round(&mut self, alloc: Global) -> Result<Round, Fail> {
-        match self.core.job_begin(COPIER) {
+        match self.core.job_begin(alloc, COPIER) {
             JobBegin::More(run) => self.end_job(run),
             JobBegin::Busy { by } => Ok(Round::Busy { by }),
             JobBegin::Done(answer) => Ok(Round::Answered(answer)),

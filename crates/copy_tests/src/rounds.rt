@@ -1,5 +1,5 @@
 // Jobs and choices of a pool on its way from three devices to four, carried out on a bank in memory.
-ghost use Rattle.std.specs.Prelude.{◌≡◌, IfSome};
+ghost use Rattle.std.specs.Prelude.{◌≡◌, IfOk, IfSome};
 ghost use Rattle.core_copy.specs.JobRun.{HoldsRead};
 
 use bank_mem::MemBank;
@@ -13,6 +13,7 @@ use reflow_copier::Job;
 use reflow_mark::{Reflow, State};
 use std::alloc::Global;
 use std::process::Abort;
+use std::test::Fail;
 use uberblock_ring::DeviceSet;
 
 /// How far a widening has come: its reflow, and its front.
@@ -30,18 +31,18 @@ pub fn at_mark(mark: u64, state: State) -> Reflow {
 }
 
 /// The job that is due, before its first call.
-pub fn begun(rt: &impl Abort, way: Way) -> Option<JobRun>
-    ensures to { IfSome result (λ run. run.reflow.to ≡ 4) }
-    ensures rows { IfSome result (λ run. run.reflow.rows ≡ 64) }
-    ensures read { IfSome result (λ run. HoldsRead run) }
+pub fn begun(rt: &impl Abort, alloc: Global, way: Way) -> Result<Option<JobRun>, Fail>
+    ensures to { IfOk result (λ due. IfSome due (λ run. run.reflow.to ≡ 4)) }
+    ensures rows { IfOk result (λ due. IfSome due (λ run. run.reflow.rows ≡ 64)) }
+    ensures read { IfOk result (λ due. IfSome due (λ run. HoldsRead run)) }
 {
     let (reflow, done) = way;
     assert!(rt; reflow.from == 3 && reflow.to == 4 && reflow.rows == 64);
     assert!(rt; reflow.is_right() && reflow.mark < 1 << 54 && done < 1 << 54);
     job_front();
     match due_job(&reflow, done) {
-        Some(job) => Some(JobRun::new(&reflow, job)),
-        None => None,
+        Some(job) => Ok(Some(JobRun::new(alloc, &reflow, job)?)),
+        None => Ok(None),
     }
 }
 
@@ -81,14 +82,14 @@ fn calls_of(rt: &impl Abort, job: &Job, reflow: &Reflow) -> u64 {
 }
 
 /// A round: the job that is due, or where none is, the choice of a commit, and the front behind it.
-pub fn round(rt: &impl Abort, alloc: Global, bank: &mut MemBank, way: Way) -> Way {
+pub fn round(rt: &impl Abort, alloc: Global, bank: &mut MemBank, way: Way) -> Result<Way, Fail> {
     let (reflow, done) = way;
-    if let Some(mut run) = begun(rt, way) {
+    if let Some(mut run) = begun(rt, alloc, way)? {
         let job = run.job();
         carry_out(rt, bank, &mut run, calls_of(rt, &job, &reflow));
-        return (reflow, job.end(&reflow));
+        return Ok((reflow, job.end(&reflow)));
     }
     assert!(rt; reflow.rows == 64);
     let chosen = choose(&reflow, done, &Locks::new(alloc));
-    (chosen, front_behind(&reflow, done, &chosen))
+    Ok((chosen, front_behind(&reflow, done, &chosen)))
 }

@@ -34,7 +34,7 @@ fn a_pool_is_widened_job_by_job(rt: HostRuntime) -> Result<(), Fail> {
         (Reflow::at_rest(4, 64), 0),
     ];
     for behind in wanted {
-        way = round(&rt, alloc, &mut bank, way);
+        way = round(&rt, alloc, &mut bank, way)?;
         assert_eq!(rt; way, behind);
         assert!(rt; is_read_whole(&rt, &mut bank, &way.0)?, "behind {behind:?}");
     }

@@ -1,5 +1,5 @@
 // A copy job that makes one device call a step, so that other calls may come between.
-ghost use Rattle.std.specs.Prelude.{◌≡◌, ◌^◌, ◌<◌, ◌≤◌, ◌↔◌, IsTrue, false};
+ghost use Rattle.std.specs.Prelude.{◌≡◌, ◌^◌, ◌<◌, ◌≤◌, ◌↔◌, IfOk, IsTrue, false};
 ghost use Rattle.core_state.specs.Committing.{point_of};
 ghost use Rattle.core_client.specs.Outs.{OnlyFailedGoOut};
 ghost use Rattle.core_client.specs.Pool.{HasPool};
@@ -11,12 +11,19 @@ use bank_trait::Bank;
 use job_copy::next_call;
 use reflow_copier::{Job, JobCall};
 use reflow_mark::Reflow;
+use std::alloc::{AllocError, Global};
 use std::marker::Model;
 use uberblock_ring::DeviceSet;
 
-/// A job under way: the device calls that it has made, and what it has read of its present sector.
+/// A job under way.
 #[derive(Drop)]
 pub struct JobRun {
+    run: Box<CopiedSoFar>,
+}
+
+/// The device calls that it has made, and what it has read of its present sector.
+#[derive(Drop)]
+struct CopiedSoFar {
     reflow: Reflow,
     job: Job,
     made: u64,
@@ -29,32 +36,35 @@ impl Model for JobRun {
     ghost Value = { JobRunOf };
 
     ghost view = { λ run. record {
-      reflow = run.reflow;
-      job = run.job;
-      made = run.made;
-      read = run.read;
+      reflow = run.run.value.reflow;
+      job = run.run.value.job;
+      made = run.run.value.made;
+      read = run.run.value.read;
     } };
 
     ghost invariant = { λ run. IsJobRun (record {
-      reflow = run.reflow;
-      job = run.job;
-      made = run.made;
-      read = run.read;
+      reflow = run.run.value.reflow;
+      job = run.run.value.job;
+      made = run.run.value.made;
+      read = run.run.value.read;
     }) };
 }
 
 impl JobRun {
     /// A job that has made no call.
-    pub fn new(reflow: &Reflow, job: Job) -> JobRun
+    pub fn new(alloc: Global, reflow: &Reflow, job: Job) -> Result<JobRun, AllocError>
         requires may_begin { JobMayBegin reflow.now job }
-        ensures value { result ≡ begun_run reflow.now job }
+        ensures value { IfOk result (λ run. run ≡ begun_run reflow.now job) }
     {
-        JobRun {
+        let begun = CopiedSoFar {
             reflow: *reflow,
             job,
             made: 0,
             read: None,
-        }
+        };
+        Ok(JobRun {
+            run: Box::new(alloc, begun)?,
+        })
     }
 
     /// The next call; none where all were made.
@@ -62,7 +72,7 @@ impl JobRun {
         ensures value { result ≡ call_behind self.now.reflow self.now.job self.now.made }
         ensures within { self.now.made ≤ call_count self.now.reflow self.now.job }
     {
-        next_call(&self.job, &self.reflow, self.made)
+        next_call(&self.run.job, &self.run.reflow, self.run.made)
     }
 
     /// Whether all calls were made.
@@ -77,7 +87,7 @@ impl JobRun {
     pub fn job(&self) -> Job
         ensures value { result ≡ self.now.job }
     {
-        self.job
+        self.run.job
     }
 
     /// Makes the next call: reads the present sector, or writes what was read of it. A device whose call
@@ -99,7 +109,8 @@ impl JobRun {
         let Some(call) = self.next() else {
             return;
         };
-        self.read = make(bank, call, self.read, out);
-        self.made += 1;
+        let run = &mut *self.run;
+        run.read = make(bank, call, run.read, out);
+        run.made += 1;
     }
 }

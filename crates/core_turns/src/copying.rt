@@ -15,7 +15,7 @@ use core_state::Answer;
 use job_copy::due_job;
 use range_locks::{Hold, LockRefused};
 use reflow_copier::Job;
-use reflow_mark::Reflow;
+use std::alloc::Global;
 
 /// A copy job under way. It holds the sectors that it copies alone.
 #[derive(Drop)]
@@ -60,8 +60,8 @@ impl CopyRun {
 
 impl Core {
     /// The first turn of a round of a copy: begins the job that is due, if one is, and holds its sectors alone. None is
-    /// begun while a device is out.
-    pub fn job_begin(&mut self, actor: u8) -> JobBegin
+    /// begun while a device is out. Where memory is short nothing is held.
+    pub fn job_begin(&mut self, alloc: Global, actor: u8) -> JobBegin
         ensures { BeginsJob self.old self.new actor result }
     {
         if self.has_too_many_out() {
@@ -80,7 +80,7 @@ impl Core {
         let Some(job) = due_job(&reflow, self.done) else {
             return JobBegin::CommitDue;
         };
-        self.hold_job(&reflow, job, actor)
+        self.hold_job(alloc, job, actor)
     }
 
     /// The next device call of a job: reads a sector, or writes it. A device whose call fails is out from then on, and
@@ -130,21 +130,21 @@ impl Core {
         None
     }
 
-    fn hold_job(&mut self, reflow: &Reflow, job: Job, actor: u8) -> JobBegin
-        requires reflow { reflow.now ≡ self.old.pool.uber.reflow }
+    fn hold_job(&mut self, alloc: Global, job: Job, actor: u8) -> JobBegin
         requires due { IsDue self.old job }
         ensures { BeginsJob self.old self.new actor result }
     {
+        let reflow = self.uber.reflow();
+        let Ok(run) = JobRun::new(alloc, &reflow, job) else {
+            return JobBegin::Done(Answer::NoMemory);
+        };
         match self
             .locks
-            .hold_exclusive(job.begin(), job.end(reflow), actor)
+            .hold_exclusive(job.begin(), job.end(&reflow), actor)
         {
             Ok(hold) => {
                 self.copying = Some(actor);
-                JobBegin::More(CopyRun {
-                    hold,
-                    job: JobRun::new(reflow, job),
-                })
+                JobBegin::More(CopyRun { hold, job: run })
             }
             Err(LockRefused::Busy { by }) => JobBegin::Busy { by },
             Err(LockRefused::NoMemory) => JobBegin::Done(Answer::NoMemory),

@@ -68,7 +68,7 @@ impl Core {
     {
         // That the core is one is known by a call of it.
         let _ = self.reflow();
-        match self.job_begin(actor) {
+        match self.job_begin(alloc, actor) {
             JobBegin::More(run) => Turn::More(CopyRound::Copies(run)),
             JobBegin::Busy { by } => Turn::Busy { by },
             JobBegin::Done(answer) => Turn::Done(answer),
