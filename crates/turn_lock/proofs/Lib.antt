@@ -1,5 +1,6 @@
 pub mod Lists
 pub mod Events
+pub mod Histories
 pub mod Families
 pub mod Takes
 pub mod Gives

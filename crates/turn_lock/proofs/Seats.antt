@@ -5,15 +5,17 @@ use mathlib.Core.List.{IsPrefix}
 use mathlib.Core.Option.{some}
 use lib.ListN.{get_elem?}
 use Rattle.std.proofs.lemmas.Bool.{cases_eq}
+use Rattle.std.proofs.lemmas.List.{set-set}
 use Rattle.std.proofs.lemmas.List.Elements.{Contains-append_left, Contains-append_right, Contains-append_cases}
 use Rattle.atomic_table.proofs.Lists.{set_here, set_else, at_set, at_longer}
 use Rattle.atomic_table.specs.Table.{Splits, Joins}
-use Rattle.turn_lock.specs.Turn.{TurnState, at_home, away, over, Rule, IsOver, FitsHistory, Family, At, IsNamedOnce, itself, parting, part_of, parts_of, kept_at_split, made_at_split, joined, spent, seen_of}
+use Rattle.turn_lock.specs.Turn.{TurnState, at_home, away, over, Rule, IsOver, FitsHistory, Family, At, IsNamedOnce, itself, seeing, parting, part_of, parts_of, kept_at_split, made_at_split, joined, spent, seen_of, longer}
 use Rattle.turn_lock.specs.declared.view.Event.{Event}
 use Rattle.turn_lock.specs.declared.view.Member.{Member}
 use Rattle.turn_lock.specs.declared.view.View.{View}
 use Rattle.turn_lock.proofs.Lists.{there, not_both, none_listed, listed_cases, listed_first, listed_later, at_end, one_there}
 use Rattle.turn_lock.proofs.Events.{none_by}
+use Rattle.turn_lock.proofs.Histories.{fits_longer, longer_whole}
 use Rattle.turn_lock.proofs.Families.{family_set, family_push}
 
 module _ {E : Type 0} where
@@ -99,9 +101,13 @@ module _ {E : Type 0} where
           (λ other. fresh views h family id v at m rest live i n (n_is.0, other.1, n_is.2) named)
           (at_set views id i (kept_at_split v) n_is.0 n_is.1)
 
-  pub family_join : (views : List (View E)) (h : List (Event E)) → Family views h → (id other : ℕ) (v w : View E) → get_elem? views id ≡ some v
-      → get_elem? views other ≡ some w → other ≢ id → Family (slice_set (slice_set views id (joined v w)) other spent) h
-  family_join views h family id other v w v_is w_is ne = record {
+  -- another's members behind a seat's own
+  abbrev beside : View E → View E → View E
+  beside v w = record v { members = v.members ++ w.members }
+
+  family_beside : (views : List (View E)) (h : List (Event E)) → Family views h → (id other : ℕ) (v w : View E) → get_elem? views id ≡ some v
+      → get_elem? views other ≡ some w → other ≢ id → Family (slice_set (slice_set views id (beside v w)) other spent) h
+  family_beside views h family id other v w v_is w_is ne = record {
     fits = λ i n n_is. let was = from i n n_is in family.fits was.0 n was.1;
     apart = λ i j n u n_is u_is same. let a = from i n n_is in let b = from j u u_is in
         let same_place : a.0 ≡ b.0 = family.apart a.0 b.0 n u a.1 b.1 same in
@@ -111,7 +117,7 @@ module _ {E : Type 0} where
         (λ far. ⊎_elim
         (λ mine. absurd (⊎_elim (λ at_id. far.1 (same_place ∙ at_id)) (λ at_other. far.2 (same_place ∙ at_other)) mine.1))
         (λ also. far.0 ∙ same_place ∙ sym also.0) b.2) a.2;
-    once = λ i u u_is. once i u (at_set (slice_set views id (joined v w)) other i spent u u_is);
+    once = λ i u u_is. once i u (at_set (slice_set views id (beside v w)) other i spent u u_is);
     known = λ e listed. let who = family.known e listed in let still = to who.0 who.1 who.2 in (still.0, who.1, still.1, who.3);
     makers = λ i n n_is k name named. let was = from i n n_is in let who = family.makers was.0 n was.1 k name named in
         let still = to who.0 who.1 who.2 in (still.0, who.1, still.1, who.3, who.4);
@@ -121,7 +127,7 @@ module _ {E : Type 0} where
       Place i n = (a : ℕ) × At views a n × (((i ≡ id) × ((a ≡ id) ⊎ (a ≡ other))) ⊎ ((i ≡ a) × (a ≢ id) × (a ≢ other)))
 
       now : List (View E)
-      now = slice_set (slice_set views id (joined v w)) other spent
+      now = slice_set (slice_set views id (beside v w)) other spent
 
       from : (i : ℕ) (n : Member E) → At now i n → Place i n
       from i n n_is = ⊎_elim
@@ -132,20 +138,20 @@ module _ {E : Type 0} where
           (λ its. (other, (w, w_is, its), inl (here.0, inr refl)))
           (Contains-append_cases v.members w.members n (subst (λ (x : View E). Contains x.members n) (sym here.1) n_is.2)))
           (λ still. (i, (n_is.0, still.1, n_is.2), inr (refl, still.0, before.0)))
-          (at_set views id i (joined v w) n_is.0 before.1))
-          (at_set (slice_set views id (joined v w)) other i spent n_is.0 n_is.1)
+          (at_set views id i (beside v w) n_is.0 before.1))
+          (at_set (slice_set views id (beside v w)) other i spent n_is.0 n_is.1)
 
-      both_is : get_elem? now id ≡ some (joined v w)
-      both_is = set_else (slice_set views id (joined v w)) other id spent (λ e. ne (sym e)) ∙ set_here views id (joined v w) (there views id v v_is)
+      both_is : get_elem? now id ≡ some (beside v w)
+      both_is = set_else (slice_set views id (beside v w)) other id spent (λ e. ne (sym e)) ∙ set_here views id (beside v w) (there views id v v_is)
 
       to : (i : ℕ) (m : Member E) → At views i m → (j : ℕ) × At now j m
       to i m m_is = ⊎_elim
           (λ here. let is_v : m_is.0 ≡ v = one_there views id m_is.0 v (ap (get_elem? views) (sym here) ∙ m_is.1) v_is in
-          (id, (joined v w, both_is, Contains-append_left v.members w.members m (subst (λ (x : View E). Contains x.members m) is_v m_is.2))))
+          (id, (beside v w, both_is, Contains-append_left v.members w.members m (subst (λ (x : View E). Contains x.members m) is_v m_is.2))))
           (λ not_id. ⊎_elim
           (λ there_is. let is_w : m_is.0 ≡ w = one_there views other m_is.0 w (ap (get_elem? views) (sym there_is) ∙ m_is.1) w_is in
-          (id, (joined v w, both_is, Contains-append_right v.members w.members m (subst (λ (x : View E). Contains x.members m) is_w m_is.2))))
-          (λ not_other. (i, (m_is.0, set_else (slice_set views id (joined v w)) other i spent not_other ∙ set_else views id i (joined v w) not_id ∙ m_is.1, m_is.2)))
+          (id, (beside v w, both_is, Contains-append_right v.members w.members m (subst (λ (x : View E). Contains x.members m) is_w m_is.2))))
+          (λ not_other. (i, (m_is.0, set_else (slice_set views id (beside v w)) other i spent not_other ∙ set_else views id i (beside v w) not_id ∙ m_is.1, m_is.2)))
           (cases_eq i other))
           (cases_eq i id)
 
@@ -155,13 +161,47 @@ module _ {E : Type 0} where
       once_both (m ∷ ms) ns mine its apart = λ n listed same. ⊎_elim
           (λ old. mine n old same) (λ new. apart m n (listed_first m ms) new same) (Contains-append_cases ms ns n listed)
 
-      once : (i : ℕ) (u : View E) → ((i ≡ other) × (spent ≡ u)) ⊎ ((i ≢ other) × (get_elem? (slice_set views id (joined v w)) i ≡ some u)) → IsNamedOnce u.members
+      once : (i : ℕ) (u : View E) → ((i ≡ other) × (spent ≡ u)) ⊎ ((i ≢ other) × (get_elem? (slice_set views id (beside v w)) i ≡ some u)) → IsNamedOnce u.members
       once i u (inl gone) = subst (λ (x : View E). IsNamedOnce x.members) gone.1 tt
       once i u (inr before) = ⊎_elim
           (λ here. subst (λ (x : View E). IsNamedOnce x.members) here.1
           (once_both v.members w.members (family.once id v v_is) (family.once other w w_is)
           (λ m n his its same. ne (family.apart other id n m (w, w_is, its) (v, v_is, his) same))))
-          (λ still. family.once i u still.1) (at_set views id i (joined v w) u before.1)
+          (λ still. family.once i u still.1) (at_set views id i (beside v w) u before.1)
+
+  -- what a seat saw that stands behind another is a beginning of the history
+  seen_begins : (views : List (View E)) (h : List (Event E)) → Family views h → (i : ℕ) (w : View E) → get_elem? views i ≡ some w
+      → IsPrefix (seen_of w.members) h
+  seen_begins views h family i w at = by_first w.members (λ m listed. (family.fits i m (w, at, listed)).0)
+    where
+      by_first : (ms : List (Member E)) → ((m : Member E) → Contains ms m → IsPrefix m.seen h) → IsPrefix (seen_of ms) h
+      by_first [] begins = (h, refl)
+      by_first (m ∷ ms) begins = begins m (listed_first m ms)
+
+  pub family_join : (views : List (View E)) (h : List (Event E)) → Family views h → (id other : ℕ) (v w : View E) → get_elem? views id ≡ some v
+      → get_elem? views other ≡ some w → other ≢ id → Family (slice_set (slice_set views id (joined v w)) other spent) h
+  family_join views h family id other v w v_is w_is ne =
+      subst (λ (l : List (View E)). Family (slice_set l other spent) h) (set-set views id now (joined v w))
+      (family_beside (slice_set views id now) h seen id other now w (set_here views id now (there views id v v_is))
+      (set_else views id other now ne ∙ w_is) ne)
+    where
+      sight : List (Event E)
+      sight = longer (seen_of v.members) (seen_of w.members)
+
+      now : View E
+      now = record v { members = itself (seeing sight) v.members }
+
+      fits : (n : Member E) (ns : List (Member E)) → v.members ≡ n ∷ ns → FitsHistory h (seeing sight n)
+      fits n ns named = subst (λ (l : List (Event E)). FitsHistory h (seeing (longer l (seen_of w.members)) n)) (sym (ap seen_of named))
+          (fits_longer h n (seen_of w.members)
+          (family.fits id n (v, v_is, subst (λ (l : List (Member E)). Contains l n) (sym named) (listed_first n ns)))
+          (seen_begins views h family other w w_is))
+
+      seen : Family (slice_set views id now) h
+      seen = family_set views h h family id v now v_is (seeing sight) (λ m. refl) (λ m. omega arith) refl
+          (λ i n differ n_is. family.fits i n n_is) fits
+          (λ n ns named u listed. family.fits id u (v, v_is, subst (λ (l : List (Member E)). Contains l u) (sym named) (listed_later n ns u listed)))
+          (λ e listed. inl listed)
 
 module _ {T E : Type 0} (stood : T → List (Event E) → Type 0) where
   pub split_any : (id : ℕ) (v : View E) (m : Member E) (rest : List (Member E)) → v.members ≡ m ∷ rest → v.holds ≡ false
@@ -230,15 +270,17 @@ module _ {T E : Type 0} (stood : T → List (Event E) → Type 0) where
       views : List (View E)
       views = slice_set (slice_set s.views id (joined v w)) other spent
 
-      seen_still : seen_of (v.members ++ w.members) ≡ seen_of v.members
-      seen_still = ap (λ (l : List (Member E)). seen_of (l ++ w.members)) live ∙ sym (ap seen_of live)
+      seen_still : seen_of v.members ≡ rule.history → seen_of (itself (seeing (longer (seen_of v.members) (seen_of w.members))) v.members ++ w.members) ≡ rule.history
+      seen_still seen = ap (λ (l : List (Member E)). seen_of (itself (seeing (longer (seen_of v.members) (seen_of w.members))) l ++ w.members)) live
+          ∙ ap (λ (l : List (Event E)). longer l (seen_of w.members)) seen
+          ∙ longer_whole rule.history (seen_of w.members) (seen_begins s.views rule.history rule.family other w w_is)
 
       last : (i : ℕ) (u : View E) → get_elem? views i ≡ some u → u.ended ≡ true → IsOver stood (record { words = s.words; homes = s.homes; views = views }) rule.history u
       last i u is ended = ⊎_elim
           (λ gone. absurd (not_both u.ended (sym (ap (λ (x : View E). x.ended) gone.1)) ended))
           (λ before. ⊎_elim
           (λ here. let was = rule.last id v v_is (ap (λ (x : View E). x.ended) here.1 ∙ ended) in
-          (was.0, was.1, was.2, was.3, sym (ap (λ (x : View E). seen_of x.members) here.1) ∙ seen_still ∙ was.4))
+          (was.0, was.1, was.2, was.3, sym (ap (λ (x : View E). seen_of x.members) here.1) ∙ seen_still was.4))
           (λ still. rule.last i u still.1 ended) (at_set s.views id i (joined v w) u before.1))
           (at_set (slice_set s.views id (joined v w)) other i spent u is)
 

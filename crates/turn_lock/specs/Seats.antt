@@ -1,8 +1,8 @@
 -- What callers see of a lock and of a seat.
-use Rattle.std.specs.Prelude.{◌≡◌, ℕ, ◌<◌, ◌≤◌, ◌^◌, List, [], ◌∷◌, ◌++◌, length, Bool, true, false, Option, None}
+use Rattle.std.specs.Prelude.{◌≡◌, ℕ, ◌<◌, ◌≤◌, ◌^◌, List, [], ◌∷◌, ◌++◌, length, Bool, true, false, Option, None, Contains}
 use Rattle.atomic_table.specs.Seated.{TableId}
 use Rattle.atomic_table.specs.Table.{Me}
-use Rattle.turn_lock.specs.Turn.{KnowsHistory, IsLive, entries, seen_of, seeing, telling, parting, part_of}
+use Rattle.turn_lock.specs.Turn.{KnowsHistory, AreAll, IsLive, entries, seen_of, seeing, telling, parting, part_of, longer}
 use Rattle.turn_lock.specs.declared.view.Event.{Event}
 use Rattle.turn_lock.specs.declared.view.Member.{Member}
 use Rattle.turn_lock.specs.declared.view.View.{View}
@@ -70,21 +70,28 @@ module _ {E : Type 0} where
   abbrev pub split_from : Sitting E → Sitting E
   split_from seat = record { lock = seat.lock; me = part_of seat.me; joined = []; holds = false }
 
-  -- another was joined into this seat
+  -- another was joined into this seat, which has seen what either had
   abbrev pub with_joined : Sitting E → Sitting E → Sitting E
-  with_joined seat other = record seat { joined = seat.joined ++ everyone other }
+  with_joined seat other = record seat {
+    me = seeing (longer seat.me.seen other.me.seen) seat.me;
+    joined = seat.joined ++ everyone other;
+  }
 
 module _ {S E : Type 0} where
-  -- A seat of the table holds nothing while it is free, and the empty slot while it holds the turn.
+  -- A seat of the table holds nothing while it is free, and the empty slot while it holds the turn. No seat that was
+  -- joined into it has seen more.
   pub record IsSeat (me : Me (Option S) (View E)) (events : ℕ) : Type 0 where
     pub live : IsLive me.0
     pub count : events ≡ length (seen_of me.0.members)
+    pub most : (n : Member E) → Contains me.0.members n → length n.seen ≤ length (seen_of me.0.members)
     pub room : length (seen_of me.0.members) ≤ 2 ^ 62
     pub free : me.0.holds ≡ false → me.1 ≡ []
     pub held : me.0.holds ≡ true → (me.1 ≡ (0, None) ∷ []) × (length (seen_of me.0.members) < 2 ^ 62)
 
--- At the end the state stands for one history, which the seat and all that were joined into it know.
+-- At the end the state stands for one history, which the seat and all that were joined into it know. Once these are all
+-- seats, it is what the seat had seen.
 pub record Ended {S K E : Type 0} (stands : K → List E → S → Type 0) (base : K) (seat : Sitting E) (state : S) : Type 0 where
   pub history : List (Event E)
   pub stands_for : stands base (entries history) state
   pub knows : KnowsHistory history (everyone seat)
+  pub whole : AreAll (everyone seat) → seat.me.seen ≡ history

@@ -1,5 +1,5 @@
 -- The turn lock: one word, one slot, and what each seat knows of one history.
-use Rattle.std.specs.Prelude.{◌≡◌, ◌≢◌, ℕ, ◌+◌, ◌*◌, ◌^◌, ◌<◌, ◌≤◌, ◌==◌, ◌&&◌, List, [], ◌∷◌, ◌++◌, length, map, slice_index, Bool, true, false, Option, Some, None, Contains, ⊤, if◌then◌else◌}
+use Rattle.std.specs.Prelude.{◌≡◌, ◌≢◌, ℕ, ◌+◌, ◌*◌, ◌^◌, ◌<◌, ◌≤◌, ◌==◌, ◌&&◌, List, [], ◌∷◌, ◌++◌, length, map, slice_index, Bool, true, false, Option, Some, None, Contains, ⊤, nat_lt, if◌then◌else◌}
 use mathlib.Core.List.{IsPrefix}
 use mathlib.Core.Option.{none, some}
 use lib.ListN.{get_elem?}
@@ -93,9 +93,15 @@ module _ {E : Type 0} where
   abbrev pub made_at_split : View E → View E
   made_at_split v = record { members = parts_of v.members; holds = false; ended = false }
 
-  -- a seat with another joined into it
+  -- the longer of two histories
+  abbrev pub longer : List (Event E) → List (Event E) → List (Event E)
+  longer one other = if nat_lt (length one) (length other) then other else one
+
+  -- a seat with another joined into it: it has seen what either had
   abbrev pub joined : View E → View E → View E
-  joined v w = record v { members = v.members ++ w.members }
+  joined v w = record v {
+    members = itself (seeing (longer (seen_of v.members) (seen_of w.members))) v.members ++ w.members;
+  }
 
   -- what is left of a seat that was joined into another
   abbrev pub spent : View E

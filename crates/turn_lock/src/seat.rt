@@ -1,7 +1,8 @@
 // A thread's place at a lock.
-ghost use Rattle.std.specs.Prelude.{◌≡◌, [], false, length};
+ghost use Rattle.std.specs.Prelude.{◌≡◌, ◌≤◌, ◌^◌, [], false, length, Contains};
 ghost use Rattle.turn_lock.specs.Seats.{sitting};
-ghost use Rattle.turn_lock.specs.Turn.{IsLive};
+ghost use Rattle.turn_lock.specs.Turn.{IsLive, seen_of};
+ghost use Rattle.turn_lock.specs.declared.view.Member.{Member};
 
 use crate::view::View;
 use std::marker::{Model, PhantomData};
@@ -35,6 +36,9 @@ impl<S, E: Drop> Seat<S, E> {
     pub(crate) fn into_inner(self) -> atomic_table::Seat<Option<S>, View<E>>
         ensures seat { sitting result.table_id result.me.0 ≡ self }
         ensures live { IsLive result.me.0 }
+        ensures most { (n : Member E) → Contains result.me.0.members n
+            → length n.seen ≤ length (seen_of result.me.0.members) }
+        ensures room { length (seen_of result.me.0.members) ≤ 2 ^ 62 }
         ensures free { result.me.0.holds ≡ false → result.me.1 ≡ [] }
     {
         let Seat { seat, events: _ } = self;
@@ -49,6 +53,7 @@ impl<S, E: Drop> Drop for Seat<S, E> {
 }
 
 /// The state, lent for a turn. It is no `Drop`: only `give` and `give_back` of the lock take it.
+/// It is moved out of the lock and back into it, so a large state is best kept behind a `Box`.
 pub struct Held<S> {
     pub state: S,
     pub(crate) of: PhantomData<S>,

@@ -1,4 +1,4 @@
-// The worked row, and two threads that take turns.
+// The worked row, a seat that is joined, and two threads that take turns.
 ghost use Rattle.std.specs.Prelude.{◌≡◌, false, IfSome, length};
 ghost use Rattle.std.specs.Thread.{IsSync};
 
@@ -67,6 +67,24 @@ fn the_word_counts_turns(rt: HostRuntime) -> Result<(), Fail> {
     turns.join(&mut seat, second);
     let tally = turns.close(&rt, seat);
     assert!(&rt; tally.count == 1);
+    Ok(())
+}
+
+#[test]
+fn a_seat_has_seen_what_one_that_was_joined_had(rt: HostRuntime) -> Result<(), Fail> {
+    let Ok((turns, mut seat)) = Turns::<Tally, (), u8>::new(rt.alloc(), Tally { count: 0 }, &())
+    else {
+        panic!(&rt; "no memory")
+    };
+    let second = turns.split(&mut seat);
+    let Some(second) = count_up(&rt, &turns, second, 3) else {
+        panic!(&rt; "spent")
+    };
+    assert!(&rt; seat.events() == 0 && second.events() == 3);
+    turns.join(&mut seat, second);
+    assert!(&rt; seat.events() == 3);
+    let tally = turns.close(&rt, seat);
+    assert!(&rt; tally.count == 3);
     Ok(())
 }
 

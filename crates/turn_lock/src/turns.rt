@@ -114,13 +114,15 @@ impl<S: Stood<K, E>, K, E: Drop> Turns<S, K, E> {
         }
     }
 
-    /// Takes in a seat, whose name and entries are kept.
+    /// Takes in a seat, whose name and entries are kept. Then this one has seen what either had.
     pub fn join(&self, seat: &mut Seat<S, E>, other: Seat<S, E>)
         requires lock { (seat.old.lock ≡ self.now.id) × (other.lock ≡ self.now.id) }
         requires free { (seat.old.holds ≡ false) × (other.holds ≡ false) }
         ensures joined { seat.new ≡ with_joined seat.old other }
     {
+        let events = seat.events.max(other.events());
         join(&self.table.shared, &mut seat.seat, other.into_inner());
+        seat.events = events;
     }
 
     /// Waits for the turn, ends all turns, and gives the state.
