@@ -1,9 +1,10 @@
 -- A run finds no space for a put only where its blocks are many, while the journal grows.
-use Rattle.std.proofs.Common.{[], ◌≡◌, inl, inr, ℕ, ◌-◌, ◌≤◌, List, ◌∷◌, ◌++◌, length, refl, sym, ◌∙◌, ap, subst, arith, if◌then◌else◌}
-use Rattle.std.specs.Prelude.{◌==◌}
+use Rattle.std.proofs.Common.{[], ◌≡◌, inl, inr, ℕ, ◌-◌, ◌≤◌, List, ◌∷◌, ◌++◌, length, refl, sym, ◌∙◌, ap, subst, arith, if◌then◌else◌, Bool, true, false}
+use Rattle.std.specs.Prelude.{◌==◌, nat_le, take}
+use Rattle.std.proofs.lemmas.Bool.Decides.{nat_tests}
 use Rattle.std.proofs.lemmas.List.{take-append-le}
 use Rattle.width_map.specs.declared.birth.Birth.{Birth}
-use Rattle.width_map.specs.Births.{births_after, first_width, width_of_birth}
+use Rattle.width_map.specs.Births.{births_after, first_width, width_from, width_of_birth, NoneAbove}
 use Rattle.block_record.specs.declared.entry.IndexEntry.{IndexEntry}
 use Rattle.uberblock_ring.specs.Uberblock.{Uber}
 use Rattle.uberblock_ring.specs.Valid.{IsBirthsOf, IsRightUber}
@@ -14,10 +15,11 @@ use Rattle.core_state.specs.declared.item.Item.{Item}
 use Rattle.core_state.specs.declared.item.Item.TheVariants.{Group, Call}
 use Rattle.core_state.specs.Legal.{CallAt}
 use Rattle.core_blocks.specs.Puts.{sectors_taken}
+use Rattle.core_blocks.specs.Usage.{size_at}
 use Rattle.core_blocks.proofs.Sizes.{size_shrinks}
 use Rattle.core_open.proofs.BlockSpans.{births_between}
 use Rattle.client_script.specs.Script.{Script, handed_by}
-use Rattle.journal_law.specs.NoSpace.{births_told, largest_size, width_told, FindsNoSpace, NoSpaceIsCaused}
+use Rattle.journal_law.specs.NoSpace.{births_told, has_ended, largest_size, width_told, FindsNoSpace, IsBornBehind, NoSpaceIsCaused}
 use Rattle.journal_law.proofs.Grown.{new_or_before, group_before_grown}
 
 -- No width is below the first one,
@@ -40,6 +42,24 @@ pub largest : (uber : Uber) (len birth : ℕ) → IsRightUber uber
 largest uber len birth right = size_shrinks uber.parity (first_width uber.births) (width_of_birth uber.births birth) len
     (let wide = right.births.wide in omega (arith, wide))
     (first_least uber.births uber.parity uber.reflow.from uber.group birth right.births)
+
+-- Where no birth is later than a group, each later group has its width,
+width_later : (births : List Birth) (width group later : ℕ) → NoneAbove group births → group ≤ later
+    → width_from width births later ≡ width_from width births group
+width_later [] width group later none after = refl
+width_later (entry ∷ births) width group later none after =
+    ap (λ (width : ℕ). width_from width births later) same
+    ∙ width_later births (if nat_le entry.group group then entry.width else width) group later none.1 after
+  where
+    same : (if nat_le entry.group later then entry.width else width)
+        ≡ (if nat_le entry.group group then entry.width else width)
+    same = let low = none.0 in grind (arith, nat_tests, low, after)
+
+-- so that a block takes as many sectors.
+pub taken_later : (births : List Birth) (parity len group later : ℕ) → NoneAbove group births → group ≤ later
+    → sectors_taken parity births len later ≡ sectors_taken parity births len group
+taken_later births parity len group later none after =
+    ap (λ (width : ℕ). size_at parity width len) (width_later births 0 group later none after)
 
 -- ---- what a journal tells of a pool's widths
 
@@ -73,6 +93,22 @@ births_told_group births from (Call first ∷ items) group = births_told_group b
 births_told_group births from (Group first ∷ items) group =
     births_told_group (if first.from == from then births else births_after births first.group) first.from items group
 
+-- Whether an expansion has just ended is told by the last group alone.
+pub has_ended_call : (ended : Bool) (from : ℕ) (items : List Item) (entry : Entry)
+    → has_ended ended from (items ++ Call entry ∷ []) ≡ has_ended ended from items
+has_ended_call ended from [] entry = refl
+has_ended_call ended from (Call first ∷ items) entry = has_ended_call ended from items entry
+has_ended_call ended from (Group first ∷ items) entry =
+    has_ended_call (if first.from == from then false else true) first.from items entry
+
+pub has_ended_group : (ended : Bool) (from : ℕ) (items : List Item) (group : GroupItem)
+    → has_ended ended from (items ++ Group group ∷ [])
+    ≡ (if group.from == width_told from items then false else true)
+has_ended_group ended from [] group = refl
+has_ended_group ended from (Call first ∷ items) group = has_ended_group ended from items group
+has_ended_group ended from (Group first ∷ items) group =
+    has_ended_group (if first.from == from then false else true) first.from items group
+
 -- ---- causes in a journal that grows
 
 -- A cause in the items before an index is one in the grown journal.
@@ -83,13 +119,15 @@ finds_grown script uber entries items more index entry size within finds = recor
   group = finds.group;
   before = group_before_grown items more index finds.group within finds.before;
   born = finds.born;
-  late = finds.late;
+  behind = subst (λ (told : List Item). IsBornBehind uber told finds.group finds.born) same finds.behind;
   size_is = finds.size_is ∙ ap (λ (told : List Item).
       sectors_taken uber.parity (births_told uber.births uber.reflow.from told)
-      (length (handed_by script entry.caller entry.call)) finds.born)
-      (sym (take-append-le index items more within));
+      (length (handed_by script entry.caller entry.call)) finds.born) same;
   tight = finds.tight;
 }
+  where
+    same : take index items ≡ take index (items ++ more)
+    same = sym (take-append-le index items more within)
 
 module _ (script : Script) (uber : Uber) (entries : List IndexEntry) (items : List Item)
     (caused : NoSpaceIsCaused script uber entries items) where
@@ -152,7 +190,7 @@ no_space_alike script one other entries others items parity births reflow same c
         group = found.group;
         before = found.before;
         born = found.born;
-        late = found.late;
+        behind = found.behind;
         size_is = found.size_is;
         tight = found.tight;
       };

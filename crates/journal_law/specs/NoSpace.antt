@@ -1,6 +1,6 @@
 -- Why a run finds no space for a put: by the sizes of the blocks that there were at its opening, and of those that
 -- its script puts.
-use Rattle.std.specs.Prelude.{[], ◌≡◌, ◌⊎◌, ◌==◌, ℕ, ◌+◌, List, ◌∷◌, ◌++◌, length, map, flat_map, take, if◌then◌else◌}
+use Rattle.std.specs.Prelude.{[], ◌≡◌, ◌⊎◌, ◌==◌, ℕ, ◌+◌, List, ◌∷◌, ◌++◌, length, map, flat_map, take, if◌then◌else◌, Bool, true, false}
 use Rattle.width_map.specs.declared.birth.Birth.{Birth}
 use Rattle.width_map.specs.Births.{births_after, first_width}
 use Rattle.reflow_mark.specs.Reflow.{sectors_of}
@@ -52,15 +52,27 @@ births_told births from (Call entry ∷ items) = births_told births from items
 births_told births from (Group group ∷ items) =
     births_told (if group.from == from then births else births_after births group.group) group.from items
 
--- Why a put finds no run of so many free sectors: its bytes take so many where they are born in the group after the
--- last one before this index, or in the one after that while its commit is under way, by the births that the groups
--- before this index leave; and the blocks at the opening and those that the script puts could leave none.
+-- whether the last group that a journal has told of ended an expansion: it has another width than the one before it
+abbrev pub has_ended : Bool → ℕ → List Item → Bool
+has_ended ended from [] = ended
+has_ended ended from (Call entry ∷ items) = has_ended ended from items
+has_ended ended from (Group group ∷ items) = has_ended (if group.from == from then false else true) group.from items
+
+-- What is put behind these items is born in the group after the last one, this. Behind one that ended an expansion it may
+-- be one later, while the next group's commit is under way: only then has that another width.
+abbrev pub IsBornBehind : Uber → List Item → GroupItem → ℕ → Type 0
+IsBornBehind uber items group born = (born ≡ group.group + 1)
+    ⊎ ((born ≡ group.group + 2) × (has_ended false uber.reflow.from items ≡ true))
+
+-- Why a put finds no run of so many free sectors: its bytes take so many in the group in which they would be born, by the
+-- births that the groups before this index leave; and the blocks at the opening and those that the script puts could
+-- leave none.
 pub record FindsNoSpace (script : Script) (uber : Uber) (entries : List IndexEntry) (items : List Item) (index : ℕ)
     (entry : Entry) (size : ℕ) : Type 0 where
   pub group : GroupItem
   pub before : IsGroupBefore items index group
   pub born : ℕ
-  pub late : (born ≡ group.group + 1) ⊎ (born ≡ group.group + 2)
+  pub behind : IsBornBehind uber (take index items) group born
   pub size_is : size ≡ sectors_taken uber.parity (births_told uber.births uber.reflow.from (take index items))
       (length (handed_by script entry.caller entry.call)) born
   pub tight : IsTightFor uber entries script.calls size

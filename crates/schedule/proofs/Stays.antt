@@ -1,13 +1,14 @@
 -- What a turn leaves of a pool's uberblock: a commit that is answered may widen the data rows, and adds a birth then.
-use Rattle.std.proofs.Common.{◌≡◌, ⊎_elim, ℕ, ◌≤◌, ◌==◌, if◌then◌else◌, Bool, true, false, List, [], ◌∷◌, refl, sym, ◌∙◌, ap, arith}
+use Rattle.std.proofs.Common.{◌≡◌, ⊎_elim, ℕ, ◌+◌, ◌≤◌, ◌==◌, if◌then◌else◌, Bool, true, false, List, [], ◌∷◌, ◌++◌, refl, sym, subst, ◌∙◌, ap, arith}
 use Rattle.width_map.specs.declared.birth.Birth.{Birth}
-use Rattle.width_map.specs.Births.{IsGrowing, births_after, first_width}
+use Rattle.width_map.specs.Births.{IsGrowing, NoneAbove, births_after, first_width, last_width}
 use Rattle.reflow_mark.specs.declared.reflow.Reflow.{Reflow}
 use Rattle.mark_choice.specs.CommitChoice.{IsWiderByOne, births_of_commit}
 use Rattle.mark_advance.specs.Behind.{KeepsOrEnds}
 use Rattle.uberblock_ring.specs.Uberblock.{Uber}
 use Rattle.core_commit.specs.CommitTurns.{CommitRun}
 use Rattle.core_commit.proofs.Stepping.{ready_keeps}
+use Rattle.core_open.proofs.Renewing.{none_above_more}
 use Rattle.open_pool.proofs.NewBirth.{births_kept, rows_of}
 use Rattle.core_turns.specs.Core.{Core, CoreState, IsCore}
 use Rattle.core_turns.specs.Committing.{AnswersGroup, IsCommitOf}
@@ -46,6 +47,27 @@ pub same_births : (old new : Core) → Stays old new → new.pool.uber.group ≡
     → new.pool.uber.births ≡ old.pool.uber.births
 same_births old new stays group = stays.births
     ∙ births_kept old.pool.uber.reflow new.pool.uber.reflow old.pool.uber.births new.pool.uber.group (stays.same group)
+
+-- Births that are none later than two groups on are none later behind a turn.
+pub latest_births : (old new : Core) → Stays old new → NoneAbove (old.pool.uber.group + 2) old.pool.uber.births
+    → NoneAbove (new.pool.uber.group + 2) new.pool.uber.births
+latest_births old new stays none = subst (NoneAbove (new.pool.uber.group + 2)) (sym stays.births)
+    (by (new.pool.uber.reflow.from == old.pool.uber.reflow.from))
+  where
+    still : NoneAbove (new.pool.uber.group + 2) old.pool.uber.births
+    still = none_above_more (old.pool.uber.group + 2) (new.pool.uber.group + 2) old.pool.uber.births
+        (let more = stays.group in omega (arith, more)) none
+
+    added : (births : List Birth) (width : ℕ) → NoneAbove (new.pool.uber.group + 2) births
+        → NoneAbove (new.pool.uber.group + 2)
+        (births ++ record { group = new.pool.uber.group + 2; width = width } ∷ [])
+    added [] width all = (omega arith, tt)
+    added (birth ∷ births) width all = (all.0, added births width all.1)
+
+    by : (same : Bool) → NoneAbove (new.pool.uber.group + 2)
+        (if same then old.pool.uber.births else births_after old.pool.uber.births new.pool.uber.group)
+    by true = still
+    by false = added old.pool.uber.births (last_width old.pool.uber.births + 1) still
 
 -- The pool is still that of its opening.
 pub opened_stays : (uber : Uber) (old new : Core) → Stays old new → IsOpenSince uber old → IsOpenSince uber new

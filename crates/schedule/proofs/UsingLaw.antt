@@ -1,10 +1,11 @@
 -- A put finds no space only where the blocks and the puts of the script are many, turn by turn.
-use Rattle.std.proofs.Common.{◌≡◌, ◌⊎◌, inl, inr, ℕ, ◌+◌, ◌-◌, ◌*◌, ◌≤◌, ◌==◌, if◌then◌else◌, List, [], ◌∷◌, ◌++◌, length, Option, Some, None, refl, sym, ◌∙◌, ap, subst, arith}
+use Rattle.std.proofs.Common.{◌≡◌, ◌⊎◌, inl, inr, ℕ, ◌+◌, ◌-◌, ◌*◌, ◌≤◌, ◌==◌, if◌then◌else◌, Bool, true, false, List, [], ◌∷◌, ◌++◌, length, Option, Some, None, refl, sym, ◌∙◌, ap, subst, arith}
 use Rattle.std.specs.Prelude.{option_map, slice_get, take, unwrap_or}
 use Rattle.std.proofs.Math.Nat.{mul-le-mul_left}
+use Rattle.std.proofs.lemmas.Bool.Decides.{nat_tests}
 use Rattle.std.proofs.lemmas.List.{take_all}
 use Rattle.space_alloc.specs.Space.{Run, Gains, HasNoFreeRun}
-use Rattle.width_map.specs.Births.{births_after}
+use Rattle.width_map.specs.Births.{births_after, NoneAbove}
 use Rattle.block_record.specs.declared.entry.IndexEntry.{IndexEntry}
 use Rattle.uberblock_ring.specs.Uberblock.{Uber}
 use Rattle.core_state.specs.declared.answer.Answer.{Answer}
@@ -13,9 +14,11 @@ use Rattle.core_state.specs.declared.answer.Kind.{Kind}
 use Rattle.core_state.specs.declared.answer.Kind.TheVariants as kind
 use Rattle.core_state.specs.declared.item.Entry.{Entry}
 use Rattle.core_state.specs.declared.item.Group.{Group as GroupItem}
+use Rattle.core_state.specs.declared.item.Item.{Item}
 use Rattle.core_state.specs.declared.item.Item.TheVariants.{Group, Call as CallItem}
 use Rattle.core_blocks.specs.Puts.{sectors_taken}
 use Rattle.core_commit.specs.CommitTurns.{CommitRun}
+use Rattle.open_pool.proofs.NewBirth.{births_kept}
 use Rattle.client_script.specs.declared.call.ScriptCall.{ScriptCall}
 use Rattle.client_script.specs.Lines.{fill_bytes}
 use Rattle.client_script.specs.Script.{Placed, Script, calls_of, handed_by}
@@ -23,8 +26,8 @@ use Rattle.core_turns.specs.declared.copying.CopyRun.{CopyRun}
 use Rattle.core_turns.specs.declared.turn.Turn.TheVariants.{More, Busy, Done}
 use Rattle.core_turns.specs.Core.{Core, IsCore, groups_begun}
 use Rattle.core_turns.specs.Committing.{IsCommitOf}
-use Rattle.journal_law.specs.NoSpace.{births_told, length_put, width_told, FindsNoSpace, NoSpaceIsCaused}
-use Rattle.journal_law.proofs.NoSpace.{births_told_call, births_told_group, no_space_call, no_space_group, width_told_call, width_told_group}
+use Rattle.journal_law.specs.NoSpace.{births_told, has_ended, length_put, width_told, FindsNoSpace, IsBornBehind, NoSpaceIsCaused}
+use Rattle.journal_law.proofs.NoSpace.{births_told_call, births_told_group, has_ended_call, has_ended_group, no_space_call, no_space_group, taken_later, width_told_call, width_told_group}
 use Rattle.schedule.specs.declared.client.Client.{Client}
 use Rattle.schedule.specs.declared.client.UnderWay.{UnderWay}
 use Rattle.schedule.specs.Clients.{Changes}
@@ -32,7 +35,7 @@ use Rattle.schedule.specs.Running.{AreGoing, commit_in}
 use Rattle.schedule.specs.Turned.{AnswersAtOnce, Station, Turned, Nothing, Began, Went, entry_for, group_for, listed_on}
 use Rattle.schedule.specs.Works.{begun_at, made_by, made_in}
 use Rattle.schedule.specs.Using.{AreLeft, AreRunsOf, AreUsed, HasToldWidths, HasUsedRuns, IsOpenSince, sizes_of}
-use Rattle.schedule.proofs.Stays.{Stays, opened_stays, same_births, stays_same}
+use Rattle.schedule.proofs.Stays.{Stays, latest_births, opened_stays, same_births, stays_same}
 use Rattle.schedule.proofs.Using.{full_by_runs, left_next, left_same, most_next, tight_below}
 use Rattle.schedule.proofs.CopyUses.{round_plain}
 use Rattle.schedule.proofs.UsingTurns.{BeginsWith, FitsPut, answers_with, job_in, none_fits, runs_still, same_core, waits_with, works_begin}
@@ -54,6 +57,10 @@ first_none old new devices actor call kind.Attach None size answers = absurd ans
 first_none old new devices actor call kind.Copy None size answers =
     absurd ((round_plain old (answer.NoSpace size) answers.0).space size refl)
 first_none old new devices actor call asked id size answers = absurd answers
+
+-- A group of the width before it ended no expansion.
+same_width : (one other : ℕ) → (if one == other then false else true) ≡ false → one ≡ other
+same_width one other is = grind (arith, nat_tests, is)
 
 module _ (script : Script) (actor : ℕ) (before after : Station) (clients news : List Client)
     (going : AreGoing script before.state.core clients) (was : slice_get clients actor ≡ Some before.client)
@@ -119,6 +126,31 @@ module _ (script : Script) (actor : ℕ) (before after : Station) (clients news 
     caused = caused;
   }
 
+  -- Where the group stays and the journal tells of no other, births are as late as they were,
+  settled_still : Stays old new → new.pool.uber.group ≡ old.pool.uber.group
+      → has_ended false uber.reflow.from after.items ≡ has_ended false uber.reflow.from before.items
+      → has_ended false uber.reflow.from after.items ≡ false
+      → NoneAbove (new.pool.uber.group + 1) new.pool.uber.births
+  settled_still stays group same ended =
+      subst (λ (at : ℕ). NoneAbove (at + 1) new.pool.uber.births) (sym group)
+      (subst (NoneAbove (old.pool.uber.group + 1)) (sym (same_births old new stays group))
+      (stood.told.settled (sym same ∙ ended)))
+
+  -- and the next group, where it ends no expansion, leaves them.
+  settled_next : Stays old new → new.pool.uber.group ≡ old.pool.uber.group + 1
+      → has_ended false uber.reflow.from after.items
+      ≡ (if new.pool.uber.reflow.from == width_told uber.reflow.from before.items then false else true)
+      → has_ended false uber.reflow.from after.items ≡ false
+      → NoneAbove (new.pool.uber.group + 1) new.pool.uber.births
+  settled_next stays group told ended =
+      subst (λ (at : ℕ). NoneAbove at new.pool.uber.births) (omega (arith, group))
+      (subst (NoneAbove (old.pool.uber.group + 2)) (sym births) stood.told.latest)
+    where
+      births : new.pool.uber.births ≡ old.pool.uber.births
+      births = stays.births ∙ births_kept old.pool.uber.reflow new.pool.uber.reflow old.pool.uber.births
+          new.pool.uber.group (same_width new.pool.uber.reflow.from (width_told uber.reflow.from before.items)
+          (sym told ∙ ended) ∙ sym stood.told.from)
+
   -- Nothing,
   lists_none : Stays old new → new.pool.uber.group ≡ old.pool.uber.group → AreUsed script uber entries new news
       → after.items ≡ before.items → HasUsedRuns script uber entries new after.items news
@@ -126,6 +158,8 @@ module _ (script : Script) (actor : ℕ) (before after : Station) (clients news 
     from = stays.same group ∙ stood.told.from ∙ ap (width_told uber.reflow.from) (sym items);
     births = same_births old new stays group ∙ stood.told.births
         ∙ ap (births_told uber.births uber.reflow.from) (sym items);
+    latest = latest_births old new stays stood.told.latest;
+    settled = settled_still stays group (ap (has_ended false uber.reflow.from) items);
   }) used (subst (NoSpaceIsCaused script uber entries) (sym items) stood.caused)
 
   -- an answer,
@@ -140,21 +174,27 @@ module _ (script : Script) (actor : ℕ) (before after : Station) (clients news 
     births = same_births old new stays group ∙ stood.told.births
         ∙ sym (births_told_call uber.births uber.reflow.from before.items entry)
         ∙ ap (births_told uber.births uber.reflow.from) (sym items);
+    latest = latest_births old new stays stood.told.latest;
+    settled = settled_still stays group
+        (ap (has_ended false uber.reflow.from) items ∙ has_ended_call false uber.reflow.from before.items entry);
   }) used (subst (NoSpaceIsCaused script uber entries) (sym items)
       (no_space_call script uber entries before.items stood.caused entry finds))
 
   -- a group,
   lists_made : {was now : Option CopyRun} (number at : ℕ) → GoesAs old new number was now
-      → AreUsed script uber entries new news
+      → number ≡ old.pool.uber.group + 1 → AreUsed script uber entries new news
       → after.items ≡ before.items ++ Group (group_for new at number) ∷ []
       → HasUsedRuns script uber entries new after.items news
-  lists_made number at with used items = uses with.stays (record {
+  lists_made number at with next used items = uses with.stays (record {
     from = sym (width_told_group uber.reflow.from before.items group) ∙ ap (width_told uber.reflow.from) (sym items);
     births = with.stays.births
         ∙ (λ i. if new.pool.uber.reflow.from == stood.told.from i then stood.told.births i
         else births_after (stood.told.births i) (with.group_is i))
         ∙ sym (births_told_group uber.births uber.reflow.from before.items group)
         ∙ ap (births_told uber.births uber.reflow.from) (sym items);
+    latest = latest_births old new with.stays stood.told.latest;
+    settled = settled_next with.stays (with.group_is ∙ next)
+        (ap (has_ended false uber.reflow.from) items ∙ has_ended_group false uber.reflow.from before.items group);
   }) used (subst (NoSpaceIsCaused script uber entries) (sym items)
       (no_space_group script uber entries before.items stood.caused group))
     where
@@ -169,15 +209,15 @@ module _ (script : Script) (actor : ℕ) (before after : Station) (clients news 
   lists_on was now at None on begun items =
       lists_none on.stays on.group_is (used_still (runs_still old new on.uses) begun) items
   lists_on was now at (Some number) on begun items =
-      lists_made number at on.0 (used_still (runs_still old new on.0.uses) begun) items
+      lists_made number at on.0 on.1 (used_still (runs_still old new on.0.uses) begun) items
 
   -- or a group and its answer.
   lists_group : {was now : Option CopyRun} (number at : ℕ) → GoesAs old new number was now
-      → AreUsed script uber entries new news → (entry : Entry)
+      → number ≡ old.pool.uber.group + 1 → AreUsed script uber entries new news → (entry : Entry)
       → after.items ≡ (before.items ++ Group (group_for new at number) ∷ []) ++ CallItem entry ∷ []
       → ((size : ℕ) → entry.answer ≡ answer.NoSpace size → ⊥)
       → HasUsedRuns script uber entries new after.items news
-  lists_group number at with used entry items never = uses with.stays (record {
+  lists_group number at with next used entry items never = uses with.stays (record {
     from = sym (width_told_call uber.reflow.from (before.items ++ Group group ∷ []) entry
         ∙ width_told_group uber.reflow.from before.items group)
         ∙ ap (width_told uber.reflow.from) (sym items);
@@ -187,6 +227,11 @@ module _ (script : Script) (actor : ℕ) (before after : Station) (clients news 
         ∙ sym (births_told_call uber.births uber.reflow.from (before.items ++ Group group ∷ []) entry
         ∙ births_told_group uber.births uber.reflow.from before.items group)
         ∙ ap (births_told uber.births uber.reflow.from) (sym items);
+    latest = latest_births old new with.stays stood.told.latest;
+    settled = settled_next with.stays (with.group_is ∙ next)
+        (ap (has_ended false uber.reflow.from) items
+        ∙ has_ended_call false uber.reflow.from (before.items ++ Group group ∷ []) entry
+        ∙ has_ended_group false uber.reflow.from before.items group);
   }) used (subst (NoSpaceIsCaused script uber entries) (sym items)
       (no_space_call script uber entries (before.items ++ Group group ∷ [])
       (no_space_group script uber entries before.items stood.caused group) entry
@@ -197,6 +242,37 @@ module _ (script : Script) (actor : ℕ) (before after : Station) (clients news 
 
   -- ---- a put that finds no space
 
+  -- how many sectors so many bytes take that are born in a group
+  abbrev taken_in : ℕ → ℕ → ℕ
+  taken_in len born = sectors_taken old.pool.uber.parity old.pool.uber.births len born
+
+  -- They take as many as if they were born in a group that follows from the journal.
+  abbrev IsBornAs : ℕ → Type 0
+  IsBornAs len = (born : ℕ) × IsBornBehind uber before.items stood.last.group born
+      × (taken_in len (old.begun + 1) ≡ taken_in len born)
+
+  -- They are born in the group after the last one listed, or while a commit is under way in the one after that. That
+  -- makes a difference only where the last one ended an expansion.
+  born_beside : (len : ℕ) → old.begun ≡ stood.last.group.group + 1
+      → (ended : Bool) → has_ended false uber.reflow.from before.items ≡ ended → IsBornAs len
+  born_beside len begun true is_ended = (old.begun + 1, inr (omega (arith, begun), is_ended), refl)
+  born_beside len begun false is_settled = (
+    stood.last.group.group + 1,
+    inl refl,
+    taken_later old.pool.uber.births old.pool.uber.parity len (stood.last.group.group + 1) (old.begun + 1)
+        (subst (λ (group : ℕ). NoneAbove (group + 1) old.pool.uber.births) stood.last.number
+        (stood.told.settled is_settled))
+        (omega (arith, begun)),
+  )
+
+  born_of : (len : ℕ) → IsBornAs len
+  born_of len = by old.committing is.begun
+    where
+      by : (committing : Option ℕ) → old.begun ≡ old.pool.uber.group + groups_begun committing → IsBornAs len
+      by None begun = (old.begun + 1, inl (let number = stood.last.number in omega (arith, begun, number)), refl)
+      by (Some actor) begun = born_beside len (let number = stood.last.number in omega (arith, begun, number))
+          (has_ended false uber.reflow.from before.items) refl
+
   finds : (call : ScriptCall) (given : Answer) (size : ℕ)
       → slice_get (calls_of script actor) before.client.begun ≡ Some call
       → (size ≡ sectors_taken old.pool.uber.parity old.pool.uber.births (length (fill_bytes call.fill))
@@ -204,16 +280,15 @@ module _ (script : Script) (actor : ℕ) (before after : Station) (clients news 
       → HasNoFreeRun old.pool.blocks.space old.holds size
       → FindsNoSpace script uber entries before.items (length before.items)
       (entry_for call actor (before.client.begun + 1) (length before.items) given) size
-  finds call given size next size_is none = record {
+  finds call given size next size_is none = let born_as = born_of (length (fill_bytes call.fill)) in record {
     group = stood.last.group;
     before = stood.last.latest;
-    born = old.begun + 1;
-    late = born_late old.committing is.begun;
-    size_is = size_is
-        ∙ (λ i. sectors_taken (stood.opened.parity i) (stood.told.births i) (length (fill_bytes call.fill))
-        (old.begun + 1))
+    born = born_as.0;
+    behind = subst (λ (told : List Item). IsBornBehind uber told stood.last.group born_as.0) all born_as.1;
+    size_is = size_is ∙ born_as.2
+        ∙ (λ i. sectors_taken (stood.opened.parity i) (stood.told.births i) (length (fill_bytes call.fill)) born_as.0)
         ∙ (λ i. sectors_taken uber.parity
-        (births_told uber.births uber.reflow.from (all i)) (length (sym handed i)) (old.begun + 1));
+        (births_told uber.births uber.reflow.from (all i)) (length (sym handed i)) born_as.0);
     tight = tight_below (uber.reflow.rows * uber.reflow.from) old.pool.blocks.space.capacity
         (sizes_of uber entries script.calls) size wide
         (full_by_runs stood.used.runs old _ (sizes_of uber entries script.calls) size stood.used.are stood.used.most
@@ -222,12 +297,6 @@ module _ (script : Script) (actor : ℕ) (before after : Station) (clients news 
     where
       all : before.items ≡ take (length before.items) before.items
       all = sym (take_all (length before.items) before.items (omega arith))
-
-      -- It is born in the group after the last one listed, or while a commit is under way in the one after that.
-      born_late : (committing : Option ℕ) → old.begun ≡ old.pool.uber.group + groups_begun committing
-          → (old.begun + 1 ≡ stood.last.group.group + 1) ⊎ (old.begun + 1 ≡ stood.last.group.group + 2)
-      born_late None begun = inl (let number = stood.last.number in omega (arith, begun, number))
-      born_late (Some by) begun = inr (let number = stood.last.number in omega (arith, begun, number))
 
       -- The pool has no fewer sectors than at its opening.
       wide : uber.reflow.rows * uber.reflow.from ≤ old.pool.blocks.space.capacity
@@ -293,7 +362,7 @@ module _ (script : Script) (actor : ℕ) (before after : Station) (clients news 
             (leaves.0 ∙ plain_listed new before.items under.at
             (entry_for goes.call actor before.client.begun under.at given) (made_by under.work) given plain.0)
             (λ size told. absurd (plain.0.space size told))
-        | inr synced ↦ lists_group synced.0 under.at synced.2
+        | inr synced ↦ lists_group synced.0 under.at synced.2 synced.3
             (used_still (runs_still old new synced.2.uses) (ap (λ (c : Client). c.begun) leaves.1))
             (entry_for goes.call actor before.client.begun under.at given)
             (leaves.0 ∙ group_listed new before.items under.at

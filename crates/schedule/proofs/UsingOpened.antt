@@ -2,19 +2,22 @@
 use Rattle.std.proofs.Common.{◌≡◌, Bool, if◌then◌else◌, eq-eqb, ℕ, ◌+◌, List, [], ◌∷◌, length, refl, sym, ◌∙◌, ap, subst, arith, length-append}
 use Rattle.std.specs.Prelude.{Contains, drop, map, sum}
 use Rattle.std.proofs.lemmas.List.Sums.{sum_by-append}
-use Rattle.bank_trait.specs.Disk.{Disk}
-use Rattle.width_map.specs.Births.{births_after}
+use Rattle.bank_trait.specs.Disk.{Disk, Image}
+use Rattle.width_map.specs.Births.{births_after, NoneAbove}
 use Rattle.row_layout.specs.Layout.{allocated_of}
 use Rattle.space_alloc.specs.Space.{Run, HeldRun}
 use Rattle.block_record.specs.declared.entry.IndexEntry.{IndexEntry}
 use Rattle.uberblock_ring.specs.Uberblock.{Uber}
 use Rattle.uberblock_ring.specs.Valid.{IsRightUber}
 use Rattle.core_state.specs.Index.{layout_of}
+use Rattle.core_state.specs.Shown.{Shape}
 use Rattle.core_state.specs.declared.item.Item.TheVariants.{Group}
 use Rattle.core_blocks.specs.Runs.{held_sectors}
 use Rattle.core_blocks.specs.Usage.{runs_in_use, sectors_in, UsesAtMost}
 use Rattle.core_blocks.proofs.Lists.{none_listed}
 use Rattle.core_blocks.proofs.Usage.{uses_larger, uses_loaded}
+use Rattle.core_open.specs.Opens.{RenewsChoice}
+use Rattle.core_open.proofs.Renewing.{none_above_more}
 use Rattle.client_script.specs.Script.{Script, calls_of}
 use Rattle.open_pool.specs.Opening.{AreLoaded}
 use Rattle.open_pool.specs.Pool.{Pool}
@@ -28,6 +31,15 @@ use Rattle.schedule.proofs.Opened.{blank_is, resting}
 use Rattle.schedule.proofs.Using.{sizes_split}
 use Rattle.schedule.proofs.Numbered.{first_numbered}
 
+-- No birth of a pool that was opened is of a later group than its opening's: an uberblock has none later than two groups
+-- on, and an opening renews one two groups on.
+pub births_opened : (shape : Shape) (silent : ℕ) (image : Image) (uber : Uber) (entries : List IndexEntry)
+    → RenewsChoice shape silent image uber entries → NoneAbove uber.group uber.births
+births_opened shape silent image uber entries renews =
+    subst (λ (group : ℕ). NoneAbove group uber.births) (sym (ap (λ (u : Uber). u.group) renews.renewed))
+    (subst (NoneAbove (renews.chosen.group + 2)) (sym (ap (λ (u : Uber). u.births) renews.renewed))
+    renews.choice.candidate.shows.valid.right.births.begun)
+
 -- The sizes of an index by the lengths of its blocks.
 index_sizes : (uber : Uber) (entries : List IndexEntry)
     → map (λ (entry : IndexEntry). largest_size uber entry.len) entries
@@ -36,6 +48,7 @@ index_sizes uber [] = refl
 index_sizes uber (entry ∷ entries) = ap (λ (l : List ℕ). largest_size uber entry.len ∷ l) (index_sizes uber entries)
 
 module _ (script : Script) (pool : Pool) (disk : Disk) (right : IsRightUber pool.uber)
+    (born : NoneAbove pool.uber.group pool.uber.births)
     (loaded : AreLoaded pool.uber pool.blocks.table.entries pool.blocks) where
   abbrev entries : List IndexEntry
   entries = pool.blocks.table.entries
@@ -102,6 +115,8 @@ module _ (script : Script) (pool : Pool) (disk : Disk) (right : IsRightUber pool
       from = refl;
       births = ap (λ (same : Bool). if same then pool.uber.births else births_after pool.uber.births pool.uber.group)
           (sym (eq-eqb pool.uber.reflow.from pool.uber.reflow.from refl));
+      latest = none_above_more pool.uber.group (pool.uber.group + 2) pool.uber.births (omega arith) born;
+      settled = λ ended. none_above_more pool.uber.group (pool.uber.group + 1) pool.uber.births (omega arith) born;
     };
     caused = no_space_alone script pool.uber entries (first_item pool);
   }

@@ -4,6 +4,7 @@ use Rattle.std.specs.Prelude.{Contains, All}
 use Rattle.bank_trait.specs.Disk.{Image, Disk, Later}
 use Rattle.bank_trait.specs.Regions.{TouchesOnly}
 use Rattle.bank_trait.proofs.Touches.{touches_then}
+use Rattle.width_map.specs.Births.{NoneAbove}
 use Rattle.uberblock_ring.specs.Devices.{has_device, count_of, IsWithin}
 use Rattle.uberblock_ring.specs.Uberblock.{Uber}
 use Rattle.uberblock_ring.specs.Valid.{IsRightUber}
@@ -14,6 +15,7 @@ use Rattle.core_state.specs.declared.item.Item.TheVariants.{Group}
 use Rattle.core_state.specs.Journal.{CallsAreRight}
 use Rattle.core_state.specs.Keeps.{Kept, Setting}
 use Rattle.core_state.specs.World.{World}
+use Rattle.core_state.proofs.Knowing.{present}
 use Rattle.core_state.proofs.Listed.{contains_head}
 use Rattle.core_blocks.specs.Blocks.{AreUnderWay}
 use Rattle.core_client.specs.Outs.{OnlyFailedGoOut}
@@ -23,6 +25,7 @@ use Rattle.core_open.specs.Causes.{IsOutFor, AreOutIn, AreOutOf}
 use Rattle.core_open.specs.Failing.{HaveFailed}
 use Rattle.core_open.specs.Holds.{HoldsImage, shape_of}
 use Rattle.core_open.specs.Opens.{HasBank, IsWithinBelow, RenewsChoice, WritesInOrder}
+use Rattle.core_open.proofs.Ends.{present_held}
 use Rattle.core_open.specs.Regions.{IsOnBelow}
 use Rattle.open_pool.specs.Opening.{AreLoaded, MayBegin, OpensPool, IsBegunWith}
 use Rattle.open_pool.specs.Pool.{Pool}
@@ -58,7 +61,7 @@ use Rattle.schedule.proofs.Numbered.{first_numbered}
 use Rattle.schedule.proofs.OfLines.{follows_lines}
 use Rattle.schedule.proofs.Opened.{none_of_blank, resting, opened_world, runs_first}
 use Rattle.schedule.proofs.Recording.{recorded_throughout, recorded_keeps, recorded_no_older}
-use Rattle.schedule.proofs.UsingOpened.{uses_first}
+use Rattle.schedule.proofs.UsingOpened.{births_opened, uses_first}
 use Rattle.schedule.proofs.Syncs.{stands_know}
 
 -- What failed earlier has failed later, and each device that is out then has its reason.
@@ -166,7 +169,11 @@ module _ (script : Script) (old mid : Disk) (pool : Pool) (silent : ℕ) (items 
         (ap (λ (u : Uber). u.births) alike ∙ ap (λ (u : Uber). u.births) renews)
         (ap (λ (u : Uber). u.reflow) alike ∙ ap (λ (u : Uber). u.reflow) renews)
         (begins.opened.entries_are ∙ begins.opened.renews.entries)
-        (come.space pool.uber pool.blocks.table.entries (uses_first script pool mid right loaded)).caused
+        (come.space pool.uber pool.blocks.table.entries (uses_first script pool mid right born loaded)).caused
+      where
+        born : NoneAbove pool.uber.group pool.uber.births
+        born = births_opened (shape_of old) silent (present old) pool.uber pool.blocks.table.entries
+            (renews (present old) (present_held old may.may.tells))
 
     -- What the run keeps, where these devices may fail.
     pub run_keeps : RunKeeps script setting first later old final.disk items pool.uber.parity silent

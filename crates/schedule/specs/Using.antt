@@ -1,6 +1,6 @@
 -- What calls that take turns have used of a pool's space since its opening, and why one found none.
-use Rattle.std.specs.Prelude.{◌≡◌, ℕ, ◌+◌, ◌≤◌, List, [], length, drop, map, flat_map, sum, Some, slice_get, Contains}
-use Rattle.width_map.specs.Births.{first_width}
+use Rattle.std.specs.Prelude.{◌≡◌, ℕ, ◌+◌, ◌≤◌, List, [], length, drop, map, flat_map, sum, Some, slice_get, Contains, false}
+use Rattle.width_map.specs.Births.{first_width, NoneAbove}
 use Rattle.range_locks.specs.declared.hold.Hold.{Hold}
 use Rattle.range_locks.specs.declared.hold.HoldKind.TheVariants.{Shared}
 use Rattle.space_alloc.specs.Space.{Run, HeldRun}
@@ -14,7 +14,7 @@ use Rattle.client_script.specs.declared.call.ScriptCall.{ScriptCall}
 use Rattle.client_script.specs.Lines.{fill_bytes}
 use Rattle.client_script.specs.Script.{Placed, Script, calls_of}
 use Rattle.core_turns.specs.Core.{Core}
-use Rattle.journal_law.specs.NoSpace.{births_told, length_put, lengths_of, largest_size, width_told, NoSpaceIsCaused}
+use Rattle.journal_law.specs.NoSpace.{births_told, has_ended, length_put, lengths_of, largest_size, width_told, NoSpaceIsCaused}
 use Rattle.schedule.specs.declared.client.Client.{Client}
 use Rattle.schedule.specs.Numbered.{IsNumbered}
 
@@ -75,9 +75,13 @@ pub record IsOpenSince (uber : Uber) (core : Core) : Type 0 where
   pub first : first_width core.pool.uber.births ≡ first_width uber.births
 
 -- The width of its data rows and its births are those of the opening's uberblock once the journal's groups are told.
+-- No birth is later than two groups on, and where the last group ended no expansion none is later than the next one.
 pub record HasToldWidths (uber : Uber) (items : List Item) (core : Core) : Type 0 where
   pub from : core.pool.uber.reflow.from ≡ width_told uber.reflow.from items
   pub births : core.pool.uber.births ≡ births_told uber.births uber.reflow.from items
+  pub latest : NoneAbove (core.pool.uber.group + 2) core.pool.uber.births
+  pub settled : has_ended false uber.reflow.from items ≡ false
+      → NoneAbove (core.pool.uber.group + 1) core.pool.uber.births
 
 -- Of the space no more was used since the opening than the blocks of its index take, and those that calls put which
 -- were begun.
