@@ -240,7 +240,9 @@ for number in 0 1 2; do
 done
 
 # An image that is too short, missing, or no file.
-short() { echo "raidzx: disk3: has $1 sectors and the longest image 256; it goes out where it ends"; }
+short() {
+  echo "raidzx: disk3: has $1 sectors and the longest image 256; it goes out if the pool goes on past its end"
+}
 old_and_one
 truncate -s $((255 * 512)) disk3
 refused 'new device failed 3' "$(short 255)" 'raidzx: disk3: 1 call failed in this run'
@@ -257,6 +259,25 @@ mkdir disk3
 refused 'new device failed 3' \
   'raidzx: disk3: cannot be opened: Is a directory (os error 21); its disk counts as failed' \
   'raidzx: disk3: 2 calls failed in this run'
+
+# An image that is longer than the pool's: what is behind their end is not used, and they stay in the pool.
+old_and_one
+fresh disk3 300
+runs 'a longer image is attached' 0 '0 group 3 after 0
+1 a.1 put 1 ok
+2 group 4 after 2
+3 a.2 sync group 4
+4 group 5 after 4
+5 a.3 attach width 4 group 5' 'put 1 1536 0' sync attach
+tells 'the others may be too short' "$(for number in 0 1 2; do
+  echo "raidzx: disk$number: has 256 sectors and the longest image 300; it goes out if the pool goes on past its end"
+done)"
+expect 'they are not' 0 "pool 9 parity 1 rows 64 group 5
+width $widened
+births 0:3
+out none
+blocks 1" "${all[@]}" -- status
+unused disk3 256 44
 
 # Two clients: the one attaches, the other puts, reads and frees meanwhile.
 # replays NAME TEXT LINE..: a script of these lines is replayed on a fresh pool and an image more.

@@ -88,7 +88,7 @@ images 3 256
 truncate -s 110000 disk1
 create=(create --parity 1 --width 3 --id 9)
 expect 'a pool with a shorter image' 0 'pool 9 parity 1 width 3 rows 64 group 1' "${IMAGES[@]}" -- "${create[@]}"
-short='raidzx: disk1: has 214 sectors and the longest image 256; it goes out where it ends'
+short='raidzx: disk1: has 214 sectors and the longest image 256; it goes out if the pool goes on past its end'
 tells 'it is told' "$short"
 runs 'a block that lies before its end' 0 '0 group 3 after 0
 1 a.1 put 1 ok

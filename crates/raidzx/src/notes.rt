@@ -33,7 +33,7 @@ fn longest(images: &[Option<Image>]) -> u64 {
     most
 }
 
-/// Which images are shorter than the longest.
+/// Which images are shorter than the longest. That one may be longer than the pool.
 pub fn note_lengths<R: Eprint>(rt: &R, names: &[String], images: &[Option<Image>]) {
     let most = longest(images);
     for (name, image) in names.iter().zip(images.iter()) {
@@ -41,7 +41,8 @@ pub fn note_lengths<R: Eprint>(rt: &R, names: &[String], images: &[Option<Image>
             let sectors = image.sectors();
             if sectors < most {
                 let _ = eprintln!(rt;
-                    "raidzx: {name}: has {sectors} sectors and the longest image {most}; it goes out where it ends"
+                    "raidzx: {name}: has {sectors} sectors and the longest image {most}; it goes out if the pool goes \
+                    on past its end"
                 );
             }
         }
