@@ -2,6 +2,7 @@
 use Rattle.std.proofs.Common.{◌≡◌, ℕ, zero, suc, List, [], ◌∷◌, Some, None, refl, sym, ◌∙◌, ap, subst, arith}
 use Rattle.std.specs.Prelude.{slice_get}
 use Rattle.bank_trait.specs.Disk.{Disk, Later}
+use Rattle.core_state.specs.declared.item.Item.{Item}
 use Rattle.core_state.specs.declared.item.Item.TheVariants.{Group}
 use Rattle.core_state.specs.Map.{Map, PutBytes}
 use Rattle.core_state.specs.Journal.{Calls}
@@ -19,6 +20,8 @@ use Rattle.schedule.specs.declared.client.Client.{Client}
 use Rattle.schedule.specs.declared.client.UnderWay.{UnderWay}
 use Rattle.schedule.specs.Running.{IsGoing, Runs, calls_under_way}
 use Rattle.schedule.specs.Replaying.{blank_client, blank_clients}
+use Rattle.schedule.specs.Turns.{turns_of}
+use Rattle.schedule.specs.WholeRun.{first_turns}
 use Rattle.schedule.proofs.Beginning.{recorded_first}
 use Rattle.schedule.proofs.Theirs.{none_some}
 use Rattle.schedule.specs.Moments.{Past}
@@ -34,6 +37,14 @@ resting pool = record {
   attaching = None;
   reach = pool.uber.reflow.to;
 }
+
+-- The turns begin with a core at rest, of the pool that was opened, and the item of its group.
+pub begins_first : (script : Script) (pool : Pool) (core : Core) (mid : Disk) (items : List Item) → core ≡ resting pool
+    → items ≡ Group (first_item pool) ∷ []
+    → turns_of (at_disk core mid) items (blank_clients script.clients)
+    ≡ first_turns script (at_disk (resting pool) mid) (first_item pool)
+begins_first script pool core mid items core_is items_are i =
+    turns_of (at_disk (core_is i) mid) (items_are i) (blank_clients script.clients)
 
 -- A client that has begun no call is one of those,
 pub blank_is : (count index : ℕ) (client : Client) → slice_get (blank_clients count) index ≡ Some client

@@ -17,6 +17,6 @@ mod whole_run;
 
 pub use client::{Client, UnderWay, Work};
 pub use progress::{Progress, UsedUp};
-pub use replay::{CarriedOut, carry_out, take_listed};
+pub use replay::{CarriedOut, begin, carry_out, take_listed, take_turns, turn_of};
 pub use station::take_turn;
 pub use whole_run::{Ended, Ran, run_pool};

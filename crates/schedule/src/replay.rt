@@ -28,8 +28,8 @@ pub struct CarriedOut {
     pub turns: u64,
 }
 
-/// One turn of a client of the script, if there is one of this number.
-fn turn_of<B: Bank>(
+/// One turn of a client of the script, if there is one of this number. It is not counted.
+pub fn turn_of<B: Bank>(
     alloc: Global,
     bank: &mut B,
     core: &mut Core,
@@ -279,8 +279,8 @@ fn take_rest<B: Bank>(
     Ok(())
 }
 
-/// All turns of a script's clients.
-fn take_turns<B: Bank>(
+/// The turns that are listed, then rounds until no call is under way, then the calls that are left, each whole.
+pub fn take_turns<B: Bank>(
     alloc: Global,
     bank: &mut B,
     core: &mut Core,
@@ -309,7 +309,7 @@ fn take_turns<B: Bank>(
 
 /// Clients that have begun no call, with room in the journal for the answers of all their calls, and for a group
 /// beside each.
-fn begin(alloc: Global, script: &Script, journal: &mut Journal) -> Result<Progress, AllocError>
+pub fn begin(alloc: Global, script: &Script, journal: &mut Journal) -> Result<Progress, AllocError>
     ensures same { journal.new.items ≡ journal.old.items }
     ensures clients { IfOk result (λ progress. progress.clients.items ≡ blank_clients script.now.clients) }
     ensures turns { IfOk result (λ progress. progress.turns ≡ 0) }

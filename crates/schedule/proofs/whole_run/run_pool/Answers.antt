@@ -1,27 +1,16 @@
-use Rattle.std.proofs.Common.{◌≡◌, ◌∙◌, ◌++◌, ◌∷◌, [], List, ℕ, ap, subst, sym}
-use Rattle.bank_trait.specs.Disk.{Disk}
+use Rattle.std.proofs.Common.{◌∙◌, ◌++◌, ◌∷◌, [], List, ℕ, ap, subst, sym}
 use Rattle.core_state.specs.declared.item.Group.{Group as GroupItem}
 use Rattle.core_state.specs.declared.item.Item.{Item}
 use Rattle.core_state.specs.declared.item.Item.TheVariants.{Group}
-use Rattle.client_script.specs.Script.{Script}
-use Rattle.open_pool.specs.Pool.{Pool, first_item}
-use Rattle.core_turns.specs.Core.{Core, at_disk}
+use Rattle.open_pool.specs.Pool.{first_item}
+use Rattle.core_turns.specs.Core.{at_disk}
 use Rattle.schedule.specs.InTurn.{InOrder, replay_at}
 use Rattle.schedule.specs.Playing.{CarriesOut}
-use Rattle.schedule.specs.Replaying.{blank_clients}
 use Rattle.schedule.specs.Turns.{Turns, turns_of}
 use Rattle.schedule.specs.WholeRun.{HasRunInTurn, first_turns}
-use Rattle.schedule.proofs.Opened.{resting}
+use Rattle.schedule.proofs.Opened.{begins_first, resting}
 use Rattle.schedule.proofs.Whole.{ends_taken, has_run_in_turn}
 use Rattle.schedule.proofs.whole_run.run_pool.Goals as goal
-
--- The turns begin with a core at rest, of the pool that was opened, and the item of its group.
-begins_first : (script : Script) (pool : Pool) (core : Core) (mid : Disk) (items : List Item) → core ≡ resting pool
-    → items ≡ Group (first_item pool) ∷ []
-    → turns_of (at_disk core mid) items (blank_clients script.clients)
-    ≡ first_turns script (at_disk (resting pool) mid) (first_item pool)
-begins_first script pool core mid items core_is items_are i =
-    turns_of (at_disk (core_is i) mid) (items_are i) (blank_clients script.clients)
 
 pub returns-clause-run : goal.returns-clause-run
 returns-clause-run g c =

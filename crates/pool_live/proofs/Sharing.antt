@@ -1,0 +1,107 @@
+-- Turns of clients that share a pool, one after the other.
+use Rattle.std.proofs.Common.{◌≡◌, ℕ, ◌+◌, List, [], ◌∷◌, ◌++◌, length, length-append, Option, Some, None, refl, sym, ◌∙◌, ap, subst, arith}
+use Rattle.std.proofs.lemmas.List.{map-append}
+use Rattle.core_state.specs.declared.item.Item.{Item}
+use Rattle.client_script.specs.Script.{Script}
+use Rattle.core_turns.specs.Core.{CoreState}
+use Rattle.schedule.specs.declared.whole_run.Ended.{Ended}
+use Rattle.schedule.specs.declared.whole_run.Ended.TheVariants.{Whole, Limit}
+use Rattle.schedule.specs.InTurn.{HaveTaken, IsTurnOf, Replay}
+use Rattle.schedule.specs.Playing.{HasPlayed, HaveHadTurns, IsReady}
+use Rattle.schedule.specs.Replaying.{HasTurn}
+use Rattle.schedule.specs.Turns.{Turns, TurnTaken, last_left, taken_by}
+use Rattle.schedule.proofs.Coming.{came_nowhere, came_on}
+use Rattle.schedule.proofs.InTurn.{gone_taken, taken_more}
+use Rattle.pool_live.specs.Sharing.{HasCarriedOut, StandsFor}
+
+-- No client has had a turn yet.
+pub had_none : (script : Script) (start : Turns) (room : ℕ) → IsReady script start room
+    → HaveHadTurns script start [] start room
+had_none script start room ready = record {
+  passed = [];
+  actors_are = refl;
+  taken = tt;
+  come = came_nowhere script start [] refl;
+  ready = ready;
+}
+
+-- One has a turn more.
+pub had_more : (script : Script) (start before after : Turns) (actors : List ℕ) (actor room left : ℕ)
+    → HaveHadTurns script start actors before room → HasTurn script actor before after → IsReady script after left
+    → HaveHadTurns script start (actors ++ actor ∷ []) after left
+had_more script start before after actors actor room left had turn ready = record {
+  passed = had.passed ++ taken_by actor after ∷ [];
+  actors_are = map-append (λ (turn : TurnTaken). turn.actor) had.passed (taken_by actor after ∷ [])
+      ∙ ap (λ (l : List ℕ). l ++ actor ∷ []) had.actors_are;
+  taken = taken_more script start had.passed (taken_by actor after) had.taken
+      (subst (λ (turns : Turns). IsTurnOf script actor turns after) (sym had.come.ends) turn.is);
+  come = came_on script start before after had.passed (taken_by actor after ∷ []) had.come turn.come;
+  ready = ready;
+}
+
+-- ---- the state under the lock
+
+pub stands_first : (script : Script) (start : Option Turns) (first : Turns) (room : ℕ) → start ≡ Some first
+    → IsReady script first room → StandsFor script start [] first room 0
+stands_first script start first room is ready =
+    subst (λ (s : Option Turns). StandsFor script s [] first room 0) (sym is)
+    (had_none script first room ready, refl)
+
+pub stands_more : (script : Script) (start : Option Turns) (before after : Turns) (actors : List ℕ)
+    (actor room left taken : ℕ) → StandsFor script start actors before room taken → HasTurn script actor before after
+    → IsReady script after left → StandsFor script start (actors ++ actor ∷ []) after left (taken + 1)
+stands_more script None before after actors actor room left taken stands turn ready = absurd stands
+stands_more script (Some start) before after actors actor room left taken stands turn ready = (
+  had_more script start before after actors actor room left stands.0 turn ready,
+  (let long = length-append actors (actor ∷ []) in let count = stands.1 in omega (arith, long, count)),
+)
+
+pub stands_ready : (script : Script) (start : Option Turns) (now : Turns) (actors : List ℕ) (room taken : ℕ)
+    → StandsFor script start actors now room taken → IsReady script now room
+stands_ready script None now actors room taken stands = absurd stands
+stands_ready script (Some start) now actors room taken stands = stands.0.ready
+
+-- As many turns were counted as were had.
+pub stands_counted : (script : Script) (start : Option Turns) (now : Turns) (actors : List ℕ) (room taken : ℕ)
+    → StandsFor script start actors now room taken → taken ≡ length actors
+stands_counted script None now actors room taken stands = absurd stands
+stands_counted script (Some start) now actors room taken stands = stands.1
+
+-- ---- what follows the turns
+
+-- Turns that follow others.
+taken_on : (script : Script) (start middle : Turns) (one two : List TurnTaken) → HaveTaken script start one
+    → last_left start one ≡ middle → HaveTaken script middle two → HaveTaken script start (one ++ two)
+taken_on script start middle [] two first ends second =
+    subst (λ (turns : Turns). HaveTaken script turns two) (sym ends) second
+taken_on script start middle (turn ∷ one) two first ends second =
+    (first.0, taken_on script turn.left middle one two first.1 ends second)
+
+-- What was played was carried out.
+pub carried_played : (script : Script) (start now : Replay) (room : ℕ) → HasPlayed script start now room
+    → HasCarriedOut script start.turns now.turns.state now.turns.items
+carried_played script start now room played = record {
+  passed = played.passed;
+  clients = now.turns.clients;
+  taken = (gone_taken script start now played.passed played.gone).0;
+  come = played.come;
+}
+
+pub limit_not_whole : (ended : Ended) → ended ≡ Limit → ended ≡ Whole → ⊥
+limit_not_whole ended limit whole = cc
+
+-- The calls are carried out from the start on, with the turns that were had, and then those that followed.
+pub carried_on : (script : Script) (start : Option Turns) (first middle : Turns) (actors : List ℕ) (room taken : ℕ)
+    (state : CoreState) (items : List Item) → start ≡ Some first
+    → StandsFor script start actors middle room taken → HasCarriedOut script middle state items
+    → HasCarriedOut script first state items
+carried_on script start first middle actors room taken state items is stands carried =
+    by (subst (λ (s : Option Turns). StandsFor script s actors middle room taken) is stands)
+  where
+    by : StandsFor script (Some first) actors middle room taken → HasCarriedOut script first state items
+    by stood = record {
+      passed = stood.0.passed ++ carried.passed;
+      clients = carried.clients;
+      taken = taken_on script first middle stood.0.passed carried.passed stood.0.taken stood.0.come.ends carried.taken;
+      come = came_on script first middle _ stood.0.passed carried.passed stood.0.come carried.come;
+    }

@@ -1,0 +1,32 @@
+-- What the clients of a script have come to that share a pool, whoever's turns they were.
+use Rattle.std.specs.Prelude.{◌≡◌, ℕ, List, length, false, Option, Some, None}
+use Rattle.core_state.specs.declared.item.Item.{Item}
+use Rattle.client_script.specs.Script.{Script}
+use Rattle.core_turns.specs.Core.{CoreState}
+use Rattle.turn_lock.specs.Seats.{Lock, Sitting}
+use Rattle.schedule.specs.declared.client.Client.{Client}
+use Rattle.schedule.specs.Coming.{LeadTo}
+use Rattle.schedule.specs.InTurn.{HaveTaken}
+use Rattle.schedule.specs.Playing.{HaveHadTurns}
+use Rattle.schedule.specs.Turns.{Turns, TurnTaken, turns_of}
+
+-- The seat is one of the lock, and does not hold the turn.
+abbrev pub IsFree : {K E : Type 0} → Lock K → Sitting E → Type 0
+IsFree lock seat = (seat.lock ≡ lock.id) × (seat.holds ≡ false)
+
+-- These clients have had the turns since the start, one after the other, and so many were counted.
+abbrev pub StandsFor : Script → Option Turns → List ℕ → Turns → ℕ → ℕ → Type 0
+StandsFor script None actors now room taken = ⊥
+StandsFor script (Some start) actors now room taken =
+    HaveHadTurns script start actors now room × (taken ≡ length actors)
+
+-- Some clients have.
+abbrev pub HasStoodFor : Script → Option Turns → Turns → ℕ → ℕ → Type 0
+HasStoodFor script start now room taken = (actors : List ℕ) × StandsFor script start actors now room taken
+
+-- From this start the calls of a script were carried out with these turns, whoever's they were.
+pub record HasCarriedOut (script : Script) (start : Turns) (state : CoreState) (items : List Item) : Type 0 where
+  pub passed : List TurnTaken
+  pub clients : List Client
+  pub taken : HaveTaken script start passed
+  pub come : LeadTo script start passed (turns_of state items clients)

@@ -1,0 +1,288 @@
+// The clients of a script, each in a thread of its own.
+ghost use Rattle.std.specs.Prelude.{◌≡◌, ◌<◌, ◌≤◌, ◌+◌, ℕ, All, Some, [], false, length};
+ghost use Rattle.std.specs.Thread.{IsSync};
+ghost use Rattle.core_state.specs.declared.item.Entry.{Entry as EntryOf};
+ghost use Rattle.core_state.specs.Journal.{CallsAreRight, IsComplete};
+ghost use Rattle.core_state.specs.Legal.{CallAt};
+ghost use Rattle.client_script.specs.Script.{IsAllowed, asked_by};
+ghost use Rattle.core_turns.specs.Core.{at_disk, HasBankOf};
+ghost use Rattle.schedule.specs.declared.whole_run.Ended.TheVariants.{Whole, Limit};
+ghost use Rattle.schedule.specs.InTurn.{turns_by};
+ghost use Rattle.schedule.specs.Playing.{IsReady};
+ghost use Rattle.schedule.specs.Replaying.{IsAtRest, blank_clients};
+ghost use Rattle.schedule.specs.Turns.{most_turns, turns_of};
+ghost use Rattle.pool_live.specs.Sharing.{HasCarriedOut, HasStoodFor, IsFree, StandsFor};
+
+use crate::live::{Live, Setup};
+use bank_trait::Bank;
+use client_script::Script;
+use core_state::Journal;
+use core_turns::Core;
+use schedule::{Ended, Progress, UsedUp, begin, take_turns, turn_of};
+use std::alloc::Global;
+use std::marker::{Brand, PhantomData};
+use std::sync::Wait;
+use std::thread::{Threads, join, yield_now};
+use turn_lock::{Seat, Turns};
+
+/// What a client has before it after a turn.
+enum Next {
+    /// A turn of its call under way, or its next call.
+    GoesOn,
+    /// The first turn of its next call again, which found another's call in its way.
+    Waits,
+    /// Nothing: its calls are answered, or no more turns can be counted.
+    Ended,
+}
+
+/// What the client of this number has before it, after a turn by which the journal came from so many items to this.
+fn next_of(progress: &Progress, script: &Script, actor: u8, before: usize, now: usize) -> Next {
+    if progress.is_busy(actor) {
+        Next::GoesOn
+    } else if !progress.has_left(actor, script.calls(actor).len() as u64) {
+        Next::Ended
+    } else if now == before {
+        Next::Waits
+    } else {
+        Next::GoesOn
+    }
+}
+
+/// Waits for the turn, and has it.
+fn take_turn<R: Wait, B: Bank, J: Setup>(
+    rt: &R,
+    alloc: Global,
+    turns: &Turns<Live<B, J>, (), u8>,
+    seat: &mut Seat<Live<B, J>, u8>,
+    script: &Script,
+    actor: u8,
+) -> Next
+    requires script { script.now ≡ J.script }
+    requires allowed { All (λ placed. IsAllowed placed.call) script.now.calls }
+    requires seat { IsFree turns.now seat.old }
+    ensures seat { IsFree turns.now seat.new }
+{
+    let Ok(mut held) = turns.take(rt, seat) else {
+        return Next::Ended;
+    };
+    let live = &mut held.state;
+    let before = live.journal.len();
+    turn_of(
+        alloc,
+        &mut live.bank,
+        &mut live.core,
+        script,
+        &mut live.journal,
+        &mut live.progress,
+        actor,
+    );
+    live.progress.turns += 1;
+    let next = next_of(&live.progress, script, actor, before, live.journal.len());
+    turns.give(seat, held, &actor);
+    next
+}
+
+/// The calls of one client, turn by turn.
+fn run_client<R: Wait, B: Bank, J: Setup>(
+    rt: &R,
+    alloc: Global,
+    turns: &Turns<Live<B, J>, (), u8>,
+    mut seat: Seat<Live<B, J>, u8>,
+    script: &Script,
+    actor: u8,
+) -> Seat<Live<B, J>, u8>
+    requires script { script.now ≡ J.script }
+    requires allowed { All (λ placed. IsAllowed placed.call) script.now.calls }
+    requires seat { IsFree turns.now seat }
+    ensures seat { IsFree turns.now result }
+{
+    for _ in rt.forever() {
+        match take_turn(rt, alloc, turns, &mut seat, script, actor) {
+            Next::GoesOn => {}
+            Next::Waits => yield_now(),
+            Next::Ended => return seat,
+        }
+    }
+    unreachable!()
+}
+
+/// The calls of some clients, each of them in a thread.
+fn run_clients<R: Threads + Wait + Sync, B: Bank + Send, J: Setup + Send + Sync>(
+    rt: &R,
+    alloc: Global,
+    turns: &Turns<Live<B, J>, (), u8>,
+    mut seat: Seat<Live<B, J>, u8>,
+    script: &Script,
+    first: u8,
+    end: u8,
+) -> Seat<Live<B, J>, u8>
+    requires script { script.now ≡ J.script }
+    requires allowed { All (λ placed. IsAllowed placed.call) script.now.calls }
+    requires seat { IsFree turns.now seat }
+    requires range { first < end }
+    ensures seat { IsFree turns.now result }
+{
+    if end - first == 1 {
+        return run_client(rt, alloc, turns, seat, script, first);
+    }
+    let middle = first + (end - first) / 2;
+    let other = turns.split(&mut seat);
+    let (mut seat, other) = join(
+        rt,
+        move || -> Seat<Live<B, J>, u8>
+            requires { IsSync R.row × (script.now ≡ J.script) × (first < middle) × IsFree turns.now seat
+                × All (λ placed. IsAllowed placed.call) script.now.calls }
+            ensures { IsFree turns.entry.now result }
+        { run_clients(rt, alloc, turns, seat, script, first, middle) },
+        move || -> Seat<Live<B, J>, u8>
+            requires { IsSync R.row × (script.now ≡ J.script) × (middle < end) × IsFree turns.now other
+                × All (λ placed. IsAllowed placed.call) script.now.calls }
+            ensures { IsFree turns.entry.now result }
+        { run_clients(rt, alloc, turns, other, script, middle, end) },
+    );
+    turns.join(&mut seat, other);
+    seat
+}
+
+/// How the calls of a script were carried out, in how many turns, with what the clients shared.
+#[derive(Drop)]
+pub struct Carried<B: Bank> {
+    pub bank: B,
+    pub core: Core,
+    pub journal: Journal,
+    pub ended: Ended,
+    pub turns: u64,
+}
+
+/// What the threads have left: calls under way go on in rounds, then the calls that are left follow.
+fn finish<B: Bank, J: Setup>(alloc: Global, live: Live<B, J>, script: &Script) -> Carried<B>
+    requires allowed { All (λ placed. IsAllowed placed.call) script.now.calls }
+    requires actors { All (λ placed. placed.actor < script.now.clients) script.now.calls }
+    requires ready { IsReady script.now
+        (turns_by live.core (B.disk live.bank) live.journal live.progress) live.journal.room }
+    ensures taken { HasCarriedOut script.now (turns_by live.core (B.disk live.bank) live.journal live.progress)
+        (at_disk result.core (B.disk result.bank)) result.journal.items }
+    ensures calls { CallsAreRight (asked_by script.now) result.journal.items }
+    ensures complete { result.ended ≡ Whole → IsComplete (asked_by script.now) result.journal.items }
+    ensures limit { result.ended ≡ Limit → most_turns ≤ result.turns }
+{
+    let Live {
+        mut bank,
+        mut core,
+        mut journal,
+        mut progress,
+        of: _,
+    } = live;
+    let ended = match take_turns(
+        alloc,
+        &mut bank,
+        &mut core,
+        script,
+        &[],
+        &mut journal,
+        &mut progress,
+    ) {
+        Ok(()) => Ended::Whole,
+        Err(UsedUp) => Ended::Limit,
+    };
+    Carried {
+        bank,
+        core,
+        journal,
+        ended,
+        turns: progress.turns,
+    }
+}
+
+/// Threads take turns. Where there is no memory for a lock none is taken.
+fn take_turns_beside<J: Setup + Send + Sync, R: Threads + Wait + Sync, B: Bank + Send>(
+    rt: &R,
+    alloc: Global,
+    live: Live<B, J>,
+    script: &Script,
+) -> Live<B, J>
+    requires script { script.now ≡ J.script }
+    requires allowed { All (λ placed. IsAllowed placed.call) script.now.calls }
+    requires stands { StandsFor J.script J.start []
+        (turns_by live.core (B.disk live.bank) live.journal live.progress) live.journal.room live.progress.turns }
+    ensures stands { HasStoodFor J.script J.start
+        (turns_by result.core (B.disk result.bank) result.journal result.progress) result.journal.room
+        result.progress.turns }
+{
+    let (turns, seat) = match Turns::new(alloc, live, &()) {
+        Ok(made) => made,
+        Err(refused) => return refused.state,
+    };
+    let clients = script.clients();
+    let last = if clients == 0 {
+        seat
+    } else {
+        run_clients(rt, alloc, &turns, seat, script, 0, clients)
+    };
+    turns.close(rt, last)
+}
+
+/// The same, and then what the threads have left.
+fn share<J: Setup + Send + Sync, R: Threads + Wait + Sync, B: Bank + Send>(
+    rt: &R,
+    alloc: Global,
+    live: Live<B, J>,
+    script: &Script,
+) -> Carried<B>
+    requires script { script.now ≡ J.script }
+    requires start { J.start ≡ Some (turns_by live.core (B.disk live.bank) live.journal live.progress) }
+    requires allowed { All (λ placed. IsAllowed placed.call) script.now.calls }
+    requires actors { All (λ placed. placed.actor < script.now.clients) script.now.calls }
+    requires ready { IsReady script.now
+        (turns_by live.core (B.disk live.bank) live.journal live.progress) live.journal.room }
+    requires none { live.progress.turns ≡ 0 }
+    ensures taken { HasCarriedOut script.now (turns_by live.core (B.disk live.bank) live.journal live.progress)
+        (at_disk result.core (B.disk result.bank)) result.journal.items }
+    ensures calls { CallsAreRight (asked_by script.now) result.journal.items }
+    ensures complete { result.ended ≡ Whole → IsComplete (asked_by script.now) result.journal.items }
+    ensures limit { result.ended ≡ Limit → most_turns ≤ result.turns }
+{
+    let left = take_turns_beside(rt, alloc, live, script);
+    finish(alloc, left, script)
+}
+
+/// Carries out the calls of a script's clients, each client in a thread of its own: whoever has the turn has one, and
+/// what the threads leave is carried out here. Room for all answers is made before the first turn; where memory is
+/// wanting for that, nothing is done. After 2^62 turns no more is taken.
+pub fn carry_out_beside<R: Threads + Wait + Sync, B: Bank + Send>(
+    rt: &R,
+    alloc: Global,
+    bank: B,
+    core: Core,
+    script: &Script,
+    mut journal: Journal,
+) -> Carried<B>
+    requires bank { HasBankOf core (B.disk bank) }
+    requires rest { IsAtRest core }
+    requires allowed { All (λ placed. IsAllowed placed.call) script.now.calls }
+    requires actors { All (λ placed. placed.actor < script.now.clients) script.now.calls }
+    requires none { (index : ℕ) (entry : EntryOf) → CallAt journal.items index entry → ⊥ }
+    ensures taken { HasCarriedOut script.now (turns_of (at_disk core (B.disk bank)) journal.items
+        (blank_clients script.now.clients)) (at_disk result.core (B.disk result.bank)) result.journal.items }
+    ensures calls { CallsAreRight (asked_by script.now) result.journal.items }
+    ensures complete { result.ended ≡ Whole → IsComplete (asked_by script.now) result.journal.items }
+    ensures limit { result.ended ≡ Limit → most_turns ≤ result.turns }
+{
+    let Ok(progress) = begin(alloc, script, &mut journal) else {
+        return Carried {
+            bank,
+            core,
+            journal,
+            ended: Ended::NoMemory,
+            turns: 0,
+        };
+    };
+    let live = Live {
+        bank,
+        core,
+        journal,
+        progress,
+        of: PhantomData,
+    };
+    share::<Brand, R, B>(rt, alloc, live, script)
+}

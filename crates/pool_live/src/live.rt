@@ -1,0 +1,46 @@
+// What the threads of a run share.
+ghost use Rattle.std.specs.Prelude.{◌≡◌, ◌+◌, ℕ, All, length};
+ghost use Rattle.client_script.specs.Script.{IsAllowed};
+
+use bank_trait::Bank;
+use core_state::Journal;
+use core_turns::Core;
+use schedule::Progress;
+use std::marker::{Brand, PhantomData};
+use turn_lock::Stood;
+
+/// Which script the threads carry out, and what they began from. It stands in contracts alone.
+pub trait Setup {
+    ghost use Rattle.std.specs.Prelude.{Option};
+    ghost use Rattle.client_script.specs.Script.{Script};
+    ghost use Rattle.schedule.specs.Turns.{Turns};
+
+    ghost script: { Script };
+
+    ghost start: { Option Turns };
+}
+
+impl Setup for Brand {
+    ghost use Rattle.std.specs.Prelude.{None, []};
+
+    ghost script = { record { clients = 0; calls = []; order = [] } };
+
+    ghost start = { None };
+}
+
+/// An open pool, its bank, the journal, and what the clients have come to: all that a turn changes.
+pub struct Live<B: Bank, J: Setup> {
+    pub bank: B,
+    pub core: Core,
+    pub journal: Journal,
+    pub progress: Progress,
+    pub of: PhantomData<J>,
+}
+
+impl<B: Bank, J: Setup> Stood<(), u8> for Live<B, J> {
+    ghost use Rattle.schedule.specs.InTurn.{turns_by};
+    ghost use Rattle.pool_live.specs.Sharing.{StandsFor};
+
+    ghost stands = { λ base actors live. StandsFor J.script J.start actors
+        (turns_by live.core (B.disk live.bank) live.journal live.progress) live.journal.room live.progress.turns };
+}

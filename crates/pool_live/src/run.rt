@@ -1,0 +1,84 @@
+// A whole run: a pool is opened, and a script's clients have their calls carried out on it beside one another.
+ghost use Rattle.std.specs.Prelude.{◌≡◌, ◌⊎◌, ◌<◌, ◌≤◌, [], All, IfOk, IfErr};
+ghost use Rattle.bank_trait.specs.Disk.{Unchanged};
+ghost use Rattle.core_state.specs.Journal.{IsComplete};
+ghost use Rattle.core_open.specs.Causes.{IsOpenCause};
+ghost use Rattle.core_open.specs.Opens.{IsForMemory, LeavesOthers};
+ghost use Rattle.client_script.specs.Script.{IsAllowed, asked_by};
+ghost use Rattle.open_pool.specs.Opening.{CutsOpening, LeavesUnopened};
+ghost use Rattle.schedule.specs.declared.whole_run.Ended.TheVariants.{Whole, Limit};
+ghost use Rattle.schedule.specs.Turns.{most_turns};
+ghost use Rattle.schedule.specs.WholeRun.{HasRun};
+
+use crate::beside::carry_out_beside;
+use bank_trait::Bank;
+use client_script::Script;
+use core_open::OpenWhy;
+use core_state::{Item, Journal};
+use core_turns::Core;
+use open_pool::open_pool;
+use schedule::Ran;
+use std::alloc::Global;
+use std::sync::Wait;
+use std::thread::Threads;
+
+/// How a run went, and what it has left.
+#[derive(Drop)]
+pub struct RanBeside<B: Bank> {
+    pub ran: Ran,
+    pub bank: B,
+    pub journal: Journal,
+}
+
+/// Why no pool was opened. The bank and the journal come back.
+#[derive(Drop)]
+pub struct Unopened<B: Bank> {
+    pub why: OpenWhy,
+    pub bank: B,
+    pub journal: Journal,
+}
+
+/// Opens the pool that the devices show and carries out the calls of a script's clients on it, each client in a thread
+/// of its own. Lists what is answered: the opening's group, each group that a sync, an attach or a copy ends, and each
+/// call. Lists nothing where no pool is opened.
+pub fn run_pool_beside<R: Threads + Wait + Sync, B: Bank + Send>(
+    rt: &R,
+    alloc: Global,
+    mut bank: B,
+    script: &Script,
+    mut journal: Journal,
+) -> Result<RanBeside<B>, Unopened<B>>
+    requires empty { journal.items ≡ [] }
+    requires room { 1 ≤ journal.room }
+    requires allowed { All (λ placed. IsAllowed placed.call) script.now.calls }
+    requires actors { All (λ placed. placed.actor < script.now.clients) script.now.calls }
+    ensures run { IfOk result (λ went. HasRun script.now (B.disk bank) (B.disk went.bank) went.journal.items
+        went.ran.out) }
+    ensures complete { IfOk result (λ went. went.ran.ended ≡ Whole
+        → IsComplete (asked_by script.now) went.journal.items) }
+    ensures limit { IfOk result (λ went. went.ran.ended ≡ Limit → most_turns ≤ went.ran.turns) }
+    ensures nothing { IfErr result (λ refused. refused.journal.items ≡ []) }
+    ensures cause { IfErr result (λ refused. IsOpenCause (B.disk bank) (B.disk refused.bank) refused.why) }
+    ensures cut { IfErr result (λ refused. Unchanged (B.disk bank) (B.disk refused.bank)
+        ⊎ CutsOpening (B.disk bank) (B.disk refused.bank)) }
+    ensures untouched { IfErr result (λ refused. LeavesUnopened refused.why (B.disk bank) (B.disk refused.bank)) }
+    ensures opens { IfErr result (λ refused. IsForMemory (B.disk bank) (B.disk refused.bank) refused.why) }
+    ensures others { IfErr result (λ refused. LeavesOthers (B.disk bank) (B.disk refused.bank)) }
+{
+    let opened = match open_pool(alloc, &mut bank) {
+        Ok(opened) => opened,
+        Err(why) => return Err(Unopened { why, bank, journal }),
+    };
+    journal.list(Item::Group(opened.pool.first_item()));
+    let core = Core::new(alloc, opened.pool);
+    let carried = carry_out_beside(rt, alloc, bank, core, script, journal);
+    Ok(RanBeside {
+        ran: Ran {
+            ended: carried.ended,
+            turns: carried.turns,
+            out: carried.core.out(),
+        },
+        bank: carried.bank,
+        journal: carried.journal,
+    })
+}
