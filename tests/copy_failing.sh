@@ -66,10 +66,11 @@ lines_of() {
   groups $(($1 + 1)) $(($1 + $2)) 1
   echo "$((1 + $2)) a.1 copy $3"
 }
-# fails NUMBER FAULT COUNT [ANSWER]: this image fails this call. The copy makes so many groups then, and has this
-# answer, else that it is paused. All blocks are there in that run, and in the next one, which has the same answer.
+# fails NUMBER FAULT COUNT: this image fails this call. The copy makes so many groups then and is paused, or all four and
+# is done. All blocks are there in that run, and in the next one, which has the same answer.
 fails() {
-  local number=$1 fault=$2 count=$3 answer=${4:-paused $1} other
+  local number=$1 fault=$2 count=$3 answer="paused $1"
+  [ "$count" != 4 ] || answer='done width 4'
   back few
   calls copy 'sum 1' 'sum 2' 'sum 3' sync >script
   INPUT=script disturbed disk$number "$fault" "${IMAGES[@]}" -- run
@@ -81,37 +82,31 @@ $((4 + count)) a.4 sum 3 at $((4 + count)) $third
 $((5 + count)) group $((8 + count)) after $((5 + count))
 $((6 + count)) a.5 sync group $((8 + count))" "raidzx: disk$number: 1 call failed in this run" \
     "raidzx: disk$number: out of the pool for good"
-  runs "a copy past disk$number with $fault" 0 "$(lines_of $((10 + count)) 0 "$answer")
+  "$RAIDZX" "${IMAGES[@]}" -- run <on >found 2>told || failed "a copy past disk$number with $fault" "status $?"
+  [ "$(cat found)" = "$(lines_of $((10 + count)) 0 "$answer")
 2 a.2 sum 1 at 2 $first
 3 a.3 sum 2 at 3 $second
-4 a.4 sum 3 at 4 $third" copy 'sum 1' 'sum 2' 'sum 3'
+4 a.4 sum 3 at 4 $third" ] || failed "a copy past disk$number with $fault" "$(cat found)"
   rm disk$number
   reads_wanted "disk$number with $fault, and without it"
 }
-# The number of a call, and how many groups the copy has made by then. On each image the opening writes an uberblock, a
-# commit a page and an uberblock, and the fill and the drain 32 sectors each. The last two jobs write 10 sectors and 6,
-# on the new image 9 and 7. The opening and each commit have two syncs.
-number=0
-for row in 'pwrite64 1 0' 'pwrite64 2 0' 'pwrite64 20 0' 'pwrite64 33 0' 'pwrite64 34 1' 'pwrite64 35 1' \
-  'pwrite64 36 1' 'pwrite64 52 1' 'pwrite64 67 1' 'pwrite64 68 2' 'pwrite64 69 2' 'pwrite64 70 2' 'pwrite64 78 2' \
-  'pwrite64 82 3' 'pwrite64 87 3' 'fdatasync 1 0' 'fdatasync 2 0' 'fdatasync 3 1' 'fdatasync 4 1' 'fdatasync 5 2' \
-  'fdatasync 6 2' 'fdatasync 7 3' 'fdatasync 8 3'; do
+calls copy 'sum 1' 'sum 2' 'sum 3' >on
+# Each call of each image, but for the last two, which make the sync's group: which of them are made before the copy's
+# first, second, third and fourth group is, and in all. An opening reads a ring of 32 slots and a page, writes an
+# uberblock and syncs twice, and so does each commit, which writes a page too. The fill and the drain write 32 sectors
+# each; the last two jobs write 10 and 6, on the new image 9 and 7. The fill reads 43 or 42 of each old image, and none
+# of the new one; the drain reads 32 of each; the last two jobs read 13 and 8, or 9, of each old one. The sums follow.
+for row in '0 pread64 76 108 121 129 150' '1 pread64 76 108 121 129 148' '2 pread64 75 107 120 129 149' \
+  '3 pread64 33 65 65 65 85' '0 pwrite64 33 67 79 87 90' '1 pwrite64 33 67 79 87 90' '2 pwrite64 33 67 79 87 90' \
+  '3 pwrite64 33 67 78 87 90' '0 fdatasync 2 4 6 8 11' '1 fdatasync 2 4 6 8 11' '2 fdatasync 2 4 6 8 11' \
+  '3 fdatasync 2 4 6 8 11'; do
   set -- $row
-  fails $((number % 4)) $1:error=EIO:when=$2 $3
-  fails $(((number + 3) % 4)) $1:error=ENOSPC:when=$2 $3
-  number=$((number + 1))
-done
-# Behind the last group of the copy the expansion has ended.
-for number in 0 1 2 3; do
-  for when in 88 89; do fails $number pwrite64:error=EIO:when=$when 4 'done width 4'; done
-  for when in 9 10; do fails $number fdatasync:error=EIO:when=$when 4 'done width 4'; done
-done
-# The opening reads a ring of 32 slots and a page. The old images have 43 or 42 reads of the fill, the new one none;
-# each has 32 of the drain, and then the old ones 13.
-for row in '0 1 0' '0 33 0' '0 34 0' '0 76 0' '0 77 1' '0 108 1' '0 109 2' '0 121 2' '0 122 3' '0 129 3' \
-  '1 34 0' '1 76 0' '1 108 1' '2 34 0' '2 75 0' '2 107 1' '3 32 0' '3 33 0' '3 34 1' '3 65 1'; do
-  set -- $row
-  fails $1 pread64:error=EIO:when=$2 $3
+  for when in $(seq "$7"); do
+    count=$(((when > $3) + (when > $4) + (when > $5) + (when > $6)))
+    fails "$1" "$2:error=EIO:when=$when" $count
+    [ "$2" = pread64 ] || ((when % 10)) || fails "$1" "$2:error=ENOSPC:when=$when" $count
+  done
+  printf 'ok each of the %s calls %s of disk%s fails\n' "$7" "$2" "$1"
 done
 
 # Without a sync behind it nothing has recorded that the image is out: the next run copies with it from where the last
