@@ -11,8 +11,8 @@ use Rattle.schedule.specs.Playing.{HaveHadTurns}
 use Rattle.schedule.specs.Turns.{Turns, TurnTaken, turns_of}
 
 -- The seat is one of the lock, and does not hold the turn.
-abbrev pub IsFree : {K E : Type 0} → Lock K → Sitting E → Type 0
-IsFree lock seat = (seat.lock ≡ lock.id) × (seat.holds ≡ false)
+abbrev pub IsFreeSeat : {K E : Type 0} → Lock K → Sitting E → Type 0
+IsFreeSeat lock seat = (seat.lock ≡ lock.id) × (seat.holds ≡ false)
 
 -- These clients have had the turns since the start, one after the other, and so many were counted.
 abbrev pub StandsFor : Script → Option Turns → List ℕ → Turns → ℕ → ℕ → Type 0

@@ -11,7 +11,7 @@ ghost use Rattle.schedule.specs.InTurn.{turns_by};
 ghost use Rattle.schedule.specs.Playing.{IsReady};
 ghost use Rattle.schedule.specs.Replaying.{IsAtRest, blank_clients};
 ghost use Rattle.schedule.specs.Turns.{most_turns, turns_of};
-ghost use Rattle.pool_live.specs.Sharing.{HasCarriedOut, HasStoodFor, IsFree, StandsFor};
+ghost use Rattle.pool_live.specs.Sharing.{HasCarriedOut, HasStoodFor, IsFreeSeat, StandsFor};
 
 use crate::live::{Live, Setup};
 use bank_trait::Bank;
@@ -59,8 +59,8 @@ fn take_turn<R: Wait, B: Bank, J: Setup>(
 ) -> Next
     requires script { script.now ≡ J.script }
     requires allowed { All (λ placed. IsAllowed placed.call) script.now.calls }
-    requires seat { IsFree turns.now seat.old }
-    ensures seat { IsFree turns.now seat.new }
+    requires seat { IsFreeSeat turns.now seat.old }
+    ensures seat { IsFreeSeat turns.now seat.new }
 {
     let Ok(mut held) = turns.take(rt, seat) else {
         return Next::Ended;
@@ -93,8 +93,8 @@ fn run_client<R: Wait, B: Bank, J: Setup>(
 ) -> Seat<Live<B, J>, u8>
     requires script { script.now ≡ J.script }
     requires allowed { All (λ placed. IsAllowed placed.call) script.now.calls }
-    requires seat { IsFree turns.now seat }
-    ensures seat { IsFree turns.now result }
+    requires seat { IsFreeSeat turns.now seat }
+    ensures seat { IsFreeSeat turns.now result }
 {
     for _ in rt.forever() {
         match take_turn(rt, alloc, turns, &mut seat, script, actor) {
@@ -118,9 +118,9 @@ fn run_clients<R: Threads + Wait + Sync, B: Bank + Send, J: Setup + Send + Sync>
 ) -> Seat<Live<B, J>, u8>
     requires script { script.now ≡ J.script }
     requires allowed { All (λ placed. IsAllowed placed.call) script.now.calls }
-    requires seat { IsFree turns.now seat }
+    requires seat { IsFreeSeat turns.now seat }
     requires range { first < end }
-    ensures seat { IsFree turns.now result }
+    ensures seat { IsFreeSeat turns.now result }
 {
     if end - first == 1 {
         return run_client(rt, alloc, turns, seat, script, first);
@@ -130,14 +130,14 @@ fn run_clients<R: Threads + Wait + Sync, B: Bank + Send, J: Setup + Send + Sync>
     let (mut seat, other) = join(
         rt,
         move || -> Seat<Live<B, J>, u8>
-            requires { IsSync R.row × (script.now ≡ J.script) × (first < middle) × IsFree turns.now seat
+            requires { IsSync R.row × (script.now ≡ J.script) × (first < middle) × IsFreeSeat turns.now seat
                 × All (λ placed. IsAllowed placed.call) script.now.calls }
-            ensures { IsFree turns.entry.now result }
+            ensures { IsFreeSeat turns.entry.now result }
         { run_clients(rt, alloc, turns, seat, script, first, middle) },
         move || -> Seat<Live<B, J>, u8>
-            requires { IsSync R.row × (script.now ≡ J.script) × (middle < end) × IsFree turns.now other
+            requires { IsSync R.row × (script.now ≡ J.script) × (middle < end) × IsFreeSeat turns.now other
                 × All (λ placed. IsAllowed placed.call) script.now.calls }
-            ensures { IsFree turns.entry.now result }
+            ensures { IsFreeSeat turns.entry.now result }
         { run_clients(rt, alloc, turns, other, script, middle, end) },
     );
     turns.join(&mut seat, other);
