@@ -1,8 +1,11 @@
 -- What the clients of a script have come to that share a pool, whoever's turns they were.
 use Rattle.std.specs.Prelude.{◌≡◌, ℕ, List, length, false, Option, Some, None}
+use Rattle.bank_trait.specs.Disk.{Disk}
+use Rattle.core_state.specs.declared.item.Entry.{Entry}
 use Rattle.core_state.specs.declared.item.Item.{Item}
+use Rattle.core_state.specs.Legal.{CallAt}
 use Rattle.client_script.specs.Script.{Script}
-use Rattle.core_turns.specs.Core.{CoreState}
+use Rattle.core_turns.specs.Core.{Core, CoreState}
 use Rattle.turn_lock.specs.Seats.{Lock, Sitting}
 use Rattle.schedule.specs.declared.client.Client.{Client}
 use Rattle.schedule.specs.Coming.{LeadTo}
@@ -30,3 +33,11 @@ pub record HasCarriedOut (script : Script) (start : Turns) (state : CoreState) (
   pub clients : List Client
   pub taken : HaveTaken script start passed
   pub come : LeadTo script start passed (turns_of state items clients)
+
+-- Core, disk and journal are as they were.
+abbrev pub IsUntouched : Core → Disk → List Item → Core → Disk → List Item → Type 0
+IsUntouched core disk items after later more = (after ≡ core) × (later ≡ disk) × (more ≡ items)
+
+-- The journal answers no call.
+abbrev pub AnswersNone : List Item → Type 0
+AnswersNone items = (index : ℕ) (entry : Entry) → CallAt items index entry → ⊥

@@ -1,17 +1,15 @@
 // The clients of a script, each in a thread of its own.
-ghost use Rattle.std.specs.Prelude.{◌≡◌, ◌<◌, ◌≤◌, ◌+◌, ℕ, All, Some, [], false, length};
+ghost use Rattle.std.specs.Prelude.{◌≡◌, ◌<◌, ◌≤◌, All, Some, []};
 ghost use Rattle.std.specs.Thread.{IsSync};
-ghost use Rattle.core_state.specs.declared.item.Entry.{Entry as EntryOf};
 ghost use Rattle.core_state.specs.Journal.{CallsAreRight, IsComplete};
-ghost use Rattle.core_state.specs.Legal.{CallAt};
 ghost use Rattle.client_script.specs.Script.{IsAllowed, asked_by};
 ghost use Rattle.core_turns.specs.Core.{at_disk, HasBankOf};
-ghost use Rattle.schedule.specs.declared.whole_run.Ended.TheVariants.{Whole, Limit};
+ghost use Rattle.schedule.specs.declared.whole_run.Ended.TheVariants.{Whole, NoMemory, Limit};
 ghost use Rattle.schedule.specs.InTurn.{turns_by};
 ghost use Rattle.schedule.specs.Playing.{IsReady};
 ghost use Rattle.schedule.specs.Replaying.{IsAtRest, blank_clients};
 ghost use Rattle.schedule.specs.Turns.{most_turns, turns_of};
-ghost use Rattle.pool_live.specs.Sharing.{HasCarriedOut, HasStoodFor, IsFreeSeat, StandsFor};
+ghost use Rattle.pool_live.specs.Sharing.{AnswersNone, HasCarriedOut, HasStoodFor, IsFreeSeat, IsUntouched, StandsFor};
 
 use crate::live::{Live, Setup};
 use bank_trait::Bank;
@@ -165,6 +163,7 @@ fn finish<B: Bank, J: Setup>(alloc: Global, live: Live<B, J>, script: &Script) -
     ensures calls { CallsAreRight (asked_by script.now) result.journal.items }
     ensures complete { result.ended ≡ Whole → IsComplete (asked_by script.now) result.journal.items }
     ensures limit { result.ended ≡ Limit → most_turns ≤ result.turns }
+    ensures memory { result.ended ≡ NoMemory → ⊥ }
 {
     let Live {
         mut bank,
@@ -241,6 +240,7 @@ fn share<J: Setup + Send + Sync, R: Threads + Wait + Sync, B: Bank + Send>(
     ensures calls { CallsAreRight (asked_by script.now) result.journal.items }
     ensures complete { result.ended ≡ Whole → IsComplete (asked_by script.now) result.journal.items }
     ensures limit { result.ended ≡ Limit → most_turns ≤ result.turns }
+    ensures memory { result.ended ≡ NoMemory → ⊥ }
 {
     let left = take_turns_beside(rt, alloc, live, script);
     finish(alloc, left, script)
@@ -261,12 +261,14 @@ pub fn carry_out_beside<R: Threads + Wait + Sync, B: Bank + Send>(
     requires rest { IsAtRest core }
     requires allowed { All (λ placed. IsAllowed placed.call) script.now.calls }
     requires actors { All (λ placed. placed.actor < script.now.clients) script.now.calls }
-    requires none { (index : ℕ) (entry : EntryOf) → CallAt journal.items index entry → ⊥ }
+    requires none { AnswersNone journal.items }
     ensures taken { HasCarriedOut script.now (turns_of (at_disk core (B.disk bank)) journal.items
         (blank_clients script.now.clients)) (at_disk result.core (B.disk result.bank)) result.journal.items }
     ensures calls { CallsAreRight (asked_by script.now) result.journal.items }
     ensures complete { result.ended ≡ Whole → IsComplete (asked_by script.now) result.journal.items }
     ensures limit { result.ended ≡ Limit → most_turns ≤ result.turns }
+    ensures memory { result.ended ≡ NoMemory → IsUntouched core (B.disk bank) journal.items
+        result.core (B.disk result.bank) result.journal.items }
 {
     let Ok(progress) = begin(alloc, script, &mut journal) else {
         return Carried {

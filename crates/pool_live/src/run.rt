@@ -6,9 +6,10 @@ ghost use Rattle.core_open.specs.Causes.{IsOpenCause};
 ghost use Rattle.core_open.specs.Opens.{IsForMemory, LeavesOthers};
 ghost use Rattle.client_script.specs.Script.{IsAllowed, asked_by};
 ghost use Rattle.open_pool.specs.Opening.{CutsOpening, LeavesUnopened};
-ghost use Rattle.schedule.specs.declared.whole_run.Ended.TheVariants.{Whole, Limit};
+ghost use Rattle.schedule.specs.declared.whole_run.Ended.TheVariants.{Whole, NoMemory, Limit};
 ghost use Rattle.schedule.specs.Turns.{most_turns};
 ghost use Rattle.schedule.specs.WholeRun.{HasRun};
+ghost use Rattle.pool_live.specs.Sharing.{AnswersNone};
 
 use crate::beside::carry_out_beside;
 use bank_trait::Bank;
@@ -57,6 +58,7 @@ pub fn run_pool_beside<R: Threads + Wait + Sync, B: Bank + Send>(
     ensures complete { IfOk result (λ went. went.ran.ended ≡ Whole
         → IsComplete (asked_by script.now) went.journal.items) }
     ensures limit { IfOk result (λ went. went.ran.ended ≡ Limit → most_turns ≤ went.ran.turns) }
+    ensures memory { IfOk result (λ went. went.ran.ended ≡ NoMemory → AnswersNone went.journal.items) }
     ensures nothing { IfErr result (λ refused. refused.journal.items ≡ []) }
     ensures cause { IfErr result (λ refused. IsOpenCause (B.disk bank) (B.disk refused.bank) refused.why) }
     ensures cut { IfErr result (λ refused. Unchanged (B.disk bank) (B.disk refused.bank)
