@@ -12,6 +12,8 @@ mod bank_tests;
 #[cfg(test)]
 mod banks;
 #[cfg(test)]
+mod beside_tests;
+#[cfg(test)]
 mod calls;
 #[cfg(test)]
 mod commit_tests;

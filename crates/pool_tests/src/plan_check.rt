@@ -11,7 +11,7 @@ use std::test::Fail;
 use uberblock_ring::DeviceSet;
 
 /// The group of a new pool's opening.
-const FIRST_OPENING: Group = Group {
+pub const FIRST_OPENING: Group = Group {
     group: 3,
     after: 0,
     from: 3,
