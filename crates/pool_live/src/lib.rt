@@ -10,5 +10,4 @@ mod live;
 mod run;
 
 pub use beside::{Carried, carry_out_beside};
-pub use live::{Live, Setup};
 pub use run::{RanBeside, Unopened, run_pool_beside};
