@@ -124,6 +124,28 @@ answers() {
   sed -n 's/^[0-9]* [a-h]\.[0-9]* \(get\|sum\) \([0-9]*\)\( at [0-9]*\)\?/\1 \2/p'
 }
 
+# legal FILE: each group of a journal follows the one before it; a sync and an attach name the group just before them,
+# which began behind their caller's last answer; a read answers for a point behind that.
+legal() {
+  awk '
+    function wrong(why) { print NR ": " why; bad = 1; exit }
+    $1 != NR - 1 { wrong("its number") }
+    $2 == "group" {
+      if (NR > 1 && ($3 != group + 1 || $5 < after || $5 > $1)) wrong("a group")
+      group = $3; after = $5; listed = NR
+      next
+    }
+    {
+      caller = substr($2, 1, 1); number = substr($2, 3)
+      if (number != made[caller] + 1) wrong("a call")
+      commits = $3 == "sync" || $4 == "width"
+      if (commits && ($NF != group || listed != NR - 1 || after <= last[caller])) wrong("a commit")
+      if (($3 == "get" || $3 == "sum") && ($6 <= last[caller] || $6 > $1)) wrong("a read")
+      made[caller] = number; last[caller] = $1
+    }
+    END { exit bad }' "$1"
+}
+
 # disturbed PATH FAULT WORD..: a run with a fault in the calls on this file, as `fdatasync:error=EIO:when=2`. Its text
 # stands in `found`, what it tells in `told`, its calls in `trace`. STATUS is how it ends.
 disturbed() {

@@ -38,27 +38,6 @@ other_calls() {
   for id in 0 1 2 3 4; do echo "sum $id ${HELD[$id]}"; done >wanted
 }
 calls 'sum 0' 'sum 1' 'sum 2' 'sum 3' 'sum 4' >reads
-# legal FILE: each group of a journal follows the one before it; a sync and an attach name the group just before them,
-# which began behind their caller's last answer; a read answers for a point behind that.
-legal() {
-  awk '
-    function wrong(why) { print NR ": " why; bad = 1; exit }
-    $1 != NR - 1 { wrong("its number") }
-    $2 == "group" {
-      if (NR > 1 && ($3 != group + 1 || $5 < after || $5 > $1)) wrong("a group")
-      group = $3; after = $5; listed = NR
-      next
-    }
-    {
-      caller = substr($2, 1, 1); number = substr($2, 3)
-      if (number != made[caller] + 1) wrong("a call")
-      commits = $3 == "sync" || $4 == "width"
-      if (commits && ($NF != group || listed != NR - 1 || after <= last[caller])) wrong("a commit")
-      if (($3 == "get" || $3 == "sum") && ($6 <= last[caller] || $6 > $1)) wrong("a read")
-      made[caller] = number; last[caller] = $1
-    }
-    END { exit bad }' "$1"
-}
 # answered_b: the last run has answered b as it has to be.
 answered_b() {
   sed -n 's/^[0-9]* \(b\..*\)/\1/p' found | sed 's/\( sync group\) .*/\1/; s/\( sum [0-9]*\) at [0-9]*/\1/' >found_b

@@ -1,11 +1,12 @@
 #!/usr/bin/env bash
-# The scripts of examples/: each answers what stands beside it, on the images that the one before has left.
+# The scripts of examples/: each answers what stands beside it, on the images that the one before has left. Those of one
+# client are run. The one of two clients is replayed: a run of it may answer in another order.
 . "$(dirname "$0")/build.sh"
 
-# example NAME
+# example NAME [COMMAND]
 example() {
   INPUT=$ROOT/examples/$1.script \
-    expect "examples/$1.script" 0 "$(cat "$ROOT/examples/$1.out")" "${IMAGES[@]}" -- run
+    expect "examples/$1.script" 0 "$(cat "$ROOT/examples/$1.out")" "${IMAGES[@]}" -- "${2:-run}"
   touch "$1.run"
 }
 
@@ -28,11 +29,11 @@ INPUT=$ROOT/examples/read-back.script \
   expect 'two disks lost are one too many' 4 'too many failed 1 2' "${IMAGES[@]}" -- run
 
 pool 1 3 2048
-for name in store read-back replace-and-free two-clients not-synced after-not-synced; do
-  example $name
-done
+for name in store read-back replace-and-free; do example $name; done
+example two-clients replay
+for name in not-synced after-not-synced; do example $name; done
 for script in "$ROOT"/examples/*.script; do
-  [ -e "$(basename "$script" .script).run" ] || failed 'all examples are run' "$script"
+  [ -e "$(basename "$script" .script).run" ] || failed 'all examples are carried out' "$script"
 done
 
 # 500 blocks of 65,536 bytes with their parity take 96,000 of the 196,608 sectors of this pool.

@@ -49,16 +49,27 @@ whole_and_without 'a sync waits for another' '0 group 3 after 0
 runs 'a run reads the last group of a replay' 0 '0 group 7 after 0
 1 a.1 get 7 at 1 bytes 61' 'get 7'
 
-# Without an order each call is carried out whole, as by `run`.
-unordered=('clients 2' 'a put 1 5000 1' 'b put 1 6000 2' 'a sum 1' 'b sync' 'a free 1' 'b get 1')
+# Without an order each call is carried out whole, in the order of the lines: as by a `run` with one client.
 pool 1 3 256
 keep made
-printf '%s\n' "${unordered[@]}" >script
+calls 'put 1 5000 1' 'put 1 6000 2' 'sum 1' sync 'free 1' 'get 1' >script
 "$RAIDZX" "${IMAGES[@]}" -- run <script >text
 keep after_run
 back made
-replays 'a script without an order' 0 "$(cat text)" "${unordered[@]}"
+INPUT=script expect 'one client without an order' 0 "$(cat text)" "${IMAGES[@]}" -- replay
 unchanged 'it leaves what a run leaves' after_run
+# So it is where two clients make these calls.
+back made
+replays 'two clients without an order' 0 "0 group 3 after 0
+1 a.1 put 1 ok
+2 b.1 put 1 ok
+3 a.2 sum 1 at 3 $(summed 6000 2)
+4 group 4 after 4
+5 b.2 sync group 4
+6 a.3 free 1 ok
+7 b.3 get 1 at 7 absent" \
+  'clients 2' 'a put 1 5000 1' 'b put 1 6000 2' 'a sum 1' 'b sync' 'a free 1' 'b get 1'
+unchanged 'they leave what that run leaves' after_run
 
 pool 1 3 256
 keep made

@@ -3,7 +3,7 @@ ghost use Rattle.std.specs.Prelude.{◌≡◌, IfOk, IfSome, Some};
 ghost use Rattle.bank_mem.specs.MemBank.{mem_disk};
 ghost use Rattle.core_blocks.specs.Blocks.{IsUnderWay};
 ghost use Rattle.core_turns.specs.declared.copying.CopyRun.{CopyRun as CopyRunOf};
-ghost use Rattle.core_turns.specs.declared.putting.Filled.{Filled};
+ghost use Rattle.core_turns.specs.declared.filling.Filled.{Filled};
 ghost use Rattle.core_turns.specs.Attaching.{HasNewDevice, IsAttachRunOf};
 ghost use Rattle.core_turns.specs.Committing.{IsCommitOf};
 ghost use Rattle.core_turns.specs.Copying.{IsJobOf};

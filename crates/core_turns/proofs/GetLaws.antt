@@ -28,12 +28,12 @@ use Rattle.open_pool.specs.Pool.{HoldsMap}
 use Rattle.open_pool.proofs.Holding.{block_stays}
 use Rattle.core_turns.specs.declared.getting.GetRun.{GetRun}
 use Rattle.core_turns.specs.declared.getting.OutOfMemory.{OutOfMemory}
-use Rattle.core_turns.specs.declared.getting.Solved.{Solved}
-use Rattle.core_turns.specs.declared.getting.Solved.TheVariants.{NotYet, Bytes, Damaged}
+use Rattle.core_turns.specs.declared.solving.Solved.{Solved}
+use Rattle.core_turns.specs.declared.solving.Solved.TheVariants.{NotYet, Bytes, Damaged}
 use Rattle.core_turns.specs.declared.turn.Turn.{Turn}
 use Rattle.core_turns.specs.declared.turn.Turn.TheVariants.{More, Busy, Done}
 use Rattle.core_turns.specs.Core.{Core, CoreState, at_disk, pool_at}
-use Rattle.core_turns.specs.Getting.{IsReadKind, HasTooManyOut, IsGetOf, BeginsGet, ReadsTurn, IsSolved, SolvesWhatIsLeft, SolvesGet, AnswersSolved, EndsGet, IsSolvedAs, HoldsGet, FindsGet, KeepsGet, TellsGet, answer_of}
+use Rattle.core_turns.specs.Getting.{IsReadKind, HasTooManyOut, IsGetOf, BeginsGet, ReadsTurn, IsSolved, SolvesGet, AnswersSolved, EndsGet, IsSolvedAs, HoldsGet, FindsGet, KeepsGet, TellsGet, answer_of, to_solve_of}
 
 -- A read that begins holds the block that the map has at its id.
 pub get_finds : (map : Map) (old new : Core) (disk : Disk) (actor id : ℕ) (asked : Kind) (result : Turn GetRun)
@@ -105,7 +105,7 @@ get_solves content state run next whole of holds solves = subst (HoldsGet conten
   are_bytes = holds.are_bytes;
   digest_is = holds.digest_is;
   so_far = holds.so_far;
-  solved = λ few. by few next.solved solves.solved solves.left;
+  solved = λ few. by few next.solved solves.solved;
 })
   where
     left_over : IsLeftOver run.read.layout content run.read.read.rows run.read.read.lost.items
@@ -117,10 +117,10 @@ get_solves content state run next whole of holds solves = subst (HoldsGet conten
         ⊎_elim (λ many. absurd (few many)) (λ low. omega (arith, low, parity))
         (cases_lt state.core.pool.uber.parity (count_of state.core.pool.out)))
 
-    by : (HasTooManyOut state.core → ⊥) → (solved : Solved) → IsSolved run solved → SolvesWhatIsLeft run solved → IsSolvedAs content solved
-    by few NotYet is left = tt
-    by few (Bytes bytes) is left = left content left_over holds.len_is holds.are_bytes holds.digest_is (lost_few few)
-    by few Damaged is left = is content left_over holds.len_is holds.are_bytes holds.digest_is (lost_few few)
+    by : (HasTooManyOut state.core → ⊥) → (solved : Solved) → IsSolved (to_solve_of run) solved → IsSolvedAs content solved
+    by few NotYet is = tt
+    by few (Bytes bytes) is = is.left content left_over holds.len_is holds.are_bytes holds.digest_is (lost_few few)
+    by few Damaged is = is.bytes content left_over holds.len_is holds.are_bytes holds.digest_is (lost_few few)
 
 -- A read is answered by its block, or was cut short.
 pub get_tells : (content : List ℕ) (old new : Core) (disk : Disk) (run : GetRun) (result : Turn GetRun) → IsReadKind run.kind

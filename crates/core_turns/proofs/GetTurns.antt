@@ -19,7 +19,7 @@ use Rattle.core_client.specs.BlockTurns.{BlockRead, IsReadBegun}
 use Rattle.open_pool.proofs.Holding.{listed_in_pool}
 use Rattle.core_turns.specs.declared.getting.GetRun.{GetRun}
 use Rattle.core_turns.specs.declared.getting.OutOfMemory.{OutOfMemory}
-use Rattle.core_turns.specs.declared.getting.Solved.TheVariants.{NotYet}
+use Rattle.core_turns.specs.declared.solving.Solved.TheVariants.{NotYet}
 use Rattle.core_turns.specs.declared.turn.Turn.{Turn}
 use Rattle.core_turns.specs.declared.turn.Turn.TheVariants.{More, Busy, Done}
 use Rattle.core_turns.specs.Core.{Core, CoreState, IsCore, as_begun, reaching}

@@ -10,7 +10,7 @@ use Rattle.uberblock_ring.specs.Devices.{has_device}
 use Rattle.core_blocks.specs.Blocks.{AreUnderWay, put_run}
 use Rattle.core_blocks.proofs.Lists.{gains_item, gains_old}
 use Rattle.core_blocks.proofs.Runs.{free_of_taken}
-use Rattle.core_turns.specs.declared.putting.Filled.{Filled}
+use Rattle.core_turns.specs.declared.filling.Filled.{Filled}
 use Rattle.core_turns.specs.declared.putting.PutRun.{PutRun}
 use Rattle.core_turns.specs.Core.{Core, CoreState}
 use Rattle.core_turns.specs.Putting.{BeginsPutSo, FillsPut, GivesUp, IsPutOf, LeavesBlocks, StoresBlock, WritesOne}

@@ -14,7 +14,7 @@ use Rattle.core_blocks.specs.Puts.{HoldsBack}
 use Rattle.core_blocks.proofs.Listed.{put_cases}
 use Rattle.core_blocks.proofs.Usage.{adds_held_back}
 use Rattle.open_pool.proofs.PutRanges.{entry_range}
-use Rattle.core_turns.specs.declared.putting.Filled.{Filled}
+use Rattle.core_turns.specs.declared.filling.Filled.{Filled}
 use Rattle.core_turns.specs.declared.putting.PutRun.{PutRun}
 use Rattle.core_turns.specs.Core.{Core, IsCore}
 use Rattle.core_turns.specs.Getting.{HasTooManyOut}

@@ -19,7 +19,7 @@ use Rattle.core_client.proofs.Below.{below_by_write}
 use Rattle.core_client.proofs.Outs.{outs_none, outs_called}
 use Rattle.core_client.proofs.Stored.{plan_below, plan_inside}
 use Rattle.core_commit.specs.Spared.{IsOnInUse}
-use Rattle.core_turns.specs.declared.putting.Filled.{Filled}
+use Rattle.core_turns.specs.declared.filling.Filled.{Filled}
 use Rattle.core_turns.specs.declared.putting.PutRun.{PutRun}
 use Rattle.core_turns.specs.declared.turn.Turn.{Turn}
 use Rattle.core_turns.specs.declared.turn.Turn.TheVariants.{More, Busy, Done}

@@ -27,7 +27,7 @@ use Rattle.core_commit.specs.CommitTurns.{CommitRun}
 use Rattle.open_pool.specs.Pool.{HoldsMap, IsTableOf, ReadsAs, state_of}
 use Rattle.open_pool.proofs.Holding.{put_holds}
 use Rattle.open_pool.proofs.PutRanges.{entry_layout}
-use Rattle.core_turns.specs.declared.putting.Filled.{Filled}
+use Rattle.core_turns.specs.declared.filling.Filled.{Filled}
 use Rattle.core_turns.specs.declared.putting.PutRun.{PutRun}
 use Rattle.core_turns.specs.Core.{Core, CoreState, IsCore, as_begun, at_disk, pool_at}
 use Rattle.core_turns.specs.Putting.{BeginsPutSo, FillsPut, GivesUp, HoldsPut, IsPutOf, LeavesBlocks, StoresBlock, filled_entry}
@@ -377,11 +377,11 @@ put_fills_stands {setting} {last} {begun} {contents = contents} {commit} {left} 
           × IsWrittenSoFar run.range.layout content state.core.pool.uber.reflow
           state.core.pool.done state.disk.reads state.core.pool.out f.write)
           (same_filled other same) (
-            fills.digest_is,
+            fills.made.digest_is,
             written_none run.range.layout content state.core.pool.uber.reflow
                 state.core.pool.done state.disk.reads state.core.pool.out fills.filled.write
-                (plan_now state.core run content fills.filled.write.rows fills.filled.write.writes of fills.plan)
-                fills.next,
+                (plan_now state.core run content fills.filled.write.rows fills.filled.write.writes of fills.made.plan)
+                fills.made.next,
           );
     }
       where

@@ -23,7 +23,7 @@ use Rattle.core_client.specs.Pool.{IsInPool}
 use Rattle.core_client.specs.Writing.{IsPlanOf}
 use Rattle.open_pool.proofs.PutRanges.{range_in_pool}
 use Rattle.core_turns.specs.declared.getting.OutOfMemory.{OutOfMemory}
-use Rattle.core_turns.specs.declared.putting.Filled.{Filled}
+use Rattle.core_turns.specs.declared.filling.Filled.{Filled}
 use Rattle.core_turns.specs.declared.putting.PutRun.{PutRun}
 use Rattle.core_turns.specs.declared.turn.Turn.{Turn}
 use Rattle.core_turns.specs.declared.turn.Turn.TheVariants.{More}
@@ -241,10 +241,10 @@ pub fills_of : (core : Core) (old new : PutRun) (content : List ℕ) → FillsPu
     → IsPutOf core old → IsPutOf core new
 fills_of core old new content fills len of = subst (IsPutOf core) (sym fills.rest)
     (filled_of core old fills.filled content (record {
-      plan = plan_now core old content fills.filled.write.rows fills.filled.write.writes of fills.plan;
-      so_far = (let first = fills.next in omega (arith, first));
+      plan = plan_now core old content fills.filled.write.rows fills.filled.write.writes of fills.made.plan;
+      so_far = (let first = fills.made.next in omega (arith, first));
       len_is = len;
-      digest_is = fills.digest_is;
+      digest_is = fills.made.digest_is;
     }) of)
 
 -- whether memory was wanting for that or not,

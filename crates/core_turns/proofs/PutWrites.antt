@@ -50,7 +50,7 @@ use Rattle.core_commit.proofs.Halves.{sound_paged}
 use Rattle.open_pool.proofs.Holding.{listed_in_pool}
 use Rattle.open_pool.proofs.Layouts.{entry_in_pool}
 use Rattle.open_pool.proofs.PutRanges.{tells_at}
-use Rattle.core_turns.specs.declared.putting.Filled.{Filled}
+use Rattle.core_turns.specs.declared.filling.Filled.{Filled}
 use Rattle.core_turns.specs.declared.putting.PutRun.{PutRun}
 use Rattle.core_turns.specs.Core.{Core, CoreState, IsCore, as_begun, at_disk, HasBankOf}
 use Rattle.core_turns.specs.Putting.{IsPutOf, HoldsPut, WritesOne}

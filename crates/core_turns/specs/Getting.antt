@@ -5,12 +5,13 @@ use Rattle.width_map.specs.Births.{width_of_birth}
 use Rattle.range_locks.specs.declared.hold.Hold.{Hold}
 use Rattle.range_locks.specs.declared.hold.HoldKind.TheVariants.{Shared}
 use Rattle.range_locks.specs.Holds.{IsBusyBy, IsClear, EndsHold}
-use Rattle.row_layout.specs.Layout.{allocated_of}
+use Rattle.row_layout.specs.Layout.{Layout, allocated_of, columns_of, rows_of}
 use Rattle.space_alloc.specs.Space.{Gains}
 use Rattle.block_record.specs.declared.entry.IndexEntry.{IndexEntry}
 use Rattle.block_record.specs.Page.{IsRightEntry}
 use Rattle.block_table.specs.Table.{entry_of}
 use Rattle.reconstruct.specs.Lost.{AreBytes, IsLeftOver}
+use Rattle.reconstruct.specs.Rows.{column_at, sectors_for}
 use Rattle.uberblock_ring.specs.Uberblock.{Uber}
 use Rattle.uberblock_ring.specs.Devices.{count_of}
 use Rattle.core_state.specs.declared.answer.Answer.{Answer}
@@ -21,12 +22,14 @@ use Rattle.core_state.specs.Map.{Map}
 use Rattle.core_state.specs.Index.{layout_of}
 use Rattle.core_state.specs.Legal.{IsReadOf}
 use Rattle.core_state.specs.Committing.{point_of}
+use Rattle.core_client.specs.declared.columns_read.ColumnsRead.{ColumnsRead}
 use Rattle.core_client.specs.Pool.{IsInPool, IsRightBlock}
-use Rattle.core_client.specs.Got.{HasLostFew}
+use Rattle.core_client.specs.Got.{HasLostFew, IsShapedAs}
 use Rattle.core_client.specs.BlockTurns.{IsReadBegun, ReadsColumn, IsReadSoFar}
 use Rattle.core_turns.specs.declared.getting.GetRun.{GetRun}
-use Rattle.core_turns.specs.declared.getting.Solved.{Solved}
-use Rattle.core_turns.specs.declared.getting.Solved.TheVariants.{NotYet, Bytes, Damaged}
+use Rattle.core_turns.specs.declared.solving.Solved.{Solved}
+use Rattle.core_turns.specs.declared.solving.Solved.TheVariants.{NotYet, Bytes, Damaged}
+use Rattle.core_turns.specs.declared.solving.ToSolve.{ToSolve}
 use Rattle.core_turns.specs.declared.turn.Turn.{Turn}
 use Rattle.core_turns.specs.declared.turn.Turn.TheVariants.{More, Busy, Done}
 use Rattle.core_turns.specs.Core.{Core, CoreState}
@@ -109,28 +112,62 @@ ReadsTurn before run after (Busy by) = ⊥
 ReadsTurn before run after (Done given) = IsStoppedGet before.core after.core run.hold given
     × (after.disk ≡ before.disk)
 
--- What was solved has the entry's length and digest, and is whatever the columns are left of. It is damaged
--- only where too much of a row is lost, or nothing of that digest is what they are left of.
-abbrev pub IsSolved : GetRun → Solved → Type 0
-IsSolved run NotYet = ⊥
-IsSolved run (Bytes bytes) = (length bytes ≡ run.entry.len) × (sha256 bytes ≡ run.entry.digest)
-IsSolved run Damaged = (wanted : List ℕ)
-    → IsLeftOver run.read.layout wanted run.read.read.rows run.read.read.lost.items
-    → length wanted ≡ run.entry.len → AreBytes wanted → sha256 wanted ≡ run.entry.digest
-    → HasLostFew run.read.layout run.read.read → ⊥
+-- what a read is to solve
+abbrev pub to_solve_of : GetRun → ToSolve
+to_solve_of run = record {
+  layout = run.read.layout;
+  read = run.read.read;
+  len = run.entry.len;
+  digest = run.entry.digest;
+}
 
-abbrev pub SolvesWhatIsLeft : GetRun → Solved → Type 0
-SolvesWhatIsLeft run (Bytes bytes) = (wanted : List ℕ)
-    → IsLeftOver run.read.layout wanted run.read.read.rows run.read.read.lost.items
-    → length wanted ≡ run.entry.len → AreBytes wanted → sha256 wanted ≡ run.entry.digest
-    → HasLostFew run.read.layout run.read.read → bytes ≡ wanted
-SolvesWhatIsLeft run other = ⊤
+-- It can be solved.
+pub record IsSolvable (block : ToSolve) : Type 0 where
+  pub shape : IsShapedAs block.layout block.read
+  pub len : sectors_for block.len ≡ block.layout.sectors
+
+-- What was solved has the block's length and digest, and is whatever the columns are left of. It is damaged
+-- only where too much of a row is lost, or nothing of that digest is what they are left of.
+abbrev pub HasRightBytes : ToSolve → Solved → Type 0
+HasRightBytes block NotYet = ⊥
+HasRightBytes block (Bytes bytes) = (length bytes ≡ block.len) × (sha256 bytes ≡ block.digest)
+HasRightBytes block Damaged = (wanted : List ℕ)
+    → IsLeftOver block.layout wanted block.read.rows block.read.lost.items
+    → length wanted ≡ block.len → AreBytes wanted → sha256 wanted ≡ block.digest
+    → HasLostFew block.layout block.read → ⊥
+
+abbrev pub IsWhatIsLeft : ToSolve → Solved → Type 0
+IsWhatIsLeft block (Bytes bytes) = (wanted : List ℕ)
+    → IsLeftOver block.layout wanted block.read.rows block.read.lost.items
+    → length wanted ≡ block.len → AreBytes wanted → sha256 wanted ≡ block.digest
+    → HasLostFew block.layout block.read → bytes ≡ wanted
+IsWhatIsLeft block other = ⊤
+
+pub record IsSolved (block : ToSolve) (solved : Solved) : Type 0 where
+  pub bytes : HasRightBytes block solved
+  pub left : IsWhatIsLeft block solved
+
+-- Two readings of a block got the same in a row,
+abbrev pub HasSameRow : Layout → ColumnsRead → ColumnsRead → ℕ → Type 0
+HasSameRow layout one other row = (column : ℕ) → column < columns_of layout
+    → column_at one.rows row column ≡ column_at other.rows row column
+
+-- and in all rows, and lost the same.
+pub record HasSameColumns (layout : Layout) (one other : ColumnsRead) : Type 0 where
+  pub lost : one.lost.items ≡ other.lost.items
+  pub rows : (row : ℕ) → row < rows_of layout → HasSameRow layout one other row
+
+-- They are of the same block.
+pub record IsAlike (one other : ToSolve) : Type 0 where
+  pub layout : one.layout ≡ other.layout
+  pub len : one.len ≡ other.len
+  pub digest : one.digest ≡ other.digest
+  pub columns : HasSameColumns other.layout one.read other.read
 
 -- The block was solved from what was read.
 pub record SolvesGet (old new : GetRun) : Type 0 where
   pub rest : new ≡ record old { solved = new.solved }
-  pub solved : IsSolved old new.solved
-  pub left : SolvesWhatIsLeft old new.solved
+  pub solved : IsSolved (to_solve_of old) new.solved
 
 -- a get answers the bytes, a sum their length and digest
 abbrev pub answer_of : Kind → IndexEntry → List ℕ → Answer

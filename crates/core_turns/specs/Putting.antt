@@ -12,6 +12,7 @@ use Rattle.space_alloc.specs.Space.{Run, Gains, IsDropping, IsBusySpace, HasNoFr
 use Rattle.block_record.specs.declared.entry.IndexEntry.{IndexEntry}
 use Rattle.block_table.specs.Table.{ChangesOnly, IsFull, entry_of, without_one}
 use Rattle.reconstruct.specs.Lost.{AreBytes}
+use Rattle.reconstruct.specs.Rows.{sectors_for}
 use Rattle.core_state.specs.declared.answer.Answer.{Answer}
 use Rattle.core_state.specs.declared.answer.Answer.TheVariants as answer
 use Rattle.core_blocks.specs.declared.range.PutRange.{PutRange}
@@ -26,7 +27,8 @@ use Rattle.reflow_band.specs.Band.{AsksSame, IsFrontOf}
 use Rattle.core_client.specs.Pool.{IsInPool}
 use Rattle.core_client.specs.Writing.{IsPassedOrMade, IsPlanOf}
 use Rattle.core_client.specs.BlockTurns.{IsWrittenSoFar}
-use Rattle.core_turns.specs.declared.putting.Filled.{Filled}
+use Rattle.core_turns.specs.declared.filling.Filled.{Filled}
+use Rattle.core_turns.specs.declared.filling.ToFill.{ToFill}
 use Rattle.core_turns.specs.declared.putting.PutRun.{PutRun}
 use Rattle.core_turns.specs.declared.turn.Turn.{Turn}
 use Rattle.core_turns.specs.declared.turn.Turn.TheVariants.{More, Busy, Done}
@@ -142,15 +144,34 @@ BeginsPutTurn old new actor id len (Busy by) = (HasTooManyOut old → ⊥) × Le
     (sectors_taken old.pool.uber.parity old.pool.uber.births len (old.begun + 1)) by
 BeginsPutTurn old new actor id len (Done given) = IsPutRefused old new id len given
 
--- A block was filled in: these bytes' columns, of which nothing was written yet.
+-- what a put's block is made up for
+abbrev pub to_fill_of : PutRun → ToFill
+to_fill_of run = record { layout = run.range.layout; reflow = run.reflow; done = run.done; len = run.len }
+
+-- the same, unless the block was filled in
+abbrev pub left_to_fill : PutRun → Option Filled → Option ToFill
+left_to_fill run (Some filled) = None
+left_to_fill run None = Some (to_fill_of run)
+
+-- A block of these bytes can be made up for it.
+pub record IsFillable (block : ToFill) (content : List ℕ) : Type 0 where
+  pub pool : IsInPool block.layout block.reflow
+  pub front : IsFrontOf block.reflow block.done
+  pub sectors : sectors_for block.len ≡ block.layout.sectors
+  pub len : length content ≡ block.len
+
+-- A block of these bytes was made up for it: their columns, of which nothing was written yet.
+pub record IsMadeUp (block : ToFill) (filled : Filled) (content : List ℕ) : Type 0 where
+  pub next : filled.write.next ≡ 0
+  pub plan : IsPlanOf block.layout block.reflow block.done content filled.write.rows filled.write.writes
+  pub writes : filled.write.writes ≡ writes_of block.layout block.reflow block.done
+  pub digest_is : filled.digest ≡ sha256 content
+
+-- A put's block was filled in.
 pub record FillsPut (old new : PutRun) (content : List ℕ) : Type 0 where
   pub filled : Filled
   pub rest : new ≡ record old { filled = Some filled }
-  pub next : filled.write.next ≡ 0
-  pub plan : IsPlanOf old.range.layout old.reflow old.done content filled.write.rows
-      filled.write.writes
-  pub writes : filled.write.writes ≡ writes_of old.range.layout old.reflow old.done
-  pub digest_is : filled.digest ≡ sha256 content
+  pub made : IsMadeUp (to_fill_of old) filled content
 
 -- A put is given up: its hold has ended, its sectors are free, and its id is no longer reserved for it.
 pub record GivesUp (old new : Core) (run : PutRun) : Type 0 where

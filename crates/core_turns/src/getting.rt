@@ -1,5 +1,5 @@
 // Reads, turn by turn.
-ghost use Rattle.std.specs.Prelude.{◌≡◌, ℕ, List, false, ◌+◌, ◌^◌, ◌<◌, ◌≤◌, ◌↔◌, IsTrue, OnErr, OnOk};
+ghost use Rattle.std.specs.Prelude.{◌≡◌, ℕ, List, false, ◌+◌, ◌^◌, ◌<◌, ◌≤◌, ◌↔◌, IfSome, IsTrue, OnErr, OnOk};
 ghost use Rattle.bank_trait.specs.Disk.{Disk, Unchanged};
 ghost use Rattle.row_layout.specs.Layout.{rows_of};
 ghost use Rattle.reconstruct.specs.Rows.{sectors_for};
@@ -13,13 +13,14 @@ ghost use Rattle.core_state.specs.Committing.{point_of};
 ghost use Rattle.open_pool.specs.Pool.{HoldsMap};
 ghost use Rattle.core_turns.specs.declared.getting.GetRun.{GetRun as GetRunOf};
 ghost use Rattle.core_turns.specs.Core.{Core as CoreOf, CoreState, IsCore, at_disk, pool_at, HasBankOf};
-ghost use Rattle.core_turns.specs.Getting.{HasLayout, HoldsGet, FindsGet, KeepsGet, TellsGet, IsGetOf, IsMoreOf, IsReadKind, BeginsGet, ReadsTurn, SolvesGet, EndsGet, answer_of};
+ghost use Rattle.core_turns.specs.Getting.{HasLayout, HoldsGet, FindsGet, KeepsGet, TellsGet, IsGetOf, IsMoreOf, IsReadKind, BeginsGet, ReadsTurn, IsSolvable, IsSolved, SolvesGet, EndsGet, answer_of};
 
+use crate::solving::{Solved, SolvedFrom, ToSolve, copy_columns, solve_columns};
 use crate::turn::too_many;
 use crate::{Core, Turn};
 use bank_trait::Bank;
 use block_record::IndexEntry;
-use core_client::{BlockRead, FetchRefused, checked_bytes};
+use core_client::BlockRead;
 use core_state::{Answer, Bytes, Kind};
 use range_locks::{Hold, LockRefused};
 use row_layout::Layout;
@@ -35,14 +36,6 @@ pub struct GetRun {
     entry: IndexEntry,
     read: BlockRead,
     solved: Solved,
-}
-
-/// What the columns that were read come to.
-#[derive(Drop)]
-pub enum Solved {
-    NotYet,
-    Bytes(Bytes),
-    Damaged,
 }
 
 /// No memory was left.
@@ -71,6 +64,46 @@ impl GetRun {
         self.read.is_done()
     }
 
+    /// What is to be solved, once all columns were read: they are copied. Nothing where memory is wanting for that.
+    pub fn to_solve(&self, alloc: Global) -> Option<ToSolve>
+        requires len { sectors_for self.now.entry.len ≡ self.now.read.layout.sectors }
+        ensures { IfSome result IsSolvable }
+    {
+        if !self.is_read() {
+            return None;
+        }
+        let layout = *self.read.layout();
+        let Ok(read) = copy_columns(alloc, &layout, self.read.columns()) else {
+            return None;
+        };
+        Some(ToSolve {
+            layout,
+            read,
+            len: self.entry.len,
+            digest: self.entry.digest,
+        })
+    }
+
+    /// Takes what was solved, where it was solved from what this read has. Tells whether it was.
+    pub fn take_solved(&mut self, from: SolvedFrom) -> bool
+        requires solvable { IsSolvable from.block }
+        requires solved { IsSolved from.block from.solved }
+        ensures solves { IsTrue result → SolvesGet self.old self.new }
+        ensures other { result ≡ false → self.new ≡ self.old }
+    {
+        let block = &from.block;
+        if !block.is_alike(
+            self.read.layout(),
+            self.read.columns(),
+            self.entry.len,
+            &self.entry.digest,
+        ) {
+            return false;
+        }
+        self.solved = from.solved;
+        true
+    }
+
     /// Solves the block from what was read. Calls no device, and is no turn.
     pub fn solve(&mut self, alloc: Global) -> Result<(), OutOfMemory>
         requires len { sectors_for self.old.entry.len ≡ self.old.read.layout.sectors }
@@ -81,26 +114,21 @@ impl GetRun {
         ensures of { (core : CoreOf) → IsGetOf core self.old → IsGetOf core self.new }
         ensures err { OnErr result (self.new ≡ self.old) }
     {
-        self.solve_columns(alloc)
+        self.solve_here(alloc)
     }
 
-    fn solve_columns(&mut self, alloc: Global) -> Result<(), OutOfMemory>
+    fn solve_here(&mut self, alloc: Global) -> Result<(), OutOfMemory>
         requires len { sectors_for self.old.entry.len ≡ self.old.read.layout.sectors }
         ensures ok { OnOk result (SolvesGet self.old self.new) }
         ensures err { OnErr result (self.new ≡ self.old) }
     {
-        let solved = checked_bytes(
+        self.solved = solve_columns(
             alloc,
             self.read.layout(),
             self.read.columns(),
-            self.entry.len as usize,
+            self.entry.len,
             &self.entry.digest,
-        );
-        self.solved = match solved {
-            Ok(bytes) => Solved::Bytes(Bytes::new(bytes)),
-            Err(FetchRefused::NoMemory) => return Err(OutOfMemory),
-            Err(_) => Solved::Damaged,
-        };
+        )?;
         Ok(())
     }
 }

@@ -11,17 +11,21 @@
 mod attaching;
 mod committing;
 mod copying;
+mod filling;
 mod freeing;
 mod getting;
 mod open_core;
 mod putting;
 mod rounds;
+mod solving;
 mod turn;
 
 pub use attaching::AttachRun;
 pub use copying::{CopyRun, JobBegin};
-pub use getting::{GetRun, OutOfMemory, Solved};
+pub use filling::{Filled, MadeUp, ToFill};
+pub use getting::{GetRun, OutOfMemory};
 pub use open_core::Core;
-pub use putting::{Filled, PutRun};
+pub use putting::PutRun;
 pub use rounds::CopyRound;
+pub use solving::{Solved, SolvedFrom, ToSolve};
 pub use turn::Turn;

@@ -1,5 +1,5 @@
 // Puts, turn by turn.
-ghost use Rattle.std.specs.Prelude.{◌≡◌, false, ◌+◌, ◌<◌, ◌≤◌, ◌^◌, ◌↔◌, IsTrue, OnErr, OnOk, Some, length};
+ghost use Rattle.std.specs.Prelude.{◌≡◌, ℕ, List, false, ◌+◌, ◌<◌, ◌≤◌, ◌^◌, ◌↔◌, IsTrue, OnErr, OnOk, Some, length};
 ghost use Rattle.row_layout.specs.Layout.{allocated_of};
 ghost use Rattle.range_locks.specs.Holds.{IsClear};
 ghost use Rattle.reconstruct.specs.Rows.{sectors_for};
@@ -9,22 +9,21 @@ ghost use Rattle.core_blocks.specs.Blocks.{IsUnderWay};
 ghost use Rattle.core_client.specs.Outs.{OnlyFailedGoOut};
 ghost use Rattle.core_state.specs.Committing.{point_of};
 ghost use Rattle.core_client.specs.Pool.{IsInPool};
-ghost use Rattle.core_turns.specs.declared.putting.Filled.{Filled as FilledOf};
+ghost use Rattle.core_turns.specs.declared.filling.Filled.{Filled as FilledOf};
 ghost use Rattle.core_turns.specs.Core.{Core as CoreOf, IsCore, at_disk, HasBankOf};
 ghost use Rattle.core_turns.specs.Getting.{HasTooManyOut};
-ghost use Rattle.core_turns.specs.Putting.{BeginsPutTurn, EndsPut, FillsPut, GivesUp, GivesUpTurn, HoldsRange, IsMorePut, IsPutOf, IsStoppedPut, WritesTurn, refused_turn};
+ghost use Rattle.core_turns.specs.Putting.{BeginsPutTurn, EndsPut, FillsPut, IsFillable, IsMadeUp, left_to_fill, to_fill_of, GivesUp, GivesUpTurn, HoldsRange, IsMorePut, IsPutOf, IsStoppedPut, WritesTurn, refused_turn};
 ghost use Rattle.core_turns.specs.UnderWay.{TurnGoesOn};
 
+use crate::filling::{Filled, MadeUp, ToFill};
 use crate::getting::OutOfMemory;
 use crate::turn::too_many;
 use crate::{Core, Turn};
 use bank_trait::Bank;
 use core_blocks::{PutRange, PutRefused};
-use core_client::BlockWrite;
 use core_state::Answer;
 use range_locks::{Hold, HoldKind, LockRefused, Locks};
 use reflow_mark::Reflow;
-use sha2::{Digest, Sha256};
 use std::alloc::Global;
 
 /// A put under way. It holds its block's sectors; no other call has one of them.
@@ -36,13 +35,6 @@ pub struct PutRun {
     reflow: Reflow,
     done: u64,
     filled: Option<Filled>,
-}
-
-/// A put's block on its way to the devices, and the digest of its bytes.
-#[derive(Drop)]
-pub struct Filled {
-    write: BlockWrite,
-    digest: [u8; 32],
 }
 
 /// The turn of a put that is refused.
@@ -103,12 +95,32 @@ impl PutRun {
         }
     }
 
+    /// What the block is to be made up for, unless it was filled in.
+    pub fn to_fill(&self) -> Option<ToFill>
+        ensures { result ≡ left_to_fill self.now self.now.filled }
+    {
+        match &self.filled {
+            Some(_) => None,
+            None => Some(self.shape()),
+        }
+    }
+
+    /// Takes a block that was made up, where it was made up for this put. Tells whether it was.
+    pub fn take_block(&mut self, made: MadeUp) -> bool
+        ensures fills { (content : List ℕ) → IsTrue result → IsMadeUp made.block made.filled content
+            → FillsPut self.old self.new content }
+        ensures other { result ≡ false → self.new ≡ self.old }
+    {
+        if made.block != self.shape() {
+            return false;
+        }
+        self.filled = Some(made.filled);
+        true
+    }
+
     /// Fills in the block's bytes: makes its columns up, and its digest. Calls no device, and is no turn.
     pub fn fill(&mut self, alloc: Global, bytes: &[u8]) -> Result<(), OutOfMemory>
-        requires pool { IsInPool self.old.range.layout self.old.reflow }
-        requires front { IsFrontOf self.old.reflow self.old.done }
-        requires sectors { sectors_for self.old.len ≡ self.old.range.layout.sectors }
-        requires len { length bytes.now ≡ self.old.len }
+        requires fillable { IsFillable (to_fill_of self.old) bytes.now }
         ensures ok { OnOk result (FillsPut self.old self.new bytes.now) }
         ensures of { (core : CoreOf) → IsPutOf core self.old → IsPutOf core self.new }
         ensures err { OnErr result (self.new ≡ self.old) }
@@ -117,22 +129,24 @@ impl PutRun {
     }
 
     fn fill_in(&mut self, alloc: Global, bytes: &[u8]) -> Result<(), OutOfMemory>
-        requires pool { IsInPool self.old.range.layout self.old.reflow }
-        requires front { IsFrontOf self.old.reflow self.old.done }
-        requires sectors { sectors_for self.old.len ≡ self.old.range.layout.sectors }
-        requires len { length bytes.now ≡ self.old.len }
+        requires fillable { IsFillable (to_fill_of self.old) bytes.now }
         ensures ok { OnOk result (FillsPut self.old self.new bytes.now) }
         ensures err { OnErr result (self.new ≡ self.old) }
     {
-        let Ok(write) = BlockWrite::new(alloc, &self.range.layout, &self.reflow, self.done, bytes)
-        else {
-            return Err(OutOfMemory);
-        };
-        self.filled = Some(Filled {
-            write,
-            digest: Sha256::digest(bytes),
-        });
+        let made = self.shape().make_up(alloc, bytes)?;
+        self.filled = Some(made.filled);
         Ok(())
+    }
+
+    fn shape(&self) -> ToFill
+        ensures { result ≡ to_fill_of self.now }
+    {
+        ToFill {
+            layout: self.range.layout,
+            reflow: self.reflow,
+            done: self.done,
+            len: self.len,
+        }
     }
 }
 

@@ -1,6 +1,6 @@
 -- Turns of clients that share a pool, one after the other.
 use Rattle.std.proofs.Common.{◌≡◌, ℕ, ◌+◌, List, [], ◌∷◌, ◌++◌, length, length-append, Option, Some, None, refl, sym, ◌∙◌, ap, subst, arith}
-use Rattle.std.proofs.lemmas.List.{map-append}
+use Rattle.std.proofs.lemmas.List.{length-map, map-append}
 use Rattle.core_state.specs.declared.item.Item.{Item}
 use Rattle.client_script.specs.Script.{Script}
 use Rattle.core_turns.specs.Core.{CoreState}
@@ -11,7 +11,7 @@ use Rattle.schedule.specs.Playing.{HasPlayed, HaveHadTurns, IsReady}
 use Rattle.schedule.specs.Replaying.{HasTurn}
 use Rattle.schedule.specs.Turns.{Turns, TurnTaken, last_left, taken_by}
 use Rattle.schedule.proofs.Coming.{came_nowhere, came_on}
-use Rattle.schedule.proofs.InTurn.{gone_taken, taken_more}
+use Rattle.schedule.proofs.InTurn.{gone_counted, gone_taken, taken_more}
 use Rattle.pool_live.specs.Sharing.{HasCarriedOut, StandsFor}
 
 -- No client has had a turn yet.
@@ -79,29 +79,39 @@ taken_on script start middle (turn ∷ one) two first ends second =
 
 -- What was played was carried out.
 pub carried_played : (script : Script) (start now : Replay) (room : ℕ) → HasPlayed script start now room
-    → HasCarriedOut script start.turns now.turns.state now.turns.items
+    → HasCarriedOut script start.turns start.taken now.turns.state now.turns.items now.taken
 carried_played script start now room played = record {
   passed = played.passed;
   clients = now.turns.clients;
   taken = (gone_taken script start now played.passed played.gone).0;
   come = played.come;
+  counted = gone_counted script start now played.passed played.gone;
 }
+
+pub counted_first : (turns : ℕ) (passed : List TurnTaken) → turns ≡ 0 + length passed → turns ≡ length passed
+counted_first turns passed counted = omega (arith, counted)
 
 pub limit_not_whole : (ended : Ended) → ended ≡ Limit → ended ≡ Whole → ⊥
 limit_not_whole ended limit whole = cc
 
 -- The calls are carried out from the start on, with the turns that were had, and then those that followed.
 pub carried_on : (script : Script) (start : Option Turns) (first middle : Turns) (actors : List ℕ) (room taken : ℕ)
-    (state : CoreState) (items : List Item) → start ≡ Some first
-    → StandsFor script start actors middle room taken → HasCarriedOut script middle state items
-    → HasCarriedOut script first state items
-carried_on script start first middle actors room taken state items is stands carried =
+    (state : CoreState) (items : List Item) (turns : ℕ) → start ≡ Some first
+    → StandsFor script start actors middle room taken → HasCarriedOut script middle taken state items turns
+    → HasCarriedOut script first 0 state items turns
+carried_on script start first middle actors room taken state items turns is stands carried =
     by (subst (λ (s : Option Turns). StandsFor script s actors middle room taken) is stands)
   where
-    by : StandsFor script (Some first) actors middle room taken → HasCarriedOut script first state items
+    by : StandsFor script (Some first) actors middle room taken → HasCarriedOut script first 0 state items turns
     by stood = record {
       passed = stood.0.passed ++ carried.passed;
       clients = carried.clients;
       taken = taken_on script first middle stood.0.passed carried.passed stood.0.taken stood.0.come.ends carried.taken;
       come = came_on script first middle _ stood.0.passed carried.passed stood.0.come carried.come;
+      counted =
+          let before = stood.1 in let then = carried.counted in
+          let both = length-append stood.0.passed carried.passed in
+          let had = sym (length-map stood.0.passed (λ (turn : TurnTaken). turn.actor))
+          ∙ ap (λ (l : List ℕ). length l) stood.0.actors_are in
+          omega (arith, before, then, both, had);
     }

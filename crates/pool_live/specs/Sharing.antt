@@ -1,21 +1,32 @@
 -- What the clients of a script have come to that share a pool, whoever's turns they were.
-use Rattle.std.specs.Prelude.{◌≡◌, ℕ, List, length, false, Option, Some, None}
+use Rattle.std.specs.Prelude.{◌≡◌, ℕ, ◌+◌, List, length, false, Option, Some, None, ⊤}
 use Rattle.bank_trait.specs.Disk.{Disk}
 use Rattle.core_state.specs.declared.item.Entry.{Entry}
 use Rattle.core_state.specs.declared.item.Item.{Item}
 use Rattle.core_state.specs.Legal.{CallAt}
+use Rattle.client_script.specs.declared.call.ScriptCall.{ScriptCall}
 use Rattle.client_script.specs.Script.{Script}
 use Rattle.core_turns.specs.Core.{Core, CoreState}
 use Rattle.turn_lock.specs.Seats.{Lock, Sitting}
+use Rattle.pool_live.specs.declared.beside.Next.{Next}
+use Rattle.pool_live.specs.declared.beside.Next.TheVariants.{GoesOn}
 use Rattle.schedule.specs.declared.client.Client.{Client}
+use Rattle.schedule.specs.declared.whole_run.Ran.{Ran}
+use Rattle.schedule.specs.Ahead.{IsAheadFor}
 use Rattle.schedule.specs.Coming.{LeadTo}
 use Rattle.schedule.specs.InTurn.{HaveTaken}
 use Rattle.schedule.specs.Playing.{HaveHadTurns}
 use Rattle.schedule.specs.Turns.{Turns, TurnTaken, turns_of}
+use Rattle.schedule.specs.WholeRun.{HasRun}
 
 -- The seat is one of the lock, and does not hold the turn.
 abbrev pub IsFreeSeat : {K E : Type 0} → Lock K → Sitting E → Type 0
 IsFreeSeat lock seat = (seat.lock ≡ lock.id) × (seat.holds ≡ false)
+
+-- What a client of these calls has before it can be computed, where there is anything to compute.
+abbrev pub IsNextFor : List ScriptCall → Next → Type 0
+IsNextFor calls (GoesOn ahead) = IsAheadFor calls ahead
+IsNextFor calls other = ⊤
 
 -- These clients have had the turns since the start, one after the other, and so many were counted.
 abbrev pub StandsFor : Script → Option Turns → List ℕ → Turns → ℕ → ℕ → Type 0
@@ -27,12 +38,20 @@ StandsFor script (Some start) actors now room taken =
 abbrev pub HasStoodFor : Script → Option Turns → Turns → ℕ → ℕ → Type 0
 HasStoodFor script start now room taken = (actors : List ℕ) × StandsFor script start actors now room taken
 
--- From this start the calls of a script were carried out with these turns, whoever's they were.
-pub record HasCarriedOut (script : Script) (start : Turns) (state : CoreState) (items : List Item) : Type 0 where
+-- From this start, and so many turns, the calls of a script were carried out with these turns, whoever's they were: so
+-- many were counted then.
+pub record HasCarriedOut (script : Script) (start : Turns) (before : ℕ) (state : CoreState) (items : List Item)
+    (turns : ℕ) : Type 0 where
   pub passed : List TurnTaken
   pub clients : List Client
   pub taken : HaveTaken script start passed
   pub come : LeadTo script start passed (turns_of state items clients)
+  pub counted : turns ≡ before + length passed
+
+-- A script was carried out on the pool that the devices showed, and as many turns as are told were taken.
+pub record HasRunBeside (script : Script) (old new : Disk) (items : List Item) (ran : Ran) : Type 0 where
+  pub run : HasRun script old new items ran.out
+  pub counted : ran.turns ≡ length run.passed
 
 -- Core, disk and journal are as they were.
 abbrev pub IsUntouched : Core → Disk → List Item → Core → Disk → List Item → Type 0

@@ -1,22 +1,24 @@
 // The clients of a script, each in a thread of its own.
-ghost use Rattle.std.specs.Prelude.{◌≡◌, ◌<◌, ◌≤◌, All, Some, []};
+ghost use Rattle.std.specs.Prelude.{◌≡◌, ◌<◌, ◌≤◌, ℕ, List, All, Some, []};
 ghost use Rattle.std.specs.Thread.{IsSync};
 ghost use Rattle.core_state.specs.Journal.{CallsAreRight, IsComplete};
-ghost use Rattle.client_script.specs.Script.{IsAllowed, asked_by};
-ghost use Rattle.core_turns.specs.Core.{at_disk, HasBankOf};
+ghost use Rattle.core_state.specs.declared.item.Item.{Item as ItemOf};
+ghost use Rattle.client_script.specs.Script.{IsAllowed, asked_by, calls_of};
+ghost use Rattle.core_turns.specs.Core.{CoreState, at_disk, HasBankOf};
+ghost use Rattle.schedule.specs.Ahead.{IsReadyFor};
 ghost use Rattle.schedule.specs.declared.whole_run.Ended.TheVariants.{Whole, NoMemory, Limit};
 ghost use Rattle.schedule.specs.InTurn.{turns_by};
 ghost use Rattle.schedule.specs.Playing.{IsReady};
 ghost use Rattle.schedule.specs.Replaying.{IsAtRest, blank_clients};
 ghost use Rattle.schedule.specs.Turns.{most_turns, turns_of};
-ghost use Rattle.pool_live.specs.Sharing.{AnswersNone, HasCarriedOut, HasStoodFor, IsFreeSeat, IsUntouched, StandsFor};
+ghost use Rattle.pool_live.specs.Sharing.{AnswersNone, HasCarriedOut, HasStoodFor, IsFreeSeat, IsNextFor, IsUntouched, StandsFor};
 
 use crate::live::{Live, Setup};
 use bank_trait::Bank;
 use client_script::Script;
 use core_state::Journal;
 use core_turns::Core;
-use schedule::{Ended, Progress, UsedUp, begin, take_turns, turn_of};
+use schedule::{Ahead, Ended, Progress, Ready, UsedUp, begin, take_turns, turn_of};
 use std::alloc::Global;
 use std::marker::{Brand, PhantomData};
 use std::sync::Wait;
@@ -25,8 +27,8 @@ use turn_lock::{Seat, Turns};
 
 /// What a client has before it after a turn.
 enum Next {
-    /// A turn of its call under way, or its next call.
-    GoesOn,
+    /// A turn of its call under way, or its next call; and what can be computed for that first.
+    GoesOn(Ahead),
     /// The first turn of its next call again, which found another's call in its way.
     Waits,
     /// Nothing: its calls are answered, or no more turns can be counted.
@@ -34,19 +36,30 @@ enum Next {
 }
 
 /// What the client of this number has before it, after a turn by which the journal came from so many items to this.
-fn next_of(progress: &Progress, script: &Script, actor: u8, before: usize, now: usize) -> Next {
+fn next_of(
+    alloc: Global,
+    progress: &Progress,
+    script: &Script,
+    actor: u8,
+    before: usize,
+    now: usize,
+) -> Next
+    requires ready { (state : CoreState) × (items : List ItemOf) × (room : ℕ)
+        × IsReady script.now (turns_of state items progress.now.clients.items) room }
+    ensures { IsNextFor (calls_of script.now actor) result }
+{
     if progress.is_busy(actor) {
-        Next::GoesOn
+        Next::GoesOn(progress.ahead(alloc, script, actor))
     } else if !progress.has_left(actor, script.calls(actor).len() as u64) {
         Next::Ended
     } else if now == before {
         Next::Waits
     } else {
-        Next::GoesOn
+        Next::GoesOn(Ahead::Nothing)
     }
 }
 
-/// Waits for the turn, and has it.
+/// Waits for the turn, and has it, with what was computed for it.
 fn take_turn<R: Wait, B: Bank, J: Setup>(
     rt: &R,
     alloc: Global,
@@ -54,11 +67,14 @@ fn take_turn<R: Wait, B: Bank, J: Setup>(
     seat: &mut Seat<Live<B, J>, u8>,
     script: &Script,
     actor: u8,
+    computed: Ready,
 ) -> Next
     requires script { script.now ≡ J.script }
     requires allowed { All (λ placed. IsAllowed placed.call) script.now.calls }
     requires seat { IsFreeSeat turns.now seat.old }
+    requires computed { IsReadyFor (calls_of script.now actor) computed }
     ensures seat { IsFreeSeat turns.now seat.new }
+    ensures next { IsNextFor (calls_of script.now actor) result }
 {
     let Ok(mut held) = turns.take(rt, seat) else {
         return Next::Ended;
@@ -73,14 +89,23 @@ fn take_turn<R: Wait, B: Bank, J: Setup>(
         &mut live.journal,
         &mut live.progress,
         actor,
+        computed,
     );
     live.progress.turns += 1;
-    let next = next_of(&live.progress, script, actor, before, live.journal.len());
+    let next = next_of(
+        alloc,
+        &live.progress,
+        script,
+        actor,
+        before,
+        live.journal.len(),
+    );
     turns.give(seat, held, &actor);
     next
 }
 
-/// The calls of one client, turn by turn.
+/// The calls of one client, turn by turn. What a turn asks to be computed is computed before it, while others have
+/// theirs.
 fn run_client<R: Wait, B: Bank, J: Setup>(
     rt: &R,
     alloc: Global,
@@ -94,12 +119,16 @@ fn run_client<R: Wait, B: Bank, J: Setup>(
     requires seat { IsFreeSeat turns.now seat }
     ensures seat { IsFreeSeat turns.now result }
 {
+    let mut computed = Ready::Nothing;
     for _ in rt.forever() {
-        match take_turn(rt, alloc, turns, &mut seat, script, actor) {
-            Next::GoesOn => {}
-            Next::Waits => yield_now(),
+        computed = match take_turn(rt, alloc, turns, &mut seat, script, actor, computed) {
+            Next::GoesOn(ahead) => ahead.compute(alloc, script.calls(actor)),
+            Next::Waits => {
+                yield_now();
+                Ready::Nothing
+            }
             Next::Ended => return seat,
-        }
+        };
     }
     unreachable!()
 }
@@ -159,7 +188,7 @@ fn finish<B: Bank, J: Setup>(alloc: Global, live: Live<B, J>, script: &Script) -
     requires ready { IsReady script.now
         (turns_by live.core (B.disk live.bank) live.journal live.progress) live.journal.room }
     ensures taken { HasCarriedOut script.now (turns_by live.core (B.disk live.bank) live.journal live.progress)
-        (at_disk result.core (B.disk result.bank)) result.journal.items }
+        live.progress.turns (at_disk result.core (B.disk result.bank)) result.journal.items result.turns }
     ensures calls { CallsAreRight (asked_by script.now) result.journal.items }
     ensures complete { result.ended ≡ Whole → IsComplete (asked_by script.now) result.journal.items }
     ensures limit { result.ended ≡ Limit → most_turns ≤ result.turns }
@@ -235,8 +264,8 @@ fn share<J: Setup + Send + Sync, R: Threads + Wait + Sync, B: Bank + Send>(
     requires ready { IsReady script.now
         (turns_by live.core (B.disk live.bank) live.journal live.progress) live.journal.room }
     requires none { live.progress.turns ≡ 0 }
-    ensures taken { HasCarriedOut script.now (turns_by live.core (B.disk live.bank) live.journal live.progress)
-        (at_disk result.core (B.disk result.bank)) result.journal.items }
+    ensures taken { HasCarriedOut script.now (turns_by live.core (B.disk live.bank) live.journal live.progress) 0
+        (at_disk result.core (B.disk result.bank)) result.journal.items result.turns }
     ensures calls { CallsAreRight (asked_by script.now) result.journal.items }
     ensures complete { result.ended ≡ Whole → IsComplete (asked_by script.now) result.journal.items }
     ensures limit { result.ended ≡ Limit → most_turns ≤ result.turns }
@@ -263,7 +292,8 @@ pub fn carry_out_beside<R: Threads + Wait + Sync, B: Bank + Send>(
     requires actors { All (λ placed. placed.actor < script.now.clients) script.now.calls }
     requires none { AnswersNone journal.items }
     ensures taken { HasCarriedOut script.now (turns_of (at_disk core (B.disk bank)) journal.items
-        (blank_clients script.now.clients)) (at_disk result.core (B.disk result.bank)) result.journal.items }
+        (blank_clients script.now.clients)) 0 (at_disk result.core (B.disk result.bank)) result.journal.items
+        result.turns }
     ensures calls { CallsAreRight (asked_by script.now) result.journal.items }
     ensures complete { result.ended ≡ Whole → IsComplete (asked_by script.now) result.journal.items }
     ensures limit { result.ended ≡ Limit → most_turns ≤ result.turns }

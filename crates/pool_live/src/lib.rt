@@ -10,4 +10,4 @@ mod live;
 mod run;
 
 pub use beside::{Carried, carry_out_beside};
-pub use run::{RanBeside, Unopened, run_pool_beside};
+pub use run::{PoolRun, run_pool_beside};

@@ -8,8 +8,7 @@ ghost use Rattle.client_script.specs.Script.{IsAllowed, asked_by};
 ghost use Rattle.open_pool.specs.Opening.{CutsOpening, LeavesUnopened};
 ghost use Rattle.schedule.specs.declared.whole_run.Ended.TheVariants.{Whole, NoMemory, Limit};
 ghost use Rattle.schedule.specs.Turns.{most_turns};
-ghost use Rattle.schedule.specs.WholeRun.{HasRun};
-ghost use Rattle.pool_live.specs.Sharing.{AnswersNone};
+ghost use Rattle.pool_live.specs.Sharing.{AnswersNone, HasRunBeside};
 
 use crate::beside::carry_out_beside;
 use bank_trait::Bank;
@@ -23,18 +22,10 @@ use std::alloc::Global;
 use std::sync::Wait;
 use std::thread::Threads;
 
-/// How a run went, and what it has left.
+/// How a run went, or why there was no pool, with the bank and the journal.
 #[derive(Drop)]
-pub struct RanBeside<B: Bank> {
-    pub ran: Ran,
-    pub bank: B,
-    pub journal: Journal,
-}
-
-/// Why no pool was opened. The bank and the journal come back.
-#[derive(Drop)]
-pub struct Unopened<B: Bank> {
-    pub why: OpenWhy,
+pub struct PoolRun<B: Bank> {
+    pub ran: Result<Ran, OpenWhy>,
     pub bank: B,
     pub journal: Journal,
 }
@@ -48,39 +39,44 @@ pub fn run_pool_beside<R: Threads + Wait + Sync, B: Bank + Send>(
     mut bank: B,
     script: &Script,
     mut journal: Journal,
-) -> Result<RanBeside<B>, Unopened<B>>
+) -> PoolRun<B>
     requires empty { journal.items ≡ [] }
     requires room { 1 ≤ journal.room }
     requires allowed { All (λ placed. IsAllowed placed.call) script.now.calls }
     requires actors { All (λ placed. placed.actor < script.now.clients) script.now.calls }
-    ensures run { IfOk result (λ went. HasRun script.now (B.disk bank) (B.disk went.bank) went.journal.items
-        went.ran.out) }
-    ensures complete { IfOk result (λ went. went.ran.ended ≡ Whole
-        → IsComplete (asked_by script.now) went.journal.items) }
-    ensures limit { IfOk result (λ went. went.ran.ended ≡ Limit → most_turns ≤ went.ran.turns) }
-    ensures memory { IfOk result (λ went. went.ran.ended ≡ NoMemory → AnswersNone went.journal.items) }
-    ensures nothing { IfErr result (λ refused. refused.journal.items ≡ []) }
-    ensures cause { IfErr result (λ refused. IsOpenCause (B.disk bank) (B.disk refused.bank) refused.why) }
-    ensures cut { IfErr result (λ refused. Unchanged (B.disk bank) (B.disk refused.bank)
-        ⊎ CutsOpening (B.disk bank) (B.disk refused.bank)) }
-    ensures untouched { IfErr result (λ refused. LeavesUnopened refused.why (B.disk bank) (B.disk refused.bank)) }
-    ensures opens { IfErr result (λ refused. IsForMemory (B.disk bank) (B.disk refused.bank) refused.why) }
-    ensures others { IfErr result (λ refused. LeavesOthers (B.disk bank) (B.disk refused.bank)) }
+    ensures run { IfOk result.ran (HasRunBeside script.now (B.disk bank) (B.disk result.bank) result.journal.items) }
+    ensures complete { IfOk result.ran (λ ran. ran.ended ≡ Whole
+        → IsComplete (asked_by script.now) result.journal.items) }
+    ensures limit { IfOk result.ran (λ ran. ran.ended ≡ Limit → most_turns ≤ ran.turns) }
+    ensures memory { IfOk result.ran (λ ran. ran.ended ≡ NoMemory → AnswersNone result.journal.items) }
+    ensures nothing { IfErr result.ran (λ why. result.journal.items ≡ []) }
+    ensures cause { IfErr result.ran (IsOpenCause (B.disk bank) (B.disk result.bank)) }
+    ensures cut { IfErr result.ran (λ why. Unchanged (B.disk bank) (B.disk result.bank)
+        ⊎ CutsOpening (B.disk bank) (B.disk result.bank)) }
+    ensures untouched { IfErr result.ran (λ why. LeavesUnopened why (B.disk bank) (B.disk result.bank)) }
+    ensures opens { IfErr result.ran (IsForMemory (B.disk bank) (B.disk result.bank)) }
+    ensures others { IfErr result.ran (λ why. LeavesOthers (B.disk bank) (B.disk result.bank)) }
 {
     let opened = match open_pool(alloc, &mut bank) {
         Ok(opened) => opened,
-        Err(why) => return Err(Unopened { why, bank, journal }),
+        Err(why) => {
+            return PoolRun {
+                ran: Err(why),
+                bank,
+                journal,
+            };
+        }
     };
     journal.list(Item::Group(opened.pool.first_item()));
     let core = Core::new(alloc, opened.pool);
     let carried = carry_out_beside(rt, alloc, bank, core, script, journal);
-    Ok(RanBeside {
-        ran: Ran {
+    PoolRun {
+        ran: Ok(Ran {
             ended: carried.ended,
             turns: carried.turns,
             out: carried.core.out(),
-        },
+        }),
         bank: carried.bank,
         journal: carried.journal,
-    })
+    }
 }

@@ -47,12 +47,12 @@ fn a_device_is_attached_once_and_the_pool_is_widened_from_then_on(
     rt: HostRuntime,
 ) -> Result<(), Fail> {
     let alloc = rt.alloc();
-    let told = call(alloc, RUN, bank_of_nine_and_a_blank(alloc)?, FIRST)?;
+    let told = call(&rt, alloc, RUN, bank_of_nine_and_a_blank(alloc)?, FIRST)?;
     assert_eq!(rt; told.text.as_slice(), FIRST_TOLD);
     assert_eq!(rt; (told.status, told.items), (Status::Done, 7));
-    let told = call(alloc, STATUS, told.bank, b"")?;
+    let told = call(&rt, alloc, STATUS, told.bank, b"")?;
     assert_eq!(rt; told.text.as_slice(), WIDENED);
-    let told = call(alloc, RUN, told.bank, LATER)?;
+    let told = call(&rt, alloc, RUN, told.bank, LATER)?;
     assert_eq!(rt; told.text.as_slice(), LATER_TOLD);
     Ok(())
 }

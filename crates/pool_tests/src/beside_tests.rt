@@ -5,7 +5,7 @@ use crate::plan_check::{FIRST_OPENING, Left, check_reads};
 use crate::plans::plan_of_lines;
 use client_script::parse;
 use core_state::Journal;
-use pool_live::{RanBeside, run_pool_beside};
+use pool_live::{PoolRun, run_pool_beside};
 use schedule::Ended;
 use std::alloc::Global;
 use std::process::Abort;
@@ -28,21 +28,23 @@ fn check_beside<R: Abort + Threads + Wait + Sync>(
     let mut journal = Journal::new(alloc);
     journal.reserve(1)?;
     let bank = bank_of_nine_and_a_blank(alloc)?;
-    let went = run_pool_beside(rt, alloc, bank, &script, journal)
-        .ok()
-        .ok_or("no pool")?;
-    assert_eq!(rt; went.ran.ended, Ended::Whole, "plan {number}");
-    assert!(rt; went.ran.out.is_empty(), "plan {number}");
+    let PoolRun {
+        ran,
+        mut bank,
+        journal,
+    } = run_pool_beside(rt, alloc, bank, &script, journal);
+    let ran = ran?;
+    assert_eq!(rt; ran.ended, Ended::Whole, "plan {number}");
+    assert!(rt; ran.out.is_empty(), "plan {number}");
     let told = Journaled {
         opening_group: FIRST_OPENING,
         opening: &[],
         calls: plan.calls.as_slice(),
-        items: went.journal.as_slice(),
+        items: journal.as_slice(),
     };
     assert_eq!(rt; told.first_wrong(), None, "plan {number}");
     let last = told.last_group().ok_or("no group")?;
     let held = told.held_after(alloc, last.after)?;
-    let RanBeside { mut bank, .. } = went;
     check_reads(rt, alloc, &mut bank, &Left { last, held }, None, number)
 }
 

@@ -2,7 +2,9 @@
 use bank_mem::{MemBank, MemSink, MemSource};
 use raidzx_top::{Outcome, Status, raidzx};
 use std::alloc::{AllocError, Global};
+use std::sync::Wait;
 use std::test::Fail;
+use std::thread::Threads;
 
 /// Makes pool 9 on three devices.
 pub const MAKE_NINE: &str = "raidzx create --parity 1 --width 3 --id 9";
@@ -34,7 +36,8 @@ pub fn words_of(alloc: Global, text: &str) -> Result<Vec<String>, AllocError> {
 }
 
 /// Carries out these words over a bank, a source of a script and a sink.
-pub fn call_with(
+pub fn call_with<R: Threads + Wait + Sync>(
+    rt: &R,
     alloc: Global,
     words: &str,
     bank: MemBank,
@@ -49,7 +52,7 @@ pub fn call_with(
         bank,
         journal,
         turns,
-    } = raidzx(alloc, words.as_slice(), bank, &mut source, &mut text);
+    } = raidzx(rt, alloc, words.as_slice(), bank, &mut source, &mut text);
     let items = journal.as_slice().len();
     Ok(Told {
         status,
@@ -61,8 +64,14 @@ pub fn call_with(
 }
 
 /// Carries out these words over a bank and a script, where source and sink don't fail.
-pub fn call(alloc: Global, words: &str, bank: MemBank, script: &[u8]) -> Result<Told, Fail> {
+pub fn call<R: Threads + Wait + Sync>(
+    rt: &R,
+    alloc: Global,
+    words: &str,
+    bank: MemBank,
+    script: &[u8],
+) -> Result<Told, Fail> {
     let source = MemSource::new(alloc, script, &[])?;
     let sink = MemSink::with_room(alloc, 1 << 20, &[])?;
-    call_with(alloc, words, bank, source, sink)
+    call_with(rt, alloc, words, bank, source, sink)
 }

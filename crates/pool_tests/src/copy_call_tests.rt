@@ -9,7 +9,9 @@ use raidzx_top::Status;
 use sha2::{Digest, Sha256};
 use std::alloc::{AllocError, Global};
 use std::process::Abort;
+use std::sync::Wait;
 use std::test::Fail;
+use std::thread::Threads;
 use uberblock_ring::DeviceSet;
 
 /// Block 1 is put before the copy, block 2 in the group behind its last one, and block 3 in the next.
@@ -98,10 +100,10 @@ const ENTRIES: [(u8, u8, u8); 3] = [(1, 0, 4), (2, 6, 10), (3, 12, 11)];
 #[test]
 fn a_widened_pool_has_its_blocks_in_rows_of_four(rt: HostRuntime) -> Result<(), Fail> {
     let alloc = rt.alloc();
-    let told = call(alloc, RUN, bank_of_nine_and_a_blank(alloc)?, WHOLE)?;
+    let told = call(&rt, alloc, RUN, bank_of_nine_and_a_blank(alloc)?, WHOLE)?;
     assert_eq!(rt; told.text.as_slice(), WHOLE_TOLD);
     assert_eq!(rt; (told.status, told.items), (Status::Done, 17));
-    let told = call(alloc, STATUS, told.bank, b"")?;
+    let told = call(&rt, alloc, STATUS, told.bank, b"")?;
     assert_eq!(rt; told.text.as_slice(), WIDER);
     let mut bank = told.bank;
     for (sector, places) in STANDING.iter().enumerate() {
@@ -199,9 +201,9 @@ fn copy_of(alloc: Global, bank: &MemBank) -> Result<MemBank, Fail> {
 #[test]
 fn a_pool_is_widened_twice(rt: HostRuntime) -> Result<(), Fail> {
     let alloc = rt.alloc();
-    let told = call(alloc, RUN, bank_of_nine_and_two_blanks(alloc)?, TWICE)?;
+    let told = call(&rt, alloc, RUN, bank_of_nine_and_two_blanks(alloc)?, TWICE)?;
     assert_eq!(rt; told.text.as_slice(), TWICE_TOLD);
-    let told = call(alloc, STATUS, told.bank, b"")?;
+    let told = call(&rt, alloc, STATUS, told.bank, b"")?;
     assert_eq!(rt; told.text.as_slice(), WIDEST);
     let wanted = format!(in alloc;
         "0 group 18 after 0\n1 a.1 sum 1 at 1 {SUM}\n2 a.2 sum 2 at 2 {SUM}\n"
@@ -216,7 +218,7 @@ fn a_pool_is_widened_twice(rt: HostRuntime) -> Result<(), Fail> {
             "without {failing}"
         );
     }
-    let told = call(alloc, RUN, told.bank, FILLED)?;
+    let told = call(&rt, alloc, RUN, told.bank, FILLED)?;
     assert_eq!(rt; told.text.as_slice(), FILLED_TOLD);
     Ok(())
 }
@@ -226,7 +228,7 @@ fn there_is_nothing_to_copy_at_rest(rt: HostRuntime) -> Result<(), Fail> {
     let alloc = rt.alloc();
     let script = b"clients 1\na copy\na copy\n";
     let text = b" after 0\n1 a.1 copy done width 3\n2 a.2 copy done width 3\n";
-    let told = call(alloc, RUN, bank_of_nine(alloc)?, script)?;
+    let told = call(&rt, alloc, RUN, bank_of_nine(alloc)?, script)?;
     assert!(rt; told.text.as_slice().ends_with(text));
     assert_eq!(rt; (told.status, told.items), (Status::Done, 3));
     let mut bank = told.bank;
@@ -342,15 +344,19 @@ blocks 64
 ";
 
 /// The pool that is copied, and how many calls are on record before its drain.
-fn copied_pool(rt: &impl Abort, alloc: Global) -> Result<(MemBank, u64), Fail> {
+fn copied_pool<R: Abort + Threads + Wait + Sync>(
+    rt: &R,
+    alloc: Global,
+) -> Result<(MemBank, u64), Fail> {
     let told = call(
+        rt,
         alloc,
         RUN,
         bank_of_nine_and_a_blank(alloc)?,
         puts(alloc)?.as_slice(),
     )?;
     let drain = told.bank.clock().wrapping_add(BEFORE_DRAIN);
-    let told = call(alloc, REPLAY, told.bank, copies(alloc)?.as_slice())?;
+    let told = call(rt, alloc, REPLAY, told.bank, copies(alloc)?.as_slice())?;
     assert_eq!(rt; told.text.as_slice(), COPIES_TOLD);
     Ok((told.bank, drain))
 }
@@ -367,7 +373,13 @@ fn a_stop_in_the_drain_loses_nothing_and_pauses_a_copy_without_a_device(
     let filled = all_sectors(alloc, Tear::Filled(0xa5))?;
     for torn in [&none, &kept, &filled] {
         let images = bank.crash_at(alloc, drain.wrapping_add(10), torn.as_slice())?;
-        let told = call(alloc, STATUS, MemBank::from_images(alloc, images)?, b"")?;
+        let told = call(
+            &rt,
+            alloc,
+            STATUS,
+            MemBank::from_images(alloc, images)?,
+            b"",
+        )?;
         assert_eq!(rt; told.text.as_slice(), IN_DRAIN);
         for failing in 0..5 {
             let mut left = copy_of(alloc, &told.bank)?;

@@ -57,7 +57,7 @@ fn a_pool_is_made_and_told_where_the_bank_is_large_enough(rt: HostRuntime) -> Re
     ];
     for (words, devices, sectors, status, text) in rows {
         let bank = MemBank::new(alloc, devices, sectors)?;
-        let told = call(alloc, words, bank, b"")?;
+        let told = call(&rt, alloc, words, bank, b"")?;
         assert_eq!(rt; told.status, status, "{words} on {devices} of {sectors}");
         assert_eq!(rt;
             told.text.as_slice(),
@@ -86,7 +86,7 @@ fn a_device_that_fails_while_a_pool_is_made_is_told(rt: HostRuntime) -> Result<(
     for (device, number, text) in rows {
         let mut bank = MemBank::new(alloc, 3, 256)?;
         bank.fail_at(&[(device, number)])?;
-        let told = call(alloc, MAKE_NINE, bank, b"")?;
+        let told = call(&rt, alloc, MAKE_NINE, bank, b"")?;
         let out = DeviceSet::from_bits(1 << device);
         assert_eq!(rt; told.status, Status::TooManyFailed { out });
         assert_eq!(rt; told.text.as_slice(), text);
@@ -123,7 +123,7 @@ fn words_that_are_no_command_are_usage_and_change_nothing(rt: HostRuntime) -> Re
     ] {
         let bank = bank_of_nine(alloc)?;
         let clock = bank.clock();
-        let told = call(alloc, words, bank, b"clients 1\na sync\n")?;
+        let told = call(&rt, alloc, words, bank, b"clients 1\na sync\n")?;
         assert_eq!(rt; told.status, Status::Usage, "{words}");
         assert_eq!(rt; told.text.as_slice(), b"usage\n".as_slice(), "{words}");
         assert_eq!(rt; (told.items, told.turns), (0, 0), "{words}");

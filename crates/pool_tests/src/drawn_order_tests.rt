@@ -6,7 +6,9 @@ use crate::plans::{Draw, Plan, plan_of, plan_of_lines};
 use bank_mem::MemBank;
 use std::alloc::{AllocError, Global};
 use std::process::Abort;
+use std::sync::Wait;
 use std::test::Fail;
+use std::thread::Threads;
 
 /// The calls on each device of the pool that make it, and most of those that open it.
 const OPENING: u64 = 65;
@@ -97,11 +99,31 @@ fn the_last_fifty_orders_are_answered_rightly_past_a_failing_device(
     Ok(())
 }
 
-/// A run of the scripts from this number up to that one, and a replay of them, tell the same and leave the same.
-/// Every other one has a device that fails.
-fn compare_run_and_replay(rt: &impl Abort, alloc: Global, from: u64, to: u64) -> Result<(), Fail> {
+/// The script of a plan, with its calls in the order of their lines, but all by one client.
+fn script_of_one(alloc: Global, plan: &Plan) -> Result<String, AllocError> {
+    let mut script = String::from_str(alloc, "clients 1\n")?;
+    for line in plan.script.as_str().split('\n') {
+        // The line that says how many clients there are begins with no letter of one.
+        if let Some((client, call)) = line.split_once(' ')
+            && client.len() == 1
+        {
+            writeln!(script, "a {call}")?;
+        }
+    }
+    Ok(script)
+}
+
+/// A run of the scripts from this number up to that one, their calls all by one client, and a replay of them, tell the
+/// same and leave the same. Every other one has a device that fails.
+fn compare_run_and_replay<R: Abort + Threads + Wait + Sync>(
+    rt: &R,
+    alloc: Global,
+    from: u64,
+    to: u64,
+) -> Result<(), Fail> {
     for number in from..to {
         let plan = plan_of_lines(alloc, number)?;
+        let script = script_of_one(alloc, &plan)?;
         let mut banks = [
             bank_of_nine_and_a_blank(alloc)?,
             bank_of_nine_and_a_blank(alloc)?,
@@ -112,8 +134,8 @@ fn compare_run_and_replay(rt: &impl Abort, alloc: Global, from: u64, to: u64) ->
             }
         }
         let [first, second] = banks;
-        let ran = call(alloc, RUN, first, plan.script.as_bytes())?;
-        let replayed = call(alloc, REPLAY, second, plan.script.as_bytes())?;
+        let ran = call(rt, alloc, RUN, first, script.as_bytes())?;
+        let replayed = call(rt, alloc, REPLAY, second, script.as_bytes())?;
         assert_eq!(rt; ran.status, replayed.status, "script {number}");
         assert_eq!(rt; ran.turns, replayed.turns, "script {number}");
         assert_eq!(rt; ran.items, replayed.items, "script {number}");

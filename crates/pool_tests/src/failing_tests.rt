@@ -4,7 +4,9 @@ use crate::calls::{MAKE_NINE, REPLAY, RUN, STATUS, call, call_with};
 use bank_mem::{MemBank, MemSink, MemSource};
 use raidzx_top::Status;
 use std::alloc::Global;
+use std::sync::Wait;
 use std::test::Fail;
+use std::thread::Threads;
 use uberblock_ring::DeviceSet;
 
 #[test]
@@ -12,7 +14,7 @@ fn a_bank_without_a_pool_is_no_pool(rt: HostRuntime) -> Result<(), Fail> {
     let alloc = rt.alloc();
     for (devices, sectors) in [(3, 256), (1, 1), (17, 32)] {
         let bank = MemBank::new(alloc, devices, sectors)?;
-        let told = call(alloc, RUN, bank, SCRIPT)?;
+        let told = call(&rt, alloc, RUN, bank, SCRIPT)?;
         assert_eq!(rt; told.status, Status::NotPool);
         assert_eq!(rt; told.text.as_slice(), b"not a pool\n".as_slice());
         assert_eq!(rt; (told.items, told.bank.clock()), (0, 0));
@@ -37,7 +39,7 @@ fn a_pool_that_lacks_too_many_devices_is_not_opened(rt: HostRuntime) -> Result<(
                 bank.fail_at(&[(device, MAKING)])?;
             }
         }
-        let told = call(alloc, RUN, bank, SCRIPT)?;
+        let told = call(&rt, alloc, RUN, bank, SCRIPT)?;
         assert_eq!(rt; told.status, Status::TooManyFailed { out });
         assert_eq!(rt; told.text.as_slice(), text);
         assert_eq!(rt; (told.items, told.bank.clock()), (0, clock));
@@ -69,7 +71,8 @@ const POOLS: [(&str, u32, u32, u64); 3] = [
 ];
 
 /// A new pool, each of these devices failing from this call on.
-fn failing_bank(
+fn failing_bank<R: Threads + Wait + Sync>(
+    rt: &R,
     alloc: Global,
     words: &str,
     width: u32,
@@ -77,7 +80,7 @@ fn failing_bank(
     from: u64,
 ) -> Result<MemBank, Fail> {
     let bank = MemBank::new(alloc, width, 256)?;
-    let mut bank = call(alloc, words, bank, b"")?.bank;
+    let mut bank = call(rt, alloc, words, bank, b"")?.bank;
     for device in 0..width.min(16) {
         if failing.has(device) {
             bank.fail_from(device, from)?;
@@ -99,9 +102,9 @@ fn all_is_answered_while_no_more_devices_fail_than_there_are_parities(
             }
             // They fail from the run's beginning on, or once the put is done.
             for from in [MAKING, MAKING + OPENING + 1] {
-                let mut bank = failing_bank(alloc, words, width, failing, from)?;
+                let mut bank = failing_bank(&rt, alloc, words, width, failing, from)?;
                 for (script, text) in [(SCRIPT, ANSWERED), (READ, READ_ANSWERED)] {
-                    let told = call(alloc, RUN, bank, script)?;
+                    let told = call(&rt, alloc, RUN, bank, script)?;
                     assert_eq!(rt; told.text.as_slice(), text, "{bits} of {words} from {from}");
                     assert_eq!(rt; told.status, Status::Done, "{bits} of {words} from {from}");
                     bank = told.bank;
@@ -127,10 +130,10 @@ too many failed 0 1
         (text.len(), Status::TooManyFailed { out }),
         (text.len() - 1, Status::SinkFault),
     ] {
-        let bank = failing_bank(alloc, MAKE_NINE, 3, out, MAKING + OPENING + 1)?;
+        let bank = failing_bank(&rt, alloc, MAKE_NINE, 3, out, MAKING + OPENING + 1)?;
         let source = MemSource::new(alloc, SCRIPT, &[])?;
         let sink = MemSink::with_room(alloc, room as u64, &[])?;
-        let told = call_with(alloc, RUN, bank, source, sink)?;
+        let told = call_with(&rt, alloc, RUN, bank, source, sink)?;
         assert_eq!(rt; told.text.as_slice(), text.get(..room).unwrap_or(b""));
         assert_eq!(rt; told.status, status);
         assert_eq!(rt; told.items, 4);
@@ -166,21 +169,27 @@ fn a_device_that_answers_again_gives_what_was_synced_with_the_others_lost(
 ) -> Result<(), Fail> {
     let alloc = rt.alloc();
     let words = "raidzx create --parity 2 --width 4 --id 9";
-    let mut bank = call(alloc, words, MemBank::new(alloc, 4, 256)?, b"")?.bank;
+    let mut bank = call(&rt, alloc, words, MemBank::new(alloc, 4, 256)?, b"")?.bank;
     // Beside its writes of blocks a device has four calls for a sync: index, sync, uberblock, sync.
     bank.fail_at(&[
         (0, MAKING + OPENING + 5),
         (2, MAKING + OPENING + 5),
         (3, MAKING + OPENING + 9),
     ])?;
-    let told = call(alloc, RUN, bank, LOSSES)?;
+    let told = call(&rt, alloc, RUN, bank, LOSSES)?;
     let out = DeviceSet::from_bits(13);
     assert_eq!(rt; told.text.as_slice(), LOSSES_TOLD);
     assert_eq!(rt; told.status, Status::TooManyFailed { out });
     let mut bank = told.bank;
     bank.fail_from(0, 0)?;
     bank.fail_from(2, 0)?;
-    let told = call(alloc, RUN, bank, b"clients 1\na get 1\na get 2\na get 3\n")?;
+    let told = call(
+        &rt,
+        alloc,
+        RUN,
+        bank,
+        b"clients 1\na get 1\na get 2\na get 3\n",
+    )?;
     let text = b"0 group 7 after 0
 1 a.1 get 1 at 1 bytes 61
 2 a.2 get 2 at 2 bytes 62
@@ -216,7 +225,7 @@ fn a_sink_that_fails_has_a_front_of_the_text(rt: HostRuntime) -> Result<(), Fail
     for (words, room, number, status, text) in rows {
         let source = MemSource::new(alloc, SCRIPT, &[])?;
         let sink = MemSink::with_room(alloc, room, &[number])?;
-        let told = call_with(alloc, words, bank_of_nine(alloc)?, source, sink)?;
+        let told = call_with(&rt, alloc, words, bank_of_nine(alloc)?, source, sink)?;
         assert_eq!(rt; told.status, status, "{words} with room for {room}");
         assert_eq!(rt; told.text.as_slice(), text, "{words} with room for {room}");
     }
@@ -228,9 +237,9 @@ fn what_was_synced_stands_although_it_was_not_told(rt: HostRuntime) -> Result<()
     let alloc = rt.alloc();
     let source = MemSource::new(alloc, SCRIPT, &[])?;
     let sink = MemSink::with_room(alloc, 0, &[])?;
-    let told = call_with(alloc, RUN, bank_of_nine(alloc)?, source, sink)?;
+    let told = call_with(&rt, alloc, RUN, bank_of_nine(alloc)?, source, sink)?;
     assert_eq!(rt; (told.status, told.items), (Status::SinkFault, 5));
-    let told = call(alloc, RUN, told.bank, READ)?;
+    let told = call(&rt, alloc, RUN, told.bank, READ)?;
     assert_eq!(rt; told.text.as_slice(), READ_ANSWERED);
     Ok(())
 }
@@ -250,7 +259,7 @@ fn a_source_that_fails_is_told_and_changes_nothing(rt: HostRuntime) -> Result<()
         let clock = bank.clock();
         let source = MemSource::new(alloc, SCRIPT, &[number])?;
         let sink = MemSink::with_room(alloc, 1000, &[])?;
-        let told = call_with(alloc, words, bank, source, sink)?;
+        let told = call_with(&rt, alloc, words, bank, source, sink)?;
         assert_eq!(rt; told.status, status, "{words}, read {number}");
         assert_eq!(rt; told.text.as_slice(), text, "{words}, read {number}");
         assert_eq!(rt; (told.items, told.bank.clock()), (0, clock));

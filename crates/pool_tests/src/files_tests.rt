@@ -2,25 +2,27 @@
 ghost use Rattle.std.specs.Prelude.{◌↔◌, ◌<◌, IsTrue};
 
 use crate::banks::MAKING;
-use crate::calls::{MAKE_NINE, RUN, STATUS, words_of};
+use crate::calls::{MAKE_NINE, REPLAY, RUN, STATUS, words_of};
 use bank_mem::{MemBank, MemSink, MemSource};
 use bank_trait::{Bank, Failed};
 use file_bank::{FileBank, MemFile};
 use raidzx_top::{Outcome, Status, raidzx};
 use std::alloc::{AllocError, Global};
 use std::process::Abort;
+use std::sync::Wait;
 use std::test::Fail;
+use std::thread::Threads;
 
 const SECTORS: u32 = 256;
 
 /// The most bytes that a read of a file gives: a sector comes in three pieces.
 const PIECE: usize = 200;
 
-/// Words and the script that they read: the first run of a new pool, one that reads it back, and a look.
+/// Words and the script that they read: a replay on a new pool, each call whole, a run that reads it back, and a look.
 const CALLS: [(&str, &[u8]); 4] = [
     (MAKE_NINE, b""),
     (
-        RUN,
+        REPLAY,
         b"clients 2\na put 7 1500 5\nb get 7\nb put 8 3 1\na sync\nb free 8\na sync\n",
     ),
     (RUN, b"clients 1\na get 7\na sum 8\n"),
@@ -57,7 +59,8 @@ fn three_files(alloc: Global, failing: Option<u32>) -> Result<FileBank<MemFile>,
 }
 
 /// Carries out these words over a bank and a script.
-fn carried_out<B: Bank + Drop>(
+fn carried_out<R: Threads + Wait + Sync, B: Bank + Drop + Send>(
+    rt: &R,
     alloc: Global,
     words: &str,
     bank: B,
@@ -71,7 +74,7 @@ fn carried_out<B: Bank + Drop>(
         bank,
         journal: _,
         turns: _,
-    } = raidzx(alloc, words.as_slice(), bank, &mut source, &mut text);
+    } = raidzx(rt, alloc, words.as_slice(), bank, &mut source, &mut text);
     Ok(Left { status, text, bank })
 }
 
@@ -93,8 +96,8 @@ fn read<B: Bank>(bank: &mut B, device: u32, sector: u64) -> Result<[u8; 512], Fa
 }
 
 /// Carries out the calls over both banks, and compares what they tell, and each sector behind each.
-fn both_tell_the_same(
-    rt: &impl Abort,
+fn both_tell_the_same<R: Abort + Threads + Wait + Sync>(
+    rt: &R,
     alloc: Global,
     files: FileBank<MemFile>,
     memory: MemBank,
@@ -102,8 +105,8 @@ fn both_tell_the_same(
     let mut files = files;
     let mut memory = memory;
     for (words, script) in CALLS {
-        let over_files = carried_out(alloc, words, files, script)?;
-        let over_memory = carried_out(alloc, words, memory, script)?;
+        let over_files = carried_out(rt, alloc, words, files, script)?;
+        let over_memory = carried_out(rt, alloc, words, memory, script)?;
         assert!(rt; over_files.status == over_memory.status);
         assert!(rt; over_files.text.as_slice() == over_memory.text.as_slice());
         files = over_files.bank;

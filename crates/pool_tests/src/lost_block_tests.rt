@@ -6,7 +6,9 @@ use bank_trait::Bank;
 use raidzx_top::Status;
 use std::alloc::Global;
 use std::process::Abort;
+use std::sync::Wait;
 use std::test::Fail;
+use std::thread::Threads;
 use uberblock_ring::DeviceSet;
 
 /// The sync of block 2 lays its page, and then the uberblock fails on devices 0 and 1.
@@ -58,14 +60,14 @@ const READ_TOLD: [&[u8]; 4] = [
 ];
 
 /// Carries out a run that tells this and is done, and gives what it left.
-fn carry_out(
-    rt: &impl Abort,
+fn carry_out<R: Abort + Threads + Wait + Sync>(
+    rt: &R,
     alloc: Global,
     bank: MemBank,
     script: &[u8],
     text: &[u8],
 ) -> Result<MemBank, Fail> {
-    let told = call(alloc, RUN, bank, script)?;
+    let told = call(rt, alloc, RUN, bank, script)?;
     assert_eq!(rt; told.text.as_slice(), text);
     assert_eq!(rt; told.status, Status::Done);
     Ok(told.bank)
@@ -78,11 +80,14 @@ fn stop(alloc: Global, bank: &MemBank, clock: u64, torn: &[Torn]) -> Result<MemB
 
 /// Groups 4 and 5 as they stand once two runs were stopped: all devices have both pages, device 0 alone has
 /// the uberblock of group 5.
-fn bank_with_a_late_uberblock(rt: &impl Abort, alloc: Global) -> Result<MemBank, Fail> {
+fn bank_with_a_late_uberblock<R: Abort + Threads + Wait + Sync>(
+    rt: &R,
+    alloc: Global,
+) -> Result<MemBank, Fail> {
     let mut bank = bank_of_nine(alloc)?;
     // Device 0 was called for a block of each put, device 1 for one of the first.
     bank.fail_at(&[(0, MAKING + OPENING + 8), (1, MAKING + OPENING + 7)])?;
-    let told = call(alloc, RUN, bank, CUT_SHORT)?;
+    let told = call(rt, alloc, RUN, bank, CUT_SHORT)?;
     let out = DeviceSet::from_bits(3);
     assert_eq!(rt; told.text.as_slice(), CUT_SHORT_TOLD);
     assert_eq!(rt; told.status, Status::TooManyFailed { out });
@@ -119,7 +124,7 @@ fn a_synced_block_stays_where_a_late_uberblock_is_opened_and_its_device_fails(
         for clock in 0..bank.clock().saturating_add(1) {
             let mut left = stop(alloc, &bank, clock, &[])?;
             left.fail_from(0, 0)?;
-            let told = call(alloc, RUN, left, READ)?;
+            let told = call(&rt, alloc, RUN, left, READ)?;
             assert!(rt;
                 READ_TOLD.contains(&told.text.as_slice()),
                 "rots: {rots}, at {clock}"

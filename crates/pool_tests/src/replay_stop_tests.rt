@@ -4,7 +4,9 @@ use crate::calls::{REPLAY, RUN, call};
 use bank_mem::{MemBank, Tear, Torn};
 use raidzx_top::Status;
 use std::alloc::{AllocError, Global};
+use std::sync::Wait;
 use std::test::Fail;
+use std::thread::Threads;
 
 /// While the first client's sync is under way the second one puts a block and frees another.
 const SCRIPT: &[u8] = b"clients 2
@@ -50,14 +52,18 @@ struct Clocks {
 
 impl Clocks {
     /// A put of one sector has two writes. The second client's are made while the first sync is under way.
-    fn of_replay(alloc: Global, ended: u64) -> Result<Clocks, Fail> {
+    fn of_replay<R: Threads + Wait + Sync>(
+        rt: &R,
+        alloc: Global,
+        ended: u64,
+    ) -> Result<Clocks, Fail> {
         let alone = b"clients 1\na puthex 7 61\na sync\n";
-        let opened = clock_after(alloc, b"clients 1\n")?;
+        let opened = clock_after(rt, alloc, b"clients 1\n")?;
         Ok(Clocks {
             made: bank_of_nine(alloc)?.clock(),
             opened,
             put: opened.saturating_add(2),
-            synced: clock_after(alloc, alone)?.saturating_add(2),
+            synced: clock_after(rt, alloc, alone)?.saturating_add(2),
             ended,
         })
     }
@@ -85,8 +91,12 @@ impl Clocks {
 }
 
 /// How many calls are on record after a replay on a new pool.
-fn clock_after(alloc: Global, script: &[u8]) -> Result<u64, Fail> {
-    let told = call(alloc, REPLAY, bank_of_nine(alloc)?, script)?;
+fn clock_after<R: Threads + Wait + Sync>(
+    rt: &R,
+    alloc: Global,
+    script: &[u8],
+) -> Result<u64, Fail> {
+    let told = call(rt, alloc, REPLAY, bank_of_nine(alloc)?, script)?;
     Ok(told.bank.clock())
 }
 
@@ -124,16 +134,16 @@ fn a_stop_in_a_replay_leaves_the_last_group_or_the_one_that_was_begun(
     rt: HostRuntime,
 ) -> Result<(), Fail> {
     let alloc = rt.alloc();
-    let told = call(alloc, REPLAY, bank_of_nine(alloc)?, SCRIPT)?;
+    let told = call(&rt, alloc, REPLAY, bank_of_nine(alloc)?, SCRIPT)?;
     assert_eq!(rt; told.text.as_slice(), TOLD);
-    let clocks = Clocks::of_replay(alloc, told.bank.clock())?;
+    let clocks = Clocks::of_replay(&rt, alloc, told.bank.clock())?;
     let kept = all_kept(alloc)?;
     for torn in [&[], kept.as_slice()] {
         for failing in 0..4 {
             for call_number in clocks.made..clocks.ended.saturating_add(1) {
                 let place = (call_number, torn.len(), failing);
                 let left = bank_at(alloc, &told.bank, call_number, torn, failing)?;
-                let read = call(alloc, RUN, left, READS)?;
+                let read = call(&rt, alloc, RUN, left, READS)?;
                 let may_be = clocks.may_be_told(call_number);
                 assert!(rt; may_be.contains(&read.text.as_slice()), "{place:?}");
                 assert_eq!(rt; read.status, Status::Done, "{place:?}");

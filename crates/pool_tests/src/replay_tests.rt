@@ -74,7 +74,7 @@ fn calls_are_carried_out_turn_by_turn(rt: HostRuntime) -> Result<(), Fail> {
         (NO_ORDER, NO_ORDER_TOLD, 4 + 4 + 4),
     ];
     for (script, text, turns) in rows {
-        let told = call(alloc, REPLAY, bank_of_nine(alloc)?, script)?;
+        let told = call(&rt, alloc, REPLAY, bank_of_nine(alloc)?, script)?;
         assert_eq!(rt; told.text.as_slice(), text);
         assert_eq!(rt; told.status, Status::Done);
         assert_eq!(rt; told.turns, turns);
@@ -87,8 +87,8 @@ const READ: &[u8] = b"clients 1\na get 7\n";
 #[test]
 fn a_later_run_reads_the_last_group_of_a_replay(rt: HostRuntime) -> Result<(), Fail> {
     let alloc = rt.alloc();
-    let told = call(alloc, REPLAY, bank_of_nine(alloc)?, TWO_SYNCS)?;
-    let told = call(alloc, RUN, told.bank, READ)?;
+    let told = call(&rt, alloc, REPLAY, bank_of_nine(alloc)?, TWO_SYNCS)?;
+    let told = call(&rt, alloc, RUN, told.bank, READ)?;
     let text = b"0 group 7 after 0\n1 a.1 get 7 at 1 bytes 61\n".as_slice();
     assert_eq!(rt; told.text.as_slice(), text);
     assert_eq!(rt; (told.status, told.turns), (Status::Done, 4));
@@ -102,7 +102,7 @@ fn a_replay_goes_on_past_a_device_that_fails(rt: HostRuntime) -> Result<(), Fail
         // It fails once the pool is open.
         let mut bank = bank_of_nine(alloc)?;
         bank.fail_from(device, MAKING + OPENING)?;
-        let told = call(alloc, REPLAY, bank, TWO_PUTS)?;
+        let told = call(&rt, alloc, REPLAY, bank, TWO_PUTS)?;
         assert_eq!(rt; told.text.as_slice(), TWO_PUTS_TOLD, "without {device}");
         assert_eq!(rt; told.status, Status::Done, "without {device}");
     }
@@ -126,7 +126,7 @@ fn a_replay_that_is_refused_says_so(rt: HostRuntime) -> Result<(), Fail> {
         ("raidzx replay x", NO_ORDER, Status::Usage, b"usage\n"),
     ];
     for (words, script, status, text) in rows {
-        let told = call(alloc, words, bank_of_nine(alloc)?, script)?;
+        let told = call(&rt, alloc, words, bank_of_nine(alloc)?, script)?;
         assert_eq!(rt; told.text.as_slice(), text);
         assert_eq!(rt; (told.status, told.items, told.turns), (status, 0, 0));
     }

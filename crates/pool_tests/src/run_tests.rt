@@ -1,6 +1,6 @@
 // Runs, and what they say line by line.
 use crate::banks::bank_of_nine;
-use crate::calls::{RUN, call};
+use crate::calls::{REPLAY, RUN, call};
 use bank_mem::MemBank;
 use bank_trait::Bank;
 use client_script::{CallFault, LineFault};
@@ -28,17 +28,17 @@ fn what_was_synced_is_read_in_later_runs_also_without_a_device(
     rt: HostRuntime,
 ) -> Result<(), Fail> {
     let alloc = rt.alloc();
-    let told = call(alloc, RUN, bank_of_nine(alloc)?, FIRST)?;
+    let told = call(&rt, alloc, RUN, bank_of_nine(alloc)?, FIRST)?;
     assert_eq!(rt; told.status, Status::Done);
     assert_eq!(rt; told.text.as_slice(), FIRST_TOLD);
     assert_eq!(rt; (told.items, told.turns), (5, 22));
-    let told = call(alloc, RUN, told.bank, READ)?;
+    let told = call(&rt, alloc, RUN, told.bank, READ)?;
     let text = b"0 group 6 after 0\n1 a.1 get 7 at 1 bytes 050c13\n".as_slice();
     assert_eq!(rt; told.status, Status::Done);
     assert_eq!(rt; told.text.as_slice(), text);
     let mut bank = told.bank;
     bank.fail_from(1, 0)?;
-    let told = call(alloc, RUN, bank, READ)?;
+    let told = call(&rt, alloc, RUN, bank, READ)?;
     let text = b"0 group 8 after 0\n1 a.1 get 7 at 1 bytes 050c13\n".as_slice();
     assert_eq!(rt; told.status, Status::Done);
     assert_eq!(rt; told.text.as_slice(), text);
@@ -72,7 +72,7 @@ fn content_parity_index_and_uberblock_stand_where_the_format_says(
     rt: HostRuntime,
 ) -> Result<(), Fail> {
     let alloc = rt.alloc();
-    let told = call(alloc, RUN, bank_of_nine(alloc)?, FIRST)?;
+    let told = call(&rt, alloc, RUN, bank_of_nine(alloc)?, FIRST)?;
     let mut bank = told.bank;
     // Sector 0 is the parity, on device 0, and sector 1 the content, on device 1.
     for (device, wanted) in [
@@ -147,8 +147,8 @@ const LATER_TOLD: &[u8] = b"0 group 6 after 0
 fn what_was_not_synced_is_gone_in_the_next_run(rt: HostRuntime) -> Result<(), Fail> {
     let alloc = rt.alloc();
     let mut bank = bank_of_nine(alloc)?;
-    for (script, text) in [(CHANGES, CHANGES_TOLD), (LATER, LATER_TOLD)] {
-        let told = call(alloc, RUN, bank, script)?;
+    for (words, script, text) in [(REPLAY, CHANGES, CHANGES_TOLD), (RUN, LATER, LATER_TOLD)] {
+        let told = call(&rt, alloc, words, bank, script)?;
         assert_eq!(rt; told.text.as_slice(), text);
         assert_eq!(rt; told.status, Status::Done);
         bank = told.bank;
@@ -204,7 +204,7 @@ fn a_script_that_breaks_a_rule_is_told_and_changes_nothing(rt: HostRuntime) -> R
     for (script, status, text) in rows {
         let bank = bank_of_nine(alloc)?;
         let clock = bank.clock();
-        let told = call(alloc, RUN, bank, script)?;
+        let told = call(&rt, alloc, RUN, bank, script)?;
         assert_eq!(rt; told.status, status);
         assert_eq!(rt; told.text.as_slice(), text);
         assert_eq!(rt; told.items, 0);
@@ -216,7 +216,7 @@ fn a_script_that_breaks_a_rule_is_told_and_changes_nothing(rt: HostRuntime) -> R
 #[test]
 fn a_script_of_no_call_opens_the_pool(rt: HostRuntime) -> Result<(), Fail> {
     let alloc = rt.alloc();
-    let told = call(alloc, RUN, bank_of_nine(alloc)?, b"clients 8\n")?;
+    let told = call(&rt, alloc, RUN, bank_of_nine(alloc)?, b"clients 8\n")?;
     assert_eq!(rt; told.status, Status::Done);
     assert_eq!(rt; told.text.as_slice(), b"0 group 3 after 0\n".as_slice());
     Ok(())
@@ -231,7 +231,7 @@ fn a_put_without_space_is_told_and_the_run_is_done(rt: HostRuntime) -> Result<()
         let line = format!(in alloc; "a puthex {id} 61\n")?;
         script.extend_from_slice(line.as_bytes())?;
     }
-    let told = call(alloc, RUN, bank_of_nine(alloc)?, script.as_slice())?;
+    let told = call(&rt, alloc, RUN, bank_of_nine(alloc)?, script.as_slice())?;
     let last = b"\n96 a.96 put 95 ok\n97 a.97 put 96 no space 2\n";
     assert!(rt; told.text.as_slice().ends_with(last));
     assert_eq!(rt; (told.status, told.items), (Status::Done, 98));

@@ -6,15 +6,21 @@ use raidzx_top::Status;
 use reflow_mark::State;
 use std::alloc::Global;
 use std::process::Abort;
+use std::sync::Wait;
 use std::test::Fail;
+use std::thread::Threads;
 use uberblock_ring::DeviceSet;
 
 /// Looks at the pool on a bank. The source fails at its first read, and none is made.
-fn look(rt: &impl Abort, alloc: Global, bank: MemBank) -> Result<Told, Fail> {
+fn look<R: Abort + Threads + Wait + Sync>(
+    rt: &R,
+    alloc: Global,
+    bank: MemBank,
+) -> Result<Told, Fail> {
     let clock = bank.clock();
     let source = MemSource::new(alloc, b"", &[0])?;
     let sink = MemSink::with_room(alloc, 1 << 10, &[])?;
-    let told = call_with(alloc, STATUS, bank, source, sink)?;
+    let told = call_with(rt, alloc, STATUS, bank, source, sink)?;
     assert_eq!(rt; (told.items, told.turns), (0, 0));
     assert_eq!(rt; told.bank.clock(), clock, "a write, or a sync");
     Ok(told)
@@ -30,9 +36,9 @@ fn bank_without(alloc: Global, failing: &[u32]) -> Result<MemBank, Fail> {
 }
 
 /// The bank once three blocks were synced and a fourth was put.
-fn bank_with_blocks(alloc: Global) -> Result<MemBank, Fail> {
+fn bank_with_blocks<R: Threads + Wait + Sync>(rt: &R, alloc: Global) -> Result<MemBank, Fail> {
     let script = b"clients 1\na put 7 3 5\na put 8 1000 5\na put 9 1 1\na sync\na put 10 1 1\n";
-    Ok(call(alloc, RUN, bank_of_nine(alloc)?, script)?.bank)
+    Ok(call(rt, alloc, RUN, bank_of_nine(alloc)?, script)?.bank)
 }
 
 #[test]
@@ -51,7 +57,7 @@ fn a_pool_is_told_as_it_stands(rt: HostRuntime) -> Result<(), Fail> {
         ),
         (
             "one with blocks",
-            bank_with_blocks(alloc)?,
+            bank_with_blocks(&rt, alloc)?,
             b"pool 9 parity 1 rows 64 group 4\nwidth 3\nbirths 0:3\nout none\nblocks 3\n",
         ),
         (
@@ -119,7 +125,7 @@ fn a_device_that_a_run_put_out_is_told_once_it_answers_again(rt: HostRuntime) ->
     let mut bank = bank_of_nine(alloc)?;
     // It fails the first read of the run, and no call after that.
     bank.fail_at(&[(1, MAKING)])?;
-    let told = call(alloc, RUN, bank, b"clients 1\na sync\n")?;
+    let told = call(&rt, alloc, RUN, bank, b"clients 1\na sync\n")?;
     assert_eq!(rt; told.status, Status::Done);
     let told = look(&rt, alloc, told.bank)?;
     let text = b"pool 9 parity 1 rows 64 group 4\nwidth 3\nbirths 0:3\nout 1\nblocks 0\n";

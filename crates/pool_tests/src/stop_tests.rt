@@ -17,8 +17,8 @@ fn a_stop_between_uberblocks_leaves_the_group_before_or_this_one(
 ) -> Result<(), Fail> {
     let alloc = rt.alloc();
     let words = "raidzx create --parity 1 --width 4 --id 9";
-    let made = call(alloc, words, MemBank::new(alloc, 4, 256)?, b"")?;
-    let told = call(alloc, RUN, made.bank, PUT)?;
+    let made = call(&rt, alloc, words, MemBank::new(alloc, 4, 256)?, b"")?;
+    let told = call(&rt, alloc, RUN, made.bank, PUT)?;
     assert_eq!(rt; told.status, Status::Done);
     // The last calls of a sync are the uberblocks of four devices and their syncs. It is stopped after the
     // second uberblock, of which the first alone stays.
@@ -38,7 +38,7 @@ fn a_stop_between_uberblocks_leaves_the_group_before_or_this_one(
         if fails {
             left.fail_from(0, 0)?;
         }
-        let told = call(alloc, RUN, left, READ)?;
+        let told = call(&rt, alloc, RUN, left, READ)?;
         assert_eq!(rt; told.text.as_slice(), text, "device 0 fails: {fails}");
         assert_eq!(rt; told.status, Status::Done);
     }
@@ -59,12 +59,12 @@ fn spoiled_sectors_are_passed_over_or_told(rt: HostRuntime) -> Result<(), Fail> 
         (0, 1, 192, read),
         (1, 2, 192, damaged),
     ] {
-        let mut bank = call(alloc, RUN, bank_of_nine(alloc)?, PUT)?.bank;
+        let mut bank = call(&rt, alloc, RUN, bank_of_nine(alloc)?, PUT)?.bank;
         for device in first..end {
             assert!(rt; device < bank.devices() && sector < bank.sectors());
             bank.spoil(device, sector, 0xff)?;
         }
-        let told = call(alloc, RUN, bank, READ)?;
+        let told = call(&rt, alloc, RUN, bank, READ)?;
         assert_eq!(rt; told.text.as_slice(), text, "{sector} of {first} to {end}");
         assert_eq!(rt; told.status, Status::Done, "{sector} of {first} to {end}");
     }
@@ -74,11 +74,11 @@ fn spoiled_sectors_are_passed_over_or_told(rt: HostRuntime) -> Result<(), Fail> 
 #[test]
 fn devices_that_are_exchanged_are_out(rt: HostRuntime) -> Result<(), Fail> {
     let alloc = rt.alloc();
-    let bank = call(alloc, RUN, bank_of_nine(alloc)?, PUT)?.bank;
+    let bank = call(&rt, alloc, RUN, bank_of_nine(alloc)?, PUT)?.bank;
     let mut images = bank.crash_at(alloc, bank.clock(), &[])?;
     assert_eq!(rt; images.len(), 3);
     images.swap(0, 1);
-    let told = call(alloc, RUN, MemBank::from_images(alloc, images)?, READ)?;
+    let told = call(&rt, alloc, RUN, MemBank::from_images(alloc, images)?, READ)?;
     let out = DeviceSet::from_bits(3);
     assert_eq!(rt; told.status, Status::TooManyFailed { out });
     assert_eq!(rt; told.text.as_slice(), b"too many failed 0 1\n".as_slice());

@@ -27,6 +27,8 @@ use std::alloc::{AllocFailed, Global};
 use std::env;
 use std::io::{self, ErrorKind};
 use std::process::ExitCode;
+use std::sync::Wait;
+use std::thread::Threads;
 use streams::{Input, Output, hold_standard_streams};
 use uberblock_ring::DeviceSet;
 use usage::hint_usage;
@@ -82,8 +84,13 @@ fn open_files(
     Ok(bank_over(images, faults))
 }
 
-/// Carries out the command over a bank, and tells what is wrong with a script that is refused.
-fn run_over<B: Bank + Drop>(rt: &HostRuntime, words: &[String], bank: B) -> Outcome<B> {
+/// Carries out the command over a bank, with threads of this handle, and tells what is wrong with a script that is refused.
+fn run_over<R: Threads + Wait + Sync, B: Bank + Drop + Send>(
+    rt: &HostRuntime,
+    threads: &R,
+    words: &[String],
+    bank: B,
+) -> Outcome<B> {
     let mut script = Input {
         inner: rt.reader(),
         faults: 0,
@@ -92,7 +99,7 @@ fn run_over<B: Bank + Drop>(rt: &HostRuntime, words: &[String], bank: B) -> Outc
         inner: io::writer(rt),
         faults: 0,
     };
-    let outcome = raidzx(rt.alloc(), words, bank, &mut script, &mut out);
+    let outcome = raidzx(threads, rt.alloc(), words, bank, &mut script, &mut out);
     if let Status::ScriptFault { line, why } = outcome.status {
         hint_line(rt, line, why);
     }
@@ -146,12 +153,12 @@ fn main(rt: HostRuntime) -> ExitCode {
     };
     match images.memory {
         Some(sectors) => match MemBank::new(rt.alloc(), count, sectors) {
-            Ok(bank) => ExitCode::from(run_over(&rt, command, bank).status.code()),
+            Ok(bank) => ExitCode::from(run_over(&rt, &rt, command, bank).status.code()),
             Err(_) => end(&rt, Status::NoMemory),
         },
         None => match open_files(&rt, &words, count, access_for(served)) {
             Ok(bank) => {
-                let outcome = run_over(&rt, command, bank);
+                let outcome = run_over(&rt, &rt, command, bank);
                 let code = outcome.status.code();
                 tell_files(
                     &rt,

@@ -2,7 +2,7 @@
 use Rattle.std.proofs.Common.{◌≡◌, refl, sym, ◌∙◌, subst}
 use Rattle.bank_trait.specs.Disk.{Lawful}
 use Rattle.raidzx_top.specs.declared.order.Order.{Order}
-use Rattle.raidzx_top.specs.declared.order.Order.TheVariants.{OfLines, AsListed}
+use Rattle.raidzx_top.specs.declared.order.Order.TheVariants.{AsTheyCome, AsListed}
 use Rattle.raidzx_top.specs.declared.status.Status.{Status}
 use Rattle.raidzx_top.specs.declared.status.Status.TheVariants as status
 use Rattle.raidzx_top.specs.declared.words.ServedCommand.TheVariants as served
@@ -40,7 +40,7 @@ refused_words call ends = record {
     others = λ m served_m. absurd (ends.none (served.Create m, served_m));
     untouched = λ refusal. ends.same;
   };
-  run = kept OfLines;
+  run = kept AsTheyCome;
   replay = kept AsListed;
   told = not_told call (λ is. ends.none (served.Status, is));
   complete = record { done = λ m served_m fits quiet sink. absurd (ends.none (served.Create m, served_m)) };

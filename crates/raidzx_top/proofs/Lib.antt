@@ -11,6 +11,7 @@ pub mod Reopening
 pub mod RunParts
 pub mod RunRefused
 pub mod RunAnswers
+pub mod Carrying
 pub mod RunCarried
 pub mod RunEnding
 pub mod StatusEnding

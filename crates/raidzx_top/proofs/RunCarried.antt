@@ -11,7 +11,6 @@ use Rattle.core_state.specs.declared.item.Item.{Item}
 use Rattle.core_state.specs.declared.item.Item.TheVariants.{Group}
 use Rattle.core_state.specs.Choosing.{IsChosen, IsNotPool, IsOutAtOpening}
 use Rattle.core_state.specs.declared.answer.Kind.{Kind}
-use Rattle.core_state.specs.declared.answer.Kind.TheVariants as kind
 use Rattle.core_state.specs.Legal.{CallAt, IsAnswerOf}
 use Rattle.core_state.proofs.Knowing.{present}
 use Rattle.core_open.specs.Causes.{IsShownChoice, AreTooMany}
@@ -33,7 +32,7 @@ use Rattle.schedule.specs.declared.whole_run.Ran.{Ran}
 use Rattle.raidzx_top.specs.declared.order.Order.{Order}
 use Rattle.raidzx_top.specs.Bearing.{setting_with}
 use Rattle.raidzx_top.specs.Call.{TopCall}
-use Rattle.raidzx_top.specs.Order.{listed_by}
+use Rattle.raidzx_top.specs.Order.{IsInTurn, listed_by}
 use Rattle.raidzx_top.specs.Causes.{IsCause, FindsNoPool, MeetsLimit, most_turns}
 use Rattle.raidzx_top.specs.Promises.{RunPromises, RunsUnhindered, IsSmoothAnswer, CompletesAll}
 use Rattle.raidzx_top.specs.Running.{IsStatusOf, HasMet, StoppedFor, after_fault, EndsTelling, WasCarriedOut}
@@ -76,7 +75,7 @@ module _ (order : Order) (call : TopCall) (lawful : Lawful call.old)
   out = was.ran.out
 
   run : HasRun was.script call.old call.new call.journal out
-  run = was.done.run.run
+  run = was.done.run
 
   -- The silent devices have failed.
   failed : HaveFailed call.old call.new run.silent
@@ -204,15 +203,17 @@ module _ (order : Order) (call : TopCall) (lawful : Lawful call.old)
     script = was.script;
     script_is = was.read.is;
     ran = was.ran;
-    run = was.done.run.run;
-    taken = was.done.run.turns;
+    run = was.done.run;
+    counted = was.done.counted;
+    taken = was.done.taken;
     turns = was.turns_are;
-    lines = λ is. was.done.run.lines (ap (λ (o : Order). listed_by o was.script) is);
+    lines = λ is few. was.done.lines (subst (λ (o : Order). IsInTurn o was.script) (sym is) few)
+        (ap (λ (o : Order). listed_by o was.script) is);
     binds = λ setting first later failed may bears.
-        was.done.run.run.keeps (setting_with setting failed) first later
-        (may_bear setting first later call.old was.done.run.run.silent was.done.run.run.borne failed may bears)
+        was.done.run.keeps (setting_with setting failed) first later
+        (may_bear setting first later call.old was.done.run.silent was.done.run.borne failed may bears)
         bears.missed bears.now;
-    survives = survives_stops was.script call.old call.new call.journal was.ran.out was.done.run.run was.read.allowed;
+    survives = survives_stops was.script call.old call.new call.journal was.ran.out was.done.run was.read.allowed;
     complete = λ other counted. was.done.complete (λ stopped. had_memory other (inl stopped)) counted;
     memory = λ other index entry there is. had_memory other (inr (index, entry, there, is));
     used_up = used_up;

@@ -7,7 +7,7 @@ use Rattle.core_open.specs.Holds.{HoldsImage}
 use Rattle.core_open.proofs.Unhindered.{none_empty}
 use Rattle.client_script.specs.Script.{IsOverLimit, IsFaultAt}
 use Rattle.raidzx_top.specs.declared.order.Order.{Order}
-use Rattle.raidzx_top.specs.declared.order.Order.TheVariants.{OfLines, AsListed}
+use Rattle.raidzx_top.specs.declared.order.Order.TheVariants.{AsTheyCome, AsListed}
 use Rattle.raidzx_top.specs.declared.status.Status.TheVariants as status
 use Rattle.raidzx_top.specs.declared.words.NewPool.{NewPool}
 use Rattle.raidzx_top.specs.declared.words.ServedCommand.{ServedCommand}
@@ -28,22 +28,22 @@ command_in order = command_of (served_by order)
 
 -- It reads a script,
 pub reads : (order : Order) → ReadsScript (command_in order)
-reads OfLines = tt
+reads AsTheyCome = tt
 reads AsListed = tt
 
 -- opens a pool,
 pub opens : (order : Order) → Opens (command_in order)
-opens OfLines = tt
+opens AsTheyCome = tt
 opens AsListed = tt
 
 -- with a group of its own,
 pub makes_groups : (order : Order) → MakesGroups (command_in order)
-makes_groups OfLines = tt
+makes_groups AsTheyCome = tt
 makes_groups AsListed = tt
 
 -- and has no size that may be too small.
 no_size : (call : TopCall) (order : Order) → IsTooSmall call (command_in order) → ⊥
-no_size call OfLines less = apart less.0 less.1
+no_size call AsTheyCome less = apart less.0 less.1
   where
     apart : (size : ℕ × ℕ) → None ≡ Some size → ⊥
     apart size same = cc
@@ -55,7 +55,7 @@ no_size call AsListed less = apart less.0 less.1
 -- What an opening finds is what the bank holds at entry.
 pub held_at_entry : (call : TopCall) (order : Order) (image : Image) → IsFoundImage call (command_in order) image
     → HoldsImage call.old image
-held_at_entry call OfLines image found = subst (λ (disk : Disk). HoldsImage disk image) found.is found.holds
+held_at_entry call AsTheyCome image found = subst (λ (disk : Disk). HoldsImage disk image) found.is found.holds
 held_at_entry call AsListed image found = subst (λ (disk : Disk). HoldsImage disk image) found.is found.holds
 
 -- What has to be shown of a script that a call carried out, or was to carry out, however it ended.
@@ -82,10 +82,10 @@ none_silent old new silent failed quiet = none_empty silent (λ device has. quie
 -- Words are served in one manner.
 one_manner : (words : List (List ℕ)) (order other : Order) → IsServedAs words (served_by order)
     → IsServedAs words (served_by other) → order ≡ other
-one_manner words OfLines OfLines is same = refl
+one_manner words AsTheyCome AsTheyCome is same = refl
 one_manner words AsListed AsListed is same = refl
-one_manner words OfLines AsListed run replay = absurd (run_no_replay words run replay)
-one_manner words AsListed OfLines replay run = absurd (run_no_replay words run replay)
+one_manner words AsTheyCome AsListed run replay = absurd (run_no_replay words run replay)
+one_manner words AsListed AsTheyCome replay run = absurd (run_no_replay words run replay)
 
 module _ (order : Order) (call : TopCall) (served_as : IsServedAs call.words (served_by order)) (ends : IsRunEnd order call) where
   no_create : {A : Type 0} → (made : NewPool) → IsServedAs call.words (served.Create made) → A
@@ -96,7 +96,7 @@ module _ (order : Order) (call : TopCall) (served_as : IsServedAs call.words (se
       → P (command_of given)
   for_script P right (served.Create made) is = no_create made is
   for_script P right served.Run is =
-      subst (λ (m : Order). P (command_in m)) (one_manner call.words order OfLines served_as is) right
+      subst (λ (m : Order). P (command_in m)) (one_manner call.words order AsTheyCome served_as is) right
   for_script P right served.Replay is =
       subst (λ (m : Order). P (command_in m)) (one_manner call.words order AsListed served_as is) right
   for_script P right served.Status is = absurd (script_no_status call.words order served_as is)
@@ -148,7 +148,7 @@ module _ (order : Order) (call : TopCall) (served_as : IsServedAs call.words (se
       others = λ made is. no_create made is;
       untouched = λ refusal. ⊎_elim (λ usage. absurd (ends.no_usage usage)) (λ small. absurd (ends.no_small small)) refusal;
     };
-    run = kept OfLines;
+    run = kept AsTheyCome;
     replay = kept AsListed;
     told = not_told call (script_no_status call.words order served_as);
     complete = record { done = λ made is fits quiet sink. no_create made is };

@@ -5,7 +5,7 @@ use Rattle.std.specs.Prelude.{◌^◌, slice_get, codes, decimal, ◌++◌}
 use Rattle.raidzx_top.specs.Order.{served_by}
 use Rattle.raidzx_top.specs.Words.{with_value}
 use Rattle.raidzx_top.specs.declared.order.Order.{Order}
-use Rattle.raidzx_top.specs.declared.order.Order.TheVariants.{OfLines, AsListed}
+use Rattle.raidzx_top.specs.declared.order.Order.TheVariants.{AsTheyCome, AsListed}
 use Rattle.raidzx_top.specs.declared.words.NewPool.{NewPool}
 use Rattle.raidzx_top.specs.declared.words.ServedCommand.TheVariants as served
 use Rattle.raidzx_top.specs.Spelled.{SpellsCreate, SpellsAlone, IsServedAs}
@@ -112,12 +112,12 @@ two (w ∷ name' ∷ x ∷ words) name long is = absurd (omega (arith, long))
 
 -- the word that asks for a script to be carried out in this manner
 abbrev pub word_of : Order → List ℕ
-word_of OfLines = codes "run"
+word_of AsTheyCome = codes "run"
 word_of AsListed = codes "replay"
 
 pub alone_is_served : (words : List (List ℕ)) (order : Order) → SpellsAlone (word_of order) words
     → IsServedAs words (served_by order)
-alone_is_served words OfLines is =
+alone_is_served words AsTheyCome is =
     let list = two words (codes "run") is.count is.word in
     record { first = list.0; rest = _; words_are = list.1; spelled = refl; in_range = tt }
 alone_is_served words AsListed is =
@@ -126,7 +126,7 @@ alone_is_served words AsListed is =
 
 pub served_alone : (words : List (List ℕ)) (order : Order) → IsServedAs words (served_by order)
     → SpellsAlone (word_of order) words
-served_alone words OfLines is =
+served_alone words AsTheyCome is =
     let all : words ≡ is.first ∷ codes "run" ∷ [] =
     is.words_are ∙ ap (λ (l : List (List ℕ)). is.first ∷ l) is.spelled in
     record { count = ap length all; word = ap (λ (l : List (List ℕ)). slice_get l 1) all }
@@ -159,7 +159,7 @@ pub run_no_replay : (words : List (List ℕ)) → IsServedAs words served.Run �
 run_no_replay words run replay =
     let same : codes "run" ≡ codes "replay" =
     some_injective (codes "run") (codes "replay")
-    (sym (served_alone words OfLines run).word ∙ (served_alone words AsListed replay).word) in
+    (sym (served_alone words AsTheyCome run).word ∙ (served_alone words AsListed replay).word) in
     let long : 3 ≡ 6 = ap length same in
     omega (arith, long)
 
@@ -174,10 +174,10 @@ create_no_status words s create status =
 -- and ask for no script to be carried out.
 pub script_no_status : (words : List (List ℕ)) (order : Order) → IsServedAs words (served_by order)
     → IsServedAs words served.Status → ⊥
-script_no_status words OfLines run status =
+script_no_status words AsTheyCome run status =
     let same : codes "run" ≡ codes "status" =
     some_injective (codes "run") (codes "status")
-    (sym (served_alone words OfLines run).word ∙ (status_alone words status).word) in
+    (sym (served_alone words AsTheyCome run).word ∙ (status_alone words status).word) in
     let long : 3 ≡ 6 = ap length same in
     omega (arith, long)
 script_no_status words AsListed replay status =

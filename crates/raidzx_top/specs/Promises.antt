@@ -1,6 +1,6 @@
 -- What a call promises: what a new pool is, what a run or a replay answers and keeps at each moment and in the
 -- end, what a `status` tells (`StatusCall.antt`), and what is written.
-use Rattle.std.specs.Prelude.{◌≡◌, ◌≢◌, ◌⊎◌, ℕ, ◌≤◌, List, [], ◌∷◌, ◌++◌, Some, ⊤}
+use Rattle.std.specs.Prelude.{◌≡◌, ◌≢◌, ◌⊎◌, ℕ, ◌≤◌, List, [], ◌∷◌, ◌++◌, Some, ⊤, length}
 use Rattle.bank_trait.specs.Causes.{FaultCounted}
 use Rattle.bank_trait.specs.Disk.{Image, Unchanged}
 use Rattle.bank_trait.specs.Regions.{Tells, TouchesOnly}
@@ -25,7 +25,7 @@ use Rattle.schedule.specs.OfLines.{FollowsLines}
 use Rattle.schedule.specs.WholeRun.{HasRun, HasTakenTurns, RunKeeps, banks_of}
 use Rattle.schedule.specs.declared.whole_run.Ran.{Ran}
 use Rattle.raidzx_top.specs.declared.order.Order.{Order}
-use Rattle.raidzx_top.specs.declared.order.Order.TheVariants.{OfLines, AsListed}
+use Rattle.raidzx_top.specs.declared.order.Order.TheVariants.{AsTheyCome, AsListed}
 use Rattle.raidzx_top.specs.declared.running.Trouble.TheVariants as trouble
 use Rattle.raidzx_top.specs.declared.status.Status.{Status}
 use Rattle.raidzx_top.specs.declared.status.Status.TheVariants as status
@@ -35,7 +35,7 @@ use Rattle.raidzx_top.specs.declared.words.NewPool.{NewPool}
 use Rattle.raidzx_top.specs.declared.words.ServedCommand.TheVariants as served
 use Rattle.raidzx_top.specs.Spelled.{IsServedAs, command_of}
 use Rattle.raidzx_top.specs.Call.{TopCall, HoldsImage, IsCarriedOut, IsQuiet, shape_of}
-use Rattle.raidzx_top.specs.Order.{listed_by, served_by}
+use Rattle.raidzx_top.specs.Order.{IsInTurn, listed_by, served_by}
 use Rattle.raidzx_top.specs.Causes.{NoneRose, IsTooSmall, MeetsLimit, IsNoCommand, IsCaused, ComesWhere, most_turns}
 use Rattle.raidzx_top.specs.Reopened.{BearsCut, SurvivesOpening, SurvivesStops}
 use Rattle.raidzx_top.specs.RunJournal.{NoneWantsMemory}
@@ -105,12 +105,13 @@ pub record RunPromises (order : Order) (call : TopCall) : Type 0 where
   pub ran : Ran
   -- The journal is legal for the script, and what it tells is kept, at each moment and in the end.
   pub run : HasRun script call.old call.new call.journal ran.out
-  -- Each turn was that of the client whose turn it was: of a run in the order of the lines, of a replay in that which
-  -- the script lists.
-  pub taken : HasTakenTurns script (listed_by order script) run ran
+  -- As many turns are told as were taken. Of a replay each was that of the client whose turn it was by the order that the
+  -- script lists, of a run with one client by the order of the lines; where a run has more, by none.
   pub turns : call.turns ≡ ran.turns
-  -- So the answers of a run stand in the order of the lines, each call whole before the next.
-  pub lines : order ≡ OfLines → FollowsLines script call.journal
+  pub counted : ran.turns ≡ length run.passed
+  pub taken : IsInTurn order script → HasTakenTurns script (listed_by order script) run ran
+  -- So the answers of a run with one client stand in the order of the lines, each call whole before the next.
+  pub lines : order ≡ AsTheyCome → script.clients ≤ 1 → FollowsLines script call.journal
   -- That binds however many devices fail: those that have to be borne are no more than there are parities, and what was
   -- answered is right for whoever can bear them.
   pub binds : (setting : Setting) (first : Kept) (later : List Kept) (failed : ℕ) → MayBegin setting first later call.old
@@ -217,7 +218,7 @@ pub record CallPromises (call : TopCall) : Type 0 where
   -- a new pool is kept, and what was written is the text
   pub create : CreateIsKept call
   -- what a run answers is right and kept, and what was written is the text; so it is with a replay
-  pub run : RunIsKept OfLines call
+  pub run : RunIsKept AsTheyCome call
   pub replay : RunIsKept AsListed call
   -- a `status` tells what the devices show, and changes nothing
   pub told : StatusIsTold call

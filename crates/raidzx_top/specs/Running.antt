@@ -1,5 +1,5 @@
 -- How a run or a replay ends: its script is read, its pool opened, its calls answered, its text written.
-use Rattle.std.specs.Prelude.{◌≡◌, ◌⊎◌, ℕ, ◌<◌, ◌≤◌, List, [], ◌++◌, Some, All, Result, Ok, Err}
+use Rattle.std.specs.Prelude.{◌≡◌, ◌⊎◌, ℕ, ◌<◌, ◌≤◌, List, [], ◌++◌, length, Some, All, Result, Ok, Err}
 use Rattle.bank_trait.specs.Causes.{FaultCounted}
 use Rattle.bank_trait.specs.Disk.{Disk, Unchanged}
 use Rattle.core_state.specs.declared.answer.Answer.{Answer}
@@ -21,7 +21,8 @@ use Rattle.client_script.specs.declared.line_fault.LineFault.{LineFault}
 use Rattle.client_script.specs.declared.refused.ReadRefused.{ReadRefused}
 use Rattle.client_script.specs.declared.refused.ReadRefused.TheVariants as read
 use Rattle.schedule.specs.Turns.{most_turns}
-use Rattle.schedule.specs.WholeRun.{HasRunInTurn}
+use Rattle.schedule.specs.OfLines.{FollowsLines}
+use Rattle.schedule.specs.WholeRun.{HasRun, HasTakenTurns}
 use Rattle.schedule.specs.declared.whole_run.Ended.TheVariants as ended
 use Rattle.schedule.specs.declared.whole_run.Ran.{Ran}
 use Rattle.raidzx_top.specs.declared.order.Order.{Order}
@@ -30,7 +31,7 @@ use Rattle.raidzx_top.specs.declared.running.Trouble.TheVariants as trouble
 use Rattle.raidzx_top.specs.declared.status.Status.{Status}
 use Rattle.raidzx_top.specs.declared.status.Status.TheVariants as status
 use Rattle.raidzx_top.specs.Call.{Stream}
-use Rattle.raidzx_top.specs.Order.{listed_by}
+use Rattle.raidzx_top.specs.Order.{IsInTurn, listed_by}
 use Rattle.raidzx_top.specs.Exit.{read_status, why_status}
 use Rattle.raidzx_top.specs.Making.{IsSaid}
 use Rattle.raidzx_top.specs.RunText.{status_line}
@@ -88,23 +89,22 @@ StoppedFor ran trouble.NoMemory = ran.ended ≡ ended.NoMemory
 StoppedFor ran trouble.Limit = ran.ended ≡ ended.Limit
 StoppedFor ran trouble.TooManyFailed = ⊥
 
--- A script was carried out on the pool in this order. Each call is answered, but where memory was wanting or no more
--- turns could be counted.
+-- A script was carried out on the pool in this order, in as many turns as are told. Each call is answered, but where
+-- memory was wanting or no more turns could be counted.
 pub record HasCarried (order : Order) (script : Script) (old new : Disk) (items : List Item) (ran : Ran) : Type 0
   where
-    pub run : HasRunInTurn script (listed_by order script) old new items ran
+    pub run : HasRun script old new items ran.out
+    pub counted : ran.turns ≡ length run.passed
+    pub taken : IsInTurn order script → HasTakenTurns script (listed_by order script) run ran
+    pub lines : IsInTurn order script → listed_by order script ≡ [] → FollowsLines script items
     pub complete : (StoppedFor ran trouble.NoMemory → ⊥) → (StoppedFor ran trouble.Limit → ⊥)
         → IsComplete (asked_by script) items
     pub used_up : StoppedFor ran trouble.Limit → most_turns ≤ ran.turns
 
--- A script was read and carried out, or there was none, or no pool.
-abbrev pub EndsCarrying : Order → Stream → Stream → Disk → Disk → List Item
-    → Result Ran Status → Type 0
-EndsCarrying order source source_after old new items (Ok ran) =
-    (script : Script) × HasRead source source_after script
-    × HasCarried order script old new items ran
-EndsCarrying order source source_after old new items (Err given) =
-    (items ≡ []) × IsRefused source source_after old new given
+-- A script was read, or there was none, or no room for the journal of its run.
+abbrev pub EndsReading : Stream → Stream → Result Script Status → Type 0
+EndsReading source source_after (Ok script) = HasRead source source_after script
+EndsReading source source_after (Err given) = (disk : Disk) → IsRefused source source_after disk disk given
 
 -- The answer tells of this trouble.
 abbrev pub IsTold : Trouble → Answer → Type 0

@@ -10,6 +10,7 @@ mod images;
 mod looking;
 mod making;
 mod order;
+mod outcome;
 mod report;
 mod running;
 mod status;
@@ -17,7 +18,8 @@ mod top;
 mod words;
 
 pub use images::{Images, MOST_SECTORS, image_words};
+pub use outcome::Outcome;
 pub use report::write_status;
 pub use status::Status;
-pub use top::{Outcome, raidzx};
+pub use top::raidzx;
 pub use words::{NewPool, ServedCommand, read_command};

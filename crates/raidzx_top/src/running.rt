@@ -1,16 +1,21 @@
 // Carrying out `run` and `replay`.
-ghost use Rattle.std.specs.Prelude.{◌≡◌, ◌↔◌, [], IsTrue};
+ghost use Rattle.std.specs.Prelude.{◌≡◌, ◌<◌, ◌≤◌, ◌↔◌, [], All, IfErr, IfOk, IsTrue, OnOk};
+ghost use Rattle.client_script.specs.Script.{IsAllowed};
 ghost use Rattle.raidzx_top.specs.Call.{stream_of};
-ghost use Rattle.raidzx_top.specs.Running.{AnswersSo, EndsCarrying, EndsRun, EndsTelling, HasMet, IsStatusOf, IsTold, ItemTells, StoppedFor};
+ghost use Rattle.raidzx_top.specs.Running.{AnswersSo, EndsReading, EndsRun, EndsTelling, HasCarried, HasMet, IsStatusOf, IsTold, IsUnopened, ItemTells, StoppedFor};
 
 use crate::order::Order;
+use crate::outcome::Outcome;
 use crate::report::{refuse, write_run};
-use crate::status::{Ending, Status};
+use crate::status::Status;
 use bank_trait::{Bank, Sink, Source};
-use client_script::read_script;
+use client_script::{Script, read_script};
 use core_state::{Answer, Item, Journal};
+use pool_live::{PoolRun, run_pool_beside};
 use schedule::{Ended, Ran, run_pool};
 use std::alloc::Global;
+use std::sync::Wait;
+use std::thread::Threads;
 
 /// What an answer may tell, or the end of a script, that the status tells too.
 #[derive(Clone, Copy, Debug, PartialEq, Eq)]
@@ -84,23 +89,41 @@ fn status_of(ran: &Ran, journal: &Journal) -> Status
     }
 }
 
-/// Reads the script, and carries it out on the pool that the devices show.
-fn carry_script<B: Bank, S: Source>(
-    alloc: Global,
-    order: Order,
-    bank: &mut B,
-    source: &mut S,
-    journal: &mut Journal,
-) -> Result<Ran, Status>
-    requires empty { journal.old.items ≡ [] }
-    ensures { EndsCarrying order (stream_of (S.left source.old) (S.faults source.old))
-        (stream_of (S.left source.new) (S.faults source.new))
-        (B.disk bank.old) (B.disk bank.new) journal.new.items result }
+/// Reads the script, and makes room in the journal for the opening's group.
+fn read<S: Source>(alloc: Global, source: &mut S, journal: &mut Journal) -> Result<Script, Status>
+    ensures ends { EndsReading (stream_of (S.left source.old) (S.faults source.old))
+        (stream_of (S.left source.new) (S.faults source.new)) result }
+    ensures items { journal.new.items ≡ journal.old.items }
+    ensures room { OnOk result (1 ≤ journal.new.room) }
 {
     let script = read_script(alloc, source)?;
     journal.reserve(1)?;
-    let ran = run_pool(alloc, bank, &script, order.listed(&script), journal)?;
-    Ok(ran)
+    Ok(script)
+}
+
+/// Carries a script out on the pool that the devices show.
+fn carry_script<R: Threads + Wait + Sync, B: Bank + Send>(
+    rt: &R,
+    alloc: Global,
+    order: Order,
+    mut bank: B,
+    script: &Script,
+    mut journal: Journal,
+) -> PoolRun<B>
+    requires empty { journal.items ≡ [] }
+    requires room { 1 ≤ journal.room }
+    requires allowed { All (λ placed. IsAllowed placed.call) script.now.calls }
+    requires actors { All (λ placed. placed.actor < script.now.clients) script.now.calls }
+    ensures carried { IfOk result.ran
+        (HasCarried order script.now (B.disk bank) (B.disk result.bank) result.journal.items) }
+    ensures nothing { IfErr result.ran (λ why. result.journal.items ≡ []) }
+    ensures unopened { IfErr result.ran (IsUnopened (B.disk bank) (B.disk result.bank)) }
+{
+    if !order.is_in_turn(script) {
+        return run_pool_beside(rt, alloc, bank, script, journal);
+    }
+    let ran = run_pool(alloc, &mut bank, script, order.listed(script), &mut journal);
+    PoolRun { ran, bank, journal }
 }
 
 /// Writes the text of a script that was carried out. A failed write is told where neither memory nor a limit is.
@@ -119,29 +142,36 @@ fn tell<K: Sink>(out: &mut K, journal: &Journal, status: Status) -> Status
 
 /// Reads a script from a source, opens the pool that the devices show, and carries the script out on it in
 /// this order. Writes what was answered, and the line of the status.
-pub fn run<B: Bank, S: Source, K: Sink>(
+pub fn run<R: Threads + Wait + Sync, B: Bank + Send, S: Source, K: Sink>(
+    rt: &R,
     alloc: Global,
     order: Order,
-    bank: &mut B,
+    bank: B,
     source: &mut S,
     out: &mut K,
-    journal: &mut Journal,
-) -> Ending
-    requires empty { journal.old.items ≡ [] }
+) -> Outcome<B>
     ensures { EndsRun order (stream_of (S.left source.old) (S.faults source.old))
         (stream_of (S.left source.new) (S.faults source.new))
         (stream_of (K.held out.old) (K.faults out.old))
         (stream_of (K.held out.new) (K.faults out.new))
-        (B.disk bank.old) (B.disk bank.new) journal.new.items result.status result.turns }
+        (B.disk bank) (B.disk result.bank) result.journal.items result.status result.turns }
 {
-    match carry_script(alloc, order, bank, source, journal) {
+    let mut journal = Journal::new(alloc);
+    let script = match read(alloc, source, &mut journal) {
+        Ok(script) => script,
+        Err(status) => return Outcome::without_turns(alloc, refuse(out, status), bank),
+    };
+    let PoolRun { ran, bank, journal } = carry_script(rt, alloc, order, bank, &script, journal);
+    match ran {
         Ok(ran) => {
-            let status = status_of(&ran, journal);
-            Ending {
-                status: tell(out, journal, status),
+            let status = status_of(&ran, &journal);
+            Outcome {
+                status: tell(out, &journal, status),
+                bank,
+                journal,
                 turns: ran.turns,
             }
         }
-        Err(status) => Ending::without_turns(refuse(out, status)),
+        Err(why) => Outcome::without_turns(alloc, refuse(out, Status::from(why)), bank),
     }
 }

@@ -8,23 +8,6 @@ use core_open::OpenWhy;
 use std::alloc::AllocError;
 use uberblock_ring::DeviceSet;
 
-/// How a call ended, and how many turns it took.
-#[derive(Clone, Copy, Debug, PartialEq, Eq)]
-pub struct Ending {
-    pub status: Status,
-    pub turns: u64,
-}
-
-impl Ending {
-    /// A call that took no turns.
-    pub fn without_turns(status: Status) -> Ending
-        ensures status { result.status ≡ status }
-        ensures turns { result.turns ≡ 0 }
-    {
-        Ending { status, turns: 0 }
-    }
-}
-
 /// The numbers of the exit statuses are 0 to 9 in this order.
 #[derive(Clone, Copy, Debug, PartialEq, Eq)]
 pub enum Status {

@@ -1,5 +1,6 @@
 // The top call: it carries out the command that the words spell.
-ghost use Rattle.std.specs.Prelude.{◌≡◌, [], map, string_bytes};
+ghost use Rattle.std.specs.Prelude.{map, string_bytes};
+ghost use Rattle.bank_trait.specs.Disk.{Lawful};
 ghost use Rattle.raidzx_top.specs.Call.{call_of, stream_of};
 ghost use Rattle.raidzx_top.specs.Making.{EndsCreate};
 ghost use Rattle.raidzx_top.specs.Ending.{Ends};
@@ -9,24 +10,16 @@ ghost use Rattle.raidzx_top.specs.Words.{IsSize};
 use crate::looking::tell_status;
 use crate::making::make_pool;
 use crate::order::Order;
+use crate::outcome::Outcome;
 use crate::report::{refuse, write_created};
 use crate::running::run;
-use crate::status::{Ending, Status};
+use crate::status::Status;
 use crate::words::{NewPool, ServedCommand, read_command};
 use bank_trait::{Bank, Sink, Source};
 use core_open::data_rows;
-use core_state::Journal;
 use std::alloc::Global;
-
-/// How a call ended, the bank, what was answered (nothing where no pool was opened), and how many turns
-/// were taken.
-#[derive(Drop)]
-pub struct Outcome<B> {
-    pub status: Status,
-    pub bank: B,
-    pub journal: Journal,
-    pub turns: u64,
-}
+use std::sync::Wait;
+use std::thread::Threads;
 
 fn create_pool<B: Bank, K: Sink>(bank: &mut B, made: &NewPool, out: &mut K) -> Status
     requires size { IsSize made.now.parity made.now.width }
@@ -44,35 +37,47 @@ fn create_pool<B: Bank, K: Sink>(bank: &mut B, made: &NewPool, out: &mut K) -> S
     }
 }
 
-fn carry_out<B: Bank, S: Source, K: Sink>(
+fn carry_out<R: Threads + Wait + Sync, B: Bank + Send, S: Source, K: Sink>(
+    rt: &R,
     alloc: Global,
     words: &[String],
-    bank: &mut B,
+    mut bank: B,
     script: &mut S,
     out: &mut K,
-    journal: &mut Journal,
-) -> Ending
-    requires empty { journal.old.items ≡ [] }
+) -> Outcome<B>
     ensures { Ends (call_of (map string_bytes words.now)
-        (B.disk bank.old) (B.disk bank.new)
+        (B.disk bank) (B.disk result.bank)
         (stream_of (S.left script.old) (S.faults script.old))
         (stream_of (S.left script.new) (S.faults script.new))
         (stream_of (K.held out.old) (K.faults out.old))
         (stream_of (K.held out.new) (K.faults out.new))
-        result.status journal.new.items result.turns) }
+        result.status result.journal.items result.turns) }
 {
     match read_command(words) {
-        None => Ending::without_turns(refuse(out, Status::Usage)),
-        Some(ServedCommand::Create(made)) => Ending::without_turns(create_pool(bank, &made, out)),
-        Some(ServedCommand::Run) => run(alloc, Order::OfLines, bank, script, out, journal),
-        Some(ServedCommand::Replay) => run(alloc, Order::AsListed, bank, script, out, journal),
-        Some(ServedCommand::Status) => Ending::without_turns(tell_status(alloc, bank, out)),
+        None => Outcome::without_turns(alloc, refuse(out, Status::Usage), bank),
+        Some(ServedCommand::Create(made)) => {
+            let status = create_pool(&mut bank, &made, out);
+            Outcome::without_turns(alloc, status, bank)
+        }
+        Some(ServedCommand::Run) => run(rt, alloc, Order::AsTheyCome, bank, script, out),
+        Some(ServedCommand::Replay) => run(rt, alloc, Order::AsListed, bank, script, out),
+        Some(ServedCommand::Status) => {
+            let status = tell_status(alloc, &mut bank, out);
+            Outcome::without_turns(alloc, status, bank)
+        }
     }
 }
 
+/// Does nothing: that a bank's laws hold is known by this call where other threads may have it later.
+fn laws_hold<B: Bank>(_bank: &B)
+    ensures { Lawful (B.disk _bank.now) }
+{}
+
 /// Carries out the command that the words spell, of which the first is not looked at. The script is
-/// read from a source; every line goes to a sink, those of faults too.
-pub fn raidzx<B: Bank, S: Source, K: Sink>(
+/// read from a source; every line goes to a sink, those of faults too. The clients of a run have threads of their own,
+/// where there are several.
+pub fn raidzx<R: Threads + Wait + Sync, B: Bank + Send, S: Source, K: Sink>(
+    rt: &R,
     alloc: Global,
     words: &[String],
     bank: B,
@@ -87,13 +92,6 @@ pub fn raidzx<B: Bank, S: Source, K: Sink>(
         (stream_of (K.held out.new) (K.faults out.new))
         result.status result.journal.items result.turns) }
 {
-    let mut bank = bank;
-    let mut journal = Journal::new(alloc);
-    let ending = carry_out(alloc, words, &mut bank, script, out, &mut journal);
-    Outcome {
-        status: ending.status,
-        bank,
-        journal,
-        turns: ending.turns,
-    }
+    laws_hold(&bank);
+    carry_out(rt, alloc, words, bank, script, out)
 }

@@ -1,5 +1,5 @@
 -- What the last turn of an attach comes to that answers its group, among the other clients' calls.
-use Rattle.std.proofs.Common.{◌≡◌, inl, inr, ⊎_elim, ℕ, ◌+◌, ◌-◌, ◌≤◌, List, [], ◌∷◌, ◌++◌, length, Option, Some, None, refl, sym, ◌∙◌, ap, subst, arith, append_assoc, length-append}
+use Rattle.std.proofs.Common.{◌≡◌, inl, inr, ℕ, ◌+◌, ◌-◌, ◌≤◌, List, [], ◌∷◌, ◌++◌, length, Option, Some, None, refl, sym, ◌∙◌, ap, subst, arith, append_assoc}
 use Rattle.std.specs.Prelude.{slice_get}
 use Rattle.reflow_mark.specs.declared.reflow.Reflow.{Reflow}
 use Rattle.uberblock_ring.specs.Devices.{IsWithin}
@@ -17,7 +17,7 @@ use Rattle.core_state.specs.Certain.{Knows}
 use Rattle.core_state.specs.Committing.{Point}
 use Rattle.core_state.specs.Journal.{IsAttachOf, IsWidthStep}
 use Rattle.core_state.specs.Keeps.{Kept}
-use Rattle.core_state.specs.Legal.{CallAt, IsAnswerOf}
+use Rattle.core_state.specs.Legal.{IsAnswerOf}
 use Rattle.core_state.specs.Map.{Map, map_of}
 use Rattle.core_state.specs.Moment.{AwaitsAttach, item_of}
 use Rattle.core_state.specs.World.{World}

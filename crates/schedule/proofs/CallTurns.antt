@@ -1,9 +1,9 @@
 -- The turns of calls.
-use Rattle.std.proofs.Common.{◌≡◌, ◌⊎◌, inl, inr, ⊎_elim, ℕ, zero, suc, ◌+◌, length, Option, Some, None, Result, Ok, Err, refl, sym, ap, subst, arith}
-use Rattle.std.specs.Prelude.{OnOk, OnErr, IsTrue, is_some, ◌≤◌}
+use Rattle.std.proofs.Common.{◌≡◌, ◌⊎◌, inl, inr, ⊎_elim, ℕ, zero, suc, ◌+◌, length, List, Option, Some, None, refl, sym, ap, subst, arith}
+use Rattle.std.specs.Prelude.{IsTrue, is_some, ◌≤◌}
 use Rattle.std.proofs.lemmas.Bool.{false≢true}
 use Rattle.bank_trait.specs.Disk.{Disk, Unchanged}
-use Rattle.row_layout.specs.Layout.{rows_of}
+use Rattle.row_layout.specs.Layout.{Layout, rows_of}
 use Rattle.uberblock_ring.specs.Uberblock.{Uber}
 use Rattle.core_state.specs.declared.answer.Answer.{Answer}
 use Rattle.core_state.specs.declared.answer.Answer.TheVariants as answer
@@ -22,24 +22,26 @@ use Rattle.core_turns.specs.declared.rounds.CopyRound.TheVariants.{Rests, Copies
 use Rattle.core_turns.specs.Attaching.{IsMoreAttach, StepsAttach}
 use Rattle.core_turns.specs.Rounds.{IsMoreRound, StepsCopy}
 use Rattle.core_turns.specs.declared.getting.GetRun.{GetRun}
-use Rattle.core_turns.specs.declared.getting.OutOfMemory.{OutOfMemory}
+use Rattle.core_turns.specs.declared.filling.Filled.{Filled}
+use Rattle.core_turns.specs.declared.filling.ToFill.{ToFill}
 use Rattle.core_blocks.specs.Blocks.{Blocks, IsUnderWay}
 use Rattle.core_turns.specs.declared.putting.PutRun.{PutRun}
 use Rattle.core_turns.specs.declared.turn.Turn.{Turn}
 use Rattle.core_turns.specs.declared.turn.Turn.TheVariants.{More, Busy, Done}
 use Rattle.core_turns.specs.Core.{Core, CoreState, at_disk}
-use Rattle.core_turns.specs.Getting.{IsReadKind, BeginsGet, ReadsTurn, SolvesGet, EndsGet}
-use Rattle.core_turns.specs.Putting.{IsPutOf, FillsPut, EndsPut, GivesUpTurn}
+use Rattle.core_turns.specs.Getting.{IsReadKind, IsGetOf, BeginsGet, ReadsTurn, SolvesGet, EndsGet}
+use Rattle.core_turns.specs.Putting.{IsFillable, IsPutOf, FillsPut, EndsPut, GivesUpTurn, left_to_fill, to_fill_of}
 use Rattle.core_turns.specs.UnderWay.{TurnGoesOn}
-use Rattle.core_turns.proofs.GetTurns.{reads_reaching}
+use Rattle.core_turns.proofs.GetTurns.{reads_reaching, solved_of}
 use Rattle.core_turns.proofs.PutTurns.{fills_of}
 use Rattle.schedule.specs.declared.client.Work.{Work}
 use Rattle.schedule.specs.declared.client.Work.TheVariants as work
 use Rattle.schedule.specs.Playing.{MakesRoom, taken_for}
-use Rattle.schedule.specs.Turned.{AnswersAtOnce, Waits, BeginsWork, BeginsCall, GoesOnBy, IsFilledIn, PutGoesOn, WritesOn, ReadGoesOn, WorkGoesOn, attach_turn, copy_turn, group_by, read_turn}
+use Rattle.schedule.specs.Turned.{AnswersAtOnce, Waits, BeginsWork, BeginsCall, GoesOnBy, IsFilledIn, MayGoOn, PutGoesOn, WritesOn, ReadGoesOn, WorkGoesOn, attach_turn, copy_turn, group_by, read_turn}
 use Rattle.schedule.specs.Works.{made_by, made_in}
 use Rattle.schedule.proofs.LeavesPool.{pool_goes}
 use Rattle.schedule.proofs.Rooms.{taken_one}
+use Rattle.schedule.proofs.Theirs.{some_is}
 
 -- ---- first turns
 
@@ -167,20 +169,44 @@ read_goes_on before after run turn reads unchanged out =
       only = read_touches (IsOnInUse before.core.reach before.core.pool.out) unchanged;
     }
 
-solved_now : (old new : GetRun) (result : Result (Unit {0}) OutOfMemory) → OnOk result (SolvesGet old new)
-    → OnErr result (new ≡ old) → (new ≡ old) ⊎ SolvesGet old new
-solved_now old new (Ok value) solves same = inr solves
-solved_now old new (Err why) solves same = inl same
+-- A read is the core's still once its block is solved.
+pub read_of : (core : Core) (run solved : GetRun) → (solved ≡ run) ⊎ SolvesGet run solved → IsGetOf core run
+    → IsGetOf core solved
+read_of core run solved solves of = ⊎_elim
+    (λ (same : solved ≡ run). subst (IsGetOf core) (sym same) of)
+    (λ (now : SolvesGet run solved). solved_of core run solved now of)
+    solves
 
 -- A read of which all columns were read ends, its block solved where memory was there.
-pub read_ends : (old new : Core) (disk : Disk) (run solved : GetRun) (result : Result (Unit {0}) OutOfMemory)
-    (turn : Turn GetRun) → OnOk result (SolvesGet run solved) → OnErr result (solved ≡ run)
-    → run.read.row ≡ rows_of run.read.layout → EndsGet old solved new turn
+pub read_ends : (old new : Core) (disk : Disk) (run solved : GetRun) (turn : Turn GetRun)
+    → (solved ≡ run) ⊎ SolvesGet run solved → run.read.row ≡ rows_of run.read.layout → EndsGet old solved new turn
     → ReadGoesOn (at_disk old disk) (at_disk new disk) run turn
-read_ends old new disk run solved result (Done given) ok err done ends =
-    record { disk = refl; ends = inr (solved, solved_now run solved result ok err, done, ends) }
-read_ends old new disk run solved result (More next) ok err done ends = absurd ends
-read_ends old new disk run solved result (Busy by) ok err done ends = absurd ends
+read_ends old new disk run solved (Done given) solves done ends =
+    record { disk = refl; ends = inr (solved, solves, done, ends) }
+read_ends old new disk run solved (More next) solves done ends = absurd ends
+read_ends old new disk run solved (Busy by) solves done ends = absurd ends
+
+-- ---- blocks that are made up in no turn
+
+left_is : (run : PutRun) (filled : Option Filled) (block : ToFill) → left_to_fill run filled ≡ Some block
+    → to_fill_of run ≡ block
+left_is run None block is = some_is is
+left_is run (Some filled) block is = cc
+
+-- A put's block can be made up of the bytes that it is asked to have.
+pub put_fillable : (core : Core) (run : PutRun) (content : List ℕ) → IsPutOf core run → length content ≡ run.len
+    → IsFillable (to_fill_of run) content
+put_fillable core run content of len = record {
+  pool = of.begun_pool;
+  front = of.begun_front;
+  sectors = sym (ap (λ (l : Layout). l.sectors) of.range.layout_is);
+  len = len;
+}
+
+pub put_ahead : (core : Core) (call : ScriptCall) (run : PutRun) (block : ToFill) → MayGoOn core call (work.Put run)
+    → left_to_fill run run.filled ≡ Some block → IsFillable block (fill_bytes call.fill)
+put_ahead core call run block may left = subst (λ (b : ToFill). IsFillable b (fill_bytes call.fill))
+    (left_is run run.filled block left) (put_fillable core run (fill_bytes call.fill) may.0 may.2)
 
 -- ---- attaches
 

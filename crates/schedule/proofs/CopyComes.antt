@@ -4,7 +4,6 @@ use Rattle.std.specs.Prelude.{slice_get, true}
 use Rattle.std.proofs.lemmas.Bool.{false≢true}
 use Rattle.std.proofs.lemmas.Option.{slice_get_within}
 use Rattle.bank_trait.specs.Disk.{Disk}
-use Rattle.range_locks.specs.declared.hold.Hold.{Hold}
 use Rattle.uberblock_ring.specs.Devices.{has_device}
 use Rattle.uberblock_ring.specs.Uberblock.{Uber}
 use Rattle.core_state.specs.declared.answer.Answer.{Answer}
@@ -38,7 +37,7 @@ use Rattle.schedule.proofs.CommitWorks.{copy_makes}
 use Rattle.schedule.proofs.CopyRefused.{AnswersCopy, round_answers}
 use Rattle.schedule.proofs.Fitting.{group_fits}
 use Rattle.schedule.proofs.LeavesPool.{LeavesPool, holds_left, job_begun_leaves}
-use Rattle.schedule.proofs.Running.{with_content, with_same}
+use Rattle.schedule.proofs.Running.{with_same}
 use Rattle.schedule.proofs.SyncComes.{commit_comes}
 use Rattle.schedule.proofs.Theirs.{calls_of_others, idle_no_attach}
 use Rattle.schedule.proofs.TurnComes.{comes_at_once, comes_begun, comes_nowhere, first_entry, held_gains}

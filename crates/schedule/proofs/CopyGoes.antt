@@ -1,6 +1,6 @@
 -- What a later turn of a copy comes to, among the other clients' calls.
-use Rattle.std.proofs.Common.{◌≡◌, inl, inr, ⊎_elim, ℕ, ◌+◌, ◌-◌, ◌<◌, List, [], ◌∷◌, length, Option, Some, None, refl, sym, ◌∙◌, ap, subst, arith}
-use Rattle.std.specs.Prelude.{Contains, slice_get, true}
+use Rattle.std.proofs.Common.{◌≡◌, inl, ⊎_elim, ℕ, ◌-◌, List, [], ◌∷◌, length, Option, Some, None, refl, sym, ◌∙◌, ap, subst, arith}
+use Rattle.std.specs.Prelude.{slice_get, true}
 use Rattle.std.proofs.lemmas.Bool.{false≢true}
 use Rattle.bank_trait.specs.Disk.{Disk}
 use Rattle.range_locks.specs.declared.hold.Hold.{Hold}
@@ -11,7 +11,6 @@ use Rattle.core_state.specs.declared.answer.Answer.{Answer}
 use Rattle.core_state.specs.declared.answer.Answer.TheVariants as answer
 use Rattle.core_state.specs.declared.answer.Kind.{Kind}
 use Rattle.core_state.specs.declared.answer.Kind.TheVariants as kind
-use Rattle.core_state.specs.declared.item.Item.TheVariants.{Call as CallItem}
 use Rattle.core_state.specs.Keeps.{Kept, Setting}
 use Rattle.core_state.specs.Legal.{IsAnswerOf}
 use Rattle.core_state.specs.Map.{Map, map_of}
@@ -27,7 +26,7 @@ use Rattle.core_turns.specs.declared.rounds.CopyRound.{CopyRound}
 use Rattle.core_turns.specs.declared.rounds.CopyRound.TheVariants.{Rests, Copies, Commits}
 use Rattle.core_turns.specs.declared.turn.Turn.TheVariants.{More, Done}
 use Rattle.core_turns.specs.Committing.{BeginsCommitSo}
-use Rattle.core_turns.specs.Copying.{BeginsJobSo, DropsJob, EndsJob, IsJobOf, StepsJob}
+use Rattle.core_turns.specs.Copying.{BeginsJobSo, IsJobOf}
 use Rattle.core_turns.specs.Core.{Core, CoreState, at_disk}
 use Rattle.core_turns.specs.Rounds.{IsRoundOf, StepsCopy}
 use Rattle.core_turns.specs.UnderWay.{AreCallsOf, Copying, HoldingCall, Stands, TurnGoesOn, shown_of}
@@ -39,8 +38,8 @@ use Rattle.schedule.specs.Comes.{Comes, TakesTurn}
 use Rattle.schedule.specs.Dropping.{HasDropCause}
 use Rattle.schedule.specs.Fitting.{IsGroupKind}
 use Rattle.schedule.specs.Moments.{Past}
-use Rattle.schedule.specs.Running.{IsGoing, IsWorkFor, MakesCommit, Runs, call_of_client, calls_under_way, commit_in, held_by, held_under, setting_now}
-use Rattle.schedule.specs.Turned.{LacksRoom, LeavesGoing, Station, entry_for, group_by, listed_of}
+use Rattle.schedule.specs.Running.{Runs, call_of_client, calls_under_way, commit_in, held_by, held_under, setting_now}
+use Rattle.schedule.specs.Turned.{LeavesGoing, Station, entry_for, group_by, listed_of}
 use Rattle.schedule.specs.Turns.{turns_of}
 use Rattle.schedule.specs.Works.{begun_at, made_by}
 use Rattle.schedule.specs.declared.client.Client.{Client}
@@ -54,7 +53,7 @@ use Rattle.schedule.proofs.LeavesPool.{KeepsCommit, holds_left, job_begun_leaves
 use Rattle.schedule.proofs.Recording.{GoesOnSince}
 use Rattle.schedule.proofs.RightNext.{group_cut_right, same_out}
 use Rattle.schedule.proofs.SyncComes.{commit_comes}
-use Rattle.schedule.proofs.SyncGoes.{commit_goes_further, cut, group_made}
+use Rattle.schedule.proofs.SyncGoes.{cut, group_made}
 use Rattle.schedule.proofs.Theirs.{call_begins, call_ends, calls_stay, held_by_others, other_no_attach}
 use Rattle.schedule.proofs.TurnComes.{comes_ended, comes_finished, comes_going, comes_working, held_gone, held_moves, its_asked, its_number, its_work, next_held}
 

@@ -1,18 +1,15 @@
 -- Why an attach that a turn left under way brings the pool no device: it came so in this turn, or was known before.
-use Rattle.std.proofs.Common.{◌≡◌, ◌⊎◌, ◌+◌, inl, inr, ⊎_elim, ℕ, ◌-◌, List, length, Option, Some, None, refl, sym, ◌∙◌, ap, subst}
-use Rattle.std.specs.Prelude.{OnErr, Result, Ok, Err, slice_get, true}
+use Rattle.std.proofs.Common.{◌≡◌, ◌⊎◌, ◌+◌, inl, inr, ⊎_elim, ℕ, List, Option, Some, None, refl, sym, ◌∙◌, ap, subst}
+use Rattle.std.specs.Prelude.{OnErr, Result, Ok, Err, slice_get}
 use Rattle.std.proofs.lemmas.Bool.{cases_eq}
 use Rattle.bank_trait.specs.declared.Failed.{Failed}
 use Rattle.bank_trait.specs.Causes.{FaultCounted}
-use Rattle.bank_trait.specs.Disk.{Synced, Wrote}
-use Rattle.reflow_mark.specs.declared.reflow.Reflow.{Reflow}
-use Rattle.uberblock_ring.specs.Devices.{IsWithin, has_device}
+use Rattle.uberblock_ring.specs.Devices.{IsWithin}
 use Rattle.uberblock_ring.specs.Uberblock.{Uber}
 use Rattle.core_state.specs.declared.answer.Kind.{Kind}
 use Rattle.core_state.specs.declared.answer.Kind.TheVariants as kind
 use Rattle.core_state.specs.Committing.{Point, point_of}
 use Rattle.core_commit.specs.declared.commit_run.CommitStep.TheVariants.{Called}
-use Rattle.core_commit.specs.CommitTurns.{CommitRun}
 use Rattle.core_commit.proofs.Stepping.{steps_same}
 use Rattle.join_commit.specs.declared.guest.Guest.{Guest}
 use Rattle.join_commit.specs.declared.guest.Guest.TheVariants.{Laid, Settled, Lost}
@@ -20,11 +17,10 @@ use Rattle.join_commit.specs.declared.join_run.JoinStep.TheVariants as step
 use Rattle.join_commit.specs.declared.join_run.WhyDropped.{WhyDropped}
 use Rattle.join_commit.specs.declared.join_run.WhyDropped.TheVariants as why
 use Rattle.join_commit.specs.JoinRun.{JoinRun}
-use Rattle.join_commit.specs.JoinTurns.{HasCalledPool, HasLaidGuest, HasSyncedGuest, JoinSteps, guest_after}
+use Rattle.join_commit.specs.JoinTurns.{JoinSteps, guest_after}
 use Rattle.client_script.specs.declared.call.ScriptCall.{ScriptCall}
 use Rattle.core_turns.specs.declared.attaching.AttachRun.{AttachRun}
 use Rattle.core_turns.specs.declared.attaching.AttachRun.TheVariants.{Reads, Checked, Joins, Signs}
-use Rattle.core_turns.specs.declared.turn.Turn.{Turn}
 use Rattle.core_turns.specs.declared.turn.Turn.TheVariants.{More, Busy, Done}
 use Rattle.core_turns.specs.Attaching.{StepsAttach}
 use Rattle.core_turns.specs.Core.{Core, CoreState}
@@ -34,7 +30,7 @@ use Rattle.schedule.specs.declared.client.Work.{Work}
 use Rattle.schedule.specs.declared.client.Work.TheVariants as work
 use Rattle.schedule.specs.Clients.{Changes}
 use Rattle.schedule.specs.Dropping.{HasDropCause, IsDropCause, IsToBeTold, WillTell}
-use Rattle.schedule.specs.Turned.{BeginsWork, GoesOnBy, LeavesBegun, LeavesGoing, Station, Turned, Nothing, Began, Went, WorkGoesOn}
+use Rattle.schedule.specs.Turned.{BeginsWork, GoesOnBy, Station, Turned, Nothing, Began, Went, WorkGoesOn}
 use Rattle.schedule.specs.Turns.{turns_of}
 use Rattle.schedule.proofs.Theirs.{none_some, same_attach, some_is, sync_no_attach}
 

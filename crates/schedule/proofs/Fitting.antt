@@ -1,5 +1,5 @@
 -- What a call is answered in a turn, and that what is listed then fits it.
-use Rattle.std.proofs.Common.{◌≡◌, ◌⊎◌, inl, inr, ℕ, ◌<◌, List, [], ◌∷◌, ◌++◌, Some, true, sym, ◌∙◌, subst}
+use Rattle.std.proofs.Common.{◌≡◌, ◌⊎◌, inl, inr, ℕ, ◌<◌, List, [], ◌∷◌, ◌++◌, Some, true, sym, subst}
 use Rattle.std.specs.Prelude.{◌≢◌, slice_get, ⊤}
 use Rattle.uberblock_ring.specs.Devices.{count_of, has_device, IsWithin}
 use Rattle.uberblock_ring.specs.Uberblock.{max_group}

@@ -1,5 +1,5 @@
 -- Whose turn is next, and steps after steps.
-use Rattle.std.proofs.Common.{◌≡◌, ℕ, ◌+◌, ◌<◌, ◌≤◌, List, length, Option, Some, None, zero, suc, refl, sym, ◌∙◌, ap, subst, arith, [], ◌++◌, append_assoc, append-nil, ◌∷◌}
+use Rattle.std.proofs.Common.{◌≡◌, ℕ, ◌+◌, ◌<◌, ◌≤◌, List, length, Option, Some, None, zero, suc, refl, sym, ◌∙◌, ap, subst, arith, [], ◌++◌, append_assoc, append-nil, length-append, ◌∷◌}
 use Rattle.std.specs.Prelude.{Bool, true, false, ◌||◌, if◌then◌else◌, is_some, slice_get}
 use Rattle.std.proofs.lemmas.Bool.{lt-ltb, le-ltb, ltb-true, ltb-false, true≢false}
 use Rattle.std.proofs.lemmas.Option.{slice_get_within}
@@ -90,6 +90,28 @@ gone_taken script start now passed gone = by gone.steps now passed gone.goes
     by : (steps : ℕ) (end : Replay) (passed : List TurnTaken) → Goes script steps start passed end → Are script start.turns passed end.turns
     by zero end passed goes = subst (λ (l : List TurnTaken). Are script start.turns l end.turns) (sym goes.1)
         (tt, sym (ap (λ (r : Replay). r.turns) goes.0))
+    by (suc steps) end passed goes = one goes.0 end goes.1 passed
+        (turn_at script goes.0.turns.clients goes.0.cursor) goes.3.turn (by steps goes.0 goes.1 goes.2)
+
+-- As many were counted as were taken.
+pub gone_counted : (script : Script) (start now : Replay) (passed : List TurnTaken) → HasGone script start passed now
+    → now.taken ≡ start.taken + length passed
+gone_counted script start now passed gone = by gone.steps now passed gone.goes
+  where
+    one : (middle end : Replay) (before more : List TurnTaken) (whose : Option ℕ)
+        → IsStepOf script middle before more end whose → middle.taken ≡ start.taken + length before
+        → end.taken ≡ start.taken + length more
+    one middle end before more None step so_far =
+        subst (λ (l : List TurnTaken). end.taken ≡ start.taken + length l) (sym step.2) (step.1 ∙ so_far)
+    one middle end before more (Some actor) step so_far =
+        subst (λ (l : List TurnTaken). end.taken ≡ start.taken + length l) (sym step.2)
+        (let long = length-append before (taken_by actor end.turns ∷ []) in let more = step.1 in
+        omega (arith, long, more, so_far))
+
+    by : (steps : ℕ) (end : Replay) (passed : List TurnTaken) → Goes script steps start passed end
+        → end.taken ≡ start.taken + length passed
+    by zero end passed goes = let same = ap (λ (r : Replay). r.taken) goes.0 in
+        let none = ap (λ (l : List TurnTaken). length l) goes.1 in omega (arith, same, none)
     by (suc steps) end passed goes = one goes.0 end goes.1 passed
         (turn_at script goes.0.turns.clients goes.0.cursor) goes.3.turn (by steps goes.0 goes.1 goes.2)
 

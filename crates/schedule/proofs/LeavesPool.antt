@@ -1,20 +1,16 @@
 -- Turns that call no device, and leave all of the core but blocks and holds.
 use Rattle.std.proofs.Common.{◌≡◌, ℕ, List, true, refl, sym, ap, subst, arith}
-use Rattle.bank_trait.specs.Disk.{Disk, Later}
-use Rattle.bank_trait.specs.Regions.{TouchesOnly}
+use Rattle.bank_trait.specs.Disk.{Disk}
 use Rattle.range_locks.specs.declared.hold.Hold.{Hold}
 use Rattle.space_alloc.specs.Space.{Gains}
 use Rattle.uberblock_ring.specs.Devices.{IsWithin, has_device}
 use Rattle.uberblock_ring.specs.Uberblock.{Uber}
 use Rattle.core_blocks.specs.Blocks.{Blocks}
-use Rattle.core_client.specs.Outs.{OnlyFailedGoOut}
-use Rattle.core_state.specs.Committing.{point_of}
 use Rattle.core_commit.specs.CommitTurns.{CommitRun}
-use Rattle.core_commit.specs.Spared.{IsOnInUse}
 use Rattle.core_turns.specs.declared.attaching.AttachRun.{AttachRun}
 use Rattle.core_turns.specs.declared.copying.CopyRun.{CopyRun}
 use Rattle.core_turns.specs.Attaching.{IsAttachRunOf}
-use Rattle.core_turns.specs.Core.{Core, CoreState, IsCore, at_disk}
+use Rattle.core_turns.specs.Core.{Core, IsCore, at_disk}
 use Rattle.core_turns.specs.Getting.{HasTooManyOut}
 use Rattle.core_turns.specs.Committing.{IsCommitOf}
 use Rattle.core_turns.specs.Copying.{BeginsJobSo, DropsJob, EndsJob, IsJobOf}

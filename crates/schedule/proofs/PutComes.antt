@@ -33,7 +33,7 @@ use Rattle.schedule.specs.Turned.{Station, LeavesBegun}
 use Rattle.schedule.specs.Comes.{TakesTurn, Comes}
 use Rattle.schedule.proofs.Fitting.{IsPlainKind, fits, plain_no_limit}
 use Rattle.schedule.proofs.RightNext.{put_right}
-use Rattle.schedule.proofs.Theirs.{calls_of_others, none_there}
+use Rattle.schedule.proofs.Theirs.{calls_of_others}
 use Rattle.schedule.proofs.Fulls.{full_put}
 use Rattle.schedule.proofs.Running.{sets_content, with_content}
 use Rattle.schedule.proofs.TurnComes.{comes_at_once, comes_begun, comes_waiting, first_entry, held_gains}

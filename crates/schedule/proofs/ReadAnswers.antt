@@ -23,8 +23,8 @@ use Rattle.core_turns.specs.Getting.{IsReadRight}
 use Rattle.client_script.specs.declared.call.ScriptCall.{ScriptCall}
 use Rattle.journal_law.specs.Points.{point_after, read_point}
 use Rattle.core_turns.specs.declared.getting.GetRun.{GetRun}
-use Rattle.core_turns.specs.declared.getting.Solved.{Solved}
-use Rattle.core_turns.specs.declared.getting.Solved.TheVariants.{NotYet, Bytes, Damaged}
+use Rattle.core_turns.specs.declared.solving.Solved.{Solved}
+use Rattle.core_turns.specs.declared.solving.Solved.TheVariants.{NotYet, Bytes, Damaged}
 use Rattle.core_turns.specs.declared.turn.Turn.TheVariants.{Done}
 use Rattle.core_turns.specs.Core.{Core, CoreState, IsCore, at_disk}
 use Rattle.core_turns.specs.Getting.{IsReadKind, HasTooManyOut, IsGetRefused, ReadsTurn, SolvesGet, AnswersSolved, EndsGet, answer_of}

@@ -1,6 +1,6 @@
 -- What an attach is answered that made no group.
-use Rattle.std.proofs.Common.{◌≡◌, ℕ, List, length, Option, None, Some, subst, arith, ◌+◌, sym, ◌∙◌, ap, refl}
-use Rattle.std.specs.Prelude.{◌⊎◌, ⊤, true}
+use Rattle.std.proofs.Common.{◌≡◌, ℕ, List, length, Some, subst, arith, sym, ◌∙◌, refl}
+use Rattle.std.specs.Prelude.{⊤, true}
 use Rattle.bank_trait.specs.Causes.{FaultCounted}
 use Rattle.bank_trait.specs.Disk.{Disk}
 use Rattle.uberblock_ring.specs.Devices.{has_device}

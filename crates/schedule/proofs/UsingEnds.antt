@@ -27,8 +27,8 @@ use Rattle.core_turns.specs.declared.putting.PutRun.{PutRun}
 use Rattle.core_turns.specs.declared.turn.Turn.{Turn}
 use Rattle.core_turns.specs.declared.turn.Turn.TheVariants.{More, Busy, Done}
 use Rattle.core_turns.specs.Core.{Core, CoreState, IsCore, groups_begun}
-use Rattle.core_turns.specs.declared.getting.Solved.{Solved}
-use Rattle.core_turns.specs.declared.getting.Solved.TheVariants.{NotYet, Bytes, Damaged}
+use Rattle.core_turns.specs.declared.solving.Solved.{Solved}
+use Rattle.core_turns.specs.declared.solving.Solved.TheVariants.{NotYet, Bytes, Damaged}
 use Rattle.core_turns.specs.Getting.{AnswersSolved, EndsGet, answer_of}
 use Rattle.core_turns.specs.Putting.{EndsPut, GivesUpTurn, IsStoppedPut, WritesTurn}
 use Rattle.core_turns.specs.Committing.{AnswersGroup, IsCommitOf, StepsCommit}

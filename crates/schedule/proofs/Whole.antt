@@ -52,10 +52,11 @@ use Rattle.schedule.specs.Moments.{Past}
 use Rattle.schedule.specs.Playing.{EndsAs}
 use Rattle.schedule.specs.Replaying.{blank_clients}
 use Rattle.schedule.specs.Running.{Runs}
-use Rattle.schedule.specs.WholeRun.{HasRun, HasRunInTurn, RunKeeps, first_turns}
+use Rattle.schedule.specs.declared.whole_run.Ran.{Ran}
+use Rattle.schedule.specs.WholeRun.{HasRun, HasRunInTurn, HasTakenTurns, RunKeeps, first_turns}
 use Rattle.schedule.proofs.Banks.{are_listed, at_end as bank_at_end, at_start}
 use Rattle.schedule.proofs.Beginning.{no_call}
-use Rattle.schedule.proofs.InTurn.{gone_taken}
+use Rattle.schedule.proofs.InTurn.{gone_counted, gone_taken}
 use Rattle.schedule.proofs.Fitting.{device_cause_on}
 use Rattle.schedule.proofs.Numbered.{first_numbered}
 use Rattle.schedule.proofs.OfLines.{follows_lines}
@@ -259,6 +260,11 @@ module _ (script : Script) (old mid : Disk) (pool : Pool) (silent : ℕ) (items 
     keeps = run_keeps;
   }
 
+  -- with as many turns as these are,
+  pub has_run_counted : (turns : ℕ) → turns ≡ length passed → turns ≡ length has_run.passed
+  unfolding has_run
+  has_run_counted turns counted = counted
+
   -- and the turns were those of the clients whose turn it was.
   pub has_run_in_turn : (listed : List ℕ) (ended : Ended) (turns : ℕ) (cursor : Cursor)
       → All (λ (placed : Placed). placed.actor < script.clients) script.calls
@@ -285,3 +291,21 @@ ends_taken script start now passed Whole ends = (gone_taken script start now pas
 ends_taken script start now passed NoMemory ends =
     subst (HaveTaken script start.turns) (sym ends.1) tt
 ends_taken script start now passed Limit ends = (gone_taken script start now passed ends.0).0
+
+-- As many were counted as were taken.
+pub ends_counted : (script : Script) (start now : Replay) (passed : List TurnTaken) (ended : Ended) → start.taken ≡ 0
+    → EndsAs script start passed now ended → now.taken ≡ length passed
+ends_counted script start now passed Whole first ends =
+    let counted = gone_counted script start now passed ends.0 in omega (arith, counted, first)
+ends_counted script start now passed NoMemory first ends =
+    let same = ap (λ (r : Replay). r.taken) ends.0 in let none = ap (λ (l : List TurnTaken). length l) ends.1 in
+    omega (arith, same, none, first)
+ends_counted script start now passed Limit first ends =
+    let counted = gone_counted script start now passed ends.0 in omega (arith, counted, first)
+
+pub turns_counted : {old new : Disk} → {items : List Item} → {out : ℕ} → (script : Script) (listed : List ℕ)
+    (run : HasRun script old new items out) (ran : Ran) → HasTakenTurns script listed run ran
+    → ran.turns ≡ length run.passed
+turns_counted script listed run ran turns = ends_counted script
+    (replay_at (first_turns script run.start run.opened) 0 (InOrder listed))
+    (replay_at turns.now ran.turns turns.cursor) run.passed ran.ended refl turns.ends

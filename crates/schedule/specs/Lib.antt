@@ -12,6 +12,7 @@ pub mod Fitting
 pub mod Coming
 pub mod Turned
 pub mod Comes
+pub mod Ahead
 pub mod InTurn
 pub mod OfLines
 pub mod Replaying

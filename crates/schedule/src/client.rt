@@ -1,9 +1,17 @@
 // What a client has come to.
-ghost use Rattle.std.specs.Prelude.{◌≡◌, ◌↔◌, IsTrue, None};
+ghost use Rattle.std.specs.Prelude.{◌≡◌, ◌≤◌, ◌↔◌, List, IsTrue, Some, None, slice_get};
+ghost use Rattle.client_script.specs.declared.call.ScriptCall.{ScriptCall as CallOf};
+ghost use Rattle.core_turns.specs.Core.{Core as CoreOf};
+ghost use Rattle.schedule.specs.declared.client.UnderWay.{UnderWay as UnderWayOf};
+ghost use Rattle.schedule.specs.Ahead.{IsAheadFor, MayGoOnAs};
+ghost use Rattle.schedule.specs.Turned.{MayGoOn};
 ghost use Rattle.schedule.specs.Works.{MakesCommit, made_by, made_in};
 
+use crate::ahead::Ahead;
+use client_script::ScriptCall;
 use core_commit::CommitRun;
 use core_turns::{AttachRun, CopyRound, GetRun, PutRun};
+use std::alloc::Global;
 
 /// What a call under way does.
 #[derive(Drop)]
@@ -47,6 +55,27 @@ impl Work {
             _ => None,
         }
     }
+
+    /// What its next turn asks to be computed, of the call of this number, from 0. What a read got is copied for that.
+    fn ahead(&self, alloc: Global, call: &ScriptCall, number: usize) -> Ahead
+        requires may { (core : CoreOf) × MayGoOn core call.now self.now }
+        ensures { (calls : List CallOf) → slice_get calls number ≡ Some call.now → IsAheadFor calls result }
+    {
+        match self {
+            Work::Put(run) => match run.to_fill() {
+                Some(block) => Ahead::Fill {
+                    call: number,
+                    block,
+                },
+                None => Ahead::Nothing,
+            },
+            Work::Read(run) => match run.to_solve(alloc) {
+                Some(block) => Ahead::Solve(block),
+                None => Ahead::Nothing,
+            },
+            _ => Ahead::Nothing,
+        }
+    }
 }
 
 /// A call under way, and how many items the journal had before its first turn; of an attach, before the first turn of
@@ -72,6 +101,23 @@ impl Client {
         Client {
             begun: 0,
             under_way: None,
+        }
+    }
+
+    /// What the next turn of its call under way asks to be computed, if it has one, of a client with these calls. What a
+    /// read got is copied for that.
+    pub fn ahead(&self, alloc: Global, calls: &[ScriptCall]) -> Ahead
+        requires begun { (under : UnderWayOf) → self.now.under_way ≡ Some under → 1 ≤ self.now.begun }
+        requires may { MayGoOnAs calls.now self.now }
+        ensures { IsAheadFor calls.now result }
+    {
+        let Some(under_way) = &self.under_way else {
+            return Ahead::Nothing;
+        };
+        let number = self.begun - 1;
+        match calls.get(number) {
+            Some(call) => under_way.work.ahead(alloc, call, number),
+            None => Ahead::Nothing,
         }
     }
 }

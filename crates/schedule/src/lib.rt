@@ -8,6 +8,7 @@
 //! `client_script` and `journal_law`.
 #![tactic(auto)]
 
+mod ahead;
 mod client;
 mod progress;
 mod replay;
@@ -15,6 +16,7 @@ mod station;
 mod turning;
 mod whole_run;
 
+pub use ahead::{Ahead, Ready};
 pub use client::{Client, UnderWay, Work};
 pub use progress::{Progress, UsedUp};
 pub use replay::{CarriedOut, begin, carry_out, take_listed, take_turns, turn_of};

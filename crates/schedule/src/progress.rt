@@ -1,10 +1,17 @@
 // What a replay has come to.
-ghost use Rattle.std.specs.Prelude.{◌≡◌, ◌+◌, ◌<◌, ◌≤◌, IfOk, OnOk, OnErr};
+ghost use Rattle.std.specs.Prelude.{◌≡◌, ◌+◌, ◌<◌, ◌≤◌, ℕ, List, IfOk, OnOk, OnErr};
+ghost use Rattle.client_script.specs.Script.{calls_of};
+ghost use Rattle.core_state.specs.declared.item.Item.{Item as ItemOf};
+ghost use Rattle.core_turns.specs.Core.{CoreState};
+ghost use Rattle.schedule.specs.Ahead.{IsAheadFor};
+ghost use Rattle.schedule.specs.Playing.{IsReady};
 ghost use Rattle.schedule.specs.InTurn.{has_left_at, is_any_busy, is_busy_at};
-ghost use Rattle.schedule.specs.Turns.{most_turns};
+ghost use Rattle.schedule.specs.Turns.{most_turns, turns_of};
 ghost use Rattle.schedule.specs.Replaying.{blank_clients};
 
+use crate::ahead::Ahead;
 use crate::client::Client;
+use client_script::Script;
 use std::alloc::{AllocError, Global};
 
 /// Most turns of a replay.
@@ -58,6 +65,18 @@ impl Progress {
         match self.clients.get(usize::from(actor)) {
             Some(client) => (client.begun as u64) < number,
             None => false,
+        }
+    }
+
+    /// What the next turn of the call that a client has under way asks to be computed. What a read got is copied for that.
+    pub fn ahead(&self, alloc: Global, script: &Script, actor: u8) -> Ahead
+        requires ready { (state : CoreState) × (items : List ItemOf) × (room : ℕ)
+            × IsReady script.now (turns_of state items self.now.clients.items) room }
+        ensures { IsAheadFor (calls_of script.now actor) result }
+    {
+        match self.clients.get(usize::from(actor)) {
+            Some(client) => client.ahead(alloc, script.calls(actor)),
+            None => Ahead::Nothing,
         }
     }
 

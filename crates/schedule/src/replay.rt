@@ -8,10 +8,12 @@ ghost use Rattle.core_turns.specs.Core.{at_disk, HasBankOf};
 ghost use Rattle.schedule.specs.declared.client.Client.{Client as ClientOf};
 ghost use Rattle.schedule.specs.declared.whole_run.Ended.TheVariants.{Whole};
 ghost use Rattle.schedule.specs.Turns.{most_turns, turns_of};
+ghost use Rattle.schedule.specs.Ahead.{IsReadyFor};
 ghost use Rattle.schedule.specs.InTurn.{Cursor, InOrder, InRest, InRound, IsCallOfScript, has_left_at, replay_by, turns_by};
 ghost use Rattle.schedule.specs.Playing.{CarriesOut, HasPlayed, HaveHadTurns, HasRunOutOfTurns, IsReady};
 ghost use Rattle.schedule.specs.Replaying.{AreIdle, BeginsOne, HasComeRound, HasTurn, HaveBegun, IsAtRest, blank_clients};
 
+use crate::ahead::Ready;
 use crate::progress::{Progress, UsedUp};
 use crate::station::take_turn;
 use crate::whole_run::Ended;
@@ -28,7 +30,7 @@ pub struct CarriedOut {
     pub turns: u64,
 }
 
-/// One turn of a client of the script, if there is one of this number. It is not counted.
+/// One turn of a client of the script, if there is one of this number, with what was computed for it. It is not counted.
 pub fn turn_of<B: Bank>(
     alloc: Global,
     bank: &mut B,
@@ -37,8 +39,10 @@ pub fn turn_of<B: Bank>(
     journal: &mut Journal,
     progress: &mut Progress,
     actor: u8,
+    computed: Ready,
 )
     requires allowed { All (λ placed. IsAllowed placed.call) script.now.calls }
+    requires computed { IsReadyFor (calls_of script.now actor) computed }
     requires ready { IsReady script.now
         (turns_by core.old (B.disk bank.old) journal.old progress.old) journal.old.room }
     ensures turn { HasTurn script.now actor
@@ -59,6 +63,7 @@ pub fn turn_of<B: Bank>(
             script.calls(actor),
             actor,
             client,
+            computed,
         );
     }
 }
@@ -88,7 +93,16 @@ fn count_turn_of<B: Bank>(
         (turns_by core.new (B.disk bank.new) journal.new progress.new) progress.new.turns journal.new.room) }
 {
     progress.count()?;
-    turn_of(alloc, bank, core, script, journal, progress, actor);
+    turn_of(
+        alloc,
+        bank,
+        core,
+        script,
+        journal,
+        progress,
+        actor,
+        Ready::Nothing,
+    );
     Ok(())
 }
 

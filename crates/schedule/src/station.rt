@@ -7,9 +7,11 @@ ghost use Rattle.core_commit.specs.CommitTurns.{CommitRun as RunOf};
 ghost use Rattle.core_turns.specs.Core.{IsCore, HasBankOf, at_disk};
 ghost use Rattle.schedule.specs.declared.client.UnderWay.{UnderWay as UnderWayOf};
 ghost use Rattle.schedule.specs.Playing.{MakesRoom, UsesRoom, owed, taken_for};
+ghost use Rattle.schedule.specs.Ahead.{IsReadyFor, IsReadyWith};
 ghost use Rattle.schedule.specs.Turned.{GoesOnBy, HasDeviceFor, HasDeviceForTurn, HasDeviceUnder, MayGoOn, Turned, WorkGoesOn, entry_for, group_by, group_with, listed_on, listed_with, station_of};
 ghost use Rattle.schedule.specs.Works.{begun_at, commit_in};
 
+use crate::ahead::Ready;
 use crate::client::{Client, UnderWay, Work};
 use crate::turning::{begin_call, go_on};
 use bank_trait::Bank;
@@ -114,8 +116,10 @@ fn go_further<B: Bank>(
     journal: &mut Journal,
     call: &ScriptCall,
     work: Work,
+    ready: Ready,
 ) -> Turn<Work>
     requires may { MayGoOn core.old call.now work }
+    requires ready { IsReadyWith call.now ready }
     requires there { HasDeviceFor (B.disk bank.old) work }
     requires bank { HasBankOf core.old (B.disk bank.old) }
     ensures goes { GoesOnBy (at_disk core.old (B.disk bank.old)) (at_disk core.new (B.disk bank.new))
@@ -128,7 +132,7 @@ fn go_further<B: Bank>(
     ensures room { MakesRoom work journal.old.room journal.new.room result }
 {
     match make_room(journal, work.made()) {
-        Ok(()) => go_on(alloc, bank, core, call, work),
+        Ok(()) => go_on(alloc, bank, core, call, work, ready),
         Err(AllocError) => Turn::Done(Answer::NoMemory),
     }
 }
@@ -171,8 +175,8 @@ fn begin_next<B: Bank>(
     }
 }
 
-/// One turn of a client: the next of its call under way, or the first of its next call. Nothing is done
-/// where that finds another's call in its way, or the client has no call left. Takes room in the journal where a
+/// One turn of a client: the next of its call under way, or the first of its next call; with what was computed for it, if
+/// anything was. Nothing is done where that finds another's call in its way, or the client has no call left. Takes room in the journal where a
 /// call is answered, and for two items at most.
 pub fn take_turn<B: Bank>(
     alloc: Global,
@@ -182,8 +186,10 @@ pub fn take_turn<B: Bank>(
     calls: &[ScriptCall],
     actor: u8,
     client: &mut Client,
+    ready: Ready,
 )
     requires allowed { (number : ℕ) (call : CallOf) → slice_get calls.now number ≡ Some call → IsAllowed call }
+    requires ready { IsReadyFor calls.now ready }
     requires room { owed (length calls.now) client.old ≤ journal.old.room }
     requires bank { HasBankOf core.old (B.disk bank.old) }
     requires few { client.old.begun ≤ length calls.now }
@@ -205,11 +211,20 @@ pub fn take_turn<B: Bank>(
     let Some(under_way) = client.under_way.take() else {
         return begin_next(alloc, bank, core, journal, calls, actor, client);
     };
-    let call = &calls[client.begun - 1];
+    let number = client.begun - 1;
+    let call = &calls[number];
     let UnderWay { at, work } = under_way;
     let made = work.group();
     let makes = work.makes_commit();
-    let turn = go_further(alloc, bank, core, journal, call, work);
+    let turn = go_further(
+        alloc,
+        bank,
+        core,
+        journal,
+        call,
+        work,
+        ready.of_call(number),
+    );
     let widths = core.reflow();
     match turn {
         Turn::More(work) => {

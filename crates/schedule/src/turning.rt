@@ -1,5 +1,5 @@
 // A call's turns.
-ghost use Rattle.std.specs.Prelude.{◌≡◌, ◌≤◌, true, false, None, Some, length};
+ghost use Rattle.std.specs.Prelude.{◌≡◌, ◌⊎◌, ◌≤◌, IfSome, true, false, None, Some, length};
 ghost use Rattle.bank_trait.specs.Disk.{Disk};
 ghost use Rattle.reconstruct.specs.Rows.{sectors_for};
 ghost use Rattle.core_blocks.specs.Blocks.{IsUnderWay};
@@ -7,19 +7,21 @@ ghost use Rattle.reflow_band.specs.Band.{IsFrontOf};
 ghost use Rattle.core_client.specs.Pool.{IsInPool};
 ghost use Rattle.client_script.specs.Lines.{fill_bytes};
 ghost use Rattle.client_script.specs.Script.{IsAllowed};
-ghost use Rattle.core_turns.specs.declared.putting.Filled.{Filled as FilledOf};
+ghost use Rattle.core_turns.specs.declared.filling.Filled.{Filled as FilledOf};
 ghost use Rattle.core_turns.specs.Core.{Core as CoreOf, at_disk, HasBankOf};
-ghost use Rattle.core_turns.specs.Getting.{IsGetOf, IsReadKind};
-ghost use Rattle.core_turns.specs.Putting.{IsPutOf};
+ghost use Rattle.core_turns.specs.Getting.{IsGetOf, IsReadKind, SolvesGet};
+ghost use Rattle.core_turns.specs.Putting.{IsFillable, IsPutOf, to_fill_of};
 ghost use Rattle.core_turns.specs.UnderWay.{TurnGoesOn};
+ghost use Rattle.schedule.specs.Ahead.{IsMadeUpOf, IsReadyWith, IsSolvedOf};
 ghost use Rattle.schedule.specs.Turned.{BeginsCall, GoesOnBy, HasDeviceFor, HasDeviceForTurn, HasTableOf, IsFilledIn, MayGoOn, PutGoesOn, ReadGoesOn, WorkGoesOn, WritesOn, attach_turn, copy_turn, put_turn, read_turn, sync_turn};
 
+use crate::ahead::Ready;
 use crate::client::Work;
 use bank_trait::Bank;
 use client_script::{Fill, ScriptCall};
 use core_commit::CommitRun;
 use core_state::Kind;
-use core_turns::{AttachRun, CopyRound, Core, GetRun, PutRun, Turn};
+use core_turns::{AttachRun, CopyRound, Core, GetRun, MadeUp, PutRun, SolvedFrom, Turn};
 use std::alloc::Global;
 
 /// How many bytes a put is handed.
@@ -154,17 +156,20 @@ fn begin_block_call<B: Bank>(
 }
 
 /// Fills a put's block in, unless it was before. Tells whether there was memory for it.
-fn fill_in(alloc: Global, call: &ScriptCall, run: &mut PutRun) -> bool
-    requires pool { IsInPool run.old.range.layout run.old.reflow }
-    requires front { IsFrontOf run.old.reflow run.old.done }
-    requires sectors { sectors_for run.old.len ≡ run.old.range.layout.sectors }
-    requires len { length (fill_bytes call.now.fill) ≡ run.old.len }
+fn fill_in(alloc: Global, call: &ScriptCall, run: &mut PutRun, made: Option<MadeUp>) -> bool
+    requires fillable { IsFillable (to_fill_of run.old) (fill_bytes call.now.fill) }
+    requires made { IfSome made (IsMadeUpOf (fill_bytes call.now.fill)) }
     ensures fills { result ≡ true → IsFilledIn call.now run.old run.new }
     ensures filled { result ≡ true → (filled : FilledOf) × (run.new.filled ≡ Some filled) }
     ensures wanting { result ≡ false → (run.new ≡ run.old) × (run.old.filled ≡ None) }
 {
     if run.is_filled() {
         return true;
+    }
+    if let Some(made) = made {
+        if run.take_block(made) {
+            return true;
+        }
     }
     match call.fill.to_bytes(alloc) {
         Ok(bytes) => run.fill(alloc, bytes.as_slice()).is_ok(),
@@ -197,10 +202,12 @@ fn go_on_putting<B: Bank>(
     core: &mut Core,
     call: &ScriptCall,
     run: PutRun,
+    made: Option<MadeUp>,
 ) -> Turn<PutRun>
     requires of { IsPutOf core.old run }
     requires under_way { IsUnderWay core.old.pool.blocks run.range }
     requires len { length (fill_bytes call.now.fill) ≡ run.len }
+    requires made { IfSome made (IsMadeUpOf (fill_bytes call.now.fill)) }
     requires bank { HasBankOf core.old (B.disk bank.old) }
     ensures goes { PutGoesOn (at_disk core.old (B.disk bank.old)) (at_disk core.new (B.disk bank.new))
         call.now run result }
@@ -208,17 +215,38 @@ fn go_on_putting<B: Bank>(
         (at_disk core.new (B.disk bank.new)) }
 {
     let mut run = run;
-    if fill_in(alloc, call, &mut run) {
+    if fill_in(alloc, call, &mut run, made) {
         write_on(bank, core, run)
     } else {
         core.put_give_up(run)
     }
 }
 
+/// Solves a read's block, where there is memory for that.
+fn solve(alloc: Global, run: &mut GetRun, solved: Option<SolvedFrom>)
+    requires len { sectors_for run.old.entry.len ≡ run.old.read.layout.sectors }
+    requires solved { IfSome solved IsSolvedOf }
+    ensures { (run.new ≡ run.old) ⊎ SolvesGet run.old run.new }
+{
+    if let Some(solved) = solved {
+        if run.take_solved(solved) {
+            return;
+        }
+    }
+    let _ = run.solve(alloc);
+}
+
 /// A read's block is solved before its last turn. Where memory is wanting for that, the last turn says so.
-fn go_on_reading<B: Bank>(alloc: Global, bank: &mut B, core: &mut Core, run: GetRun) -> Turn<GetRun>
+fn go_on_reading<B: Bank>(
+    alloc: Global,
+    bank: &mut B,
+    core: &mut Core,
+    run: GetRun,
+    solved: Option<SolvedFrom>,
+) -> Turn<GetRun>
     requires kind { IsReadKind run.kind }
     requires of { IsGetOf core.old run }
+    requires solved { IfSome solved IsSolvedOf }
     requires bank { HasBankOf core.old (B.disk bank.old) }
     ensures goes { ReadGoesOn (at_disk core.old (B.disk bank.old))
         (at_disk core.new (B.disk bank.new)) run result }
@@ -229,7 +257,7 @@ fn go_on_reading<B: Bank>(alloc: Global, bank: &mut B, core: &mut Core, run: Get
         return core.get_read(bank, run);
     }
     let mut run = run;
-    let _ = run.solve(alloc);
+    solve(alloc, &mut run, solved);
     core.get_end(run)
 }
 
@@ -240,8 +268,10 @@ pub fn go_on<B: Bank>(
     core: &mut Core,
     call: &ScriptCall,
     work: Work,
+    ready: Ready,
 ) -> Turn<Work>
     requires may { MayGoOn core.old call.now work }
+    requires ready { IsReadyWith call.now ready }
     requires there { HasDeviceFor (B.disk bank.old) work }
     requires bank { HasBankOf core.old (B.disk bank.old) }
     ensures goes { GoesOnBy (at_disk core.old (B.disk bank.old)) (at_disk core.new (B.disk bank.new))
@@ -252,8 +282,10 @@ pub fn go_on<B: Bank>(
     ensures bank { HasBankOf core.new (B.disk bank.new) }
 {
     match work {
-        Work::Put(run) => put_turn(go_on_putting(alloc, bank, core, call, run)),
-        Work::Read(run) => read_turn(go_on_reading(alloc, bank, core, run)),
+        Work::Put(run) => {
+            put_turn(go_on_putting(alloc, bank, core, call, run, ready.into_block()))
+        },
+        Work::Read(run) => read_turn(go_on_reading(alloc, bank, core, run, ready.into_solved())),
         Work::Sync(run) => sync_turn(core.commit_step(bank, run)),
         Work::Attach(run) => attach_turn(core.attach_step(alloc, bank, run)),
         Work::Copy(round) => copy_turn(core.copy_step(alloc, bank, round)),

@@ -15,11 +15,12 @@ returns-in_default-clause-taken g c =
     let script = c.args.script.now in
     let state = at_disk c.args.core (g.B.Bank.disk c.args.bank) in
     let start = turns_of state c.args.journal.items (blank_clients script.clients) in
-    subst (λ (items : List Item). HasCarriedOut script start state items) (sym c.begin.ensures.same) (record {
+    subst (λ (items : List Item). HasCarriedOut script start 0 state items 0) (sym c.begin.ensures.same) (record {
       passed = [];
       clients = blank_clients script.clients;
       taken = tt;
       come = came_nowhere script start [] refl;
+      counted = refl;
     })
 
 pub returns-in_default-clause-calls : goal.returns-in_default-clause-calls

@@ -25,6 +25,6 @@ returns-clause-taken g c =
     let middle = turns_by left.core (g.B.Bank.disk left.bank) left.journal left.progress in
     let had = c.take_turns_beside-left.ensures.stands in
     carried_on c.args.script.now g.J.Setup.start first middle had.0 left.journal.room left.progress.turns
-    (at_disk ended.core (g.B.Bank.disk ended.bank)) ended.journal.items c.requires.start
+    (at_disk ended.core (g.B.Bank.disk ended.bank)) ended.journal.items ended.turns c.requires.start
     (subst (λ (s : Script). StandsFor s g.J.Setup.start had.0 middle left.journal.room left.progress.turns)
     (sym c.requires.script) had.1) c.finish.ensures.taken

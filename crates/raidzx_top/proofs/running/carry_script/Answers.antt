@@ -1,71 +1,34 @@
-use Rattle.std.proofs.Common.{List, ℕ, refl, ◌∙◌, subst}
-use Rattle.std.proofs.lemmas.Result.{err_from_is_err_and}
+use Rattle.std.proofs.Common.{List, ℕ, subst}
+use Rattle.std.specs.Prelude.{IfOk}
+use Rattle.std.proofs.lemmas.Bool.{false≢true}
 use Rattle.schedule.specs.WholeRun.{HasRunInTurn}
-use Rattle.raidzx_top.specs.Call.{Stream, stream_of}
-use Rattle.raidzx_top.specs.Running.{Unread, Roomless, Unopened}
-use Rattle.raidzx_top.proofs.Reading.{was_read, was_unread}
-use Rattle.raidzx_top.proofs.Telling.{ended_whole}
+use Rattle.raidzx_top.proofs.Carrying.{carried_beside, carried_in_turn, was_unopened}
 use Rattle.raidzx_top.proofs.running.carry_script.Goals as goal
 
-pub returns-in_err-script : goal.returns-in_err-script
-returns-in_err-script g c =
-    let source : Stream = stream_of (g.S.Source.left c.args.source.now) (g.S.Source.faults c.args.source.now) in
-    let after : Stream = stream_of (g.S.Source.left c.read_script.new.source) (g.S.Source.faults c.read_script.new.source) in
-    let why = c.in_err-script.field-0.0 in
-    let told = c.in_err-script.ensures in
-    let given = err_from_is_err_and c.from_residual.result c.from_residual.ensures.1 in
-    rw (given.1, given.2) (
-      c.requires.empty,
-      Unread why (was_unread source after why told.err told.every_script told.every_fault told.every_limit) refl refl,
-    )
+pub returns-then-not-is_in_turn-clause-carried : goal.returns-then-not-is_in_turn-clause-carried
+returns-then-not-is_in_turn-clause-carried g c =
+    let run = c.run_pool_beside in
+    carried_beside c.args.order c.args.script.now (g.B.Bank.disk c.args.bank) (g.B.Bank.disk run.result.bank)
+    run.result.journal.items run.result.ran (λ in_turn. false≢true (c.if-not-is_in_turn.ensures.1 in_turn)) run.ensures.run run.ensures.complete run.ensures.limit
 
-pub returns-in_err-reserve : goal.returns-in_err-reserve
-returns-in_err-reserve g c =
-    let source : Stream = stream_of (g.S.Source.left c.args.source.now) (g.S.Source.faults c.args.source.now) in
-    let after : Stream = stream_of (g.S.Source.left c.read_script.new.source) (g.S.Source.faults c.read_script.new.source) in
-    let script = c.in_ok-script.script in
-    let told = c.in_ok-script.ensures in
-    let given = err_from_is_err_and c.from_residual-in_err-reserve.result c.from_residual-in_err-reserve.ensures.1 in
-    rw (given.1, given.2) (
-      c.reserve.ensures.same ∙ c.requires.empty,
-      Roomless script (was_read source after script told.ok told.allowed told.actors told.every_script
-          told.every_fault told.every_limit) refl refl,
-    )
+pub returns-then-not-is_in_turn-clause-unopened : goal.returns-then-not-is_in_turn-clause-unopened
+returns-then-not-is_in_turn-clause-unopened g c =
+    let run = c.run_pool_beside in
+    was_unopened (g.B.Bank.disk c.args.bank) (g.B.Bank.disk run.result.bank) run.result.ran run.ensures.cause
+    run.ensures.cut run.ensures.untouched run.ensures.others run.ensures.opens
 
-pub returns-in_err-ran : goal.returns-in_err-ran
-returns-in_err-ran g c =
-    let source : Stream = stream_of (g.S.Source.left c.args.source.now) (g.S.Source.faults c.args.source.now) in
-    let after : Stream = stream_of (g.S.Source.left c.read_script.new.source) (g.S.Source.faults c.read_script.new.source) in
-    let script = c.in_ok-script.script in
-    let read = c.in_ok-script.ensures in
-    let why = c.in_err-ran.field-0.0 in
-    let told = c.in_err-ran.ensures in
-    let given = err_from_is_err_and c.from_residual-in_err-ran.result c.from_residual-in_err-ran.ensures.1 in
-    rw (given.1, given.2) (
-      told.nothing,
-      Unopened script (was_read source after script read.ok read.allowed read.actors read.every_script read.every_fault
-          read.every_limit) why (record {
-            cause = told.cause;
-            cut = told.cut;
-            untouched = told.untouched;
-            others = told.others;
-            opens = told.opens;
-          }) refl,
-    )
+pub returns-clause-carried : goal.returns-clause-carried
+returns-clause-carried g c =
+    let old = g.B.Bank.disk c.args.bank in
+    let new = g.B.Bank.disk c.run_pool-ran.new.bank in
+    let items = c.run_pool-ran.new.journal.items in
+    let run = c.run_pool-ran.ensures in
+    carried_in_turn c.args.order c.args.script.now old new items c.run_pool-ran.result
+    (subst (λ (letters : List ℕ). IfOk c.run_pool-ran.result (HasRunInTurn c.args.script.now letters old new items))
+    c.listed.ensures run.run) run.complete run.limit
 
-pub returns : goal.returns
-returns g c =
-    let source : Stream = stream_of (g.S.Source.left c.args.source.now) (g.S.Source.faults c.args.source.now) in
-    let after : Stream = stream_of (g.S.Source.left c.read_script.new.source) (g.S.Source.faults c.read_script.new.source) in
-    let script = c.in_ok-script.script in
-    let told = c.in_ok-script.ensures in
-    let ran = c.in_ok-ran.ensures in (
-      script,
-      was_read source after script told.ok told.allowed told.actors told.every_script told.every_fault told.every_limit,
-      record {
-        run = subst (λ (letters : List ℕ). HasRunInTurn script letters (g.B.Bank.disk c.args.bank.now)
-            (g.B.Bank.disk c.run_pool.new.bank) c.run_pool.new.journal.items c.in_ok-ran.ran) c.listed.ensures ran.run;
-        complete = λ memory limit. ran.complete (ended_whole c.in_ok-ran.ran memory limit);
-        used_up = ran.limit;
-      },
-    )
+pub returns-clause-unopened : goal.returns-clause-unopened
+returns-clause-unopened g c =
+    let run = c.run_pool-ran.ensures in
+    was_unopened (g.B.Bank.disk c.args.bank) (g.B.Bank.disk c.run_pool-ran.new.bank) c.run_pool-ran.result run.cause
+    run.cut run.untouched run.others run.opens

@@ -1,14 +1,14 @@
 use Rattle.std.proofs.Common.{refl, subst}
 use Rattle.std.specs.Prelude.{map, string_bytes}
-use Rattle.raidzx_top.specs.declared.order.Order.TheVariants.{OfLines, AsListed}
+use Rattle.raidzx_top.specs.declared.order.Order.TheVariants.{AsTheyCome, AsListed}
 use Rattle.raidzx_top.specs.declared.words.ServedCommand.{ServedCommand}
 use Rattle.raidzx_top.specs.Ending.{AsUsage, AsCreate, AsRun, AsStatus}
 use Rattle.raidzx_top.specs.Spelled.{IsServedAs}
 use Rattle.raidzx_top.proofs.top.carry_out.Goals as goal
 
 pub returns-in-None : goal.returns-in-None
-returns-in-None g c = rw (c.without_turns.ensures.status, c.without_turns.ensures.turns) (AsUsage (record {
-  quiet = record { unread = refl; journal = c.requires.empty; turns = refl };
+returns-in-None g c = rw (c.without_turns.ensures.status, c.without_turns.ensures.turns, c.without_turns.ensures.bank, c.without_turns.ensures.journal) (AsUsage (record {
+  quiet = record { unread = refl; journal = refl; turns = refl };
   none = c.in-None.ensures.none;
   status_is = c.refuse.ensures.same;
   same = refl;
@@ -16,18 +16,18 @@ returns-in-None g c = rw (c.without_turns.ensures.status, c.without_turns.ensure
 }))
 
 pub returns-in-Some-Create : goal.returns-in-Some-Create
-returns-in-Some-Create g c = rw (c.without_turns-in-Some-Create.ensures.status, c.without_turns-in-Some-Create.ensures.turns)
+returns-in-Some-Create g c = rw (c.without_turns-in-Some-Create.ensures.status, c.without_turns-in-Some-Create.ensures.turns, c.without_turns-in-Some-Create.ensures.bank, c.without_turns-in-Some-Create.ensures.journal)
     (AsCreate (record {
-      quiet = record { unread = refl; journal = c.requires.empty; turns = refl };
+      quiet = record { unread = refl; journal = refl; turns = refl };
       made = c.in-Some-Create.made;
       served_as = subst (λ (given : ServedCommand). IsServedAs (map string_bytes c.args.words.now) given)
           c.in-Some-Create.field-0-is c.in-Some-Create.ensures.some;
-      ends = c.create_pool.ensures;
+      ends = c.create_pool-status.ensures;
     }))
 
 pub returns-in-Some-Run : goal.returns-in-Some-Run
 returns-in-Some-Run g c = AsRun (record {
-  order = OfLines;
+  order = AsTheyCome;
   served_as = subst (λ (given : ServedCommand). IsServedAs (map string_bytes c.args.words.now) given)
       c.in-Some-Run.field-0-is c.in-Some-Run.ensures.some;
   ends = c.run.ensures;
@@ -42,10 +42,10 @@ returns-in-Some-Replay g c = AsRun (record {
 })
 
 pub returns-in-Some-Status : goal.returns-in-Some-Status
-returns-in-Some-Status g c = rw (c.without_turns-in-Some-Status.ensures.status, c.without_turns-in-Some-Status.ensures.turns)
+returns-in-Some-Status g c = rw (c.without_turns-in-Some-Status.ensures.status, c.without_turns-in-Some-Status.ensures.turns, c.without_turns-in-Some-Status.ensures.bank, c.without_turns-in-Some-Status.ensures.journal)
     (AsStatus (record {
-      quiet = record { unread = refl; journal = c.requires.empty; turns = refl };
+      quiet = record { unread = refl; journal = refl; turns = refl };
       served_as = subst (λ (given : ServedCommand). IsServedAs (map string_bytes c.args.words.now) given)
           c.in-Some-Status.field-0-is c.in-Some-Status.ensures.some;
-      ends = c.tell_status.ensures;
+      ends = c.tell_status-status.ensures;
     }))

@@ -25,9 +25,9 @@ returns-in-More-clause-turned g c =
     let few = c.requires.few in
     went_more c.args.calls.now c.args.actor (at_disk c.args.core.now (g.B.Bank.disk c.args.bank.now))
     (at_disk c.go_further-turn.new.core (g.B.Bank.disk c.go_further-turn.new.bank)) c.args.journal.now.items
-    c.go_further-turn.new.journal.items c.args.client.now c.in-Some.under_way c.index-calls-client.result going
-    (slice_get_read c.args.calls.now (length c.args.calls.now) (c.args.client.now.begun - 1) c.index-calls-client.result refl
-    (omega (arith, begun, few)) c.index-calls-client.is)
+    c.go_further-turn.new.journal.items c.args.client.now c.in-Some.under_way c.index-calls-number.result going
+    (slice_get_read c.args.calls.now (length c.args.calls.now) (c.args.client.now.begun - 1) c.index-calls-number.result refl
+    (omega (arith, begun, few)) c.index-calls-number.is)
     c.go_further-turn.ensures.goes_on c.reflow-widths-2.ensures.is c.go_further-turn.ensures.items c.in-More.work
     c.begun_at-at.result c.len.result c.reflow-widths-2.result c.list_made.new.journal.items c.made.result
     c.in-More.ensures.goes
@@ -41,9 +41,9 @@ returns-in-Done-clause-turned g c =
     let few = c.requires.few in
     went_done c.args.calls.now c.args.actor (at_disk c.args.core.now (g.B.Bank.disk c.args.bank.now))
     (at_disk c.go_further-turn.new.core (g.B.Bank.disk c.go_further-turn.new.bank)) c.args.journal.now.items
-    c.go_further-turn.new.journal.items c.args.client.now c.in-Some.under_way c.index-calls-client.result going
-    (slice_get_read c.args.calls.now (length c.args.calls.now) (c.args.client.now.begun - 1) c.index-calls-client.result refl
-    (omega (arith, begun, few)) c.index-calls-client.is)
+    c.go_further-turn.new.journal.items c.args.client.now c.in-Some.under_way c.index-calls-number.result going
+    (slice_get_read c.args.calls.now (length c.args.calls.now) (c.args.client.now.begun - 1) c.index-calls-number.result refl
+    (omega (arith, begun, few)) c.index-calls-number.is)
     c.go_further-turn.ensures.goes_on c.reflow-widths-2.ensures.is c.go_further-turn.ensures.items c.in-Done.answer
     c.reflow-widths-2.result c.entry_for-entry.result c.list_answer.new.journal.items c.group-made.result
     c.take.new.self c.in-Done.ensures.goes c.reflow-widths-2.ensures.value c.entry_for-entry.ensures
@@ -55,9 +55,9 @@ go_further-turn-requires-clause-may g c =
     let going = sym c.take.ensures.value ∙ c.in-Some.is in
     let begun : 1 ≤ c.args.client.now.begun = c.requires.begun c.in-Some.under_way going in
     let few = c.requires.few in
-    c.requires.may c.in-Some.under_way c.index-calls-client.result going
-    (slice_get_read c.args.calls.now (length c.args.calls.now) (c.args.client.now.begun - 1) c.index-calls-client.result refl
-    (omega (arith, begun, few)) c.index-calls-client.is)
+    c.requires.may c.in-Some.under_way c.index-calls-number.result going
+    (slice_get_read c.args.calls.now (length c.args.calls.now) (c.args.client.now.begun - 1) c.index-calls-number.result refl
+    (omega (arith, begun, few)) c.index-calls-number.is)
 
 pub go_further-turn-requires-clause-there : goal.go_further-turn-requires-clause-there
 go_further-turn-requires-clause-there g c =
@@ -80,7 +80,7 @@ pub list_answer-requires : goal.list_answer-requires
 list_answer-requires g c =
     let going = sym c.take.ensures.value ∙ c.in-Some.is in record {
       room = subst (λ (n : ℕ). n + 1 ≤ c.go_further-turn.new.journal.room) (sym (listed_room
-          c.index-calls-client.result c.args.actor c.args.client.now.begun c.in-Some.under_way.at
+          c.index-calls-number.result c.args.actor c.args.client.now.begun c.in-Some.under_way.at
           c.entry_for-entry.result c.group-made.result c.in-Done.answer (made_by c.in-Some.under_way.work)
           c.entry_for-entry.ensures c.group-made.ensures))
           (room_to_end (length c.args.calls.now) c.args.journal.now.room c.go_further-turn.new.journal.room
@@ -109,6 +109,15 @@ returns-in-Done-clause-room g c =
     c.in-Some.under_way going (c.requires.begun c.in-Some.under_way going) c.list_answer.new.journal.room
     c.in-Done.answer c.take.new.self c.take.ensures.after c.in-Done.ensures.room
     (subst (λ (n : ℕ). c.go_further-turn.new.journal.room ≤ c.list_answer.new.journal.room + (n + 1))
-    (listed_room c.index-calls-client.result c.args.actor c.args.client.now.begun c.in-Some.under_way.at
+    (listed_room c.index-calls-number.result c.args.actor c.args.client.now.begun c.in-Some.under_way.at
     c.entry_for-entry.result c.group-made.result c.in-Done.answer (made_by c.in-Some.under_way.work)
     c.entry_for-entry.ensures c.group-made.ensures) c.list_answer.ensures.room)
+
+pub go_further-turn-requires-clause-ready : goal.go_further-turn-requires-clause-ready
+go_further-turn-requires-clause-ready g c =
+    let going = sym c.take.ensures.value ∙ c.in-Some.is in
+    let begun : 1 ≤ c.args.client.now.begun = c.requires.begun c.in-Some.under_way going in
+    let few = c.requires.few in
+    c.of_call.ensures c.args.calls.now c.index-calls-number.result c.requires.ready
+    (slice_get_read c.args.calls.now (length c.args.calls.now) (c.args.client.now.begun - 1) c.index-calls-number.result refl
+    (omega (arith, begun, few)) c.index-calls-number.is)

@@ -23,3 +23,6 @@ returns-in-Copy-clause-goes g c =
     (subst (GoesOnBy before after c.args.call.now (work.Copy c.in-Copy.round)) (sym c.copy_turn.ensures)
     (copy_by before after c.args.call.now c.in-Copy.round c.copy_step.result c.copy_step.ensures.steps
     c.copy_step.ensures.of))
+
+pub go_on_reading-requires-clause-solved : goal.go_on_reading-requires-clause-solved
+go_on_reading-requires-clause-solved g c = c.into_solved.ensures c.args.call.now c.requires.ready

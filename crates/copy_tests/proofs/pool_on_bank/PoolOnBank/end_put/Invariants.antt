@@ -1,6 +1,6 @@
 use Rattle.std.proofs.Common.{◌≡◌, Some}
 use Rattle.core_blocks.specs.Blocks.{IsUnderWay}
-use Rattle.core_turns.specs.declared.putting.Filled.{Filled}
+use Rattle.core_turns.specs.declared.filling.Filled.{Filled}
 use Rattle.core_turns.specs.Putting.{IsPutOf}
 use Rattle.copy_tests.proofs.pool_on_bank.PoolOnBank.end_put.Given as goal
 

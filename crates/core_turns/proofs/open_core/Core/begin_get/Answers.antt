@@ -5,7 +5,7 @@ use Rattle.row_layout.specs.Standing.{IsWithinLimits}
 use Rattle.row_layout.proofs.Counts.{rows_few}
 use Rattle.std.proofs.lemmas.Bool.{true≢false}
 use Rattle.core_turns.specs.declared.getting.GetRun.{GetRun}
-use Rattle.core_turns.specs.declared.getting.Solved.TheVariants.{NotYet}
+use Rattle.core_turns.specs.declared.solving.Solved.TheVariants.{NotYet}
 use Rattle.core_turns.specs.declared.turn.Turn.TheVariants.{More}
 use Rattle.core_turns.specs.Core.{Core}
 use Rattle.core_turns.specs.Getting.{HasTooManyOut, BeginsGet}

@@ -1,6 +1,6 @@
 use Rattle.std.proofs.Common.{◌≡◌, refl, sym, ◌∙◌, subst}
 use Rattle.std.proofs.lemmas.Bool.{true≢false}
-use Rattle.core_turns.specs.declared.getting.Solved.{Solved}
+use Rattle.core_turns.specs.declared.solving.Solved.{Solved}
 use Rattle.core_turns.specs.Core.{Core}
 use Rattle.core_turns.specs.Getting.{AnswersSolved, EndsGetSo, HasTooManyOut, IsGetOf}
 use Rattle.core_turns.proofs.Cores.{core_with}

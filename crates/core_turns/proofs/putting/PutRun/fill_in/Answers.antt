@@ -1,12 +1,12 @@
-use Rattle.std.proofs.Common.{refl}
+use Rattle.std.proofs.Common.{◌∙◌, refl, subst}
+use Rattle.core_turns.specs.declared.filling.ToFill.{ToFill as ToFillOf}
+use Rattle.core_turns.specs.Putting.{IsMadeUp}
 use Rattle.core_turns.proofs.putting.PutRun.fill_in.Goals as goal
 
 pub returns-clause-ok : goal.returns-clause-ok
 returns-clause-ok c = record {
-  filled = record { write = c.in-Ok.write; digest = c.digest.result };
+  filled = c.in_ok-made.made.filled;
   rest = refl;
-  next = c.in-Ok.ensures.next;
-  plan = c.in-Ok.ensures.plan;
-  writes = c.in-Ok.ensures.writes;
-  digest_is = c.digest.ensures;
+  made = subst (λ (block : ToFillOf). IsMadeUp block c.in_ok-made.made.filled c.args.bytes.now)
+      (c.in_ok-made.ensures.block ∙ c.shape.ensures) c.in_ok-made.ensures.made;
 }

@@ -1,0 +1,5 @@
+use Rattle.core_client.specs.Got.{IsShapedAs}
+use Rattle.core_turns.proofs.solving.copy_columns.Given as goal
+
+abbrev pub invariant-loop-row : goal.invariant-loop-row
+invariant-loop-row l = IsShapedAs l.layout l.copy

@@ -1,0 +1,95 @@
+// What of a call's next turn can be computed while others have their turns.
+ghost use Rattle.std.specs.Prelude.{◌≡◌, List, IfSome, Some, slice_get};
+ghost use Rattle.client_script.specs.declared.call.ScriptCall.{ScriptCall as CallOf};
+ghost use Rattle.client_script.specs.Lines.{fill_bytes};
+ghost use Rattle.core_turns.specs.Putting.{IsFillable};
+ghost use Rattle.schedule.specs.Ahead.{IsAheadFor, IsMadeUpOf, IsReadyFor, IsReadyWith, IsSolvedOf};
+
+use client_script::ScriptCall;
+use core_turns::{MadeUp, SolvedFrom, ToFill, ToSolve};
+use std::alloc::Global;
+
+/// What the next turn of a client's call asks to be computed: nothing; the block of a put, its call by its number from 0
+/// among the client's; or the block of a read.
+#[derive(Drop)]
+pub enum Ahead {
+    Nothing,
+    Fill { call: usize, block: ToFill },
+    Solve(ToSolve),
+}
+
+/// What was computed for it.
+#[derive(Drop)]
+pub enum Ready {
+    Nothing,
+    Filled { call: usize, made: MadeUp },
+    Solved(SolvedFrom),
+}
+
+impl Ahead {
+    /// Computes it, for a client with these calls. Where memory is wanting for that it is left to the turn.
+    pub fn compute(self, alloc: Global, calls: &[ScriptCall]) -> Ready
+        requires ahead { IsAheadFor calls.now self }
+        ensures ready { IsReadyFor calls.now result }
+    {
+        match self {
+            Ahead::Nothing => Ready::Nothing,
+            Ahead::Fill { call, block } => make_up(alloc, calls, call, block),
+            Ahead::Solve(block) => match block.solve(alloc) {
+                Ok(solved) => Ready::Solved(solved),
+                Err(_) => Ready::Nothing,
+            },
+        }
+    }
+}
+
+/// Makes the block of a put up.
+fn make_up(alloc: Global, calls: &[ScriptCall], number: usize, block: ToFill) -> Ready
+    requires fillable { (call : CallOf) → slice_get calls.now number ≡ Some call
+        → IsFillable block (fill_bytes call.fill) }
+    ensures ready { IsReadyFor calls.now result }
+{
+    let Some(call) = calls.get(number) else {
+        return Ready::Nothing;
+    };
+    let Ok(bytes) = call.fill.to_bytes(alloc) else {
+        return Ready::Nothing;
+    };
+    match block.make_up(alloc, bytes.as_slice()) {
+        Ok(made) => Ready::Filled { call: number, made },
+        Err(_) => Ready::Nothing,
+    }
+}
+
+impl Ready {
+    /// What was computed for the call of this number, from 0.
+    pub fn of_call(self, number: usize) -> Ready
+        ensures { (calls : List CallOf) (call : CallOf) → IsReadyFor calls self → slice_get calls number ≡ Some call
+            → IsReadyWith call result }
+    {
+        match self {
+            Ready::Filled { call, made: _ } if call != number => Ready::Nothing,
+            ready => ready,
+        }
+    }
+
+    /// The block of a put that was made up.
+    pub fn into_block(self) -> Option<MadeUp>
+        ensures { (call : CallOf) → IsReadyWith call self → IfSome result (IsMadeUpOf (fill_bytes call.fill)) }
+    {
+        match self {
+            Ready::Filled { call: _, made } => Some(made),
+            _ => None,
+        }
+    }
+
+    /// The block of a read that was solved.
+    pub fn into_solved(self) -> Option<SolvedFrom>
+        ensures { (call : CallOf) → IsReadyWith call self → IfSome result IsSolvedOf }
+    {
+        match self {
+            Ready::Solved(from) => Some(from),
+            _ => None,
+        }
+    }
+}
