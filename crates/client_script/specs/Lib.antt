@@ -1,3 +1,4 @@
+pub mod Copier
 pub mod Faults
 pub mod FromSource
 pub mod Grouped

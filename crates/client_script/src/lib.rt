@@ -4,12 +4,13 @@
 //! and a script one answer. Read `specs/Lines.antt` for a line, `specs/Script.antt` for a whole
 //! script and its refusals, `specs/Texts.antt` for what is printed and `specs/Written.antt` for how
 //! it reaches a sink; `specs/FromSource.antt` is for scripts from a source, `specs/InOrder.antt` for
-//! calls one after the other. Stands on `core_state` for calls and answers, on `bank_trait` for
+//! calls one after the other, `specs/Copier.antt` for a client that widens the pool. Stands on `core_state` for calls and answers, on `bank_trait` for
 //! sources and sinks.
 #![tactic(auto)]
 
 mod call;
 mod call_fault;
+mod copier;
 mod cut;
 mod hex;
 mod in_order;
@@ -27,6 +28,7 @@ mod words;
 
 pub use call::{Fill, ScriptCall};
 pub use call_fault::CallFault;
+pub use copier::{COPIER, add_copier};
 pub use in_order::{CallsInOrder, NumberedCall};
 pub use journal_text::{print_journal, write_journal};
 pub use line_fault::LineFault;

@@ -1,5 +1,5 @@
 // What a script asks for.
-ghost use Rattle.std.specs.Prelude.{◌≡◌, ◌<◌, ◌≤◌, ◌++◌, [], ◌∷◌, map, OnOk, OnErr, IfOk};
+ghost use Rattle.std.specs.Prelude.{◌≡◌, ◌+◌, ◌<◌, ◌≤◌, ◌++◌, [], ◌∷◌, map, OnOk, OnErr, IfOk};
 ghost use Rattle.client_script.specs.Script.{calls_of};
 
 use crate::call::ScriptCall;
@@ -80,6 +80,17 @@ impl Script {
         ensures { result.now ≡ self.now.order }
     {
         self.order.as_slice()
+    }
+
+    /// One more client, without calls.
+    pub fn push_client(&mut self, alloc: Global) -> Result<(), AllocError>
+        requires { self.old.clients < 255 }
+        ensures ok { OnOk result (self.new ≡ record self.old { clients = self.old.clients + 1 }) }
+        ensures err { OnErr result (self.new ≡ self.old) }
+    {
+        self.calls.push(Vec::new(alloc))?;
+        self.clients += 1;
+        Ok(())
     }
 
     /// One more call, after all others.

@@ -1,7 +1,6 @@
 -- What each turn of a copy does to the bank and the devices.
-use Rattle.std.proofs.Common.{◌≡◌, ⊎_elim, ℕ, Some, refl, sym, ◌∙◌, ap, subst}
+use Rattle.std.proofs.Common.{◌≡◌, ⊎_elim, ℕ, sym, ap, subst}
 use Rattle.bank_trait.specs.Disk.{Lawful}
-use Rattle.core_state.specs.declared.answer.Answer.{Answer}
 use Rattle.core_state.specs.declared.answer.Answer.TheVariants as answer
 use Rattle.core_turns.specs.declared.rounds.CopyRound.{CopyRound}
 use Rattle.core_turns.specs.declared.rounds.CopyRound.TheVariants.{Rests, Copies, Commits}

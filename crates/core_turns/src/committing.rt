@@ -71,8 +71,8 @@ fn end_change(locks: &mut Locks, before: &Reflow, chosen: &Reflow, actor: u8)
     }
 }
 
-/// What the answer of a group makes of the blocks: where it ended an expansion the pool has grown, and what was held back
-/// until it is free.
+/// What the answer of a group makes of the blocks: where it ended an expansion the pool has grown, and what was held
+/// back until it is free.
 fn answer_blocks(blocks: &mut Blocks, before: &Reflow, uber: &Uber)
     requires right { IsRightUber uber.now }
     requires grows { (uber.now.reflow.from ≡ before.now.from → ⊥)

@@ -24,8 +24,8 @@ pub struct CopyRun {
     job: JobRun,
 }
 
-/// What the first turn of a round of a copy comes to: a job begins, finds another's hold in its way, is not due before a
-/// commit, or there is nothing to copy. Where a commit is due it is no turn.
+/// What the first turn of a round of a copy comes to: a job begins, finds another's hold in its way, is not due
+/// before a commit, or there is nothing to copy. Where a commit is due it is no turn.
 #[derive(Drop)]
 pub enum JobBegin {
     More(CopyRun),
@@ -115,8 +115,8 @@ impl Core {
         self.copying = None;
     }
 
-    /// The last turn of a job while a device is out: the front stays where it is. Tells which devices are out where they
-    /// are too many.
+    /// The last turn of a job while a device is out: the front stays where it is. Tells which devices are out where
+    /// they are too many.
     pub fn job_give_up(&mut self, run: CopyRun) -> Option<Answer>
         requires of { IsJobOf self.old run }
         ensures drops { DropsJob self.old self.new run }

@@ -9,8 +9,8 @@ use row_layout::Layout;
 use sha2::{Digest, Sha256};
 use std::alloc::Global;
 
-/// What a put's block is made up for: the sectors that it goes to, how far an expansion had come when the put began, and
-/// how many bytes it has.
+/// What a put's block is made up for: the sectors that it goes to, how far an expansion had come when the put began,
+/// and how many bytes it has.
 #[derive(Clone, Copy, Debug, PartialEq, Eq)]
 pub struct ToFill {
     pub(crate) layout: Layout,

@@ -13,7 +13,7 @@ ghost use Rattle.core_state.specs.Committing.{point_of};
 ghost use Rattle.open_pool.specs.Pool.{HoldsMap};
 ghost use Rattle.core_turns.specs.declared.getting.GetRun.{GetRun as GetRunOf};
 ghost use Rattle.core_turns.specs.Core.{Core as CoreOf, CoreState, IsCore, at_disk, pool_at, HasBankOf};
-ghost use Rattle.core_turns.specs.Getting.{HasLayout, HoldsGet, FindsGet, KeepsGet, TellsGet, IsGetOf, IsMoreOf, IsReadKind, BeginsGet, ReadsTurn, IsSolvable, IsSolved, SolvesGet, EndsGet, answer_of};
+ghost use Rattle.core_turns.specs.Getting.{HasLayout, HoldsGet, FindsGet, KeepsGet, TellsGet, IsAlike, IsGetOf, IsMoreOf, IsReadKind, BeginsGet, ReadsTurn, IsSolvable, IsSolved, SolvesGet, EndsGet, answer_of, to_solve_of};
 
 use crate::solving::{Solved, SolvedFrom, ToSolve, copy_columns, solve_columns};
 use crate::turn::too_many;
@@ -67,7 +67,9 @@ impl GetRun {
     /// What is to be solved, once all columns were read: they are copied. Nothing where memory is wanting for that.
     pub fn to_solve(&self, alloc: Global) -> Option<ToSolve>
         requires len { sectors_for self.now.entry.len ≡ self.now.read.layout.sectors }
-        ensures { IfSome result IsSolvable }
+        ensures solvable { IfSome result IsSolvable }
+        ensures alike { IfSome result (λ block. IsAlike block (to_solve_of self.now)) }
+        ensures read { IfSome result (λ _. self.now.read.row ≡ rows_of self.now.read.layout) }
     {
         if !self.is_read() {
             return None;
@@ -88,6 +90,7 @@ impl GetRun {
     pub fn take_solved(&mut self, from: SolvedFrom) -> bool
         requires solvable { IsSolvable from.block }
         requires solved { IsSolved from.block from.solved }
+        ensures value { IsTrue result ↔ IsAlike from.block (to_solve_of self.old) }
         ensures solves { IsTrue result → SolvesGet self.old self.new }
         ensures other { result ≡ false → self.new ≡ self.old }
     {

@@ -1,8 +1,9 @@
 //! An open pool, turn by turn: several calls go on side by side, and a turn makes at most one device
 //! call.
 //!
-//! A call under way is a value that its caller keeps, a `PutRun`, a `GetRun`, a `CommitRun`, a `CopyRun` or an
-//! `AttachRun`; each turn takes it and gives it back, until the call is answered. A hold on its sectors keeps others away.
+//! A call under way is a value that its caller keeps, a `PutRun`, a `GetRun`, a `CommitRun`, a `CopyRound` or an
+//! `AttachRun`; each turn takes it and gives it back, until the call is answered. A hold on its sectors keeps others
+//! away.
 //! Read `specs/Core.antt` and `specs/UnderWay.antt`, then `specs/Getting.antt`, `specs/Putting.antt`,
 //! `specs/Committing.antt` and `specs/Copying.antt`. Stands on `core_blocks`, `core_client`, `core_commit`, `core_copy`
 //! and `range_locks`, and on the definitions of `open_pool`.

@@ -107,6 +107,7 @@ impl PutRun {
 
     /// Takes a block that was made up, where it was made up for this put. Tells whether it was.
     pub fn take_block(&mut self, made: MadeUp) -> bool
+        ensures value { IsTrue result ↔ (made.block ≡ to_fill_of self.old) }
         ensures fills { (content : List ℕ) → IsTrue result → IsMadeUp made.block made.filled content
             → FillsPut self.old self.new content }
         ensures other { result ≡ false → self.new ≡ self.old }

@@ -20,8 +20,8 @@ use std::alloc::Global;
 /// What a copy has under way between two of its turns.
 #[derive(Drop)]
 pub enum CopyRound {
-    /// Nothing: a round of this actor's copy is to begin. Beside it the group that a commit of the copy made in the turn
-    /// before, where it did.
+    /// Nothing: a round of this actor's copy is to begin. Beside it the group that a commit of the copy made in the
+    /// turn before, where it did.
     Rests { actor: u8, made: Option<u64> },
     /// A job, which holds the sectors that it copies.
     Copies(CopyRun),
@@ -40,9 +40,9 @@ impl Core {
         self.begin_round(alloc, actor)
     }
 
-    /// The next turn of a copy: a round begins as the first one did, and waits where it finds another's call in its way;
-    /// a job reads a sector or writes it, has copied all of its sectors, or is given up; a commit makes its next call,
-    /// or has made its group.
+    /// The next turn of a copy: a round begins as the first one did, and waits where it finds another's call in its
+    /// way; a job reads a sector or writes it, has copied all of its sectors, or is given up; a commit makes its next
+    /// call, or has made its group.
     pub fn copy_step<B: Bank>(
         &mut self,
         alloc: Global,

@@ -1,5 +1,5 @@
 // A block that was read, solved in no turn.
-ghost use Rattle.std.specs.Prelude.{◌≡◌, ℕ, ◌<◌, IfOk, IsTrue, true};
+ghost use Rattle.std.specs.Prelude.{◌≡◌, ◌↔◌, ℕ, ◌<◌, IfOk, IsTrue, true};
 ghost use Rattle.reconstruct.specs.Rows.{column_at, sectors_for};
 ghost use Rattle.row_layout.specs.Layout.{columns_of, rows_of};
 ghost use Rattle.core_client.specs.Got.{IsShapedAs};
@@ -59,7 +59,7 @@ impl ToSolve {
     ) -> bool
         requires shape { IsShapedAs layout.now read.now }
         requires solvable { IsSolvable self.now }
-        ensures { IsTrue result → IsAlike self.now (record { layout = layout.now; read = read.now; len = len; digest = digest.now }) }
+        ensures { IsTrue result ↔ IsAlike self.now (record { layout = layout.now; read = read.now; len = len; digest = digest.now }) }
     {
         self.layout == *layout
             && self.len == len
@@ -95,6 +95,7 @@ pub(crate) fn copy_columns(
 ) -> Result<ColumnsRead, AllocError>
     requires shape { IsShapedAs layout.now read.now }
     ensures shape { IfOk result (IsShapedAs layout.now) }
+    ensures same { IfOk result (λ copy. HasSameColumns layout.now copy read.now) }
 {
     let mut copy = ColumnsRead::blank(alloc, layout)?;
     for row in 0..layout.rows() {
@@ -109,7 +110,9 @@ fn copy_row(layout: &Layout, read: &ColumnsRead, row: u32, copy: &mut ColumnsRea
     requires row { row < rows_of layout.now }
     requires shape { IsShapedAs layout.now read.now }
     requires copy { IsShapedAs layout.now copy.old }
-    ensures { IsShapedAs layout.now copy.new }
+    ensures shape { IsShapedAs layout.now copy.new }
+    ensures here { HasSameRow layout.now copy.new read.now row }
+    ensures others { (other : ℕ) → other < row → HasSameRow layout.now copy.new copy.old other }
 {
     for column in 0..layout.cols() {
         copy.rows.put(row, column, read.rows.column(row, column));
@@ -120,7 +123,7 @@ fn copy_row(layout: &Layout, read: &ColumnsRead, row: u32, copy: &mut ColumnsRea
 fn has_same_columns(layout: &Layout, one: &ColumnsRead, other: &ColumnsRead) -> bool
     requires one { IsShapedAs layout.now one.now }
     requires other { IsShapedAs layout.now other.now }
-    ensures { IsTrue result → HasSameColumns layout.now one.now other.now }
+    ensures { IsTrue result ↔ HasSameColumns layout.now one.now other.now }
 {
     if one.lost != other.lost {
         return false;
@@ -138,7 +141,7 @@ fn has_same_row(layout: &Layout, one: &ColumnsRead, other: &ColumnsRead, row: u3
     requires one { IsShapedAs layout.now one.now }
     requires other { IsShapedAs layout.now other.now }
     requires row { row < rows_of layout.now }
-    ensures { IsTrue result → HasSameRow layout.now one.now other.now row }
+    ensures { IsTrue result ↔ HasSameRow layout.now one.now other.now row }
 {
     for column in 0..layout.cols() {
         if one.rows.column(row, column) != other.rows.column(row, column) {

@@ -102,9 +102,9 @@ pub record HasCarried (order : Order) (script : Script) (old new : Disk) (items 
     pub used_up : StoppedFor ran trouble.Limit → most_turns ≤ ran.turns
 
 -- A script was read, or there was none, or no room for the journal of its run.
-abbrev pub EndsReading : Stream → Stream → Result Script Status → Type 0
-EndsReading source source_after (Ok script) = HasRead source source_after script
-EndsReading source source_after (Err given) = (disk : Disk) → IsRefused source source_after disk disk given
+abbrev pub EndsScript : Stream → Stream → Result Script Status → Type 0
+EndsScript source source_after (Ok script) = HasRead source source_after script
+EndsScript source source_after (Err given) = (disk : Disk) → IsRefused source source_after disk disk given
 
 -- The answer tells of this trouble.
 abbrev pub IsTold : Trouble → Answer → Type 0

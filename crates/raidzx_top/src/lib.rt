@@ -1,9 +1,9 @@
 //! The top call: what it answers, when, and what it keeps.
 //!
-//! Read `specs/Words.antt` for the commands, `specs/Causes.antt` for each status,
-//! `specs/Promises.antt` for what a run and a replay keep, `specs/StatusCall.antt` for what a status
-//! tells, `specs/Bearing.antt` for the failures that have to be borne, and `specs/Reopened.antt` for
-//! what is read back of what a stop leaves.
+//! Read `specs/Words.antt` for the commands, `specs/Causes.antt` for each status, `specs/Promises.antt` for what a
+//! run and a replay keep, `specs/Order.antt` for the runs whose turns are taken in order, `specs/StatusCall.antt`
+//! for what a status tells, `specs/Bearing.antt` for the failures that have to be borne, and `specs/Reopened.antt`
+//! for what is read back of what a stop leaves.
 #![tactic(auto)]
 
 mod images;

@@ -2,7 +2,7 @@
 ghost use Rattle.std.specs.Prelude.{◌≡◌, ◌<◌, ◌≤◌, ◌↔◌, [], All, IfErr, IfOk, IsTrue, OnOk};
 ghost use Rattle.client_script.specs.Script.{IsAllowed};
 ghost use Rattle.raidzx_top.specs.Call.{stream_of};
-ghost use Rattle.raidzx_top.specs.Running.{AnswersSo, EndsReading, EndsRun, EndsTelling, HasCarried, HasMet, IsStatusOf, IsTold, IsUnopened, ItemTells, StoppedFor};
+ghost use Rattle.raidzx_top.specs.Running.{AnswersSo, EndsScript, EndsRun, EndsTelling, HasCarried, HasMet, IsStatusOf, IsTold, IsUnopened, ItemTells, StoppedFor};
 
 use crate::order::Order;
 use crate::outcome::Outcome;
@@ -91,7 +91,7 @@ fn status_of(ran: &Ran, journal: &Journal) -> Status
 
 /// Reads the script, and makes room in the journal for the opening's group.
 fn read<S: Source>(alloc: Global, source: &mut S, journal: &mut Journal) -> Result<Script, Status>
-    ensures ends { EndsReading (stream_of (S.left source.old) (S.faults source.old))
+    ensures ends { EndsScript (stream_of (S.left source.old) (S.faults source.old))
         (stream_of (S.left source.new) (S.faults source.new)) result }
     ensures items { journal.new.items ≡ journal.old.items }
     ensures room { OnOk result (1 ≤ journal.new.room) }

@@ -3,14 +3,15 @@ ghost use Rattle.std.specs.Prelude.{◌≡◌, List, IfSome, Some, slice_get};
 ghost use Rattle.client_script.specs.declared.call.ScriptCall.{ScriptCall as CallOf};
 ghost use Rattle.client_script.specs.Lines.{fill_bytes};
 ghost use Rattle.core_turns.specs.Putting.{IsFillable};
-ghost use Rattle.schedule.specs.Ahead.{IsAheadFor, IsMadeUpOf, IsReadyFor, IsReadyWith, IsSolvedOf};
+ghost use Rattle.schedule.specs.declared.ahead.Ahead.TheVariants.{Fill};
+ghost use Rattle.schedule.specs.Ahead.{IsAheadFor, IsComputed, IsMadeUpOf, IsReadyFor, IsReadyWith, IsSolvedOf, block_in, for_call, solved_in};
 
 use client_script::ScriptCall;
 use core_turns::{MadeUp, SolvedFrom, ToFill, ToSolve};
 use std::alloc::Global;
 
-/// What the next turn of a client's call asks to be computed: nothing; the block of a put, its call by its number from 0
-/// among the client's; or the block of a read.
+/// What the next turn of a client's call asks to be computed: nothing; the block of a put, its call by its number
+/// from 0 among the client's; or the block of a read.
 #[derive(Drop)]
 pub enum Ahead {
     Nothing,
@@ -31,6 +32,7 @@ impl Ahead {
     pub fn compute(self, alloc: Global, calls: &[ScriptCall]) -> Ready
         requires ahead { IsAheadFor calls.now self }
         ensures ready { IsReadyFor calls.now result }
+        ensures computed { IsComputed self result }
     {
         match self {
             Ahead::Nothing => Ready::Nothing,
@@ -48,6 +50,7 @@ fn make_up(alloc: Global, calls: &[ScriptCall], number: usize, block: ToFill) ->
     requires fillable { (call : CallOf) → slice_get calls.now number ≡ Some call
         → IsFillable block (fill_bytes call.fill) }
     ensures ready { IsReadyFor calls.now result }
+    ensures computed { IsComputed (Fill number block) result }
 {
     let Some(call) = calls.get(number) else {
         return Ready::Nothing;
@@ -64,8 +67,9 @@ fn make_up(alloc: Global, calls: &[ScriptCall], number: usize, block: ToFill) ->
 impl Ready {
     /// What was computed for the call of this number, from 0.
     pub fn of_call(self, number: usize) -> Ready
-        ensures { (calls : List CallOf) (call : CallOf) → IsReadyFor calls self → slice_get calls number ≡ Some call
-            → IsReadyWith call result }
+        ensures value { result ≡ for_call number self }
+        ensures ready { (calls : List CallOf) (call : CallOf) → IsReadyFor calls self
+            → slice_get calls number ≡ Some call → IsReadyWith call result }
     {
         match self {
             Ready::Filled { call, made: _ } if call != number => Ready::Nothing,
@@ -75,7 +79,8 @@ impl Ready {
 
     /// The block of a put that was made up.
     pub fn into_block(self) -> Option<MadeUp>
-        ensures { (call : CallOf) → IsReadyWith call self → IfSome result (IsMadeUpOf (fill_bytes call.fill)) }
+        ensures value { result ≡ block_in self }
+        ensures made { (call : CallOf) → IsReadyWith call self → IfSome result (IsMadeUpOf (fill_bytes call.fill)) }
     {
         match self {
             Ready::Filled { call: _, made } => Some(made),
@@ -85,7 +90,8 @@ impl Ready {
 
     /// The block of a read that was solved.
     pub fn into_solved(self) -> Option<SolvedFrom>
-        ensures { (call : CallOf) → IsReadyWith call self → IfSome result IsSolvedOf }
+        ensures value { result ≡ solved_in self }
+        ensures solved { (call : CallOf) → IsReadyWith call self → IfSome result IsSolvedOf }
     {
         match self {
             Ready::Solved(from) => Some(from),

@@ -3,7 +3,7 @@ ghost use Rattle.std.specs.Prelude.{◌≡◌, ◌≤◌, ◌↔◌, List, IsTru
 ghost use Rattle.client_script.specs.declared.call.ScriptCall.{ScriptCall as CallOf};
 ghost use Rattle.core_turns.specs.Core.{Core as CoreOf};
 ghost use Rattle.schedule.specs.declared.client.UnderWay.{UnderWay as UnderWayOf};
-ghost use Rattle.schedule.specs.Ahead.{IsAheadFor, MayGoOnAs};
+ghost use Rattle.schedule.specs.Ahead.{IsAheadFor, IsAskedBy, IsAskedOf, MayGoOnAs};
 ghost use Rattle.schedule.specs.Turned.{MayGoOn};
 ghost use Rattle.schedule.specs.Works.{MakesCommit, made_by, made_in};
 
@@ -59,7 +59,8 @@ impl Work {
     /// What its next turn asks to be computed, of the call of this number, from 0. What a read got is copied for that.
     fn ahead(&self, alloc: Global, call: &ScriptCall, number: usize) -> Ahead
         requires may { (core : CoreOf) × MayGoOn core call.now self.now }
-        ensures { (calls : List CallOf) → slice_get calls number ≡ Some call.now → IsAheadFor calls result }
+        ensures can { (calls : List CallOf) → slice_get calls number ≡ Some call.now → IsAheadFor calls result }
+        ensures asked { IsAskedOf number self.now result }
     {
         match self {
             Work::Put(run) => match run.to_fill() {
@@ -104,12 +105,13 @@ impl Client {
         }
     }
 
-    /// What the next turn of its call under way asks to be computed, if it has one, of a client with these calls. What a
-    /// read got is copied for that.
+    /// What the next turn of its call under way asks to be computed, if it has one, of a client with these calls.
+    /// What a read got is copied for that.
     pub fn ahead(&self, alloc: Global, calls: &[ScriptCall]) -> Ahead
         requires begun { (under : UnderWayOf) → self.now.under_way ≡ Some under → 1 ≤ self.now.begun }
         requires may { MayGoOnAs calls.now self.now }
-        ensures { IsAheadFor calls.now result }
+        ensures can { IsAheadFor calls.now result }
+        ensures asked { IsAskedBy calls.now self.now result }
     {
         let Some(under_way) = &self.under_way else {
             return Ahead::Nothing;

@@ -1,9 +1,10 @@
-// What a replay has come to.
-ghost use Rattle.std.specs.Prelude.{◌≡◌, ◌+◌, ◌<◌, ◌≤◌, ℕ, List, IfOk, OnOk, OnErr};
+// What the clients of a run have come to.
+ghost use Rattle.std.specs.Prelude.{◌≡◌, ◌+◌, ◌<◌, ◌≤◌, ℕ, List, IfOk, OnOk, OnErr, Some, slice_get};
 ghost use Rattle.client_script.specs.Script.{calls_of};
 ghost use Rattle.core_state.specs.declared.item.Item.{Item as ItemOf};
 ghost use Rattle.core_turns.specs.Core.{CoreState};
-ghost use Rattle.schedule.specs.Ahead.{IsAheadFor};
+ghost use Rattle.schedule.specs.declared.client.Client.{Client as ClientOf};
+ghost use Rattle.schedule.specs.Ahead.{IsAheadFor, IsAskedBy};
 ghost use Rattle.schedule.specs.Playing.{IsReady};
 ghost use Rattle.schedule.specs.InTurn.{has_left_at, is_any_busy, is_busy_at};
 ghost use Rattle.schedule.specs.Turns.{most_turns, turns_of};
@@ -14,14 +15,14 @@ use crate::client::Client;
 use client_script::Script;
 use std::alloc::{AllocError, Global};
 
-/// Most turns of a replay.
+/// Most turns of a run.
 const MOST_TURNS: u64 = 1 << 62;
 
 /// No more turns can be counted.
 #[derive(Clone, Copy, Debug, PartialEq, Eq)]
 pub struct UsedUp;
 
-/// What the clients of a replay have come to, and how many turns they took.
+/// What the clients of a run have come to, and how many turns they took.
 #[derive(Drop)]
 pub struct Progress {
     pub clients: Vec<Client>,
@@ -68,11 +69,14 @@ impl Progress {
         }
     }
 
-    /// What the next turn of the call that a client has under way asks to be computed. What a read got is copied for that.
+    /// What the next turn of the call that a client has under way asks to be computed. What a read got is copied for
+    /// that.
     pub fn ahead(&self, alloc: Global, script: &Script, actor: u8) -> Ahead
         requires ready { (state : CoreState) × (items : List ItemOf) × (room : ℕ)
             × IsReady script.now (turns_of state items self.now.clients.items) room }
-        ensures { IsAheadFor (calls_of script.now actor) result }
+        ensures can { IsAheadFor (calls_of script.now actor) result }
+        ensures asked { (client : ClientOf) → slice_get self.now.clients.items actor ≡ Some client
+            → IsAskedBy (calls_of script.now actor) client result }
     {
         match self.clients.get(usize::from(actor)) {
             Some(client) => client.ahead(alloc, script.calls(actor)),

@@ -30,7 +30,8 @@ pub struct CarriedOut {
     pub turns: u64,
 }
 
-/// One turn of a client of the script, if there is one of this number, with what was computed for it. It is not counted.
+/// One turn of a client of the script, if there is one of this number, with what was computed for it. It is not
+/// counted.
 pub fn turn_of<B: Bank>(
     alloc: Global,
     bank: &mut B,

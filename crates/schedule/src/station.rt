@@ -95,8 +95,8 @@ fn make_room(journal: &mut Journal, made: Option<u64>) -> Result<(), AllocError>
     }
 }
 
-/// How many items the journal had when the group of a work began: as many as it has now, where its commit begins in this
-/// turn.
+/// How many items the journal had when the group of a work began: as many as it has now, where its commit begins in
+/// this turn.
 fn begun_at(work: &Work, makes: bool, at: usize, now: usize) -> usize
     ensures { (was : OptionOf RunOf) → (IsTrue makes ↔ IsSome was) → result ≡ begun_at (commit_in work.now) was at now }
 {
@@ -175,9 +175,9 @@ fn begin_next<B: Bank>(
     }
 }
 
-/// One turn of a client: the next of its call under way, or the first of its next call; with what was computed for it, if
-/// anything was. Nothing is done where that finds another's call in its way, or the client has no call left. Takes room in the journal where a
-/// call is answered, and for two items at most.
+/// One turn of a client: the next of its call under way, or the first of its next call; with what was computed for
+/// it, if anything was. Nothing is done where that finds another's call in its way, or the client has no call left.
+/// Takes room in the journal where a call is answered, and for two items at most.
 pub fn take_turn<B: Bank>(
     alloc: Global,
     bank: &mut B,

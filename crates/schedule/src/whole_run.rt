@@ -41,7 +41,7 @@ pub struct Ran {
 /// each client of the list takes a turn, in its order; then each call that is under way is carried on to its
 /// answer, a turn a client in each round; then the calls that are left, each whole, in the order of their lines.
 /// Where the list is empty, that is each call of the script. Lists what is answered: the opening's group, each
-/// group that a sync or an attach ends, and each call. Lists nothing where no pool is opened.
+/// group that a sync, an attach or a copy ends, and each call. Lists nothing where no pool is opened.
 pub fn run_pool<B: Bank>(
     alloc: Global,
     bank: &mut B,

@@ -7,8 +7,8 @@ use Rattle.schedule.proofs.CallTurns.{put_ahead}
 use Rattle.schedule.proofs.Theirs.{some_is}
 use Rattle.schedule.proofs.client.Work.ahead.Goals as goal
 
-pub returns-in-Some : goal.returns-in-Some
-returns-in-Some c = λ calls is call there.
+pub returns-in-Some-clause-can : goal.returns-in-Some-clause-can
+returns-in-Some-clause-can c = λ calls is call there.
     subst (λ (asked : CallOf). IsFillable c.in-Some.block (fill_bytes asked.fill)) (some_is (sym is ∙ there))
     (put_ahead c.requires.may.0 c.args.call.now c.in-Put.run' c.in-Some.block
     (subst (MayGoOn c.requires.may.0 c.args.call.now) c.in-Put.is c.requires.may.1)
