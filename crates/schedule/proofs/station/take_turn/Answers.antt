@@ -118,6 +118,6 @@ go_further-turn-requires-clause-ready g c =
     let going = sym c.take.ensures.value ∙ c.in-Some.is in
     let begun : 1 ≤ c.args.client.now.begun = c.requires.begun c.in-Some.under_way going in
     let few = c.requires.few in
-    c.of_call.ensures c.args.calls.now c.index-calls-number.result c.requires.ready
+    c.of_call.ensures.ready c.args.calls.now c.index-calls-number.result c.requires.ready
     (slice_get_read c.args.calls.now (length c.args.calls.now) (c.args.client.now.begun - 1) c.index-calls-number.result refl
     (omega (arith, begun, few)) c.index-calls-number.is)

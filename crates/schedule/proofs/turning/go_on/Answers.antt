@@ -25,4 +25,4 @@ returns-in-Copy-clause-goes g c =
     c.copy_step.ensures.of))
 
 pub go_on_reading-requires-clause-solved : goal.go_on_reading-requires-clause-solved
-go_on_reading-requires-clause-solved g c = c.into_solved.ensures c.args.call.now c.requires.ready
+go_on_reading-requires-clause-solved g c = c.into_solved.ensures.solved c.args.call.now c.requires.ready
