@@ -11,13 +11,11 @@ use Rattle.turn_lock.specs.Seats.{Lock, Sitting}
 use Rattle.pool_live.specs.declared.beside.Next.{Next}
 use Rattle.pool_live.specs.declared.beside.Next.TheVariants.{GoesOn}
 use Rattle.schedule.specs.declared.client.Client.{Client}
-use Rattle.schedule.specs.declared.whole_run.Ran.{Ran}
 use Rattle.schedule.specs.Ahead.{IsAheadFor}
 use Rattle.schedule.specs.Coming.{LeadTo}
 use Rattle.schedule.specs.InTurn.{HaveTaken}
 use Rattle.schedule.specs.Playing.{HaveHadTurns}
 use Rattle.schedule.specs.Turns.{Turns, TurnTaken, turns_of}
-use Rattle.schedule.specs.WholeRun.{HasRun}
 
 -- The seat is one of the lock, and does not hold the turn.
 abbrev pub IsFreeSeat : {K E : Type 0} → Lock K → Sitting E → Type 0
@@ -47,11 +45,6 @@ pub record HasCarriedOut (script : Script) (start : Turns) (before : ℕ) (state
   pub taken : HaveTaken script start passed
   pub come : LeadTo script start passed (turns_of state items clients)
   pub counted : turns ≡ before + length passed
-
--- A script was carried out on the pool that the devices showed, and as many turns as are told were taken.
-pub record HasRunBeside (script : Script) (old new : Disk) (items : List Item) (ran : Ran) : Type 0 where
-  pub run : HasRun script old new items ran.out
-  pub counted : ran.turns ≡ length run.passed
 
 -- Core, disk and journal are as they were.
 abbrev pub IsUntouched : Core → Disk → List Item → Core → Disk → List Item → Type 0

@@ -105,7 +105,7 @@ fn take_turn<R: Wait, B: Bank, J: Setup>(
 }
 
 /// The calls of one client, turn by turn. What a turn asks to be computed is computed before it, while others have
-/// theirs.
+/// theirs. A client without calls takes no turn.
 fn run_client<R: Wait, B: Bank, J: Setup>(
     rt: &R,
     alloc: Global,
@@ -119,6 +119,9 @@ fn run_client<R: Wait, B: Bank, J: Setup>(
     requires seat { IsFreeSeat turns.now seat }
     ensures seat { IsFreeSeat turns.now result }
 {
+    if script.calls(actor).is_empty() {
+        return seat;
+    }
     let mut computed = Ready::Nothing;
     for _ in rt.forever() {
         computed = match take_turn(rt, alloc, turns, &mut seat, script, actor, computed) {

@@ -1,23 +1,27 @@
 // A whole run: a pool is opened, and a script's clients have their calls carried out on it beside one another.
 ghost use Rattle.std.specs.Prelude.{◌≡◌, ◌⊎◌, ◌<◌, ◌≤◌, [], All, IfOk, IfErr};
 ghost use Rattle.bank_trait.specs.Disk.{Unchanged};
-ghost use Rattle.core_state.specs.Journal.{IsComplete};
+ghost use Rattle.core_state.specs.Journal.{CallsAreRight, IsComplete};
 ghost use Rattle.core_open.specs.Causes.{IsOpenCause};
 ghost use Rattle.core_open.specs.Opens.{IsForMemory, LeavesOthers};
 ghost use Rattle.client_script.specs.Script.{IsAllowed, asked_by};
+ghost use Rattle.core_turns.specs.Core.{at_disk, HasBankOf};
 ghost use Rattle.open_pool.specs.Opening.{CutsOpening, LeavesUnopened};
-ghost use Rattle.schedule.specs.declared.whole_run.Ended.TheVariants.{Whole, NoMemory, Limit};
-ghost use Rattle.schedule.specs.Turns.{most_turns};
-ghost use Rattle.pool_live.specs.Sharing.{AnswersNone, HasRunBeside};
+ghost use Rattle.schedule.specs.declared.whole_run.Ended.TheVariants.{Whole, NoMemory};
+ghost use Rattle.schedule.specs.Playing.{CarriesOut};
+ghost use Rattle.schedule.specs.Replaying.{IsAtRest, blank_clients};
+ghost use Rattle.schedule.specs.Turns.{turns_of};
+ghost use Rattle.pool_live.specs.Sharing.{AnswersNone};
+ghost use Rattle.pool_live.specs.Widening.{HasRunBeside, IsCarriedWith};
 
-use crate::beside::carry_out_beside;
+use crate::beside::{Carried, carry_out_beside};
 use bank_trait::Bank;
-use client_script::Script;
+use client_script::{Script, add_copier};
 use core_open::OpenWhy;
 use core_state::{Item, Journal};
 use core_turns::Core;
 use open_pool::open_pool;
-use schedule::Ran;
+use schedule::{Ended, Ran, carry_out};
 use std::alloc::Global;
 use std::sync::Wait;
 use std::thread::Threads;
@@ -30,24 +34,94 @@ pub struct PoolRun<B: Bank> {
     pub journal: Journal,
 }
 
+/// Carries out the calls of an only client here, in the order of their lines.
+fn carry_out_alone<B: Bank>(
+    alloc: Global,
+    mut bank: B,
+    mut core: Core,
+    script: &Script,
+    mut journal: Journal,
+) -> Carried<B>
+    requires bank { HasBankOf core (B.disk bank) }
+    requires rest { IsAtRest core }
+    requires allowed { All (λ placed. IsAllowed placed.call) script.now.calls }
+    requires actors { All (λ placed. placed.actor < script.now.clients) script.now.calls }
+    requires none { AnswersNone journal.items }
+    ensures taken { CarriesOut script.now [] (turns_of (at_disk core (B.disk bank)) journal.items
+        (blank_clients script.now.clients)) result.ended result.turns (at_disk result.core (B.disk result.bank))
+        result.journal.items }
+    ensures calls { CallsAreRight (asked_by script.now) result.journal.items }
+    ensures complete { result.ended ≡ Whole → IsComplete (asked_by script.now) result.journal.items }
+{
+    let carried_out = carry_out(alloc, &mut bank, &mut core, script, &[], &mut journal);
+    Carried {
+        bank,
+        core,
+        journal,
+        ended: carried_out.ended,
+        turns: carried_out.turns,
+    }
+}
+
+/// Carries out the calls of a script's clients on an open pool, each client in a thread of its own; with one more that
+/// widens the pool, where a device is to be attached or an expansion runs. The calls of an only client are carried out
+/// here. Where memory is wanting nothing is done.
+fn carry_out_with<R: Threads + Wait + Sync, B: Bank + Send>(
+    rt: &R,
+    alloc: Global,
+    bank: B,
+    core: Core,
+    mut script: Script,
+    attaches: bool,
+    journal: Journal,
+) -> Carried<B>
+    requires bank { HasBankOf core (B.disk bank) }
+    requires rest { IsAtRest core }
+    requires allowed { All (λ placed. IsAllowed placed.call) script.calls }
+    requires clients { script.clients ≤ 8 }
+    requires actors { All (λ placed. placed.actor < script.clients) script.calls }
+    requires none { AnswersNone journal.items }
+    ensures { IsCarriedWith script attaches (at_disk core (B.disk bank)) journal.items result.ended result.turns
+        (at_disk result.core (B.disk result.bank)) result.journal.items }
+{
+    if attaches || core.reflow().expands() {
+        let Ok(()) = add_copier(alloc, &mut script, attaches) else {
+            return Carried {
+                bank,
+                core,
+                journal,
+                ended: Ended::NoMemory,
+                turns: 0,
+            };
+        };
+        return carry_out_beside(rt, alloc, bank, core, &script, journal);
+    }
+    if script.clients() <= 1 {
+        return carry_out_alone(alloc, bank, core, &script, journal);
+    }
+    carry_out_beside(rt, alloc, bank, core, &script, journal)
+}
+
 /// Opens the pool that the devices show and carries out the calls of a script's clients on it, each client in a thread
-/// of its own. Lists what is answered: the opening's group, each group that a sync, an attach or a copy ends, and each
-/// call. Lists nothing where no pool is opened.
+/// of its own. Beside them one more client attaches a device, where that is asked for, and copies; where an expansion
+/// runs it copies in any case. Without that client, the calls of an only one are carried out in one thread, in the order
+/// of their lines. Lists what is answered: the opening's group, each group that a sync, an attach or a copy ends, and
+/// each call. Lists nothing where no pool is opened.
 pub fn run_pool_beside<R: Threads + Wait + Sync, B: Bank + Send>(
     rt: &R,
     alloc: Global,
     mut bank: B,
-    script: &Script,
+    script: Script,
+    attaches: bool,
     mut journal: Journal,
 ) -> PoolRun<B>
     requires empty { journal.items ≡ [] }
     requires room { 1 ≤ journal.room }
-    requires allowed { All (λ placed. IsAllowed placed.call) script.now.calls }
-    requires actors { All (λ placed. placed.actor < script.now.clients) script.now.calls }
-    ensures run { IfOk result.ran (HasRunBeside script.now (B.disk bank) (B.disk result.bank) result.journal.items) }
-    ensures complete { IfOk result.ran (λ ran. ran.ended ≡ Whole
-        → IsComplete (asked_by script.now) result.journal.items) }
-    ensures limit { IfOk result.ran (λ ran. ran.ended ≡ Limit → most_turns ≤ ran.turns) }
+    requires allowed { All (λ placed. IsAllowed placed.call) script.calls }
+    requires clients { script.clients ≤ 8 }
+    requires actors { All (λ placed. placed.actor < script.clients) script.calls }
+    ensures run { IfOk result.ran (HasRunBeside script attaches (B.disk bank) (B.disk result.bank)
+        result.journal.items) }
     ensures memory { IfOk result.ran (λ ran. ran.ended ≡ NoMemory → AnswersNone result.journal.items) }
     ensures nothing { IfErr result.ran (λ why. result.journal.items ≡ []) }
     ensures cause { IfErr result.ran (IsOpenCause (B.disk bank) (B.disk result.bank)) }
@@ -69,7 +143,7 @@ pub fn run_pool_beside<R: Threads + Wait + Sync, B: Bank + Send>(
     };
     journal.list(Item::Group(opened.pool.first_item()));
     let core = Core::new(alloc, opened.pool);
-    let carried = carry_out_beside(rt, alloc, bank, core, script, journal);
+    let carried = carry_out_with(rt, alloc, bank, core, script, attaches, journal);
     PoolRun {
         ran: Ok(Ran {
             ended: carried.ended,

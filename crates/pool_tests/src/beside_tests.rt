@@ -32,7 +32,7 @@ fn check_beside<R: Abort + Threads + Wait + Sync>(
         ran,
         mut bank,
         journal,
-    } = run_pool_beside(rt, alloc, bank, &script, journal);
+    } = run_pool_beside(rt, alloc, bank, script, false, journal);
     let ran = ran?;
     assert_eq!(rt; ran.ended, Ended::Whole, "plan {number}");
     assert!(rt; ran.out.is_empty(), "plan {number}");

@@ -41,7 +41,7 @@ fn named(word: &str) -> Meant
 
 const CREATE: &str = "raidzx IMAGE.. -- create --parity P --width W --id N";
 
-const RUN: &str = "raidzx IMAGE.. -- run <SCRIPT";
+const RUN: &str = "raidzx IMAGE.. -- run [--attach] <SCRIPT";
 
 const REPLAY: &str = "raidzx IMAGE.. -- replay <SCRIPT";
 
@@ -59,6 +59,9 @@ pub fn hint_usage<R: Eprint>(rt: &R, words: &[String]) {
     }
     if wants_all || meant == Meant::Run {
         let _ = eprintln!(rt; "raidzx: usage: {RUN}");
+        let _ = eprintln!(rt;
+            "raidzx: with --attach the IMAGE behind the pool's joins it, and the blocks are spread over it meanwhile"
+        );
     }
     if wants_all || meant == Meant::Replay {
         let _ = eprintln!(rt; "raidzx: usage: {REPLAY}");

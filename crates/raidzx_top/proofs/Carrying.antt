@@ -1,6 +1,6 @@
 -- A script that is carried out, whoever's turns they are, or for which no pool was opened.
-use Rattle.std.proofs.Common.{◌≡◌, ◌⊎◌, ◌≤◌, List, Result, Ok, Err}
-use Rattle.std.specs.Prelude.{IfErr, IfOk}
+use Rattle.std.proofs.Common.{◌≡◌, ◌⊎◌, ⊎_elim, ◌≤◌, List, Bool, Result, Ok, Err, refl, sym, subst}
+use Rattle.std.specs.Prelude.{All, IfErr, IfOk}
 use Rattle.bank_trait.specs.Disk.{Disk, Unchanged}
 use Rattle.core_state.specs.declared.item.Item.{Item}
 use Rattle.core_state.specs.Journal.{IsComplete}
@@ -8,49 +8,64 @@ use Rattle.core_open.specs.Causes.{IsOpenCause}
 use Rattle.core_open.specs.Opens.{IsForMemory, LeavesOthers}
 use Rattle.core_open.specs.declared.why.OpenWhy.{OpenWhy}
 use Rattle.open_pool.specs.Opening.{CutsOpening, LeavesUnopened}
-use Rattle.client_script.specs.Script.{Script, asked_by}
+use Rattle.core_state.specs.declared.item.Group.{Group as GroupItem}
+use Rattle.client_script.specs.Script.{IsAllowed, Script, asked_by}
 use Rattle.schedule.specs.declared.whole_run.Ended.TheVariants.{Whole, Limit}
 use Rattle.schedule.specs.declared.whole_run.Ran.{Ran}
 use Rattle.schedule.specs.Turns.{most_turns}
 use Rattle.schedule.specs.WholeRun.{HasRunInTurn}
 use Rattle.schedule.proofs.Whole.{turns_counted}
-use Rattle.pool_live.specs.Sharing.{HasRunBeside}
+use Rattle.pool_live.specs.Widening.{HasRunBeside}
+use Rattle.pool_live.proofs.Widening.{widening_allowed}
 use Rattle.raidzx_top.specs.declared.order.Order.{Order}
-use Rattle.raidzx_top.specs.Order.{IsInTurn, listed_by}
+use Rattle.raidzx_top.specs.declared.order.Order.TheVariants.{AsTheyCome, AsListed}
+use Rattle.raidzx_top.specs.Order.{IsCarriedBy}
 use Rattle.raidzx_top.specs.Running.{HasCarried, IsUnopened}
 use Rattle.raidzx_top.proofs.Telling.{ended_whole}
 
+-- Each call that was carried out is allowed, where those of the script are.
+pub carried_allowed : (order : Order) (script carried : Script) (opened : GroupItem) → IsCarriedBy order script opened carried
+    → All (λ placed. IsAllowed placed.call) script.calls → All (λ placed. IsAllowed placed.call) carried.calls
+carried_allowed (AsTheyCome attaches) script carried opened is allowed = ⊎_elim
+    (λ widens. subst (λ (s : Script). All (λ placed. IsAllowed placed.call) s.calls) (sym widens.1)
+    (widening_allowed attaches script allowed))
+    (λ same. subst (λ (s : Script). All (λ placed. IsAllowed placed.call) s.calls) (sym same.2) allowed) is
+carried_allowed AsListed script carried opened is allowed =
+    subst (λ (s : Script). All (λ placed. IsAllowed placed.call) s.calls) (sym is) allowed
+
 -- Each turn was that of the client whose turn it was.
-pub carried_in_turn : (order : Order) (script : Script) (old new : Disk) (items : List Item) (result : Result Ran OpenWhy)
-    → IfOk result (HasRunInTurn script (listed_by order script) old new items)
+pub carried_in_turn : (script : Script) (old new : Disk) (items : List Item) (result : Result Ran OpenWhy)
+    → IfOk result (HasRunInTurn script script.order old new items)
     → IfOk result (λ ran. ran.ended ≡ Whole → IsComplete (asked_by script) items)
     → IfOk result (λ ran. ran.ended ≡ Limit → most_turns ≤ ran.turns)
-    → IfOk result (HasCarried order script old new items)
-carried_in_turn order script old new items (Ok ran) has complete limit = record {
+    → IfOk result (HasCarried AsListed script old new items)
+carried_in_turn script old new items (Ok ran) has complete limit = record {
+  carried = script;
   run = has.run;
-  counted = turns_counted script (listed_by order script) has.run ran has.turns;
+  carried_is = refl;
+  counted = turns_counted script script.order has.run ran has.turns;
   taken = λ in_turn. has.turns;
   lines = λ in_turn none. has.lines none;
   complete = λ memory limit. complete (ended_whole ran memory limit);
   used_up = limit;
 }
-carried_in_turn order script old new items (Err why) has complete limit = tt
+carried_in_turn script old new items (Err why) has complete limit = tt
 
 -- The clients had their turns as they came.
-pub carried_beside : (order : Order) (script : Script) (old new : Disk) (items : List Item) (result : Result Ran OpenWhy)
-    → (IsInTurn order script → ⊥) → IfOk result (HasRunBeside script old new items)
-    → IfOk result (λ ran. ran.ended ≡ Whole → IsComplete (asked_by script) items)
-    → IfOk result (λ ran. ran.ended ≡ Limit → most_turns ≤ ran.turns)
-    → IfOk result (HasCarried order script old new items)
-carried_beside order script old new items (Ok ran) other has complete limit = record {
+pub carried_beside : (attaches : Bool) (script : Script) (old new : Disk) (items : List Item) (result : Result Ran OpenWhy)
+    → IfOk result (HasRunBeside script attaches old new items)
+    → IfOk result (HasCarried (AsTheyCome attaches) script old new items)
+carried_beside attaches script old new items (Ok ran) has = record {
+  carried = has.carried;
   run = has.run;
+  carried_is = has.carried_is;
   counted = has.counted;
-  taken = λ in_turn. absurd (other in_turn);
-  lines = λ in_turn. absurd (other in_turn);
-  complete = λ memory limit. complete (ended_whole ran memory limit);
-  used_up = limit;
+  taken = has.taken;
+  lines = λ alone none. has.lines alone;
+  complete = λ memory limit. has.complete (ended_whole ran memory limit);
+  used_up = has.limit;
 }
-carried_beside order script old new items (Err why) other has complete limit = tt
+carried_beside attaches script old new items (Err why) has = tt
 
 pub was_unopened : (old new : Disk) (result : Result Ran OpenWhy) → IfErr result (IsOpenCause old new)
     → IfErr result (λ why. Unchanged old new ⊎ CutsOpening old new)

@@ -120,7 +120,7 @@ module _ (call : TopCall) (made : NewPool) (served_as : IsServedAs call.words (s
     where
       each : (command : ServedCommand) → IsServedAs call.words command
           → IsCause call (command_of command) call.status
-      each served.Run served_run = no_script AsTheyCome served_run
+      each (served.Run attaches) served_run = no_script (AsTheyCome attaches) served_run
       each served.Replay served_replay = no_script AsListed served_replay
       each served.Status served_status = no_status served_status
       each (served.Create m) served_m =
@@ -141,7 +141,7 @@ module _ (call : TopCall) (made : NewPool) (served_as : IsServedAs call.words (s
       reads_none : {A : Type 0} → (command : ServedCommand) → IsServedAs call.words command
           → ReadsScript (command_of command) → A
       reads_none (served.Create m) is reads = absurd reads
-      reads_none served.Run is reads = no_script AsTheyCome is
+      reads_none (served.Run attaches) is reads = no_script (AsTheyCome attaches) is
       reads_none served.Replay is reads = no_script AsListed is
       reads_none served.Status is reads = absurd reads
 
@@ -149,14 +149,14 @@ module _ (call : TopCall) (made : NewPool) (served_as : IsServedAs call.words (s
           → command_of given ≡ command → IsFoundImage call command image → ⊥
       finds_none image command (served.Create m) is it found =
           (subst (λ (c : Command). IsFoundImage call c image) (sym it) found).is
-      finds_none image command served.Run is it found = no_script AsTheyCome is
+      finds_none image command (served.Run attaches) is it found = no_script (AsTheyCome attaches) is
       finds_none image command served.Replay is it found = no_script AsListed is
       finds_none image command served.Status is it found = no_status is
 
       where_small : (command : ServedCommand) → IsServedAs call.words command
           → IsTooSmall call (command_of command)
           → IsOrNoMemory call status.TooSmall
-      where_small served.Run is less = no_script AsTheyCome is
+      where_small (served.Run attaches) is less = no_script (AsTheyCome attaches) is
       where_small served.Replay is less = no_script AsListed is
       where_small served.Status is less = no_status is
       where_small (served.Create m) is less = small (is_small
@@ -234,7 +234,7 @@ module _ (call : TopCall) (made : NewPool) (served_as : IsServedAs call.words (s
     refused = λ none not. absurd (not (⊎_elim (λ d. inl (is ∙ d)) (λ f. inr (is ∙ f.0)) done));
     quiet = λ none. absurd (none (served.Create made, served_as));
     turns = λ none. quiet_call.turns;
-    run = no_run AsTheyCome;
+    run = λ attaches. no_run (AsTheyCome attaches);
     replay = no_run AsListed;
     told = no_told;
     completes = no_smooth;
@@ -305,7 +305,7 @@ module _ (call : TopCall) (made : NewPool) (served_as : IsServedAs call.words (s
         (λ done. no_done (sym is ∙ done)) said;
     quiet = λ none. absurd (none (served.Create made, served_as));
     turns = λ none. quiet_call.turns;
-    run = no_run AsTheyCome;
+    run = λ attaches. no_run (AsTheyCome attaches);
     replay = no_run AsListed;
     told = no_told;
     completes = no_smooth;

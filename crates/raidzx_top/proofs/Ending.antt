@@ -40,7 +40,7 @@ refused_words call ends = record {
     others = λ m served_m. absurd (ends.none (served.Create m, served_m));
     untouched = λ refusal. ends.same;
   };
-  run = kept AsTheyCome;
+  run = λ attaches. kept (AsTheyCome attaches);
   replay = kept AsListed;
   told = not_told call (λ is. ends.none (served.Status, is));
   complete = record { done = λ m served_m fits quiet sink. absurd (ends.none (served.Create m, served_m)) };

@@ -1,4 +1,4 @@
--- What the journal of a script answers is a call of a client, and never one of the copier or the scrubber.
+-- What the journal of a script answers is a call of a client, and never one of the scrubber.
 use Rattle.std.proofs.Common.{◌≡◌, ◌≢◌, inl, inr, ⊎_elim, ℕ, zero, suc, ◌-◌, List, Option, Some, None, refl, subst, arith}
 use Rattle.std.specs.Prelude.{slice_get, filter, All, ◌==◌, ⊤}
 use Rattle.std.proofs.lemmas.Bool.{cases_eq}

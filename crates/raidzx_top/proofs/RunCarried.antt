@@ -1,6 +1,6 @@
 -- What a run or a replay promises that opened its pool.
 use Rattle.std.proofs.Common.{◌≡◌, ◌≢◌, ◌⊎◌, inl, inr, ⊎_elim, ℕ, ◌≤◌, List, [], Some, true, refl, sym, ◌∙◌, ap, subst, arith}
-use Rattle.std.specs.Prelude.{slice_get}
+use Rattle.std.specs.Prelude.{All, slice_get}
 use Rattle.bank_trait.specs.Causes.{FaultCounted}
 use Rattle.bank_trait.specs.Disk.{Image, Lawful}
 use Rattle.uberblock_ring.specs.Devices.{has_device}
@@ -20,7 +20,7 @@ use Rattle.core_open.specs.declared.why.OpenWhy.TheVariants as reason
 use Rattle.core_open.proofs.Ends.{present_held}
 use Rattle.core_open.proofs.Unhindered.{caused}
 use Rattle.open_pool.proofs.Banks.{count_grows}
-use Rattle.client_script.specs.Script.{handed_by}
+use Rattle.client_script.specs.Script.{IsAllowed, handed_by}
 use Rattle.client_script.specs.Texts.{journal_text}
 use Rattle.raidzx_top.specs.declared.running.Trouble.TheVariants as trouble
 use Rattle.raidzx_top.specs.declared.status.Status.{Status}
@@ -37,6 +37,7 @@ use Rattle.raidzx_top.specs.Causes.{IsCause, FindsNoPool, MeetsLimit, most_turns
 use Rattle.raidzx_top.specs.Promises.{RunPromises, RunsUnhindered, IsSmoothAnswer, CompletesAll}
 use Rattle.raidzx_top.specs.Running.{IsStatusOf, HasMet, StoppedFor, after_fault, EndsTelling, WasCarriedOut}
 use Rattle.raidzx_top.specs.RunText.{IsLineFor, TextIsRight}
+use Rattle.raidzx_top.proofs.Carrying.{carried_allowed}
 use Rattle.raidzx_top.proofs.Bearing.{may_bear}
 use Rattle.raidzx_top.proofs.Reopening.{survives_stops}
 use Rattle.raidzx_top.proofs.RunParts.{IsRunEnd, command_in, opens, held_at_entry, none_silent}
@@ -74,8 +75,13 @@ module _ (order : Order) (call : TopCall) (lawful : Lawful call.old)
   abbrev out : ℕ
   out = was.ran.out
 
-  run : HasRun was.script call.old call.new call.journal out
+  run : HasRun was.done.carried call.old call.new call.journal out
   run = was.done.run
+
+  -- Each call that was carried out is allowed.
+  allowed : All (λ placed. IsAllowed placed.call) was.done.carried.calls
+  allowed = carried_allowed order was.script was.done.carried was.done.run.opened was.done.carried_is
+      was.read.allowed
 
   -- The silent devices have failed.
   failed : HaveFailed call.old call.new run.silent
@@ -203,17 +209,20 @@ module _ (order : Order) (call : TopCall) (lawful : Lawful call.old)
     script = was.script;
     script_is = was.read.is;
     ran = was.ran;
+    carried = was.done.carried;
     run = was.done.run;
+    carried_is = was.done.carried_is;
     counted = was.done.counted;
     taken = was.done.taken;
     turns = was.turns_are;
-    lines = λ is few. was.done.lines (subst (λ (o : Order). IsInTurn o was.script) (sym is) few)
+    lines = λ attaches is alone. was.done.lines
+        (subst (λ (o : Order). IsInTurn o was.script was.done.run.opened) (sym is) alone)
         (ap (λ (o : Order). listed_by o was.script) is);
     binds = λ setting first later failed may bears.
         was.done.run.keeps (setting_with setting failed) first later
         (may_bear setting first later call.old was.done.run.silent was.done.run.borne failed may bears)
         bears.missed bears.now;
-    survives = survives_stops was.script call.old call.new call.journal was.ran.out was.done.run was.read.allowed;
+    survives = survives_stops was.done.carried call.old call.new call.journal was.ran.out was.done.run allowed;
     complete = λ other counted. was.done.complete (λ stopped. had_memory other (inl stopped)) counted;
     memory = λ other index entry there is. had_memory other (inr (index, entry, there, is));
     used_up = used_up;
@@ -262,7 +271,7 @@ module _ (order : Order) (call : TopCall) (lawful : Lawful call.old)
         (subst (λ (n : ℕ). IsOutAtOpening (shape_of call.old) n (present call.old) choice.uber device) silent missed))
         (λ rose. none_rose device rose) (each.each device has)
 
-    keeps : RunKeeps was.script smooth.setting smooth.first smooth.later call.old call.new call.journal run.parity run.silent (banks_of run)
+    keeps : RunKeeps was.done.carried smooth.setting smooth.first smooth.later call.old call.new call.journal run.parity run.silent (banks_of run)
     keeps = run.keeps smooth.setting smooth.first smooth.later smooth.may
         (λ device below has. absurd (none_rose device (failed device has).1))
         (λ device has. absurd (none_out device (run.within device has)))
@@ -271,13 +280,13 @@ module _ (order : Order) (call : TopCall) (lawful : Lawful call.old)
     of_client : (index : ℕ) (entry : Entry) → CallAt call.journal index entry → (asked : Kind) → entry.kind ≡ asked
         → IsClients asked
     of_client index entry there asked is = subst (λ (k : Kind). IsClients k) is
-        (answers_client was.script (handed_by was.script) keeps.chosen.map call.journal was.read.allowed keeps.legal index
+        (answers_client was.done.carried (handed_by was.done.carried) keeps.chosen.map call.journal allowed keeps.legal index
         entry there).0
 
     answers : (index : ℕ) (entry : Entry) → CallAt call.journal index entry → (given : Answer) → entry.answer ≡ given
         → IsAnswerOf entry.kind given
     answers index entry there given is = subst (λ (a : Answer). IsAnswerOf entry.kind a) is
-        (answers_client was.script (handed_by was.script) keeps.chosen.map call.journal was.read.allowed keeps.legal index
+        (answers_client was.done.carried (handed_by was.done.carried) keeps.chosen.map call.journal allowed keeps.legal index
         entry there).1
 
     is_smooth : (index : ℕ) (entry : Entry) → CallAt call.journal index entry → (given : Answer) → entry.answer ≡ given

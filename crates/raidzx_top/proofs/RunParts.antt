@@ -1,5 +1,5 @@
 -- What a call of `run` or `replay` promises, put together from its parts.
-use Rattle.std.proofs.Common.{◌≡◌, ◌≢◌, ⊎_elim, ℕ, List, [], Some, None, refl, sym, subst}
+use Rattle.std.proofs.Common.{◌≡◌, ◌≢◌, ⊎_elim, ℕ, List, [], Some, None, sym, subst}
 use Rattle.bank_trait.specs.Causes.{FaultCounted}
 use Rattle.bank_trait.specs.Disk.{Image, Disk}
 use Rattle.core_open.specs.Failing.{HaveFailed}
@@ -20,7 +20,7 @@ use Rattle.raidzx_top.specs.RunText.{TextIsRight}
 use Rattle.raidzx_top.specs.Spelled.{IsServedAs, command_of}
 use Rattle.raidzx_top.specs.Words.{Command}
 use Rattle.raidzx_top.proofs.NoStatus.{not_told}
-use Rattle.raidzx_top.proofs.Spelling.{create_no_script, run_no_replay, script_no_status}
+use Rattle.raidzx_top.proofs.Spelling.{create_no_script, one_manner, script_no_status}
 
 -- the command that carries a script out in this manner
 abbrev pub command_in : Order → Command
@@ -28,22 +28,22 @@ command_in order = command_of (served_by order)
 
 -- It reads a script,
 pub reads : (order : Order) → ReadsScript (command_in order)
-reads AsTheyCome = tt
+reads (AsTheyCome attaches) = tt
 reads AsListed = tt
 
 -- opens a pool,
 pub opens : (order : Order) → Opens (command_in order)
-opens AsTheyCome = tt
+opens (AsTheyCome attaches) = tt
 opens AsListed = tt
 
 -- with a group of its own,
 pub makes_groups : (order : Order) → MakesGroups (command_in order)
-makes_groups AsTheyCome = tt
+makes_groups (AsTheyCome attaches) = tt
 makes_groups AsListed = tt
 
 -- and has no size that may be too small.
 no_size : (call : TopCall) (order : Order) → IsTooSmall call (command_in order) → ⊥
-no_size call AsTheyCome less = apart less.0 less.1
+no_size call (AsTheyCome attaches) less = apart less.0 less.1
   where
     apart : (size : ℕ × ℕ) → None ≡ Some size → ⊥
     apart size same = cc
@@ -55,7 +55,7 @@ no_size call AsListed less = apart less.0 less.1
 -- What an opening finds is what the bank holds at entry.
 pub held_at_entry : (call : TopCall) (order : Order) (image : Image) → IsFoundImage call (command_in order) image
     → HoldsImage call.old image
-held_at_entry call AsTheyCome image found = subst (λ (disk : Disk). HoldsImage disk image) found.is found.holds
+held_at_entry call (AsTheyCome attaches) image found = subst (λ (disk : Disk). HoldsImage disk image) found.is found.holds
 held_at_entry call AsListed image found = subst (λ (disk : Disk). HoldsImage disk image) found.is found.holds
 
 -- What has to be shown of a script that a call carried out, or was to carry out, however it ended.
@@ -79,14 +79,6 @@ pub none_silent : (old new : Disk) (silent : ℕ) → HaveFailed old new silent
     → ((device : ℕ) → FaultCounted (old.faults device) (new.faults device) → ⊥) → silent ≡ 0
 none_silent old new silent failed quiet = none_empty silent (λ device has. quiet device (failed device has).1)
 
--- Words are served in one manner.
-one_manner : (words : List (List ℕ)) (order other : Order) → IsServedAs words (served_by order)
-    → IsServedAs words (served_by other) → order ≡ other
-one_manner words AsTheyCome AsTheyCome is same = refl
-one_manner words AsListed AsListed is same = refl
-one_manner words AsTheyCome AsListed run replay = absurd (run_no_replay words run replay)
-one_manner words AsListed AsTheyCome replay run = absurd (run_no_replay words run replay)
-
 module _ (order : Order) (call : TopCall) (served_as : IsServedAs call.words (served_by order)) (ends : IsRunEnd order call) where
   no_create : {A : Type 0} → (made : NewPool) → IsServedAs call.words (served.Create made) → A
   no_create made is = absurd (create_no_script call.words made order is served_as)
@@ -95,8 +87,8 @@ module _ (order : Order) (call : TopCall) (served_as : IsServedAs call.words (se
   for_script : (P : Command → Type 0) → P (command_in order) → (given : ServedCommand) → IsServedAs call.words given
       → P (command_of given)
   for_script P right (served.Create made) is = no_create made is
-  for_script P right served.Run is =
-      subst (λ (m : Order). P (command_in m)) (one_manner call.words order AsTheyCome served_as is) right
+  for_script P right (served.Run attaches) is =
+      subst (λ (m : Order). P (command_in m)) (one_manner call.words order (AsTheyCome attaches) served_as is) right
   for_script P right served.Replay is =
       subst (λ (m : Order). P (command_in m)) (one_manner call.words order AsListed served_as is) right
   for_script P right served.Status is = absurd (script_no_status call.words order served_as is)
@@ -148,7 +140,7 @@ module _ (order : Order) (call : TopCall) (served_as : IsServedAs call.words (se
       others = λ made is. no_create made is;
       untouched = λ refusal. ⊎_elim (λ usage. absurd (ends.no_usage usage)) (λ small. absurd (ends.no_small small)) refusal;
     };
-    run = kept AsTheyCome;
+    run = λ attaches. kept (AsTheyCome attaches);
     replay = kept AsListed;
     told = not_told call (script_no_status call.words order served_as);
     complete = record { done = λ made is fits quiet sink. no_create made is };

@@ -1,5 +1,5 @@
 -- Commands as lists of words, and word by word.
-use Rattle.std.proofs.Common.{◌≡◌, ℕ, ◌<◌, ◌≤◌, List, [], ◌∷◌, length, get_or, Some, refl, sym, ◌∙◌, ap, arith}
+use Rattle.std.proofs.Common.{◌≡◌, ℕ, ◌<◌, ◌≤◌, List, [], ◌∷◌, length, get_or, Some, Bool, true, false, refl, sym, ◌∙◌, ap, arith}
 use Rattle.std.proofs.lemmas.Fmt.{decimal_injective}
 use Rattle.std.specs.Prelude.{◌^◌, slice_get, codes, decimal, ◌++◌}
 use Rattle.raidzx_top.specs.Order.{served_by}
@@ -8,7 +8,7 @@ use Rattle.raidzx_top.specs.declared.order.Order.{Order}
 use Rattle.raidzx_top.specs.declared.order.Order.TheVariants.{AsTheyCome, AsListed}
 use Rattle.raidzx_top.specs.declared.words.NewPool.{NewPool}
 use Rattle.raidzx_top.specs.declared.words.ServedCommand.TheVariants as served
-use Rattle.raidzx_top.specs.Spelled.{SpellsCreate, SpellsAlone, IsServedAs}
+use Rattle.raidzx_top.specs.Spelled.{SpellsCreate, SpellsAlone, SpellsBoth, IsServedAs}
 
 -- A list of eight words, told by their places.
 eight : (words : List (List ℕ)) (b c d e f g h : List ℕ) → length words ≡ 8
@@ -110,30 +110,66 @@ two [] name long is = absurd (omega (arith, long))
 two (w ∷ []) name long is = absurd (omega (arith, long))
 two (w ∷ name' ∷ x ∷ words) name long is = absurd (omega (arith, long))
 
--- the word that asks for a script to be carried out in this manner
-abbrev pub word_of : Order → List ℕ
-word_of AsTheyCome = codes "run"
-word_of AsListed = codes "replay"
+-- A list of three.
+three : (words : List (List ℕ)) (name option : List ℕ) → length words ≡ 3 → slice_get words 1 ≡ Some name
+    → slice_get words 2 ≡ Some option → (first : List ℕ) × (words ≡ first ∷ name ∷ option ∷ [])
+three (w ∷ name' ∷ option' ∷ []) name option long is_name is_option = (w, cc)
+three [] name option long is_name is_option = absurd (omega (arith, long))
+three (w ∷ []) name option long is_name is_option = absurd (omega (arith, long))
+three (w ∷ name' ∷ []) name option long is_name is_option = absurd (omega (arith, long))
+three (w ∷ name' ∷ option' ∷ x ∷ words) name option long is_name is_option = absurd (omega (arith, long))
 
-pub alone_is_served : (words : List (List ℕ)) (order : Order) → SpellsAlone (word_of order) words
-    → IsServedAs words (served_by order)
-alone_is_served words AsTheyCome is =
+-- the words that ask for a script to be carried out in this manner
+abbrev pub Spells : Order → List (List ℕ) → Type 0
+Spells (AsTheyCome false) words = SpellsAlone (codes "run") words
+Spells (AsTheyCome true) words = SpellsBoth (codes "run") (codes "--attach") words
+Spells AsListed words = SpellsAlone (codes "replay") words
+
+pub script_is_served : (words : List (List ℕ)) (order : Order) → Spells order words → IsServedAs words (served_by order)
+script_is_served words (AsTheyCome false) is =
     let list = two words (codes "run") is.count is.word in
     record { first = list.0; rest = _; words_are = list.1; spelled = refl; in_range = tt }
-alone_is_served words AsListed is =
+script_is_served words (AsTheyCome true) is =
+    let list = three words (codes "run") (codes "--attach") is.count is.word is.option_word in
+    record { first = list.0; rest = _; words_are = list.1; spelled = refl; in_range = tt }
+script_is_served words AsListed is =
     let list = two words (codes "replay") is.count is.word in
     record { first = list.0; rest = _; words_are = list.1; spelled = refl; in_range = tt }
 
-pub served_alone : (words : List (List ℕ)) (order : Order) → IsServedAs words (served_by order)
-    → SpellsAlone (word_of order) words
-served_alone words AsTheyCome is =
+pub served_spells : (words : List (List ℕ)) (order : Order) → IsServedAs words (served_by order) → Spells order words
+served_spells words (AsTheyCome false) is =
     let all : words ≡ is.first ∷ codes "run" ∷ [] =
     is.words_are ∙ ap (λ (l : List (List ℕ)). is.first ∷ l) is.spelled in
     record { count = ap length all; word = ap (λ (l : List (List ℕ)). slice_get l 1) all }
-served_alone words AsListed is =
+served_spells words (AsTheyCome true) is =
+    let all : words ≡ is.first ∷ codes "run" ∷ codes "--attach" ∷ [] =
+    is.words_are ∙ ap (λ (l : List (List ℕ)). is.first ∷ l) is.spelled in
+    record {
+      count = ap length all;
+      word = ap (λ (l : List (List ℕ)). slice_get l 1) all;
+      option_word = ap (λ (l : List (List ℕ)). slice_get l 2) all;
+    }
+served_spells words AsListed is =
     let all : words ≡ is.first ∷ codes "replay" ∷ [] =
     is.words_are ∙ ap (λ (l : List (List ℕ)). is.first ∷ l) is.spelled in
     record { count = ap length all; word = ap (λ (l : List (List ℕ)). slice_get l 1) all }
+
+-- They are few, and the first of them is this one.
+abbrev word_of : Order → List ℕ
+word_of (AsTheyCome attaches) = codes "run"
+word_of AsListed = codes "replay"
+
+script_words : (words : List (List ℕ)) (order : Order) → IsServedAs words (served_by order)
+    → (length words ≤ 3) × (slice_get words 1 ≡ Some (word_of order))
+script_words words (AsTheyCome false) is =
+    let spells = served_spells words (AsTheyCome false) is in
+    let long = spells.count in (omega (arith, long), spells.word)
+script_words words (AsTheyCome true) is =
+    let spells = served_spells words (AsTheyCome true) is in
+    let long = spells.count in (omega (arith, long), spells.word)
+script_words words AsListed is =
+    let spells = served_spells words AsListed is in
+    let long = spells.count in (omega (arith, long), spells.word)
 
 pub status_is_served : (words : List (List ℕ)) → SpellsAlone (codes "status") words → IsServedAs words served.Status
 status_is_served words is =
@@ -151,17 +187,36 @@ pub create_no_script : (words : List (List ℕ)) (s : NewPool) (order : Order) �
     → IsServedAs words (served_by order) → ⊥
 create_no_script words s order create alone =
     let eight_words = (create_spells words s create).count in
-    let two_words = (served_alone words order alone).count in
-    omega (arith, eight_words, two_words)
+    let few_words = (script_words words order alone).0 in
+    omega (arith, eight_words, few_words)
 
--- A run is no replay.
-pub run_no_replay : (words : List (List ℕ)) → IsServedAs words served.Run → IsServedAs words served.Replay → ⊥
-run_no_replay words run replay =
+-- A run is no replay,
+run_no_replay : (words : List (List ℕ)) (attaches : Bool) → IsServedAs words (served.Run attaches)
+    → IsServedAs words served.Replay → ⊥
+run_no_replay words attaches run replay =
     let same : codes "run" ≡ codes "replay" =
     some_injective (codes "run") (codes "replay")
-    (sym (served_alone words AsTheyCome run).word ∙ (served_alone words AsListed replay).word) in
+    (sym (script_words words (AsTheyCome attaches) run).1 ∙ (script_words words AsListed replay).1) in
     let long : 3 ≡ 6 = ap length same in
     omega (arith, long)
+
+-- and one that attaches a device is none that doesn't.
+attaches_or_not : (words : List (List ℕ)) → IsServedAs words (served.Run true) → IsServedAs words (served.Run false) → ⊥
+attaches_or_not words attaches not =
+    let three_words = (served_spells words (AsTheyCome true) attaches).count in
+    let two_words = (served_spells words (AsTheyCome false) not).count in
+    omega (arith, three_words, two_words)
+
+-- So words are served in one manner.
+pub one_manner : (words : List (List ℕ)) (order other : Order) → IsServedAs words (served_by order)
+    → IsServedAs words (served_by other) → order ≡ other
+one_manner words (AsTheyCome false) (AsTheyCome false) is same = refl
+one_manner words (AsTheyCome true) (AsTheyCome true) is same = refl
+one_manner words (AsTheyCome true) (AsTheyCome false) attaches not = absurd (attaches_or_not words attaches not)
+one_manner words (AsTheyCome false) (AsTheyCome true) not attaches = absurd (attaches_or_not words attaches not)
+one_manner words AsListed AsListed is same = refl
+one_manner words (AsTheyCome attaches) AsListed run replay = absurd (run_no_replay words attaches run replay)
+one_manner words AsListed (AsTheyCome attaches) replay run = absurd (run_no_replay words attaches run replay)
 
 -- Words that ask what a pool's status is make no pool,
 pub create_no_status : (words : List (List ℕ)) (s : NewPool) → IsServedAs words (served.Create s)
@@ -174,15 +229,15 @@ create_no_status words s create status =
 -- and ask for no script to be carried out.
 pub script_no_status : (words : List (List ℕ)) (order : Order) → IsServedAs words (served_by order)
     → IsServedAs words served.Status → ⊥
-script_no_status words AsTheyCome run status =
+script_no_status words (AsTheyCome attaches) run status =
     let same : codes "run" ≡ codes "status" =
     some_injective (codes "run") (codes "status")
-    (sym (served_alone words AsTheyCome run).word ∙ (status_alone words status).word) in
+    (sym (script_words words (AsTheyCome attaches) run).1 ∙ (status_alone words status).word) in
     let long : 3 ≡ 6 = ap length same in
     omega (arith, long)
 script_no_status words AsListed replay status =
     let same : codes "replay" ≡ codes "status" =
     some_injective (codes "replay") (codes "status")
-    (sym (served_alone words AsListed replay).word ∙ (status_alone words status).word) in
+    (sym (script_words words AsListed replay).1 ∙ (status_alone words status).word) in
     let letter : 114 ≡ 115 = ap (λ (l : List ℕ). get_or l 0 0) same in
     omega (arith, letter)

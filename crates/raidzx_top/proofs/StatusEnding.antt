@@ -206,7 +206,7 @@ module _ (call : TopCall) (served_as : IsServedAs call.words served.Status) (qui
   for_status : (P : Command → Type 0) → P asked → (given : ServedCommand) → IsServedAs call.words given
       → P (command_of given)
   for_status P right (served.Create made) is = no_create made is
-  for_status P right served.Run is = no_script AsTheyCome is
+  for_status P right (served.Run attaches) is = no_script (AsTheyCome attaches) is
   for_status P right served.Replay is = no_script AsListed is
   for_status P right served.Status is = right
 
@@ -250,7 +250,7 @@ module _ (call : TopCall) (served_as : IsServedAs call.words served.Status) (qui
       untouched = λ refusal. ⊎_elim (λ usage. absurd (status_end.no_usage usage))
           (λ small. absurd (status_end.no_small small)) refusal;
     };
-    run = no_run AsTheyCome;
+    run = λ attaches. no_run (AsTheyCome attaches);
     replay = no_run AsListed;
     told = record {
       unchanged = λ is. ends.unchanged;

@@ -1,6 +1,6 @@
 -- What a call promises: what a new pool is, what a run or a replay answers and keeps at each moment and in the
 -- end, what a `status` tells (`StatusCall.antt`), and what is written.
-use Rattle.std.specs.Prelude.{◌≡◌, ◌≢◌, ◌⊎◌, ℕ, ◌≤◌, List, [], ◌∷◌, ◌++◌, Some, ⊤, length}
+use Rattle.std.specs.Prelude.{◌≡◌, ◌≢◌, ◌⊎◌, ℕ, ◌≤◌, List, [], ◌∷◌, ◌++◌, Some, Bool, ⊤, length}
 use Rattle.bank_trait.specs.Causes.{FaultCounted}
 use Rattle.bank_trait.specs.Disk.{Image, Unchanged}
 use Rattle.bank_trait.specs.Regions.{Tells, TouchesOnly}
@@ -24,6 +24,7 @@ use Rattle.client_script.specs.Texts.{journal_text}
 use Rattle.schedule.specs.OfLines.{FollowsLines}
 use Rattle.schedule.specs.WholeRun.{HasRun, HasTakenTurns, RunKeeps, banks_of}
 use Rattle.schedule.specs.declared.whole_run.Ran.{Ran}
+use Rattle.pool_live.specs.Widening.{IsAlone}
 use Rattle.raidzx_top.specs.declared.order.Order.{Order}
 use Rattle.raidzx_top.specs.declared.order.Order.TheVariants.{AsTheyCome, AsListed}
 use Rattle.raidzx_top.specs.declared.running.Trouble.TheVariants as trouble
@@ -35,7 +36,7 @@ use Rattle.raidzx_top.specs.declared.words.NewPool.{NewPool}
 use Rattle.raidzx_top.specs.declared.words.ServedCommand.TheVariants as served
 use Rattle.raidzx_top.specs.Spelled.{IsServedAs, command_of}
 use Rattle.raidzx_top.specs.Call.{TopCall, HoldsImage, IsCarriedOut, IsQuiet, shape_of}
-use Rattle.raidzx_top.specs.Order.{IsInTurn, listed_by, served_by}
+use Rattle.raidzx_top.specs.Order.{IsCarriedBy, IsInTurn, listed_by, served_by}
 use Rattle.raidzx_top.specs.Causes.{NoneRose, IsTooSmall, MeetsLimit, IsNoCommand, IsCaused, ComesWhere, most_turns}
 use Rattle.raidzx_top.specs.Reopened.{BearsCut, SurvivesOpening, SurvivesStops}
 use Rattle.raidzx_top.specs.RunJournal.{NoneWantsMemory}
@@ -103,28 +104,34 @@ pub record RunPromises (order : Order) (call : TopCall) : Type 0 where
   pub script_is : (bytes : List ℕ) → call.source.bytes ≡ Some bytes → IsScript bytes script
   -- and how its calls ended.
   pub ran : Ran
-  -- The journal is legal for the script, and what it tells is kept, at each moment and in the end.
-  pub run : HasRun script call.old call.new call.journal ran.out
+  -- What was carried out are its calls, and in a run those of the client that widens the pool too: where a device is to
+  -- be attached, or where an expansion ran as the pool was opened. The journal is legal for that, and what it tells is
+  -- kept, at each moment and in the end.
+  pub carried : Script
+  pub run : HasRun carried call.old call.new call.journal ran.out
+  pub carried_is : IsCarriedBy order script run.opened carried
   -- As many turns are told as were taken. Of a replay each was that of the client whose turn it was by the order that the
-  -- script lists, of a run with one client by the order of the lines; where a run has more, by none.
+  -- script lists, of a run with an only client by the order of the lines; where a run has more, by none.
   pub turns : call.turns ≡ ran.turns
   pub counted : ran.turns ≡ length run.passed
-  pub taken : IsInTurn order script → HasTakenTurns script (listed_by order script) run ran
-  -- So the answers of a run with one client stand in the order of the lines, each call whole before the next.
-  pub lines : order ≡ AsTheyCome → script.clients ≤ 1 → FollowsLines script call.journal
+  pub taken : IsInTurn order script run.opened
+      → HasTakenTurns carried (listed_by order script) run ran
+  -- So the answers of a run with an only client stand in the order of the lines, each call whole before the next.
+  pub lines : (attaches : Bool) → order ≡ AsTheyCome attaches → IsAlone script attaches run.opened
+      → FollowsLines carried call.journal
   -- That binds however many devices fail: those that have to be borne are no more than there are parities, and what was
   -- answered is right for whoever can bear them.
   pub binds : (setting : Setting) (first : Kept) (later : List Kept) (failed : ℕ) → MayBegin setting first later call.old
       → CanBear setting first call.old run.silent run.borne failed
-      → RunKeeps script (setting_with setting failed) first later call.old call.new call.journal run.parity run.silent
+      → RunKeeps carried (setting_with setting failed) first later call.old call.new call.journal run.parity run.silent
       (banks_of run)
   -- What a stop leaves of it, at any moment, the next run or replay reads back.
   pub survives : (setting : Setting) (first : Kept) (later : List Kept) → MayBegin setting first later call.old
       → IsWithinBelow first.uber.reflow.to run.silent setting.failed → IsWithin run.borne setting.failed
-      → SurvivesStops setting first later script call.old call.new call.journal (banks_of run)
+      → SurvivesStops setting first later carried call.old call.new call.journal (banks_of run)
   -- Each call is answered, unless memory was wanting, and then the status tells so, or the turns were used up.
   pub complete : call.status ≢ status.NoMemory → (StoppedFor ran trouble.Limit → ⊥)
-      → IsComplete (asked_by script) call.journal
+      → IsComplete (asked_by carried) call.journal
   pub memory : call.status ≢ status.NoMemory → NoneWantsMemory call.journal
   pub used_up : StoppedFor ran trouble.Limit → most_turns ≤ call.turns
   -- A call that tells of too many failed devices lists devices that are out or have failed.
@@ -218,7 +225,7 @@ pub record CallPromises (call : TopCall) : Type 0 where
   -- a new pool is kept, and what was written is the text
   pub create : CreateIsKept call
   -- what a run answers is right and kept, and what was written is the text; so it is with a replay
-  pub run : RunIsKept AsTheyCome call
+  pub run : (attaches : Bool) → RunIsKept (AsTheyCome attaches) call
   pub replay : RunIsKept AsListed call
   -- a `status` tells what the devices show, and changes nothing
   pub told : StatusIsTold call

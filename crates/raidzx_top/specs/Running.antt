@@ -31,7 +31,7 @@ use Rattle.raidzx_top.specs.declared.running.Trouble.TheVariants as trouble
 use Rattle.raidzx_top.specs.declared.status.Status.{Status}
 use Rattle.raidzx_top.specs.declared.status.Status.TheVariants as status
 use Rattle.raidzx_top.specs.Call.{Stream}
-use Rattle.raidzx_top.specs.Order.{IsInTurn, listed_by}
+use Rattle.raidzx_top.specs.Order.{IsCarriedBy, IsInTurn, listed_by}
 use Rattle.raidzx_top.specs.Exit.{read_status, why_status}
 use Rattle.raidzx_top.specs.Making.{IsSaid}
 use Rattle.raidzx_top.specs.RunText.{status_line}
@@ -93,12 +93,16 @@ StoppedFor ran trouble.TooManyFailed = ⊥
 -- memory was wanting or no more turns could be counted.
 pub record HasCarried (order : Order) (script : Script) (old new : Disk) (items : List Item) (ran : Ran) : Type 0
   where
-    pub run : HasRun script old new items ran.out
+    pub carried : Script
+    pub run : HasRun carried old new items ran.out
+    pub carried_is : IsCarriedBy order script run.opened carried
     pub counted : ran.turns ≡ length run.passed
-    pub taken : IsInTurn order script → HasTakenTurns script (listed_by order script) run ran
-    pub lines : IsInTurn order script → listed_by order script ≡ [] → FollowsLines script items
+    pub taken : IsInTurn order script run.opened
+        → HasTakenTurns carried (listed_by order script) run ran
+    pub lines : IsInTurn order script run.opened → listed_by order script ≡ []
+        → FollowsLines carried items
     pub complete : (StoppedFor ran trouble.NoMemory → ⊥) → (StoppedFor ran trouble.Limit → ⊥)
-        → IsComplete (asked_by script) items
+        → IsComplete (asked_by carried) items
     pub used_up : StoppedFor ran trouble.Limit → most_turns ≤ ran.turns
 
 -- A script was read, or there was none, or no room for the journal of its run.

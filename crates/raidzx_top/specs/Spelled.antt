@@ -23,10 +23,16 @@ pub record SpellsAlone (name : List ℕ) (words : List (List ℕ)) : Type 0 wher
   pub count : length words ≡ 2
   pub word : slice_get words 1 ≡ Some name
 
--- the command that is carried out; a run has neither a copier nor a scrubber yet
+-- They are this one and this option.
+pub record SpellsBoth (name option : List ℕ) (words : List (List ℕ)) : Type 0 where
+  pub count : length words ≡ 3
+  pub word : slice_get words 1 ≡ Some name
+  pub option_word : slice_get words 2 ≡ Some option
+
+-- the command that is carried out; a run has no scrubber yet
 abbrev pub command_of : ServedCommand → Command
 command_of (served.Create s) = Create s.parity s.width s.id
-command_of served.Run = Run false false
+command_of (served.Run attaches) = Run attaches false
 command_of served.Replay = Replay
 command_of served.Status = Status
 

@@ -107,23 +107,28 @@ fn carry_script<R: Threads + Wait + Sync, B: Bank + Send>(
     alloc: Global,
     order: Order,
     mut bank: B,
-    script: &Script,
+    script: Script,
     mut journal: Journal,
 ) -> PoolRun<B>
     requires empty { journal.items ≡ [] }
     requires room { 1 ≤ journal.room }
-    requires allowed { All (λ placed. IsAllowed placed.call) script.now.calls }
-    requires actors { All (λ placed. placed.actor < script.now.clients) script.now.calls }
+    requires allowed { All (λ placed. IsAllowed placed.call) script.calls }
+    requires clients { script.clients ≤ 8 }
+    requires actors { All (λ placed. placed.actor < script.clients) script.calls }
     ensures carried { IfOk result.ran
-        (HasCarried order script.now (B.disk bank) (B.disk result.bank) result.journal.items) }
+        (HasCarried order script (B.disk bank) (B.disk result.bank) result.journal.items) }
     ensures nothing { IfErr result.ran (λ why. result.journal.items ≡ []) }
     ensures unopened { IfErr result.ran (IsUnopened (B.disk bank) (B.disk result.bank)) }
 {
-    if !order.is_in_turn(script) {
-        return run_pool_beside(rt, alloc, bank, script, journal);
+    match order {
+        Order::AsTheyCome { attaches } => {
+            run_pool_beside(rt, alloc, bank, script, attaches, journal)
+        }
+        Order::AsListed => {
+            let ran = run_pool(alloc, &mut bank, &script, script.order(), &mut journal);
+            PoolRun { ran, bank, journal }
+        }
     }
-    let ran = run_pool(alloc, &mut bank, script, order.listed(script), &mut journal);
-    PoolRun { ran, bank, journal }
 }
 
 /// Writes the text of a script that was carried out. A failed write is told where neither memory nor a limit is.
@@ -161,7 +166,7 @@ pub fn run<R: Threads + Wait + Sync, B: Bank + Send, S: Source, K: Sink>(
         Ok(script) => script,
         Err(status) => return Outcome::without_turns(alloc, refuse(out, status), bank),
     };
-    let PoolRun { ran, bank, journal } = carry_script(rt, alloc, order, bank, &script, journal);
+    let PoolRun { ran, bank, journal } = carry_script(rt, alloc, order, bank, script, journal);
     match ran {
         Ok(ran) => {
             let status = status_of(&ran, &journal);

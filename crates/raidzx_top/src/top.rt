@@ -59,7 +59,9 @@ fn carry_out<R: Threads + Wait + Sync, B: Bank + Send, S: Source, K: Sink>(
             let status = create_pool(&mut bank, &made, out);
             Outcome::without_turns(alloc, status, bank)
         }
-        Some(ServedCommand::Run) => run(rt, alloc, Order::AsTheyCome, bank, script, out),
+        Some(ServedCommand::Run { attaches }) => {
+            run(rt, alloc, Order::AsTheyCome { attaches }, bank, script, out)
+        }
         Some(ServedCommand::Replay) => run(rt, alloc, Order::AsListed, bank, script, out),
         Some(ServedCommand::Status) => {
             let status = tell_status(alloc, &mut bank, out);
@@ -75,7 +77,7 @@ fn laws_hold<B: Bank>(_bank: &B)
 
 /// Carries out the command that the words spell, of which the first is not looked at. The script is
 /// read from a source; every line goes to a sink, those of faults too. The clients of a run have threads of their own,
-/// where there are several.
+/// where there are several; the one that widens the pool is one of them.
 pub fn raidzx<R: Threads + Wait + Sync, B: Bank + Send, S: Source, K: Sink>(
     rt: &R,
     alloc: Global,

@@ -1,7 +1,7 @@
 // The command words.
 ghost use Rattle.std.specs.Prelude.{◌≡◌, ◌+◌, ◌^◌, ◌<◌, ◌≤◌, ◌↔◌, ℕ, length, slice_get, Some, IsTrue, IfSome, IfNone, decimal, map, string_bytes};
 ghost use Rattle.raidzx_top.specs.Words.{IsSize};
-ghost use Rattle.raidzx_top.specs.Spelled.{SpellsCreate, SpellsAlone, IsServedAs, IsServed};
+ghost use Rattle.raidzx_top.specs.Spelled.{SpellsCreate, SpellsAlone, SpellsBoth, IsServedAs, IsServed};
 ghost use Rattle.raidzx_top.specs.declared.words.NewPool.{NewPool as NewPoolOf};
 
 use itoa::Buffer;
@@ -18,7 +18,8 @@ pub struct NewPool {
 #[derive(Clone, Copy, Debug, PartialEq, Eq)]
 pub enum ServedCommand {
     Create(NewPool),
-    Run,
+    /// With a client that attaches a device and copies, or without.
+    Run { attaches: bool },
     Replay,
     Status,
 }
@@ -114,13 +115,26 @@ fn is_alone(words: &[String], name: &str) -> bool
     is_word(word, name)
 }
 
+/// Whether the words after the first are this one and this option.
+fn has_option(words: &[String], name: &str, option: &str) -> bool
+    ensures { IsTrue result ↔ SpellsBoth name.now option.now (map string_bytes words.now) }
+{
+    let [_, word, other] = words else {
+        return false;
+    };
+    is_word(word, name) && is_word(other, option)
+}
+
 /// The command that the words spell, if it is one that is carried out. The first word is not looked at.
 pub fn read_command(words: &[String]) -> Option<ServedCommand>
     ensures some { IfSome result (IsServedAs (map string_bytes words.now)) }
     ensures none { IfNone result (IsServed (map string_bytes words.now) → ⊥) }
 {
     if is_alone(words, "run") {
-        return Some(ServedCommand::Run);
+        return Some(ServedCommand::Run { attaches: false });
+    }
+    if has_option(words, "run", "--attach") {
+        return Some(ServedCommand::Run { attaches: true });
     }
     if is_alone(words, "replay") {
         return Some(ServedCommand::Replay);

@@ -6,11 +6,15 @@ use crate::rule::{Based, Both, Ends, Gives, Law, Looks, Parts, Stood, Takes, Tol
 use crate::view::View;
 use atomic_table::{Seat, Shared, Table};
 use std::alloc::Global;
+use std::hint::spin_loop;
 use std::marker::Brand;
 use std::sync::Wait;
 
 /// The word from which on no turn is had: 2^62 events.
 pub const FULL: u64 = 1 << 63;
+
+/// How often a thread looks at the word before it sleeps.
+const LOOKS: u32 = 2_000;
 
 /// The history has become as long as it may.
 #[derive(Debug, Drop, PartialEq)]
@@ -49,6 +53,24 @@ fn try_take<K, E: Drop, S: Stood<K, E>, J: Based<K>>(
     shared.compare_exchange::<Takes<S, K, E, J>>(seat, 0, at, at + 1)
 }
 
+/// Waits for the word to change: awake for about as long as a turn with a device call takes, and then asleep. It may
+/// return before the word has changed.
+fn wait_for_change<K, E: Drop, S: Stood<K, E>, R: Wait>(
+    rt: &R,
+    shared: &Shared<Option<S>, View<E>, K, Law<S, K, E>>,
+    found: u64,
+)
+    requires shape { (shared.now.table_id.words ≡ 1) × (shared.now.table_id.slots ≡ 1) }
+{
+    for _ in 0..LOOKS {
+        if shared.peek(0) != found {
+            return;
+        }
+        spin_loop();
+    }
+    shared.park(rt, 0, (found % 4_294_967_296) as u32);
+}
+
 /// Waits for the turn, and says how many events were before it.
 pub(crate) fn wait_for_turn<K, E: Drop, S: Stood<K, E>, J: Based<K>, R: Wait>(
     rt: &R,
@@ -72,7 +94,7 @@ pub(crate) fn wait_for_turn<K, E: Drop, S: Stood<K, E>, J: Based<K>, R: Wait>(
             return Err(Spent);
         }
         if found % 2 == 1 {
-            shared.park(rt, 0, (found % 4_294_967_296) as u32);
+            wait_for_change(rt, shared, found);
         } else if try_take::<K, E, S, J>(shared, seat, found) == found {
             return Ok(found / 2);
         }

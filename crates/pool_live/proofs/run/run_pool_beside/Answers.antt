@@ -1,47 +1,86 @@
-use Rattle.std.proofs.Common.{◌∙◌, ◌++◌, ◌∷◌, [], List, ℕ, ap, subst, sym}
+use Rattle.std.proofs.Common.{◌∙◌, ◌++◌, ◌∷◌, [], ⊎_elim, List, ℕ, ap, refl, subst, sym}
 use Rattle.core_state.specs.declared.item.Group.{Group as GroupItem}
 use Rattle.core_state.specs.declared.item.Item.{Item}
 use Rattle.core_state.specs.declared.item.Item.TheVariants.{Group}
+use Rattle.open_pool.specs.Pool.{first_item}
 use Rattle.core_turns.specs.Core.{Core, at_disk, HasBankOf}
 use Rattle.schedule.specs.declared.whole_run.Ran.{Ran}
-use Rattle.schedule.specs.Turns.{Turns}
-use Rattle.schedule.proofs.Opened.{begins_first}
-use Rattle.schedule.proofs.Whole.{has_run, has_run_counted}
-use Rattle.pool_live.specs.Sharing.{HasCarriedOut, HasRunBeside}
+use Rattle.schedule.specs.InTurn.{InOrder, replay_at}
+use Rattle.schedule.specs.Turns.{turns_of}
+use Rattle.schedule.specs.WholeRun.{first_turns}
+use Rattle.schedule.proofs.Opened.{resting}
+use Rattle.schedule.proofs.Whole.{ends_taken, has_run, has_run_counted, has_run_in_turn, turns_counted}
+use Rattle.pool_live.specs.Widening.{HasRunBeside, IsAlone, IsCarriedWith, IsScriptWith}
 use Rattle.pool_live.proofs.Sharing.{counted_first}
+use Rattle.pool_live.proofs.Widening.{carried_actors, one_first}
 use Rattle.pool_live.proofs.run.run_pool_beside.Goals as goal
 
-pub carry_out_beside-carried-requires-clause-bank : goal.carry_out_beside-carried-requires-clause-bank
-carry_out_beside-carried-requires-clause-bank g c κs within =
+pub carry_out_with-carried-requires-clause-bank : goal.carry_out_with-carried-requires-clause-bank
+carry_out_with-carried-requires-clause-bank g c κs within =
     subst (λ (core : Core). HasBankOf core (g.B.Bank.disk c.open_pool.new.bank)) (sym c.new-core.ensures)
     c.in-Ok.ensures.bank
 
 pub returns-clause-run : goal.returns-clause-run
 returns-clause-run g c =
-    let script = c.args.script.now in
+    let script = c.args.script in
+    let attaches = c.args.attaches in
     let old = g.B.Bank.disk c.args.bank in
     let mid = g.B.Bank.disk c.open_pool.new.bank in
     let pool = c.in-Ok.opened.pool in
     let opened = c.in-Ok.ensures in
-    let carried = c.carry_out_beside-carried in
+    let carried = c.carry_out_with-carried in
     let final = at_disk carried.result.core (g.B.Bank.disk carried.result.bank) in
     let items = carried.result.journal.items in
-    let out = subst (λ (turns : Turns). HasCarriedOut script turns 0 final items carried.result.turns)
-    (begins_first script pool c.new-core.result mid c.list.new.self.items c.new-core.ensures
-    (c.list.ensures.items ∙ ap (λ (l : List Item). l ++ Group c.first_item.result ∷ []) c.requires.empty
-    ∙ ap (λ (group : GroupItem). Group group ∷ []) c.first_item.ensures)) carried.ensures.taken in
-    let ran : ℕ → Ran = λ devices. record {
-      ended = carried.result.ended;
-      turns = carried.result.turns;
-      out = devices;
-    } in
-    let has = has_run script old mid pool c.in-Ok.opened.silent items out.clients final out.passed opened.later opened.only
-    opened.silent opened.few opened.missed opened.renews opened.writes opened.out opened.begins opened.rest opened.bank
-    opened.right opened.loaded out.taken out.come carried.ensures.calls in
-    subst (λ (devices : ℕ). HasRunBeside script old final.disk items (ran devices)) (sym c.out.ensures) (record {
-      run = has;
-      counted = has_run_counted script old mid pool c.in-Ok.opened.silent items out.clients final out.passed opened.later
-          opened.only opened.silent opened.few opened.missed opened.renews opened.writes opened.out opened.begins
-          opened.rest opened.bank opened.right opened.loaded out.taken out.come carried.ensures.calls
-          carried.result.turns (counted_first carried.result.turns out.passed out.counted);
+    let ended = carried.result.ended in
+    let turns = carried.result.turns in
+    let first = c.list.ensures.items ∙ ap (λ (l : List Item). l ++ Group c.first_item.result ∷ []) c.requires.empty
+    ∙ ap (λ (group : GroupItem). Group group ∷ []) c.first_item.ensures in
+    let with = subst
+    (λ (core : Core). IsCarriedWith script attaches (at_disk core mid) (Group (first_item pool) ∷ []) ended turns final items)
+    c.new-core.ensures
+    (subst (λ (l : List Item). IsCarriedWith script attaches (at_disk c.new-core.result mid) l ended turns final items)
+    first carried.ensures) in
+    let ran : ℕ → Ran = λ devices. record { ended = ended; turns = turns; out = devices } in
+    subst (λ (devices : ℕ). HasRunBeside script attaches old final.disk items (ran devices)) (sym c.out.ensures) (⊎_elim
+    (λ alone.
+    let start = first_turns with.carried (at_disk (resting pool) mid) (first_item pool) in
+    let has = has_run_in_turn with.carried old mid pool c.in-Ok.opened.silent items alone.clients final alone.passed
+    opened.later opened.only opened.silent opened.few opened.missed opened.renews opened.writes opened.out opened.begins
+    opened.rest opened.bank opened.right opened.loaded
+    (ends_taken with.carried (replay_at start 0 (InOrder [])) (replay_at (turns_of final items alone.clients) turns alone.cursor)
+    alone.passed ended alone.ends)
+    alone.come with.calls [] ended turns alone.cursor
+    (carried_actors script with.carried attaches (first_item pool) with.carried_is c.requires.clients c.requires.actors)
+    alone.ends in
+    record {
+      carried = with.carried;
+      run = has.run;
+      carried_is = subst (λ (group : GroupItem). IsScriptWith script attaches group with.carried)
+          (one_first items (first_item pool) has.run.opened (alone.come.listed 0 (Group (first_item pool)) refl) has.run.there)
+          with.carried_is;
+      counted = turns_counted with.carried [] has.run (ran final.core.pool.out) has.turns;
+      complete = with.complete;
+      limit = with.limit;
+      taken = λ is. has.turns;
+      lines = λ is. has.lines refl;
     })
+    (λ beside.
+    let taken = beside.1 in
+    let has = has_run with.carried old mid pool c.in-Ok.opened.silent items taken.clients final taken.passed opened.later
+    opened.only opened.silent opened.few opened.missed opened.renews opened.writes opened.out opened.begins opened.rest
+    opened.bank opened.right opened.loaded taken.taken taken.come with.calls in
+    let same = one_first items has.opened (first_item pool) has.there (taken.come.listed 0 (Group (first_item pool)) refl) in
+    record {
+      carried = with.carried;
+      run = has;
+      carried_is = subst (λ (group : GroupItem). IsScriptWith script attaches group with.carried) (sym same) with.carried_is;
+      counted = has_run_counted with.carried old mid pool c.in-Ok.opened.silent items taken.clients final taken.passed
+          opened.later opened.only opened.silent opened.few opened.missed opened.renews opened.writes opened.out
+          opened.begins opened.rest opened.bank opened.right opened.loaded taken.taken taken.come with.calls turns
+          (counted_first turns taken.passed taken.counted);
+      complete = with.complete;
+      limit = with.limit;
+      taken = λ is. absurd (beside.0 (subst (λ (group : GroupItem). IsAlone script attaches group) same is));
+      lines = λ is. absurd (beside.0 (subst (λ (group : GroupItem). IsAlone script attaches group) same is));
+    })
+    with.taken)

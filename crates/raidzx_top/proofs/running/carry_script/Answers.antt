@@ -1,34 +1,40 @@
-use Rattle.std.proofs.Common.{List, ℕ, subst}
+use Rattle.std.proofs.Common.{List, ℕ, subst, sym}
 use Rattle.std.specs.Prelude.{IfOk}
-use Rattle.std.proofs.lemmas.Bool.{false≢true}
 use Rattle.schedule.specs.WholeRun.{HasRunInTurn}
+use Rattle.raidzx_top.specs.declared.order.Order.{Order as OrderOf}
+use Rattle.raidzx_top.specs.Running.{HasCarried}
 use Rattle.raidzx_top.proofs.Carrying.{carried_beside, carried_in_turn, was_unopened}
 use Rattle.raidzx_top.proofs.running.carry_script.Goals as goal
 
-pub returns-then-not-is_in_turn-clause-carried : goal.returns-then-not-is_in_turn-clause-carried
-returns-then-not-is_in_turn-clause-carried g c =
+pub returns-in-AsTheyCome-clause-carried : goal.returns-in-AsTheyCome-clause-carried
+returns-in-AsTheyCome-clause-carried g c =
+    let old = g.B.Bank.disk c.args.bank in
     let run = c.run_pool_beside in
-    carried_beside c.args.order c.args.script.now (g.B.Bank.disk c.args.bank) (g.B.Bank.disk run.result.bank)
-    run.result.journal.items run.result.ran (λ in_turn. false≢true (c.if-not-is_in_turn.ensures.1 in_turn)) run.ensures.run run.ensures.complete run.ensures.limit
+    let new = g.B.Bank.disk run.result.bank in
+    let items = run.result.journal.items in
+    subst (λ (order : OrderOf). IfOk run.result.ran (HasCarried order c.args.script old new items)) (sym c.in-AsTheyCome.is)
+    (carried_beside c.in-AsTheyCome.attaches c.args.script old new items run.result.ran run.ensures.run)
 
-pub returns-then-not-is_in_turn-clause-unopened : goal.returns-then-not-is_in_turn-clause-unopened
-returns-then-not-is_in_turn-clause-unopened g c =
+pub returns-in-AsTheyCome-clause-unopened : goal.returns-in-AsTheyCome-clause-unopened
+returns-in-AsTheyCome-clause-unopened g c =
     let run = c.run_pool_beside in
     was_unopened (g.B.Bank.disk c.args.bank) (g.B.Bank.disk run.result.bank) run.result.ran run.ensures.cause
     run.ensures.cut run.ensures.untouched run.ensures.others run.ensures.opens
 
-pub returns-clause-carried : goal.returns-clause-carried
-returns-clause-carried g c =
+pub returns-in-AsListed-clause-carried : goal.returns-in-AsListed-clause-carried
+returns-in-AsListed-clause-carried g c =
     let old = g.B.Bank.disk c.args.bank in
     let new = g.B.Bank.disk c.run_pool-ran.new.bank in
     let items = c.run_pool-ran.new.journal.items in
     let run = c.run_pool-ran.ensures in
-    carried_in_turn c.args.order c.args.script.now old new items c.run_pool-ran.result
-    (subst (λ (letters : List ℕ). IfOk c.run_pool-ran.result (HasRunInTurn c.args.script.now letters old new items))
-    c.listed.ensures run.run) run.complete run.limit
+    subst (λ (order : OrderOf). IfOk c.run_pool-ran.result (HasCarried order c.args.script old new items))
+    (sym c.in-AsListed.is)
+    (carried_in_turn c.args.script old new items c.run_pool-ran.result
+    (subst (λ (letters : List ℕ). IfOk c.run_pool-ran.result (HasRunInTurn c.args.script letters old new items))
+    c.order.ensures run.run) run.complete run.limit)
 
-pub returns-clause-unopened : goal.returns-clause-unopened
-returns-clause-unopened g c =
+pub returns-in-AsListed-clause-unopened : goal.returns-in-AsListed-clause-unopened
+returns-in-AsListed-clause-unopened g c =
     let run = c.run_pool-ran.ensures in
     was_unopened (g.B.Bank.disk c.args.bank) (g.B.Bank.disk c.run_pool-ran.new.bank) c.run_pool-ran.result run.cause
     run.cut run.untouched run.others run.opens

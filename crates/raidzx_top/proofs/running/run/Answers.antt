@@ -19,8 +19,8 @@ returns-in-Err g c = rw (
   said = c.refuse.ensures.said;
 }))
 
-pub returns : goal.returns
-returns g c = rw (
+pub returns-in-Err-ran : goal.returns-in-Err-ran
+returns-in-Err-ran g c = rw (
   c.without_turns-in-Err-ran.ensures.status,
   c.without_turns-in-Err-ran.ensures.turns,
   c.without_turns-in-Err-ran.ensures.bank,

@@ -27,7 +27,7 @@ returns-in-Some-Create g c = rw (c.without_turns-in-Some-Create.ensures.status, 
 
 pub returns-in-Some-Run : goal.returns-in-Some-Run
 returns-in-Some-Run g c = AsRun (record {
-  order = AsTheyCome;
+  order = AsTheyCome c.in-Some-Run.attaches;
   served_as = subst (λ (given : ServedCommand). IsServedAs (map string_bytes c.args.words.now) given)
       c.in-Some-Run.field-0-is c.in-Some-Run.ensures.some;
   ends = c.run.ensures;
