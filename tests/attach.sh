@@ -3,6 +3,7 @@
 # what each refusal leaves alone. `stops.sh` stops such a run at each of its calls.
 [ ! -w /dev/shm ] || export TMPDIR=/dev/shm # many short runs: files in memory will do
 . "$(dirname "$0")/build.sh"
+COMMAND=replay
 
 missing='No such file or directory (os error 2)'
 first=$(summed 1536 0) second=$(summed 5000 2)
@@ -209,14 +210,14 @@ images 3 256
 "$RAIDZX" "${IMAGES[@]}" -- create --parity 1 --width 3 --id 5 >/dev/null
 keep other1
 calls 'puthex 7 ff' $(yes sync | head -n 40) >script
-"$RAIDZX" "${IMAGES[@]}" -- run <script >/dev/null
+"$RAIDZX" "${IMAGES[@]}" -- replay <script >/dev/null
 keep other2
 fresh zeros 7
 dd if=zeros of=disk0 bs=512 conv=notrunc status=none
 keep other3
 images 4 256
 "$RAIDZX" "${IMAGES[@]}" -- create --parity 1 --width 4 --id 5 >/dev/null
-"$RAIDZX" "${IMAGES[@]}" -- run <script >/dev/null
+"$RAIDZX" "${IMAGES[@]}" -- replay <script >/dev/null
 keep other4
 for other in other1/disk0 other2/disk0 other3/disk0 other4/disk3; do
   old_and_one
@@ -368,7 +369,7 @@ fails() {
   shift 2
   old_and_one
   calls 'puthex 1 61' sync attach 'puthex 2 62' sync 'get 2' attach >script
-  INPUT=script disturbed disk3 "$fault" "${IMAGES[@]}" -- run
+  INPUT=script disturbed disk3 "$fault" "${IMAGES[@]}" -- replay
   grep -q INJECTED trace || failed "$fault" 'no call was made to fail'
   was "$fault" 0 "0 group 3 after 0
 1 a.1 put 1 ok
@@ -382,7 +383,7 @@ $text" "$once" "$@"
     if [ $# = 1 ] && [ $number != 3 ] && [ $number != none ]; then
       runs "then without disk$number" 4 "too many failed $number 3" 'get 1'
     else
-      "$RAIDZX" "${IMAGES[@]}" -- run <reads 2>told | tail -n +2 | cmp -s - wanted ||
+      "$RAIDZX" "${IMAGES[@]}" -- replay <reads 2>told | tail -n +2 | cmp -s - wanted ||
         failed "$fault, then without disk$number" 'other blocks'
     fi
   done
@@ -427,9 +428,9 @@ done
 fails_on() { # FAULT ANSWER
   old_and_one
   calls 'puthex 1 61' attach 'puthex 2 62' sync >script
-  INPUT=script disturbed disk3 "$1" "${IMAGES[@]}" -- run
+  INPUT=script disturbed disk3 "$1" "${IMAGES[@]}" -- replay
   [ $STATUS = 0 ] && grep -q "^[0-9]* a.2 attach $2$" found || failed "$1" "$(cat found told)"
-  "$RAIDZX" "${IMAGES[@]}" -- run <reads 2>told | tail -n +2 | cmp -s - wanted || failed "$1" 'other blocks'
+  "$RAIDZX" "${IMAGES[@]}" -- replay <reads 2>told | tail -n +2 | cmp -s - wanted || failed "$1" 'other blocks'
   printf 'ok the new image with %s\n' "$1"
 }
 for when in 1 33 65; do fails_on pread64:error=EIO:when=$when+ 'new device failed 3'; done
@@ -443,7 +444,7 @@ done
 old_fails() { # NUMBER FAULT ANSWER
   old_and_one
   calls 'puthex 1 61' attach 'puthex 2 62' sync >script
-  INPUT=script disturbed "disk$1" "$2" "${IMAGES[@]}" -- run
+  INPUT=script disturbed "disk$1" "$2" "${IMAGES[@]}" -- replay
   was "$2 on disk$1" 0 "0 group 3 after 0
 1 a.1 put 1 ok
 2 group 4 after 2
@@ -452,7 +453,7 @@ old_fails() { # NUMBER FAULT ANSWER
 5 group 5 after 5
 6 a.4 sync group 5" "raidzx: disk$1: 1 call failed in this run" "raidzx: disk$1: out of the pool for good"
   rm "disk$1"
-  "$RAIDZX" "${IMAGES[@]}" -- run <reads 2>told | tail -n +2 | cmp -s - wanted || failed "$2" 'other blocks'
+  "$RAIDZX" "${IMAGES[@]}" -- replay <reads 2>told | tail -n +2 | cmp -s - wanted || failed "$2" 'other blocks'
   printf 'ok disk%s with %s\n' "$1" "$2"
 }
 for number in 0 1; do

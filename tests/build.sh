@@ -80,12 +80,14 @@ calls() {
   [ $# = 0 ] || printf 'a %s\n' "$@"
 }
 
-# runs NAME STATUS TEXT CALL..: a script of these calls is run on the images.
+# runs NAME STATUS TEXT CALL..: a script of these calls is carried out on the images, by a run, or as COMMAND says: a
+# replay leaves an expansion that stands where it is, and a run goes on with it.
+COMMAND=run
 runs() {
   local name=$1 status=$2 text=$3
   shift 3
   calls "$@" >script
-  INPUT=script expect "$name" "$status" "$text" "${IMAGES[@]}" -- run
+  INPUT=script expect "$name" "$status" "$text" "${IMAGES[@]}" -- $COMMAND
 }
 
 # same NAME FILE FILE
@@ -195,7 +197,7 @@ groups() {
 
 # reads_wanted NAME: the script `reads` is answered with the blocks that `wanted` holds.
 reads_wanted() {
-  "$RAIDZX" "${IMAGES[@]}" -- run <reads 2>told | answers | cmp -s - wanted || failed "$1" 'other blocks'
+  "$RAIDZX" "${IMAGES[@]}" -- replay <reads 2>told | answers | cmp -s - wanted || failed "$1" 'other blocks'
 }
 
 # without_each NAME: the images as they stand, and without each one of them in turn, give the blocks that `wanted`

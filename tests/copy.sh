@@ -4,6 +4,7 @@
 # and `stops.sh` stops such a run at its calls.
 [ ! -w /dev/shm ] || export TMPDIR=/dev/shm # many short runs: files in memory will do
 . "$(dirname "$0")/build.sh"
+COMMAND=replay
 
 missing='No such file or directory (os error 2)'
 first=$(summed 1536 0)
@@ -181,7 +182,7 @@ for number in 4 5; do
   IMAGES+=(disk$number)
 done
 calls 'put 1 1536 0' 'put 2 20000 1' 'put 3 40000 2' sync attach >script
-"$RAIDZX" "${IMAGES[@]}" -- run <script >/dev/null
+"$RAIDZX" "${IMAGES[@]}" -- replay <script >/dev/null
 calls 'sum 1' 'sum 2' 'sum 3' >reads
 printf '%s\n' "sum 1 $first" "sum 2 $(summed 20000 1)" "sum 3 $(summed 40000 2)" >wanted
 # without_each_two NAME
@@ -228,9 +229,9 @@ pool 1 15 392
 fresh disk15 392
 IMAGES+=(disk15)
 calls 'put 1 65536 0' 'put 2 65536 1' 'put 3 65536 2' 'put 4 1000 3' sync attach >script
-"$RAIDZX" "${IMAGES[@]}" -- run <script >/dev/null
+"$RAIDZX" "${IMAGES[@]}" -- replay <script >/dev/null
 calls 'sum 1' 'sum 2' 'sum 3' 'sum 4' >reads
-"$RAIDZX" "${IMAGES[@]}" -- run <reads | answers >wanted
+"$RAIDZX" "${IMAGES[@]}" -- replay <reads | answers >wanted
 grep -qx "sum 4 $(summed 1000 3)" wanted || failed 'a block' "$(cat wanted)"
 runs 'a copy of 38 groups' 0 "0 group 9 after 0
 $(groups 10 47 1)
@@ -243,7 +244,7 @@ without_each 'a pool of the greatest width'
 # attach's group, whose number is a later one.
 pool_and 1
 calls 'put 1 1536 0' sync attach >script
-"$RAIDZX" "${IMAGES[@]}" -- run <script >/dev/null
+"$RAIDZX" "${IMAGES[@]}" -- replay <script >/dev/null
 for device in 0 1 2 3; do
   {
     sectors disk$device 5 1 | head -c 24

@@ -5,6 +5,7 @@ command -v strace >/dev/null || { echo 'skipped failing calls: there is no strac
 strace -o /dev/null true 2>/dev/null || { echo 'skipped failing calls: strace may not trace here'; exit 0; }
 [ ! -w /dev/shm ] || export TMPDIR=/dev/shm # many short runs: files in memory will do
 . "$(dirname "$0")/build.sh"
+COMMAND=replay
 
 first=$(summed 1536 0)
 
@@ -16,7 +17,7 @@ spread 3 192 192 >narrow
 killed() {
   back full
   calls copy >script
-  { INPUT=script disturbed disk3 "fdatasync:signal=KILL:when=$1" "${IMAGES[@]}" -- run; } 2>/dev/null
+  { INPUT=script disturbed disk3 "fdatasync:signal=KILL:when=$1" "${IMAGES[@]}" -- replay; } 2>/dev/null
   [ $STATUS != 0 ] && [ ! -s found ] || failed "killed at sync $1" "status $STATUS, $(cat found)"
 }
 # The opening has two syncs of an image, and so has each commit: the copy is stopped behind its first, second and third
@@ -56,7 +57,7 @@ done
 pool_and 1
 second=$(summed 5000 2) third=$(summed 20000 1)
 calls 'put 1 1536 0' 'put 2 5000 2' 'put 3 20000 1' sync attach >script
-"$RAIDZX" "${IMAGES[@]}" -- run <script >/dev/null
+"$RAIDZX" "${IMAGES[@]}" -- replay <script >/dev/null
 keep few
 calls 'sum 1' 'sum 2' 'sum 3' >reads
 printf '%s\n' "sum 1 $first" "sum 2 $second" "sum 3 $third" >wanted
@@ -73,7 +74,7 @@ fails() {
   [ "$count" != 4 ] || answer='done width 4'
   back few
   calls copy 'sum 1' 'sum 2' 'sum 3' sync >script
-  INPUT=script disturbed disk$number "$fault" "${IMAGES[@]}" -- run
+  INPUT=script disturbed disk$number "$fault" "${IMAGES[@]}" -- replay
   grep -q INJECTED trace || failed "$fault" 'no call was made to fail'
   was "disk$number with $fault" 0 "$(lines_of 7 "$count" "$answer")
 $((2 + count)) a.2 sum 1 at $((2 + count)) $first
@@ -82,7 +83,7 @@ $((4 + count)) a.4 sum 3 at $((4 + count)) $third
 $((5 + count)) group $((8 + count)) after $((5 + count))
 $((6 + count)) a.5 sync group $((8 + count))" "raidzx: disk$number: 1 call failed in this run" \
     "raidzx: disk$number: out of the pool for good"
-  "$RAIDZX" "${IMAGES[@]}" -- run <on >found 2>told || failed "a copy past disk$number with $fault" "status $?"
+  "$RAIDZX" "${IMAGES[@]}" -- replay <on >found 2>told || failed "a copy past disk$number with $fault" "status $?"
   [ "$(cat found)" = "$(lines_of $((10 + count)) 0 "$answer")
 2 a.2 sum 1 at 2 $first
 3 a.3 sum 2 at 3 $second
@@ -116,7 +117,7 @@ for row in '0 pread64 60 0' '1 pwrite64 20 0' '3 pwrite64 30 0' '1 pwrite64 52 1
   set -- $row
   back few
   calls copy 'sum 1' 'sum 2' 'sum 3' >script
-  INPUT=script disturbed disk$1 "$2:error=EIO:when=$3" "${IMAGES[@]}" -- run
+  INPUT=script disturbed disk$1 "$2:error=EIO:when=$3" "${IMAGES[@]}" -- replay
   was "disk$1 with call $3 of $2" 0 "$(lines_of 7 "$4" "paused $1")
 $((2 + $4)) a.2 sum 1 at $((2 + $4)) $first
 $((3 + $4)) a.3 sum 2 at $((3 + $4)) $second
@@ -131,7 +132,7 @@ back few
 calls copy 'get 1' sync >script
 STATUS=0
 strace -f -s 0 -o trace -P "$PWD/disk0" -P "$PWD/disk1" -e trace=fdatasync -e inject=fdatasync:error=EIO:when=5+ \
-  "$RAIDZX" "${IMAGES[@]}" -- run <script >found 2>told || STATUS=$?
+  "$RAIDZX" "${IMAGES[@]}" -- replay <script >found 2>told || STATUS=$?
 was 'two images fail in a commit of a copy' 4 '0 group 7 after 0
 1 a.1 copy too many failed 0 1
 2 a.2 get 1 too many failed 0 1

@@ -164,7 +164,7 @@ wrong 2 'clients 1\norder ab\n' '`order LETTERS`: letters of the clients side by
 expect 'an option in another place' 1 usage disk0 disk1 -- create --width 3 --parity 1 --id 9
 grep -q '^raidzx: usage: raidzx IMAGE.. -- create --parity P --width W --id N$' told || failed usage "$(cat told)"
 expect 'a word too many' 1 usage disk0 disk1 -- run now
-grep -q '^raidzx: usage: raidzx IMAGE.. -- run <SCRIPT$' told || failed usage "$(cat told)"
+grep -q '^raidzx: usage: raidzx IMAGE.. -- run \[--attach\] <SCRIPT$' told || failed usage "$(cat told)"
 ! grep -q create told || failed usage "$(cat told)"
 expect 'a word too many' 1 usage disk0 disk1 -- status now
 grep -q '^raidzx: usage: raidzx IMAGE.. -- status$' told || failed usage "$(cat told)"

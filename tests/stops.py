@@ -107,8 +107,8 @@ def left(synced, loose, parts):
 
 
 def run(script, named, name):
-    """The lines of a run of a script over the first so many images, as they stand in the folder."""
-    words = [program] + [str(folder / f'disk{device}') for device in range(named)] + ['--', 'run']
+    """The lines of a replay of a script over the first so many images, as they stand in the folder."""
+    words = [program] + [str(folder / f'disk{device}') for device in range(named)] + ['--', 'replay']
     ran = subprocess.run(words, stdin=open(folder / script), capture_output=True, text=True)
     if ran.returncode != 0:
         fail(f'{name}: status {ran.returncode}, {ran.stdout}')

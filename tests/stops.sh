@@ -60,13 +60,15 @@ IMAGES+=(disk3)
 calls 'put 7 3 5' sync attach 'put 7 600 2' 'put 8 70 1' sync >script
 stops 'a run that attaches an image' 3 1 1=none 3=none 4=one 5=one 6=two
 
-# The uberblock of the attach's group stands on the new image alone, as a stop may leave it.
+# The uberblock of the attach's group stands on the new image alone, as a stop may leave it. From here on scripts are replayed: a run
+# would go on with the expansion by itself.
+COMMAND=replay
 back stop/start
 calls 'put 7 3 5' sync attach >script
 "$RAIDZX" "${IMAGES[@]}" -- run <script >/dev/null
 for device in 0 1 2; do dd if=/dev/zero of=disk$device bs=512 seek=5 count=1 conv=notrunc status=none; done
 calls 'free 7' 'put 8 1500 3' sync >script
-stops 'a run on what a stop of an attach has left' 3 1 4=one 5=one 7=one 8=three
+stops 'a replay on what a stop of an attach has left' 3 1 4=one 5=one 7=one 8=three
 
 # An image is attached and the pool copied to it, which is full but for six sectors, between a sync and further puts.
 # Blocks 2 and 4 lie across sectors 128 and 167, up to where single commits move the mark.
@@ -81,7 +83,7 @@ for id in 1 2 3 4 5; do echo "sum $id absent"; done >none
 calls 'put 1 30000 1' 'put 2 15000 2' 'put 3 10000 3' 'put 4 5000 4' 'put 5 600 5' sync attach copy \
   'put 2 70 6' 'free 4' 'put 5 1500 7' sync >script
 calls copy 'sum 1' 'sum 2' 'sum 3' 'sum 4' 'sum 5' >copies
-stops 'a run that attaches an image and copies' 3 20 1=none 3=none 4=one 5=one 6=one 7=one 8=one 9=one 10=two
+stops 'a replay that attaches an image and copies' 3 20 1=none 3=none 4=one 5=one 6=one 7=one 8=one 9=one 10=two
 
 # The pool is copied in another run, while a second client frees a block, puts one where that was, across sector 167,
 # and syncs. The first sync comes in the fill, the put and the second one in the drain, and the third one behind all.
@@ -94,7 +96,6 @@ printf '%s\n' 'clients 2' 'a copy' 'b free 4' 'b sync' 'b put 5 1500 7' 'b sync'
   "order $(turns a 100)$(turns b 19)$(turns a 200)$(turns b 25)$(turns a 500)" >script
 sed 's/^sum 4 .*/sum 4 absent/' one >freed
 { sed 4q freed; block 5 1500 7; } >put
-COMMAND=replay
 stops 'a replay that copies beside puts' 4 20 5=one 7=one 8=freed 9=freed 10=put 11=put 12=put 13=put 14=two
 [ "$(cat text)" = '0 group 7 after 0
 1 b.1 free 4 ok

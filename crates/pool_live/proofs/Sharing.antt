@@ -1,18 +1,24 @@
 -- Turns of clients that share a pool, one after the other.
-use Rattle.std.proofs.Common.{◌≡◌, ℕ, ◌+◌, List, [], ◌∷◌, ◌++◌, length, length-append, Option, Some, None, refl, sym, ◌∙◌, ap, subst, arith}
-use Rattle.std.proofs.lemmas.List.{length-map, map-append}
+use Rattle.std.proofs.Common.{◌≡◌, ℕ, ◌+◌, List, [], ◌∷◌, ◌++◌, length, length-append, append_assoc, append-nil, Option, Some, None, refl, sym, ◌∙◌, ap, subst, arith}
+use Rattle.std.specs.Prelude.{replicate}
+use Rattle.std.proofs.lemmas.List.{length-map, map-append, replicate_more}
 use Rattle.core_state.specs.declared.item.Item.{Item}
+use Rattle.core_state.specs.JournalRoom.{Journal}
 use Rattle.client_script.specs.Script.{Script}
-use Rattle.core_turns.specs.Core.{CoreState}
+use Rattle.bank_trait.specs.Disk.{Disk}
+use Rattle.core_turns.specs.Core.{Core, CoreState, at_disk}
+use Rattle.schedule.specs.declared.client.Client.{Client}
+use Rattle.schedule.specs.declared.progress.Progress.{Progress}
 use Rattle.schedule.specs.declared.whole_run.Ended.{Ended}
 use Rattle.schedule.specs.declared.whole_run.Ended.TheVariants.{Whole, Limit}
-use Rattle.schedule.specs.InTurn.{HaveTaken, IsTurnOf, Replay}
+use Rattle.schedule.specs.InTurn.{HaveTaken, IsTurnOf, Replay, turns_by}
 use Rattle.schedule.specs.Playing.{HasPlayed, HaveHadTurns, IsReady}
 use Rattle.schedule.specs.Replaying.{HasTurn}
-use Rattle.schedule.specs.Turns.{Turns, TurnTaken, last_left, taken_by}
+use Rattle.schedule.specs.Turns.{Turns, TurnTaken, last_left, taken_by, turns_of}
 use Rattle.schedule.proofs.Coming.{came_nowhere, came_on}
 use Rattle.schedule.proofs.InTurn.{gone_counted, gone_taken, taken_more}
-use Rattle.pool_live.specs.Sharing.{HasCarriedOut, StandsFor}
+use Rattle.pool_live.specs.declared.live.Had.{Had}
+use Rattle.pool_live.specs.Sharing.{HasCarriedOut, MovesOn, StandsFor, actors_of}
 
 -- No client has had a turn yet.
 pub had_none : (script : Script) (start : Turns) (room : ℕ) → IsReady script start room
@@ -55,6 +61,45 @@ stands_more script (Some start) before after actors actor room left taken stands
   had_more script start before after actors actor room left stands.0 turn ready,
   (let long = length-append actors (actor ∷ []) in let count = stands.1 in omega (arith, long, count)),
 )
+
+-- A client that has had some has one more.
+pub moves_more : (script : Script) (before middle after : Turns) (actor turns room between left taken counted : ℕ)
+    → MovesOn script before room taken actor turns middle between counted → HasTurn script actor middle after
+    → IsReady script after left → MovesOn script before room taken actor (turns + 1) after left (counted + 1)
+moves_more script before middle after actor turns room between left taken counted moves turn ready = λ start actors stands.
+    subst (λ (l : List ℕ). StandsFor script start l after left (counted + 1)) (longer actors)
+    (stands_more script start middle after (actors ++ replicate turns actor) actor between left counted
+    (moves start actors stands) turn ready)
+  where
+    longer : (actors : List ℕ) → (actors ++ replicate turns actor) ++ actor ∷ [] ≡ actors ++ replicate (turns + 1) actor
+    longer actors = append_assoc actors (replicate turns actor) (actor ∷ [])
+        ∙ ap (λ (l : List ℕ). actors ++ l) (replicate_more turns actor)
+
+-- So it is where that one was counted first.
+pub counts_more : (script : Script) (before : Turns) (core : Core) (disk : Disk) (journal : Journal)
+    (progress counted : Progress) (after : Turns) (actor had room left taken now : ℕ)
+    → counted.clients.items ≡ progress.clients.items → counted.turns ≡ progress.turns + 1 → now ≡ counted.turns
+    → MovesOn script before room taken actor had (turns_by core disk journal progress) journal.room progress.turns
+    → HasTurn script actor (turns_by core disk journal counted) after → IsReady script after left
+    → MovesOn script before room taken actor (had + 1) after left now
+counts_more script before core disk journal progress counted after actor had room left taken now same one is moves turn
+    ready = subst (λ (n : ℕ). MovesOn script before room taken actor (had + 1) after left n) (sym (is ∙ one))
+    (moves_more script before (turns_by core disk journal progress) after actor had room journal.room left taken
+    progress.turns moves
+    (subst (λ (clients : List Client). HasTurn script actor (turns_of (at_disk core disk) journal.items clients) after) same
+    turn) ready)
+
+-- It had none yet.
+pub moves_none : (script : Script) (now : Turns) (actor room taken : ℕ) → MovesOn script now room taken actor 0 now room taken
+moves_none script now actor room taken = λ start actors stands.
+    subst (λ (l : List ℕ). StandsFor script start l now room taken) (sym (append-nil actors)) stands
+
+-- What was told has one entry more.
+pub actors_more : (told : List Had) (had : Had) → actors_of (told ++ had ∷ []) ≡ actors_of told ++ replicate had.turns had.actor
+actors_more [] had = append-nil (replicate had.turns had.actor)
+actors_more (first ∷ told) had =
+    ap (λ (l : List ℕ). replicate first.turns first.actor ++ l) (actors_more told had)
+    ∙ sym (append_assoc (replicate first.turns first.actor) (actors_of told) (replicate had.turns had.actor))
 
 pub stands_ready : (script : Script) (start : Option Turns) (now : Turns) (actors : List ℕ) (room taken : ℕ)
     → StandsFor script start actors now room taken → IsReady script now room

@@ -1,5 +1,5 @@
 -- What the clients of a script have come to that share a pool, whoever's turns they were.
-use Rattle.std.specs.Prelude.{◌≡◌, ℕ, ◌+◌, List, length, false, Option, Some, None, ⊤}
+use Rattle.std.specs.Prelude.{◌≡◌, ℕ, ◌+◌, List, [], ◌∷◌, ◌++◌, length, replicate, false, Option, Some, None, ⊤}
 use Rattle.bank_trait.specs.Disk.{Disk}
 use Rattle.core_state.specs.declared.item.Entry.{Entry}
 use Rattle.core_state.specs.declared.item.Item.{Item}
@@ -10,6 +10,7 @@ use Rattle.core_turns.specs.Core.{Core, CoreState}
 use Rattle.turn_lock.specs.Seats.{Lock, Sitting}
 use Rattle.pool_live.specs.declared.beside.Next.{Next}
 use Rattle.pool_live.specs.declared.beside.Next.TheVariants.{GoesOn}
+use Rattle.pool_live.specs.declared.live.Had.{Had}
 use Rattle.schedule.specs.declared.client.Client.{Client}
 use Rattle.schedule.specs.Ahead.{IsAheadFor}
 use Rattle.schedule.specs.Coming.{LeadTo}
@@ -26,6 +27,11 @@ abbrev pub IsNextFor : List ScriptCall → Next → Type 0
 IsNextFor calls (GoesOn ahead) = IsAheadFor calls ahead
 IsNextFor calls other = ⊤
 
+-- the clients that had the turns that were told
+abbrev pub actors_of : List Had → List ℕ
+actors_of [] = []
+actors_of (had ∷ told) = replicate had.turns had.actor ++ actors_of told
+
 -- These clients have had the turns since the start, one after the other, and so many were counted.
 abbrev pub StandsFor : Script → Option Turns → List ℕ → Turns → ℕ → ℕ → Type 0
 StandsFor script None actors now room taken = ⊥
@@ -35,6 +41,12 @@ StandsFor script (Some start) actors now room taken =
 -- Some clients have.
 abbrev pub HasStoodFor : Script → Option Turns → Turns → ℕ → ℕ → Type 0
 HasStoodFor script start now room taken = (actors : List ℕ) × StandsFor script start actors now room taken
+
+-- A client had so many turns more.
+abbrev pub MovesOn : Script → Turns → ℕ → ℕ → ℕ → ℕ → Turns → ℕ → ℕ → Type 0
+MovesOn script before room taken actor turns after left counted = (start : Option Turns) (actors : List ℕ)
+    → StandsFor script start actors before room taken
+    → StandsFor script start (actors ++ replicate turns actor) after left counted
 
 -- From this start, and so many turns, the calls of a script were carried out with these turns, whoever's they were: so
 -- many were counted then.

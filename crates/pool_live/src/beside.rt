@@ -11,9 +11,9 @@ ghost use Rattle.schedule.specs.InTurn.{turns_by};
 ghost use Rattle.schedule.specs.Playing.{IsReady};
 ghost use Rattle.schedule.specs.Replaying.{IsAtRest, blank_clients};
 ghost use Rattle.schedule.specs.Turns.{most_turns, turns_of};
-ghost use Rattle.pool_live.specs.Sharing.{AnswersNone, HasCarriedOut, HasStoodFor, IsFreeSeat, IsNextFor, IsUntouched, StandsFor};
+ghost use Rattle.pool_live.specs.Sharing.{AnswersNone, HasCarriedOut, HasStoodFor, IsFreeSeat, IsNextFor, IsUntouched, MovesOn, StandsFor};
 
-use crate::live::{Live, Setup};
+use crate::live::{Had, Live, Setup};
 use bank_trait::Bank;
 use client_script::Script;
 use core_state::Journal;
@@ -24,6 +24,9 @@ use std::marker::{Brand, PhantomData};
 use std::sync::Wait;
 use std::thread::{Threads, join, yield_now};
 use turn_lock::{Seat, Turns};
+
+/// Most turns that a client has at once, while others wait for theirs.
+const MOST_AT_ONCE: u64 = 16;
 
 /// What a client has before it after a turn.
 enum Next {
@@ -59,12 +62,65 @@ fn next_of(
     }
 }
 
-/// Waits for the turn, and has it, with what was computed for it.
-fn take_turn<R: Wait, B: Bank, J: Setup>(
+/// A client's turns, one after the other: with what was computed for the first, and as long as the next asks for nothing
+/// to be computed, finds no other's call in its way, and others have not waited for too many. Says what comes then, and
+/// how many turns it had.
+fn have_turns<B: Bank, J: Setup>(
+    alloc: Global,
+    live: &mut Live<B, J>,
+    script: &Script,
+    actor: u8,
+    computed: Ready,
+) -> (Next, u64)
+    requires allowed { All (λ placed. IsAllowed placed.call) script.now.calls }
+    requires ready { IsReady script.now (turns_by live.old.core (B.disk live.old.bank) live.old.journal live.old.progress)
+        live.old.journal.room }
+    requires computed { IsReadyFor (calls_of script.now actor) computed }
+    ensures next { IsNextFor (calls_of script.now actor) result.0 }
+    ensures stands { MovesOn script.now (turns_by live.old.core (B.disk live.old.bank) live.old.journal live.old.progress)
+        live.old.journal.room live.old.progress.turns actor result.1
+        (turns_by live.new.core (B.disk live.new.bank) live.new.journal live.new.progress)
+        live.new.journal.room live.new.progress.turns }
+{
+    let mut computed = computed;
+    let mut had = 0;
+    for _turn in 0..MOST_AT_ONCE {
+        let Ok(()) = live.progress.count() else {
+            return (Next::Ended, had);
+        };
+        let before = live.journal.len();
+        turn_of(
+            alloc,
+            &mut live.bank,
+            &mut live.core,
+            script,
+            &mut live.journal,
+            &mut live.progress,
+            actor,
+            computed,
+        );
+        had += 1;
+        match next_of(
+            alloc,
+            &live.progress,
+            script,
+            actor,
+            before,
+            live.journal.len(),
+        ) {
+            Next::GoesOn(Ahead::Nothing) => computed = Ready::Nothing,
+            next => return (next, had),
+        }
+    }
+    (Next::GoesOn(Ahead::Nothing), had)
+}
+
+/// Waits for the turn, and has it, with what was computed for it, and those behind it.
+fn take_turns_of<R: Wait, B: Bank, J: Setup>(
     rt: &R,
     alloc: Global,
-    turns: &Turns<Live<B, J>, (), u8>,
-    seat: &mut Seat<Live<B, J>, u8>,
+    turns: &Turns<Live<B, J>, (), Had>,
+    seat: &mut Seat<Live<B, J>, Had>,
     script: &Script,
     actor: u8,
     computed: Ready,
@@ -79,41 +135,21 @@ fn take_turn<R: Wait, B: Bank, J: Setup>(
     let Ok(mut held) = turns.take(rt, seat) else {
         return Next::Ended;
     };
-    let live = &mut held.state;
-    let before = live.journal.len();
-    turn_of(
-        alloc,
-        &mut live.bank,
-        &mut live.core,
-        script,
-        &mut live.journal,
-        &mut live.progress,
-        actor,
-        computed,
-    );
-    live.progress.turns += 1;
-    let next = next_of(
-        alloc,
-        &live.progress,
-        script,
-        actor,
-        before,
-        live.journal.len(),
-    );
-    turns.give(seat, held, &actor);
+    let (next, had) = have_turns(alloc, &mut held.state, script, actor, computed);
+    turns.give(seat, held, &Had { actor, turns: had });
     next
 }
 
-/// The calls of one client, turn by turn. What a turn asks to be computed is computed before it, while others have
+/// The calls of one client, some turns at once. What a turn asks to be computed is computed before it, while others have
 /// theirs. A client without calls takes no turn.
 fn run_client<R: Wait, B: Bank, J: Setup>(
     rt: &R,
     alloc: Global,
-    turns: &Turns<Live<B, J>, (), u8>,
-    mut seat: Seat<Live<B, J>, u8>,
+    turns: &Turns<Live<B, J>, (), Had>,
+    mut seat: Seat<Live<B, J>, Had>,
     script: &Script,
     actor: u8,
-) -> Seat<Live<B, J>, u8>
+) -> Seat<Live<B, J>, Had>
     requires script { script.now ≡ J.script }
     requires allowed { All (λ placed. IsAllowed placed.call) script.now.calls }
     requires seat { IsFreeSeat turns.now seat }
@@ -124,7 +160,7 @@ fn run_client<R: Wait, B: Bank, J: Setup>(
     }
     let mut computed = Ready::Nothing;
     for _ in rt.forever() {
-        computed = match take_turn(rt, alloc, turns, &mut seat, script, actor, computed) {
+        computed = match take_turns_of(rt, alloc, turns, &mut seat, script, actor, computed) {
             Next::GoesOn(ahead) => ahead.compute(alloc, script.calls(actor)),
             Next::Waits => {
                 yield_now();
@@ -140,12 +176,12 @@ fn run_client<R: Wait, B: Bank, J: Setup>(
 fn run_clients<R: Threads + Wait + Sync, B: Bank + Send, J: Setup + Send + Sync>(
     rt: &R,
     alloc: Global,
-    turns: &Turns<Live<B, J>, (), u8>,
-    mut seat: Seat<Live<B, J>, u8>,
+    turns: &Turns<Live<B, J>, (), Had>,
+    mut seat: Seat<Live<B, J>, Had>,
     script: &Script,
     first: u8,
     end: u8,
-) -> Seat<Live<B, J>, u8>
+) -> Seat<Live<B, J>, Had>
     requires script { script.now ≡ J.script }
     requires allowed { All (λ placed. IsAllowed placed.call) script.now.calls }
     requires seat { IsFreeSeat turns.now seat }
@@ -159,12 +195,12 @@ fn run_clients<R: Threads + Wait + Sync, B: Bank + Send, J: Setup + Send + Sync>
     let other = turns.split(&mut seat);
     let (mut seat, other) = join(
         rt,
-        move || -> Seat<Live<B, J>, u8>
+        move || -> Seat<Live<B, J>, Had>
             requires { IsSync R.row × (script.now ≡ J.script) × (first < middle) × IsFreeSeat turns.now seat
                 × All (λ placed. IsAllowed placed.call) script.now.calls }
             ensures { IsFreeSeat turns.entry.now result }
         { run_clients(rt, alloc, turns, seat, script, first, middle) },
-        move || -> Seat<Live<B, J>, u8>
+        move || -> Seat<Live<B, J>, Had>
             requires { IsSync R.row × (script.now ≡ J.script) × (middle < end) × IsFreeSeat turns.now other
                 × All (λ placed. IsAllowed placed.call) script.now.calls }
             ensures { IsFreeSeat turns.entry.now result }

@@ -28,6 +28,13 @@ impl Setup for Brand {
     ghost start = { None };
 }
 
+/// Turns that a client had one after the other, while no other had one.
+#[derive(Clone, Copy, Debug, PartialEq, Eq)]
+pub struct Had {
+    pub actor: u8,
+    pub turns: u64,
+}
+
 /// An open pool, its bank, the journal, and what the clients have come to: all that a turn changes.
 pub struct Live<B: Bank, J: Setup> {
     pub bank: B,
@@ -37,10 +44,10 @@ pub struct Live<B: Bank, J: Setup> {
     pub of: PhantomData<J>,
 }
 
-impl<B: Bank, J: Setup> Stood<(), u8> for Live<B, J> {
+impl<B: Bank, J: Setup> Stood<(), Had> for Live<B, J> {
     ghost use Rattle.schedule.specs.InTurn.{turns_by};
-    ghost use Rattle.pool_live.specs.Sharing.{StandsFor};
+    ghost use Rattle.pool_live.specs.Sharing.{StandsFor, actors_of};
 
-    ghost stands = { λ base actors live. StandsFor J.script J.start actors
+    ghost stands = { λ base told live. StandsFor J.script J.start (actors_of told)
         (turns_by live.core (B.disk live.bank) live.journal live.progress) live.journal.room live.progress.turns };
 }
