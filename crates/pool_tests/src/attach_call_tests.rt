@@ -2,7 +2,7 @@
 use crate::banks::{
     MAKING, OPENING, RING, bank_of_nine, bank_of_nine_and_a_blank, bank_of_sixteen_and_a_blank,
 };
-use crate::calls::{RUN, STATUS, call};
+use crate::calls::{REPLAY, RUN, RUN_AND_ATTACH, STATUS, call};
 use crate::runs::run;
 use bank_mem::MemBank;
 use bank_trait::Bank;
@@ -42,6 +42,31 @@ const LATER_TOLD: &[u8] = b"0 group 7 after 0
 2 a.2 attach expanding to 4
 ";
 
+const NO_CALLS: &[u8] = b"clients 1\n";
+
+const GONE_ON_TOLD: &[u8] = b"0 group 9 after 0
+1 group 10 after 1
+2 group 11 after 2
+3 group 12 after 3
+4 group 13 after 4
+5 x.1 copy done width 4
+";
+
+const WIDENED_TOLD: &[u8] = b"0 group 3 after 0
+1 group 4 after 1
+2 x.1 attach width 4 group 4
+3 group 5 after 3
+4 group 6 after 4
+5 group 7 after 5
+6 group 8 after 6
+7 x.2 copy done width 4
+";
+
+const NO_MORE_TOLD: &[u8] = b"0 group 10 after 0
+1 x.1 attach no device 4
+2 x.2 copy done width 4
+";
+
 #[test]
 fn a_device_is_attached_once_and_the_pool_is_widened_from_then_on(
     rt: HostRuntime,
@@ -52,8 +77,23 @@ fn a_device_is_attached_once_and_the_pool_is_widened_from_then_on(
     assert_eq!(rt; (told.status, told.items), (Status::Done, 7));
     let told = call(&rt, alloc, STATUS, told.bank, b"")?;
     assert_eq!(rt; told.text.as_slice(), WIDENED);
-    let told = call(&rt, alloc, RUN, told.bank, LATER)?;
+    let told = call(&rt, alloc, REPLAY, told.bank, LATER)?;
     assert_eq!(rt; told.text.as_slice(), LATER_TOLD);
+    let told = call(&rt, alloc, RUN, told.bank, NO_CALLS)?;
+    assert_eq!(rt; told.text.as_slice(), GONE_ON_TOLD);
+    assert_eq!(rt; (told.status, told.items), (Status::Done, 6));
+    Ok(())
+}
+
+#[test]
+fn a_run_attaches_a_device_and_copies(rt: HostRuntime) -> Result<(), Fail> {
+    let alloc = rt.alloc();
+    let bank = bank_of_nine_and_a_blank(alloc)?;
+    let told = call(&rt, alloc, RUN_AND_ATTACH, bank, NO_CALLS)?;
+    assert_eq!(rt; told.text.as_slice(), WIDENED_TOLD);
+    assert_eq!(rt; (told.status, told.items), (Status::Done, 8));
+    let told = call(&rt, alloc, RUN_AND_ATTACH, told.bank, NO_CALLS)?;
+    assert_eq!(rt; told.text.as_slice(), NO_MORE_TOLD);
     Ok(())
 }
 

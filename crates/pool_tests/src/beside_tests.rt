@@ -2,28 +2,45 @@
 use crate::banks::bank_of_nine_and_a_blank;
 use crate::legal_check::Journaled;
 use crate::plan_check::{FIRST_OPENING, Left, check_reads};
-use crate::plans::plan_of_lines;
-use client_script::parse;
-use core_state::Journal;
+use crate::plans::{Plan, PlannedCall, plan_of_lines};
+use client_script::{COPIER, parse};
+use core_state::{Journal, Kind};
 use pool_live::{PoolRun, run_pool_beside};
 use schedule::Ended;
-use std::alloc::Global;
+use std::alloc::{AllocError, Global};
 use std::process::Abort;
 use std::sync::Wait;
 use std::test::Fail;
 use std::thread::Threads;
 
-/// How many plans are carried out.
+/// How many plans are carried out, and how many beside a client that widens the pool.
 const PLANS: u64 = 40;
+
+const PLANS_THAT_WIDEN: u64 = 20;
+
+/// The plan with the calls of the client that widens the pool.
+fn with_widening(alloc: Global, mut plan: Plan) -> Result<Plan, AllocError> {
+    for (number, kind) in [(1, Kind::Attach), (2, Kind::Copy)] {
+        plan.calls.push(PlannedCall {
+            caller: COPIER,
+            number,
+            kind,
+            id: None,
+            bytes: Vec::new(alloc),
+        })?;
+    }
+    Ok(plan)
+}
 
 /// The journal of a plan whose clients have threads of their own is legal, with an answer to each call, and what is read
 /// afterwards is the map of its last group.
 fn check_beside<R: Abort + Threads + Wait + Sync>(
     rt: &R,
     alloc: Global,
+    plan: Plan,
+    attaches: bool,
     number: u64,
 ) -> Result<(), Fail> {
-    let plan = plan_of_lines(alloc, number)?;
     let script = parse(alloc, plan.script.as_bytes())?;
     let mut journal = Journal::new(alloc);
     journal.reserve(1)?;
@@ -32,7 +49,7 @@ fn check_beside<R: Abort + Threads + Wait + Sync>(
         ran,
         mut bank,
         journal,
-    } = run_pool_beside(rt, alloc, bank, script, false, journal);
+    } = run_pool_beside(rt, alloc, bank, script, attaches, journal);
     let ran = ran?;
     assert_eq!(rt; ran.ended, Ended::Whole, "plan {number}");
     assert!(rt; ran.out.is_empty(), "plan {number}");
@@ -51,7 +68,18 @@ fn check_beside<R: Abort + Threads + Wait + Sync>(
 #[test]
 fn clients_in_threads_are_answered_rightly(rt: HostRuntime) -> Result<(), Fail> {
     for number in 0..PLANS {
-        check_beside(&rt, rt.alloc(), number)?;
+        let plan = plan_of_lines(rt.alloc(), number)?;
+        check_beside(&rt, rt.alloc(), plan, false, number)?;
+    }
+    Ok(())
+}
+
+#[test]
+fn clients_are_answered_rightly_while_a_run_widens_its_pool(rt: HostRuntime) -> Result<(), Fail> {
+    for number in 0..PLANS_THAT_WIDEN {
+        let plan = plan_of_lines(rt.alloc(), number)?;
+        let plan = with_widening(rt.alloc(), plan)?;
+        check_beside(&rt, rt.alloc(), plan, true, number)?;
     }
     Ok(())
 }

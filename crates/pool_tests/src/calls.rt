@@ -11,6 +11,8 @@ pub const MAKE_NINE: &str = "raidzx create --parity 1 --width 3 --id 9";
 
 pub const RUN: &str = "raidzx run";
 
+pub const RUN_AND_ATTACH: &str = "raidzx run --attach";
+
 pub const REPLAY: &str = "raidzx replay";
 
 pub const STATUS: &str = "raidzx status";
