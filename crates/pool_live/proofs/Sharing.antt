@@ -18,7 +18,7 @@ use Rattle.schedule.specs.Turns.{Turns, TurnTaken, last_left, taken_by, turns_of
 use Rattle.schedule.proofs.Coming.{came_nowhere, came_on}
 use Rattle.schedule.proofs.InTurn.{gone_counted, gone_taken, taken_more}
 use Rattle.pool_live.specs.declared.live.Had.{Had}
-use Rattle.pool_live.specs.Sharing.{HasCarriedOut, MovesOn, StandsFor, actors_of}
+use Rattle.pool_live.specs.Sharing.{HasCarriedOut, MovesOn, StandsFor, actors_told}
 
 -- No client has had a turn yet.
 pub had_none : (script : Script) (start : Turns) (room : ℕ) → IsReady script start room
@@ -95,11 +95,11 @@ moves_none script now actor room taken = λ start actors stands.
     subst (λ (l : List ℕ). StandsFor script start l now room taken) (sym (append-nil actors)) stands
 
 -- What was told has one entry more.
-pub actors_more : (told : List Had) (had : Had) → actors_of (told ++ had ∷ []) ≡ actors_of told ++ replicate had.turns had.actor
+pub actors_more : (told : List Had) (had : Had) → actors_told (told ++ had ∷ []) ≡ actors_told told ++ replicate had.turns had.actor
 actors_more [] had = append-nil (replicate had.turns had.actor)
 actors_more (first ∷ told) had =
     ap (λ (l : List ℕ). replicate first.turns first.actor ++ l) (actors_more told had)
-    ∙ sym (append_assoc (replicate first.turns first.actor) (actors_of told) (replicate had.turns had.actor))
+    ∙ sym (append_assoc (replicate first.turns first.actor) (actors_told told) (replicate had.turns had.actor))
 
 pub stands_ready : (script : Script) (start : Option Turns) (now : Turns) (actors : List ℕ) (room taken : ℕ)
     → StandsFor script start actors now room taken → IsReady script now room

@@ -22,7 +22,7 @@ use Rattle.schedule.specs.Turns.{most_turns, turns_of}
 use Rattle.schedule.proofs.AtRest.{schedule_at_rest}
 use Rattle.schedule.proofs.Coming.{came_nowhere}
 use Rattle.pool_live.specs.Sharing.{AnswersNone, HasCarriedOut}
-use Rattle.pool_live.specs.Widening.{IsAlone, IsCarriedWith, IsScriptWith, IsWidening, turns_from}
+use Rattle.pool_live.specs.Widening.{IsAlone, IsCarriedWith, IsScriptWith, TellsExpansion, turns_from}
 
 -- ---- the client that widens the pool
 
@@ -67,7 +67,7 @@ carried_actors script carried attaches opened is few actors = ⊎_elim
 
 -- Where that client is there, no other is alone.
 pub widening_not_alone : (script : Script) (attaches : Bool) (opened : GroupItem)
-    → (attaches ≡ true) ⊎ IsWidening opened → IsAlone script attaches opened → ⊥
+    → (attaches ≡ true) ⊎ TellsExpansion opened → IsAlone script attaches opened → ⊥
 widening_not_alone script attaches opened widens alone = ⊎_elim
     (λ is. let clash : true ≡ false = sym is ∙ alone.0 in cc) (λ expands. alone.1 expands) widens
 
@@ -75,7 +75,7 @@ widening_not_alone script attaches opened widens alone = ⊎_elim
 
 -- Where memory was wanting nothing was done.
 pub left_undone : (script : Script) (attaches : Bool) (state : CoreState) (items : List Item)
-    → (attaches ≡ true) ⊎ IsWidening (first_item state.core.pool) → IsAtRest state.core → HasBankOf state.core state.disk
+    → (attaches ≡ true) ⊎ TellsExpansion (first_item state.core.pool) → IsAtRest state.core → HasBankOf state.core state.disk
     → AnswersNone items → IsCarriedWith script attaches state items NoMemory 0 state items
 left_undone script attaches state items widens rest bank none = record {
   carried = with_copier attaches script;
@@ -120,7 +120,7 @@ carried_as_they_came script carried attaches state items ended turns after liste
 
 -- The turns were those of an only client.
 pub carried_alone : (script : Script) (attaches : Bool) (state : CoreState) (items : List Item) (ended : Ended) (turns : ℕ)
-    (after : CoreState) (listed : List Item) → attaches ≡ false → (IsWidening (first_item state.core.pool) → ⊥)
+    (after : CoreState) (listed : List Item) → attaches ≡ false → (TellsExpansion (first_item state.core.pool) → ⊥)
     → CarriesOut script [] (turns_from script state items) ended turns after listed
     → CallsAreRight (asked_by script) listed
     → (ended ≡ Whole → IsComplete (asked_by script) listed)

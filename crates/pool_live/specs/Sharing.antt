@@ -28,9 +28,9 @@ IsNextFor calls (GoesOn ahead) = IsAheadFor calls ahead
 IsNextFor calls other = ⊤
 
 -- the clients that had the turns that were told
-abbrev pub actors_of : List Had → List ℕ
-actors_of [] = []
-actors_of (had ∷ told) = replicate had.turns had.actor ++ actors_of told
+abbrev pub actors_told : List Had → List ℕ
+actors_told [] = []
+actors_told (had ∷ told) = replicate had.turns had.actor ++ actors_told told
 
 -- These clients have had the turns since the start, one after the other, and so many were counted.
 abbrev pub StandsFor : Script → Option Turns → List ℕ → Turns → ℕ → ℕ → Type 0

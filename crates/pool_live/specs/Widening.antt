@@ -18,20 +18,20 @@ use Rattle.schedule.specs.Turns.{Turns, most_turns, turns_of}
 use Rattle.schedule.specs.WholeRun.{HasRun, HasTakenTurns}
 use Rattle.pool_live.specs.Sharing.{HasCarriedOut}
 
--- The group is one of a pool that is being widened.
-abbrev pub IsWidening : GroupItem → Type 0
-IsWidening group = group.to ≡ group.from + 1
+-- The group is one of a pool in which an expansion runs.
+abbrev pub TellsExpansion : GroupItem → Type 0
+TellsExpansion group = group.to ≡ group.from + 1
 
 -- The script that is carried out on a pool that was opened so: with the client that widens it, where a device is to be
 -- attached or an expansion runs; and else as it is.
 abbrev pub IsScriptWith : Script → Bool → GroupItem → Script → Type 0
 IsScriptWith script attaches opened carried =
-    (((attaches ≡ true) ⊎ IsWidening opened) × (carried ≡ with_copier attaches script))
-    ⊎ ((attaches ≡ false) × (IsWidening opened → ⊥) × (carried ≡ script))
+    (((attaches ≡ true) ⊎ TellsExpansion opened) × (carried ≡ with_copier attaches script))
+    ⊎ ((attaches ≡ false) × (TellsExpansion opened → ⊥) × (carried ≡ script))
 
 -- That client is not there, and there is one other at most.
 abbrev pub IsAlone : Script → Bool → GroupItem → Type 0
-IsAlone script attaches opened = (attaches ≡ false) × (IsWidening opened → ⊥) × (script.clients ≤ 1)
+IsAlone script attaches opened = (attaches ≡ false) × (TellsExpansion opened → ⊥) × (script.clients ≤ 1)
 
 -- what the turns of a script begin with, on a pool at rest
 abbrev pub turns_from : Script → CoreState → List Item → Turns

@@ -11,7 +11,8 @@ ghost use Rattle.schedule.specs.InTurn.{turns_by};
 ghost use Rattle.schedule.specs.Playing.{IsReady};
 ghost use Rattle.schedule.specs.Replaying.{IsAtRest, blank_clients};
 ghost use Rattle.schedule.specs.Turns.{most_turns, turns_of};
-ghost use Rattle.pool_live.specs.Sharing.{AnswersNone, HasCarriedOut, HasStoodFor, IsFreeSeat, IsNextFor, IsUntouched, MovesOn, StandsFor};
+ghost use Rattle.pool_live.specs.Sharing.{AnswersNone, HasCarriedOut, HasStoodFor, IsFreeSeat, IsNextFor};
+ghost use Rattle.pool_live.specs.Sharing.{IsUntouched, MovesOn, StandsFor};
 
 use crate::live::{Had, Live, Setup};
 use bank_trait::Bank;

@@ -46,8 +46,8 @@ pub struct Live<B: Bank, J: Setup> {
 
 impl<B: Bank, J: Setup> Stood<(), Had> for Live<B, J> {
     ghost use Rattle.schedule.specs.InTurn.{turns_by};
-    ghost use Rattle.pool_live.specs.Sharing.{StandsFor, actors_of};
+    ghost use Rattle.pool_live.specs.Sharing.{StandsFor, actors_told};
 
-    ghost stands = { λ base told live. StandsFor J.script J.start (actors_of told)
+    ghost stands = { λ base told live. StandsFor J.script J.start (actors_told told)
         (turns_by live.core (B.disk live.bank) live.journal live.progress) live.journal.room live.progress.turns };
 }

@@ -2,7 +2,7 @@ use Rattle.std.proofs.Common.{ℕ, List, subst, sym}
 use Rattle.client_script.specs.Script.{Script}
 use Rattle.schedule.specs.InTurn.{turns_by}
 use Rattle.turn_lock.specs.Turn.{entries}
-use Rattle.pool_live.specs.Sharing.{MovesOn, StandsFor, actors_of}
+use Rattle.pool_live.specs.Sharing.{MovesOn, StandsFor, actors_told}
 use Rattle.pool_live.proofs.Sharing.{actors_more}
 use Rattle.pool_live.proofs.beside.take_turns_of.Goals as goal
 
@@ -17,5 +17,5 @@ give-requires-clause-stands g c =
     subst (λ (actors : List ℕ). StandsFor g.J.Setup.script g.J.Setup.start actors after new.journal.room new.progress.turns)
     (sym (actors_more seen (record { actor = c.args.actor; turns = had })))
     (subst (λ (s : Script). MovesOn s before held.journal.room held.progress.turns c.args.actor had after new.journal.room
-    new.progress.turns) c.requires.script c.have_turns-next.ensures.stands g.J.Setup.start (actors_of seen)
+    new.progress.turns) c.requires.script c.have_turns-next.ensures.stands g.J.Setup.start (actors_told seen)
     c.in-Ok.ensures.stands)

@@ -4,7 +4,7 @@ use Rattle.reflow_mark.specs.Reflow.{Expands}
 use Rattle.client_script.specs.Script.{IsAllowed, Script as ScriptOf}
 use Rattle.open_pool.specs.Pool.{first_item}
 use Rattle.core_turns.specs.Core.{at_disk}
-use Rattle.pool_live.specs.Widening.{IsWidening}
+use Rattle.pool_live.specs.Widening.{TellsExpansion}
 use Rattle.pool_live.proofs.Widening.{carried_alone, carried_as_they_came, left_undone, widening_actors, widening_allowed, widening_not_alone}
 use Rattle.pool_live.proofs.run.carry_out_with.Goals.{then-attaches-via-then-attaches, then-attaches-via-else-attaches+then-expands}
 use Rattle.pool_live.proofs.run.carry_out_with.Goals as goal
@@ -31,7 +31,7 @@ carry_out_beside-requires-clause-actors g c κs within =
 
 pub returns-then-attaches : goal.returns-then-attaches
 returns-then-attaches g c =
-    let widens : (c.args.attaches ≡ true) ⊎ IsWidening (first_item c.args.core.pool) = elim c.then-attaches.branch [
+    let widens : (c.args.attaches ≡ true) ⊎ TellsExpansion (first_item c.args.core.pool) = elim c.then-attaches.branch [
       | then-attaches-via-then-attaches w ↦ inl w.if-attaches.true
       | then-attaches-via-else-attaches+then-expands w ↦ inr (subst Expands w.reflow.ensures.value
           (w.expands.ensures.value.0 w.if-expands.true))
