@@ -67,10 +67,11 @@ IsAskedOf number (work.Read run) (ahead.Solve block) = (run.read.row ≡ rows_of
     × IsAlike block (to_solve_of run)
 IsAskedOf number other asked = asked ≡ ahead.Nothing
 
--- What a client with these calls asks for: what its call under way does.
+-- What a client with these calls asks for: what its call under way does, and nothing where it has none.
 abbrev pub IsAskedBy : List ScriptCall → Client → Ahead → Type 0
-IsAskedBy calls client asked = (under : UnderWay) (call : ScriptCall) → client.under_way ≡ Some under
-    → slice_get calls (client.begun - 1) ≡ Some call → IsAskedOf (client.begun - 1) under.work asked
+IsAskedBy calls client asked = ((under : UnderWay) (call : ScriptCall) → client.under_way ≡ Some under
+    → slice_get calls (client.begun - 1) ≡ Some call → IsAskedOf (client.begun - 1) under.work asked)
+    × (client.under_way ≡ None → asked ≡ ahead.Nothing)
 
 -- What was asked for was computed, unless memory was wanting for that.
 abbrev pub IsComputed : Ahead → Ready → Type 0
