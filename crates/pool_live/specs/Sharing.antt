@@ -8,8 +8,8 @@ use Rattle.client_script.specs.declared.call.ScriptCall.{ScriptCall}
 use Rattle.client_script.specs.Script.{Script}
 use Rattle.core_turns.specs.Core.{Core, CoreState}
 use Rattle.turn_lock.specs.Seats.{Lock, Sitting}
-use Rattle.pool_live.specs.declared.beside.Next.{Next}
-use Rattle.pool_live.specs.declared.beside.Next.TheVariants.{GoesOn}
+use Rattle.pool_live.specs.declared.batch.Next.{Next}
+use Rattle.pool_live.specs.declared.batch.Next.TheVariants.{GoesOn}
 use Rattle.pool_live.specs.declared.live.Had.{Had}
 use Rattle.schedule.specs.declared.client.Client.{Client}
 use Rattle.schedule.specs.Ahead.{IsAheadFor}

@@ -14,143 +14,31 @@ ghost use Rattle.schedule.specs.Turns.{most_turns, turns_of};
 ghost use Rattle.pool_live.specs.Sharing.{AnswersNone, HasCarriedOut, HasStoodFor, IsFreeSeat, IsNextFor};
 ghost use Rattle.pool_live.specs.Sharing.{IsUntouched, MovesOn, StandsFor};
 
-use crate::live::{Had, Live, Setup};
-use bank_trait::Bank;
+use crate::batch::{Next, take_turns_of};
+use crate::gate::pass_behind;
+use crate::live::{Had, Live, Setup, Shared};
+use bank_trait::{Bank, Gate};
 use client_script::Script;
 use core_state::Journal;
 use core_turns::Core;
-use schedule::{Ahead, Ended, Progress, Ready, UsedUp, begin, take_turns, turn_of};
+use schedule::{Ended, Ready, UsedUp, begin, take_turns};
 use std::alloc::Global;
 use std::marker::{Brand, PhantomData};
 use std::sync::Wait;
 use std::thread::{Threads, join, yield_now};
-use turn_lock::{Seat, Turns};
+use turn_lock::{NewRefused, Seat, Turns};
 
-/// Most turns that a client has at once, while others wait for theirs.
-const MOST_AT_ONCE: u64 = 16;
-
-/// What a client has before it after a turn.
-enum Next {
-    /// A turn of its call under way, or its next call; and what can be computed for that first.
-    GoesOn(Ahead),
-    /// The first turn of its next call again, which found another's call in its way.
-    Waits,
-    /// Nothing: its calls are answered, or no more turns can be counted.
-    Ended,
-}
-
-/// What the client of this number has before it, after a turn by which the journal came from so many items to this.
-fn next_of(
-    alloc: Global,
-    progress: &Progress,
-    script: &Script,
-    actor: u8,
-    before: usize,
-    now: usize,
-) -> Next
-    requires ready { (state : CoreState) × (items : List ItemOf) × (room : ℕ)
-        × IsReady script.now (turns_of state items progress.now.clients.items) room }
-    ensures { IsNextFor (calls_of script.now actor) result }
-{
-    if progress.is_busy(actor) {
-        Next::GoesOn(progress.ahead(alloc, script, actor))
-    } else if !progress.has_left(actor, script.calls(actor).len() as u64) {
-        Next::Ended
-    } else if now == before {
-        Next::Waits
-    } else {
-        Next::GoesOn(Ahead::Nothing)
-    }
-}
-
-/// A client's turns, one after the other: with what was computed for the first, and as long as the next asks for nothing
-/// to be computed, finds no other's call in its way, and others have not waited for too many. Says what comes then, and
-/// how many turns it had.
-fn have_turns<B: Bank, J: Setup>(
-    alloc: Global,
-    live: &mut Live<B, J>,
-    script: &Script,
-    actor: u8,
-    computed: Ready,
-) -> (Next, u64)
-    requires allowed { All (λ placed. IsAllowed placed.call) script.now.calls }
-    requires ready { IsReady script.now (turns_by live.old.core (B.disk live.old.bank) live.old.journal live.old.progress)
-        live.old.journal.room }
-    requires computed { IsReadyFor (calls_of script.now actor) computed }
-    ensures next { IsNextFor (calls_of script.now actor) result.0 }
-    ensures stands { MovesOn script.now (turns_by live.old.core (B.disk live.old.bank) live.old.journal live.old.progress)
-        live.old.journal.room live.old.progress.turns actor result.1
-        (turns_by live.new.core (B.disk live.new.bank) live.new.journal live.new.progress)
-        live.new.journal.room live.new.progress.turns }
-{
-    let mut computed = computed;
-    let mut had = 0;
-    for _turn in 0..MOST_AT_ONCE {
-        let Ok(()) = live.progress.count() else {
-            return (Next::Ended, had);
-        };
-        let before = live.journal.len();
-        turn_of(
-            alloc,
-            &mut live.bank,
-            &mut live.core,
-            script,
-            &mut live.journal,
-            &mut live.progress,
-            actor,
-            computed,
-        );
-        had += 1;
-        match next_of(
-            alloc,
-            &live.progress,
-            script,
-            actor,
-            before,
-            live.journal.len(),
-        ) {
-            Next::GoesOn(Ahead::Nothing) => computed = Ready::Nothing,
-            next => return (next, had),
-        }
-    }
-    (Next::GoesOn(Ahead::Nothing), had)
-}
-
-/// Waits for the turn, and has it, with what was computed for it, and those behind it.
-fn take_turns_of<R: Wait, B: Bank, J: Setup>(
+/// The calls of one client, some turns at once, and the gate between them. What a turn asks to be computed is computed
+/// before it, while others have theirs. A client without calls takes no turn.
+fn run_client<R: Wait, B: Bank, J: Setup, G: Gate>(
     rt: &R,
     alloc: Global,
-    turns: &Turns<Live<B, J>, (), Had>,
-    seat: &mut Seat<Live<B, J>, Had>,
+    turns: &Turns<Shared<B, J>, (), Had>,
+    mut seat: Seat<Shared<B, J>, Had>,
     script: &Script,
+    gate: &G,
     actor: u8,
-    computed: Ready,
-) -> Next
-    requires script { script.now ≡ J.script }
-    requires allowed { All (λ placed. IsAllowed placed.call) script.now.calls }
-    requires seat { IsFreeSeat turns.now seat.old }
-    requires computed { IsReadyFor (calls_of script.now actor) computed }
-    ensures seat { IsFreeSeat turns.now seat.new }
-    ensures next { IsNextFor (calls_of script.now actor) result }
-{
-    let Ok(mut held) = turns.take(rt, seat) else {
-        return Next::Ended;
-    };
-    let (next, had) = have_turns(alloc, &mut held.state, script, actor, computed);
-    turns.give(seat, held, &Had { actor, turns: had });
-    next
-}
-
-/// The calls of one client, some turns at once. What a turn asks to be computed is computed before it, while others have
-/// theirs. A client without calls takes no turn.
-fn run_client<R: Wait, B: Bank, J: Setup>(
-    rt: &R,
-    alloc: Global,
-    turns: &Turns<Live<B, J>, (), Had>,
-    mut seat: Seat<Live<B, J>, Had>,
-    script: &Script,
-    actor: u8,
-) -> Seat<Live<B, J>, Had>
+) -> Seat<Shared<B, J>, Had>
     requires script { script.now ≡ J.script }
     requires allowed { All (λ placed. IsAllowed placed.call) script.now.calls }
     requires seat { IsFreeSeat turns.now seat }
@@ -161,7 +49,9 @@ fn run_client<R: Wait, B: Bank, J: Setup>(
     }
     let mut computed = Ready::Nothing;
     for _ in rt.forever() {
-        computed = match take_turns_of(rt, alloc, turns, &mut seat, script, actor, computed) {
+        let batch = take_turns_of(rt, alloc, turns, &mut seat, script, actor, computed);
+        pass_behind(rt, gate, actor, &batch);
+        computed = match batch.next {
             Next::GoesOn(ahead) => ahead.compute(alloc, script.calls(actor)),
             Next::Waits => {
                 yield_now();
@@ -174,15 +64,16 @@ fn run_client<R: Wait, B: Bank, J: Setup>(
 }
 
 /// The calls of some clients, each of them in a thread.
-fn run_clients<R: Threads + Wait + Sync, B: Bank + Send, J: Setup + Send + Sync>(
+fn run_clients<R: Threads + Wait + Sync, B: Bank + Send, J: Setup + Send + Sync, G: Gate + Sync>(
     rt: &R,
     alloc: Global,
-    turns: &Turns<Live<B, J>, (), Had>,
-    mut seat: Seat<Live<B, J>, Had>,
+    turns: &Turns<Shared<B, J>, (), Had>,
+    mut seat: Seat<Shared<B, J>, Had>,
     script: &Script,
+    gate: &G,
     first: u8,
     end: u8,
-) -> Seat<Live<B, J>, Had>
+) -> Seat<Shared<B, J>, Had>
     requires script { script.now ≡ J.script }
     requires allowed { All (λ placed. IsAllowed placed.call) script.now.calls }
     requires seat { IsFreeSeat turns.now seat }
@@ -190,22 +81,22 @@ fn run_clients<R: Threads + Wait + Sync, B: Bank + Send, J: Setup + Send + Sync>
     ensures seat { IsFreeSeat turns.now result }
 {
     if end - first == 1 {
-        return run_client(rt, alloc, turns, seat, script, first);
+        return run_client(rt, alloc, turns, seat, script, gate, first);
     }
     let middle = first + (end - first) / 2;
     let other = turns.split(&mut seat);
     let (mut seat, other) = join(
         rt,
-        move || -> Seat<Live<B, J>, Had>
-            requires { IsSync R.row × (script.now ≡ J.script) × (first < middle) × IsFreeSeat turns.now seat
+        move || -> Seat<Shared<B, J>, Had>
+            requires { IsSync R.row × IsSync G.row × (script.now ≡ J.script) × (first < middle) × IsFreeSeat turns.now seat
                 × All (λ placed. IsAllowed placed.call) script.now.calls }
             ensures { IsFreeSeat turns.entry.now result }
-        { run_clients(rt, alloc, turns, seat, script, first, middle) },
-        move || -> Seat<Live<B, J>, Had>
-            requires { IsSync R.row × (script.now ≡ J.script) × (middle < end) × IsFreeSeat turns.now other
+        { run_clients(rt, alloc, turns, seat, script, gate, first, middle) },
+        move || -> Seat<Shared<B, J>, Had>
+            requires { IsSync R.row × IsSync G.row × (script.now ≡ J.script) × (middle < end) × IsFreeSeat turns.now other
                 × All (λ placed. IsAllowed placed.call) script.now.calls }
             ensures { IsFreeSeat turns.entry.now result }
-        { run_clients(rt, alloc, turns, other, script, middle, end) },
+        { run_clients(rt, alloc, turns, other, script, gate, middle, end) },
     );
     turns.join(&mut seat, other);
     seat
@@ -263,12 +154,12 @@ fn finish<B: Bank, J: Setup>(alloc: Global, live: Live<B, J>, script: &Script) -
 }
 
 /// Threads take turns. Where there is no memory for a lock none is taken.
-fn take_turns_beside<J: Setup + Send + Sync, R: Threads + Wait + Sync, B: Bank + Send>(
-    rt: &R,
-    alloc: Global,
-    live: Live<B, J>,
-    script: &Script,
-) -> Live<B, J>
+fn take_turns_beside<
+    J: Setup + Send + Sync,
+    R: Threads + Wait + Sync,
+    B: Bank + Send,
+    G: Gate + Sync,
+>(rt: &R, alloc: Global, live: Live<B, J>, script: &Script, gate: &G) -> Live<B, J>
     requires script { script.now ≡ J.script }
     requires allowed { All (λ placed. IsAllowed placed.call) script.now.calls }
     requires stands { StandsFor J.script J.start []
@@ -277,25 +168,35 @@ fn take_turns_beside<J: Setup + Send + Sync, R: Threads + Wait + Sync, B: Bank +
         (turns_by result.core (B.disk result.bank) result.journal result.progress) result.journal.room
         result.progress.turns }
 {
-    let (turns, seat) = match Turns::new(alloc, live, &()) {
+    let shared = match Box::new(alloc, live) {
+        Ok(live) => Shared { live },
+        Err(refused) => return refused.value,
+    };
+    let (turns, seat) = match Turns::new(alloc, shared, &()) {
         Ok(made) => made,
-        Err(refused) => return refused.state,
+        Err(
+            NewRefused {
+                state: Shared { live },
+            },
+        ) => return Box::into_inner(live),
     };
     let clients = script.clients();
     let last = if clients == 0 {
         seat
     } else {
-        run_clients(rt, alloc, &turns, seat, script, 0, clients)
+        run_clients(rt, alloc, &turns, seat, script, gate, 0, clients)
     };
-    turns.close(rt, last)
+    let Shared { live } = turns.close(rt, last);
+    Box::into_inner(live)
 }
 
 /// The same, and then what the threads have left.
-fn share<J: Setup + Send + Sync, R: Threads + Wait + Sync, B: Bank + Send>(
+fn share<J: Setup + Send + Sync, R: Threads + Wait + Sync, B: Bank + Send, G: Gate + Sync>(
     rt: &R,
     alloc: Global,
     live: Live<B, J>,
     script: &Script,
+    gate: &G,
 ) -> Carried<B>
     requires script { script.now ≡ J.script }
     requires start { J.start ≡ Some (turns_by live.core (B.disk live.bank) live.journal live.progress) }
@@ -311,19 +212,20 @@ fn share<J: Setup + Send + Sync, R: Threads + Wait + Sync, B: Bank + Send>(
     ensures limit { result.ended ≡ Limit → most_turns ≤ result.turns }
     ensures memory { result.ended ≡ NoMemory → ⊥ }
 {
-    let left = take_turns_beside(rt, alloc, live, script);
+    let left = take_turns_beside(rt, alloc, live, script, gate);
     finish(alloc, left, script)
 }
 
 /// Carries out the calls of a script's clients, each client in a thread of its own: whoever has the turn has one, and
-/// what the threads leave is carried out here. Room for all answers is made before the first turn; where memory is
-/// wanting for that, nothing is done. After 2^62 turns no more is taken.
-pub fn carry_out_beside<R: Threads + Wait + Sync, B: Bank + Send>(
+/// what the threads leave is carried out here. Between their turns they pass the gate. Room for all answers is made
+/// before the first turn; where memory is wanting for that, nothing is done. After 2^62 turns no more is taken.
+pub fn carry_out_beside<R: Threads + Wait + Sync, B: Bank + Send, G: Gate + Sync>(
     rt: &R,
     alloc: Global,
     bank: B,
     core: Core,
     script: &Script,
+    gate: &G,
     mut journal: Journal,
 ) -> Carried<B>
     requires bank { HasBankOf core (B.disk bank) }
@@ -356,5 +258,5 @@ pub fn carry_out_beside<R: Threads + Wait + Sync, B: Bank + Send>(
         progress,
         of: PhantomData,
     };
-    share::<Brand, R, B>(rt, alloc, live, script)
+    share::<Brand, R, B, G>(rt, alloc, live, script, gate)
 }

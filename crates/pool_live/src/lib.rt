@@ -5,9 +5,12 @@
 //! `specs/Sharing.antt`. Stands on `schedule` and `turn_lock`.
 #![tactic(auto)]
 
+mod batch;
 mod beside;
+mod gate;
 mod live;
 mod run;
 
 pub use beside::{Carried, carry_out_beside};
+pub use gate::OpenGate;
 pub use run::{PoolRun, run_pool_beside};

@@ -44,10 +44,16 @@ pub struct Live<B: Bank, J: Setup> {
     pub of: PhantomData<J>,
 }
 
-impl<B: Bank, J: Setup> Stood<(), Had> for Live<B, J> {
+/// It, behind a pointer, so that it stays where it is while the lock goes from thread to thread.
+pub struct Shared<B: Bank, J: Setup> {
+    pub live: Box<Live<B, J>>,
+}
+
+impl<B: Bank, J: Setup> Stood<(), Had> for Shared<B, J> {
     ghost use Rattle.schedule.specs.InTurn.{turns_by};
     ghost use Rattle.pool_live.specs.Sharing.{StandsFor, actors_told};
 
-    ghost stands = { λ base told live. StandsFor J.script J.start (actors_told told)
-        (turns_by live.core (B.disk live.bank) live.journal live.progress) live.journal.room live.progress.turns };
+    ghost stands = { λ base told shared. StandsFor J.script J.start (actors_told told)
+        (turns_by shared.live.value.core (B.disk shared.live.value.bank) shared.live.value.journal
+        shared.live.value.progress) shared.live.value.journal.room shared.live.value.progress.turns };
 }

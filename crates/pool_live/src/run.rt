@@ -15,7 +15,7 @@ ghost use Rattle.pool_live.specs.Sharing.{AnswersNone};
 ghost use Rattle.pool_live.specs.Widening.{HasRunBeside, IsCarriedWith};
 
 use crate::beside::{Carried, carry_out_beside};
-use bank_trait::Bank;
+use bank_trait::{Bank, Gate};
 use client_script::{Script, add_copier};
 use core_open::OpenWhy;
 use core_state::{Item, Journal};
@@ -66,13 +66,14 @@ fn carry_out_alone<B: Bank>(
 /// Carries out the calls of a script's clients on an open pool, each client in a thread of its own; with one more that
 /// widens the pool, where a device is to be attached or an expansion runs. The calls of an only client are carried out
 /// here. Where memory is wanting nothing is done.
-fn carry_out_with<R: Threads + Wait + Sync, B: Bank + Send>(
+fn carry_out_with<R: Threads + Wait + Sync, B: Bank + Send, G: Gate + Sync>(
     rt: &R,
     alloc: Global,
     bank: B,
     core: Core,
     mut script: Script,
     attaches: bool,
+    gate: &G,
     journal: Journal,
 ) -> Carried<B>
     requires bank { HasBankOf core (B.disk bank) }
@@ -94,25 +95,26 @@ fn carry_out_with<R: Threads + Wait + Sync, B: Bank + Send>(
                 turns: 0,
             };
         };
-        return carry_out_beside(rt, alloc, bank, core, &script, journal);
+        return carry_out_beside(rt, alloc, bank, core, &script, gate, journal);
     }
     if script.clients() <= 1 {
         return carry_out_alone(alloc, bank, core, &script, journal);
     }
-    carry_out_beside(rt, alloc, bank, core, &script, journal)
+    carry_out_beside(rt, alloc, bank, core, &script, gate, journal)
 }
 
 /// Opens the pool that the devices show and carries out the calls of a script's clients on it, each client in a thread
 /// of its own. Beside them one more client attaches a device, where that is asked for, and copies; where an expansion
 /// runs it copies in any case. Without that client, the calls of an only one are carried out in one thread, in the order
-/// of their lines. Lists what is answered: the opening's group, each group that a sync, an attach or a copy ends, and
+/// of their lines, and pass no gate. Lists what is answered: the opening's group, each group that a sync, an attach or a copy ends, and
 /// each call. Lists nothing where no pool is opened.
-pub fn run_pool_beside<R: Threads + Wait + Sync, B: Bank + Send>(
+pub fn run_pool_beside<R: Threads + Wait + Sync, B: Bank + Send, G: Gate + Sync>(
     rt: &R,
     alloc: Global,
     mut bank: B,
     script: Script,
     attaches: bool,
+    gate: &G,
     mut journal: Journal,
 ) -> PoolRun<B>
     requires empty { journal.items ≡ [] }
@@ -143,7 +145,7 @@ pub fn run_pool_beside<R: Threads + Wait + Sync, B: Bank + Send>(
     };
     journal.list(Item::Group(opened.pool.first_item()));
     let core = Core::new(alloc, opened.pool);
-    let carried = carry_out_with(rt, alloc, bank, core, script, attaches, journal);
+    let carried = carry_out_with(rt, alloc, bank, core, script, attaches, gate, journal);
     PoolRun {
         ran: Ok(Ran {
             ended: carried.ended,

@@ -2,10 +2,10 @@
 use crate::banks::bank_of_nine_and_a_blank;
 use crate::legal_check::Journaled;
 use crate::plan_check::{FIRST_OPENING, Left, check_reads};
-use crate::plans::{Plan, PlannedCall, plan_of_lines};
+use crate::plans::{Plan, PlannedCall, plan_of_eight};
 use client_script::{COPIER, parse};
 use core_state::{Journal, Kind};
-use pool_live::{PoolRun, run_pool_beside};
+use pool_live::{OpenGate, PoolRun, run_pool_beside};
 use schedule::Ended;
 use std::alloc::{AllocError, Global};
 use std::process::Abort;
@@ -14,7 +14,7 @@ use std::test::Fail;
 use std::thread::Threads;
 
 /// How many plans are carried out, and how many beside a client that widens the pool.
-const PLANS: u64 = 40;
+const PLANS: u64 = 100;
 
 const PLANS_THAT_WIDEN: u64 = 20;
 
@@ -49,7 +49,7 @@ fn check_beside<R: Abort + Threads + Wait + Sync>(
         ran,
         mut bank,
         journal,
-    } = run_pool_beside(rt, alloc, bank, script, attaches, journal);
+    } = run_pool_beside(rt, alloc, bank, script, attaches, &OpenGate, journal);
     let ran = ran?;
     assert_eq!(rt; ran.ended, Ended::Whole, "plan {number}");
     assert!(rt; ran.out.is_empty(), "plan {number}");
@@ -68,7 +68,7 @@ fn check_beside<R: Abort + Threads + Wait + Sync>(
 #[test]
 fn clients_in_threads_are_answered_rightly(rt: HostRuntime) -> Result<(), Fail> {
     for number in 0..PLANS {
-        let plan = plan_of_lines(rt.alloc(), number)?;
+        let plan = plan_of_eight(rt.alloc(), number)?;
         check_beside(&rt, rt.alloc(), plan, false, number)?;
     }
     Ok(())
@@ -77,7 +77,7 @@ fn clients_in_threads_are_answered_rightly(rt: HostRuntime) -> Result<(), Fail> 
 #[test]
 fn clients_are_answered_rightly_while_a_run_widens_its_pool(rt: HostRuntime) -> Result<(), Fail> {
     for number in 0..PLANS_THAT_WIDEN {
-        let plan = plan_of_lines(rt.alloc(), number)?;
+        let plan = plan_of_eight(rt.alloc(), number)?;
         let plan = with_widening(rt.alloc(), plan)?;
         check_beside(&rt, rt.alloc(), plan, true, number)?;
     }

@@ -1,5 +1,7 @@
 // Calls over banks in memory, and what they tell.
 use bank_mem::{MemBank, MemSink, MemSource};
+use bank_trait::Gate;
+use pool_live::OpenGate;
 use raidzx_top::{Outcome, Status, raidzx};
 use std::alloc::{AllocError, Global};
 use std::sync::Wait;
@@ -37,10 +39,11 @@ pub fn words_of(alloc: Global, text: &str) -> Result<Vec<String>, AllocError> {
     Ok(words)
 }
 
-/// Carries out these words over a bank, a source of a script and a sink.
-pub fn call_with<R: Threads + Wait + Sync>(
+/// Carries out these words over a bank, a source of a script and a sink, with a gate between the turns of its threads.
+fn call_through<R: Threads + Wait + Sync, G: Gate + Sync>(
     rt: &R,
     alloc: Global,
+    gate: &G,
     words: &str,
     bank: MemBank,
     source: MemSource,
@@ -54,7 +57,15 @@ pub fn call_with<R: Threads + Wait + Sync>(
         bank,
         journal,
         turns,
-    } = raidzx(rt, alloc, words.as_slice(), bank, &mut source, &mut text);
+    } = raidzx(
+        rt,
+        alloc,
+        words.as_slice(),
+        bank,
+        &mut source,
+        &mut text,
+        gate,
+    );
     let items = journal.as_slice().len();
     Ok(Told {
         status,
@@ -65,6 +76,32 @@ pub fn call_with<R: Threads + Wait + Sync>(
     })
 }
 
+/// Carries out these words over a bank, a source of a script and a sink.
+pub fn call_with<R: Threads + Wait + Sync>(
+    rt: &R,
+    alloc: Global,
+    words: &str,
+    bank: MemBank,
+    source: MemSource,
+    sink: MemSink,
+) -> Result<Told, Fail> {
+    call_through(rt, alloc, &OpenGate, words, bank, source, sink)
+}
+
+/// Carries out these words over a bank and a script, with a gate, where source and sink don't fail.
+pub fn call_held_up<R: Threads + Wait + Sync, G: Gate + Sync>(
+    rt: &R,
+    alloc: Global,
+    gate: &G,
+    words: &str,
+    bank: MemBank,
+    script: &[u8],
+) -> Result<Told, Fail> {
+    let source = MemSource::new(alloc, script, &[])?;
+    let sink = MemSink::with_room(alloc, 1 << 20, &[])?;
+    call_through(rt, alloc, gate, words, bank, source, sink)
+}
+
 /// Carries out these words over a bank and a script, where source and sink don't fail.
 pub fn call<R: Threads + Wait + Sync>(
     rt: &R,
@@ -73,7 +110,5 @@ pub fn call<R: Threads + Wait + Sync>(
     bank: MemBank,
     script: &[u8],
 ) -> Result<Told, Fail> {
-    let source = MemSource::new(alloc, script, &[])?;
-    let sink = MemSink::with_room(alloc, 1 << 20, &[])?;
-    call_with(rt, alloc, words, bank, source, sink)
+    call_held_up(rt, alloc, &OpenGate, words, bank, script)
 }

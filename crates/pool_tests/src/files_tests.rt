@@ -6,6 +6,7 @@ use crate::calls::{MAKE_NINE, REPLAY, RUN, STATUS, words_of};
 use bank_mem::{MemBank, MemSink, MemSource};
 use bank_trait::{Bank, Failed};
 use file_bank::{FileBank, MemFile};
+use pool_live::OpenGate;
 use raidzx_top::{Outcome, Status, raidzx};
 use std::alloc::{AllocError, Global};
 use std::process::Abort;
@@ -74,7 +75,15 @@ fn carried_out<R: Threads + Wait + Sync, B: Bank + Drop + Send>(
         bank,
         journal: _,
         turns: _,
-    } = raidzx(rt, alloc, words.as_slice(), bank, &mut source, &mut text);
+    } = raidzx(
+        rt,
+        alloc,
+        words.as_slice(),
+        bank,
+        &mut source,
+        &mut text,
+        &OpenGate,
+    );
     Ok(Left { status, text, bank })
 }
 

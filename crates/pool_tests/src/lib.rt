@@ -32,6 +32,8 @@ mod files_tests;
 #[cfg(test)]
 mod first_run_tests;
 #[cfg(test)]
+mod gate_tests;
+#[cfg(test)]
 mod join_tests;
 #[cfg(test)]
 mod legal_check;

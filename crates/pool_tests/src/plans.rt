@@ -1,11 +1,14 @@
-// Scripts of three clients, made from a number, and what each of their calls hands over.
-ghost use Rattle.std.specs.Prelude.{◌<◌};
+// Scripts of three clients or eight, made from a number, and what each of their calls hands over.
+ghost use Rattle.std.specs.Prelude.{◌<◌, ◌≤◌};
 
 use core_state::Kind;
 use std::alloc::{AllocError, Global};
 
 /// The ids that plans name: those below this one.
 pub const IDS: u64 = 4;
+
+/// How many clients a script may have.
+const MOST_CLIENTS: u64 = 8;
 
 /// Fewest and most calls of a client.
 const FEWEST_CALLS: u64 = 6;
@@ -79,12 +82,7 @@ impl Draw {
 
 /// The letter of a client.
 pub fn letter(caller: u64) -> char {
-    match caller {
-        0 => 'a',
-        1 => 'b',
-        2 => 'c',
-        _ => 'd',
-    }
+    char::from(b'a' + (caller % MOST_CLIENTS) as u8)
 }
 
 /// What a plan is about: single blocks, or one client's copy beside them.
@@ -305,16 +303,18 @@ impl Plan {
     }
 }
 
-/// Three clients with 6 to 10 calls each, their lines in turns; with 20 to 24 where one copies.
-fn draw_calls(alloc: Global, draw: &mut Draw, theme: Theme) -> Result<Plan, AllocError> {
-    let mut plan = Plan::new(alloc, 3)?;
+/// So many clients with 6 to 10 calls each, their lines in turns; with 20 to 24 where one copies.
+fn draw_calls(alloc: Global, draw: &mut Draw, clients: u8, theme: Theme) -> Result<Plan, AllocError>
+    requires { clients ≤ 8 }
+{
+    let mut plan = Plan::new(alloc, clients)?;
     let more = theme.more_calls();
-    let mut counts = [0; 3];
-    for count in &mut counts {
+    let mut counts = [0; MOST_CLIENTS as usize];
+    for count in &mut counts[..clients as usize] {
         *count = (FEWEST_CALLS + draw.below(MOST_CALLS - FEWEST_CALLS + 1)).wrapping_add(more);
     }
     for round in 0..MOST_CALLS + MORE_BESIDE_COPY {
-        for caller in 0..3 {
+        for caller in 0..clients {
             if round < counts[caller as usize] {
                 let kind = match theme.fixed(u64::from(caller), round) {
                     Some(kind) => kind,
@@ -332,7 +332,7 @@ fn draw_calls(alloc: Global, draw: &mut Draw, theme: Theme) -> Result<Plan, Allo
 pub fn plan_of(alloc: Global, number: u64) -> Result<Plan, AllocError> {
     let mut draw = Draw::new(number);
     let theme = Theme::of(number, COPIES_EVERY);
-    let mut plan = draw_calls(alloc, &mut draw, theme)?;
+    let mut plan = draw_calls(alloc, &mut draw, 3, theme)?;
     plan.push_order(&mut draw, theme, 1 + number % 8)?;
     Ok(plan)
 }
@@ -341,7 +341,14 @@ pub fn plan_of(alloc: Global, number: u64) -> Result<Plan, AllocError> {
 pub fn plan_of_lines(alloc: Global, number: u64) -> Result<Plan, AllocError> {
     let mut draw = Draw::new(number);
     let theme = Theme::of(number, COPIES_EVERY_OF_LINES);
-    draw_calls(alloc, &mut draw, theme)
+    draw_calls(alloc, &mut draw, 3, theme)
+}
+
+/// The plan of this number of eight clients, without an order.
+pub fn plan_of_eight(alloc: Global, number: u64) -> Result<Plan, AllocError> {
+    let mut draw = Draw::new(number);
+    let theme = Theme::of(number, COPIES_EVERY_OF_LINES);
+    draw_calls(alloc, &mut draw, 8, theme)
 }
 
 /// A client's get and sum of each id; then it copies, and gets them again.

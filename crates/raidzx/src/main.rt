@@ -22,6 +22,7 @@ use bank_trait::Bank;
 use hints::hint_line;
 use notes::{note_lengths, note_unopened};
 use opening::{Access, Unopened, access_for, open_image};
+use pool_live::OpenGate;
 use raidzx_top::{Outcome, Status, image_words, raidzx, read_command, write_status};
 use std::alloc::{AllocFailed, Global};
 use std::env;
@@ -99,7 +100,15 @@ fn run_over<R: Threads + Wait + Sync, B: Bank + Drop + Send>(
         inner: io::writer(rt),
         faults: 0,
     };
-    let outcome = raidzx(threads, rt.alloc(), words, bank, &mut script, &mut out);
+    let outcome = raidzx(
+        threads,
+        rt.alloc(),
+        words,
+        bank,
+        &mut script,
+        &mut out,
+        &OpenGate,
+    );
     if let Status::ScriptFault { line, why } = outcome.status {
         hint_line(rt, line, why);
     }

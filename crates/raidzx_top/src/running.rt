@@ -8,7 +8,7 @@ use crate::order::Order;
 use crate::outcome::Outcome;
 use crate::report::{refuse, write_run};
 use crate::status::Status;
-use bank_trait::{Bank, Sink, Source};
+use bank_trait::{Bank, Gate, Sink, Source};
 use client_script::{Script, read_script};
 use core_state::{Answer, Item, Journal};
 use pool_live::{PoolRun, run_pool_beside};
@@ -102,12 +102,13 @@ fn read<S: Source>(alloc: Global, source: &mut S, journal: &mut Journal) -> Resu
 }
 
 /// Carries a script out on the pool that the devices show.
-fn carry_script<R: Threads + Wait + Sync, B: Bank + Send>(
+fn carry_script<R: Threads + Wait + Sync, B: Bank + Send, G: Gate + Sync>(
     rt: &R,
     alloc: Global,
     order: Order,
     mut bank: B,
     script: Script,
+    gate: &G,
     mut journal: Journal,
 ) -> PoolRun<B>
     requires empty { journal.items ≡ [] }
@@ -122,7 +123,7 @@ fn carry_script<R: Threads + Wait + Sync, B: Bank + Send>(
 {
     match order {
         Order::AsTheyCome { attaches } => {
-            run_pool_beside(rt, alloc, bank, script, attaches, journal)
+            run_pool_beside(rt, alloc, bank, script, attaches, gate, journal)
         }
         Order::AsListed => {
             let ran = run_pool(alloc, &mut bank, &script, script.order(), &mut journal);
@@ -147,13 +148,14 @@ fn tell<K: Sink>(out: &mut K, journal: &Journal, status: Status) -> Status
 
 /// Reads a script from a source, opens the pool that the devices show, and carries the script out on it in
 /// this order. Writes what was answered, and the line of the status.
-pub fn run<R: Threads + Wait + Sync, B: Bank + Send, S: Source, K: Sink>(
+pub fn run<R: Threads + Wait + Sync, B: Bank + Send, S: Source, K: Sink, G: Gate + Sync>(
     rt: &R,
     alloc: Global,
     order: Order,
     bank: B,
     source: &mut S,
     out: &mut K,
+    gate: &G,
 ) -> Outcome<B>
     ensures { EndsRun order (stream_of (S.left source.old) (S.faults source.old))
         (stream_of (S.left source.new) (S.faults source.new))
@@ -166,7 +168,9 @@ pub fn run<R: Threads + Wait + Sync, B: Bank + Send, S: Source, K: Sink>(
         Ok(script) => script,
         Err(status) => return Outcome::without_turns(alloc, refuse(out, status), bank),
     };
-    let PoolRun { ran, bank, journal } = carry_script(rt, alloc, order, bank, script, journal);
+    let PoolRun { ran, bank, journal } = carry_script(
+        rt, alloc, order, bank, script, gate, journal,
+    );
     match ran {
         Ok(ran) => {
             let status = status_of(&ran, &journal);

@@ -15,7 +15,7 @@ use crate::report::{refuse, write_created};
 use crate::running::run;
 use crate::status::Status;
 use crate::words::{NewPool, ServedCommand, read_command};
-use bank_trait::{Bank, Sink, Source};
+use bank_trait::{Bank, Gate, Sink, Source};
 use core_open::data_rows;
 use std::alloc::Global;
 use std::sync::Wait;
@@ -37,13 +37,14 @@ fn create_pool<B: Bank, K: Sink>(bank: &mut B, made: &NewPool, out: &mut K) -> S
     }
 }
 
-fn carry_out<R: Threads + Wait + Sync, B: Bank + Send, S: Source, K: Sink>(
+fn carry_out<R: Threads + Wait + Sync, B: Bank + Send, S: Source, K: Sink, G: Gate + Sync>(
     rt: &R,
     alloc: Global,
     words: &[String],
     mut bank: B,
     script: &mut S,
     out: &mut K,
+    gate: &G,
 ) -> Outcome<B>
     ensures { Ends (call_of (map string_bytes words.now)
         (B.disk bank) (B.disk result.bank)
@@ -60,9 +61,10 @@ fn carry_out<R: Threads + Wait + Sync, B: Bank + Send, S: Source, K: Sink>(
             Outcome::without_turns(alloc, status, bank)
         }
         Some(ServedCommand::Run { attaches }) => {
-            run(rt, alloc, Order::AsTheyCome { attaches }, bank, script, out)
+            let order = Order::AsTheyCome { attaches };
+            run(rt, alloc, order, bank, script, out, gate)
         }
-        Some(ServedCommand::Replay) => run(rt, alloc, Order::AsListed, bank, script, out),
+        Some(ServedCommand::Replay) => run(rt, alloc, Order::AsListed, bank, script, out, gate),
         Some(ServedCommand::Status) => {
             let status = tell_status(alloc, &mut bank, out);
             Outcome::without_turns(alloc, status, bank)
@@ -77,14 +79,16 @@ fn laws_hold<B: Bank>(_bank: &B)
 
 /// Carries out the command that the words spell, of which the first is not looked at. The script is
 /// read from a source; every line goes to a sink, those of faults too. The clients of a run have threads of their own,
-/// where there are several; the one that widens the pool is one of them.
-pub fn raidzx<R: Threads + Wait + Sync, B: Bank + Send, S: Source, K: Sink>(
+/// where there are several; the one that widens the pool is one of them. They pass the gate between their turns, and what
+/// it does is in no promise.
+pub fn raidzx<R: Threads + Wait + Sync, B: Bank + Send, S: Source, K: Sink, G: Gate + Sync>(
     rt: &R,
     alloc: Global,
     words: &[String],
     bank: B,
     script: &mut S,
     out: &mut K,
+    gate: &G,
 ) -> Outcome<B>
     ensures promises { CallPromises (call_of (map string_bytes words.now)
         (B.disk bank) (B.disk result.bank)
@@ -95,5 +99,5 @@ pub fn raidzx<R: Threads + Wait + Sync, B: Bank + Send, S: Source, K: Sink>(
         result.status result.journal.items result.turns) }
 {
     laws_hold(&bank);
-    carry_out(rt, alloc, words, bank, script, out)
+    carry_out(rt, alloc, words, bank, script, out, gate)
 }

@@ -1,20 +1,21 @@
-use Rattle.std.proofs.Common.{◌≡◌}
+use Rattle.std.proofs.Common.{◌≡◌, ◌≤◌}
 use Rattle.client_script.specs.Script.{calls_of}
 use Rattle.schedule.specs.Ahead.{IsReadyFor}
 use Rattle.schedule.specs.InTurn.{turns_by}
 use Rattle.schedule.specs.Playing.{IsReady}
 use Rattle.pool_live.specs.Sharing.{MovesOn}
-use Rattle.pool_live.proofs.beside.have_turns.Given as goal
+use Rattle.pool_live.proofs.batch.have_turns.Given as goal
 
 -- what the client had so far
 abbrev pub invariant-loop-turn : goal.invariant-loop-turn
 invariant-loop-turn g l = record {
-  had : l.had ≡ l._turn;
+  had : l.turns ≡ l._turn;
+  answered : l.answered ≤ l._turn;
   computed : IsReadyFor (calls_of l.fn.script l.fn.actor) l.computed;
   ready : IsReady l.fn.script (turns_by l.live.core (g.B.Bank.disk l.live.bank) l.live.journal l.live.progress)
       l.live.journal.room;
   moves : MovesOn l.fn.script (turns_by l.fn.live.core (g.B.Bank.disk l.fn.live.bank) l.fn.live.journal l.fn.live.progress)
-      l.fn.live.journal.room l.fn.live.progress.turns l.fn.actor l.had
+      l.fn.live.journal.room l.fn.live.progress.turns l.fn.actor l.turns
       (turns_by l.live.core (g.B.Bank.disk l.live.bank) l.live.journal l.live.progress)
       l.live.journal.room l.live.progress.turns;
 }

@@ -1,0 +1,171 @@
+// The turns that a client has while it holds the lock.
+ghost use Rattle.std.specs.Prelude.{◌≡◌, ◌≤◌, ℕ, List, All};
+ghost use Rattle.core_state.specs.declared.item.Item.{Item as ItemOf};
+ghost use Rattle.client_script.specs.Script.{IsAllowed, calls_of};
+ghost use Rattle.core_turns.specs.Core.{CoreState};
+ghost use Rattle.schedule.specs.Ahead.{IsReadyFor};
+ghost use Rattle.schedule.specs.InTurn.{turns_by};
+ghost use Rattle.schedule.specs.Playing.{IsReady};
+ghost use Rattle.schedule.specs.Turns.{turns_of};
+ghost use Rattle.pool_live.specs.Sharing.{IsFreeSeat, IsNextFor, MovesOn};
+
+use crate::live::{Had, Live, Setup, Shared};
+use bank_trait::Bank;
+use client_script::Script;
+use schedule::{Ahead, Progress, Ready, turn_of};
+use std::alloc::Global;
+use std::sync::Wait;
+use turn_lock::{Seat, Turns};
+
+/// Most turns that a client has at once, while others wait for theirs.
+const MOST_AT_ONCE: u64 = 16;
+
+/// What a client has before it after a turn.
+#[derive(Drop)]
+pub enum Next {
+    /// A turn of its call under way, or its next call; and what can be computed for that first.
+    GoesOn(Ahead),
+    /// The first turn of its next call again, which found another's call in its way.
+    Waits,
+    /// Nothing: its calls are answered, or no more turns can be counted.
+    Ended,
+}
+
+/// The turns that a client had one after the other, while no other had one.
+#[derive(Drop)]
+pub struct Batch {
+    pub turns: u64,
+    /// How many of its calls were answered by them.
+    pub answered: u64,
+    pub next: Next,
+}
+
+/// What the client of this number has before it, after a turn by which the journal came from so many items to this.
+fn next_of(
+    alloc: Global,
+    progress: &Progress,
+    script: &Script,
+    actor: u8,
+    before: usize,
+    now: usize,
+) -> Next
+    requires ready { (state : CoreState) × (items : List ItemOf) × (room : ℕ)
+        × IsReady script.now (turns_of state items progress.now.clients.items) room }
+    ensures { IsNextFor (calls_of script.now actor) result }
+{
+    if progress.is_busy(actor) {
+        Next::GoesOn(progress.ahead(alloc, script, actor))
+    } else if !progress.has_left(actor, script.calls(actor).len() as u64) {
+        Next::Ended
+    } else if now == before {
+        Next::Waits
+    } else {
+        Next::GoesOn(Ahead::Nothing)
+    }
+}
+
+/// How many of a client's calls were answered by a turn by which the journal came from so many items to this.
+fn count_answered(progress: &Progress, actor: u8, before: usize, now: usize) -> u64
+    ensures { result ≤ 1 }
+{
+    if now == before || progress.is_busy(actor) {
+        0
+    } else {
+        1
+    }
+}
+
+/// A client's turns, one after the other: with what was computed for the first, and as long as the next asks for nothing
+/// to be computed, finds no other's call in its way, and others have not waited for too many.
+fn have_turns<B: Bank, J: Setup>(
+    alloc: Global,
+    live: &mut Live<B, J>,
+    script: &Script,
+    actor: u8,
+    computed: Ready,
+) -> Batch
+    requires allowed { All (λ placed. IsAllowed placed.call) script.now.calls }
+    requires ready { IsReady script.now (turns_by live.old.core (B.disk live.old.bank) live.old.journal live.old.progress)
+        live.old.journal.room }
+    requires computed { IsReadyFor (calls_of script.now actor) computed }
+    ensures next { IsNextFor (calls_of script.now actor) result.next }
+    ensures stands { MovesOn script.now (turns_by live.old.core (B.disk live.old.bank) live.old.journal live.old.progress)
+        live.old.journal.room live.old.progress.turns actor result.turns
+        (turns_by live.new.core (B.disk live.new.bank) live.new.journal live.new.progress)
+        live.new.journal.room live.new.progress.turns }
+{
+    let mut computed = computed;
+    let mut turns = 0;
+    let mut answered = 0;
+    for _turn in 0..MOST_AT_ONCE {
+        let Ok(()) = live.progress.count() else {
+            return Batch {
+                turns,
+                answered,
+                next: Next::Ended,
+            };
+        };
+        let before = live.journal.len();
+        turn_of(
+            alloc,
+            &mut live.bank,
+            &mut live.core,
+            script,
+            &mut live.journal,
+            &mut live.progress,
+            actor,
+            computed,
+        );
+        turns += 1;
+        let now = live.journal.len();
+        answered += count_answered(&live.progress, actor, before, now);
+        match next_of(alloc, &live.progress, script, actor, before, now) {
+            Next::GoesOn(Ahead::Nothing) => computed = Ready::Nothing,
+            next => {
+                return Batch {
+                    turns,
+                    answered,
+                    next,
+                };
+            }
+        }
+    }
+    Batch {
+        turns,
+        answered,
+        next: Next::GoesOn(Ahead::Nothing),
+    }
+}
+
+/// Waits for the turn, and has it, with what was computed for it, and those behind it.
+pub fn take_turns_of<R: Wait, B: Bank, J: Setup>(
+    rt: &R,
+    alloc: Global,
+    turns: &Turns<Shared<B, J>, (), Had>,
+    seat: &mut Seat<Shared<B, J>, Had>,
+    script: &Script,
+    actor: u8,
+    computed: Ready,
+) -> Batch
+    requires script { script.now ≡ J.script }
+    requires allowed { All (λ placed. IsAllowed placed.call) script.now.calls }
+    requires seat { IsFreeSeat turns.now seat.old }
+    requires computed { IsReadyFor (calls_of script.now actor) computed }
+    ensures seat { IsFreeSeat turns.now seat.new }
+    ensures next { IsNextFor (calls_of script.now actor) result.next }
+{
+    let Ok(mut held) = turns.take(rt, seat) else {
+        return Batch {
+            turns: 0,
+            answered: 0,
+            next: Next::Ended,
+        };
+    };
+    let batch = have_turns(alloc, &mut held.state.live, script, actor, computed);
+    let had = Had {
+        actor,
+        turns: batch.turns,
+    };
+    turns.give(seat, held, &had);
+    batch
+}
