@@ -75,8 +75,8 @@ fn count_answered(progress: &Progress, actor: u8, before: usize, now: usize) -> 
     }
 }
 
-/// A client's turns, one after the other: with what was computed for the first, and as long as the next asks for nothing
-/// to be computed, finds no other's call in its way, and others have not waited for too many.
+/// A client's turns, one after the other: with what was computed for the first, and as long as the next asks for
+/// nothing to be computed, finds no other's call in its way, and others have not waited for too many.
 fn have_turns<B: Bank, J: Setup>(
     alloc: Global,
     live: &mut Live<B, J>,
@@ -85,11 +85,12 @@ fn have_turns<B: Bank, J: Setup>(
     computed: Ready,
 ) -> Batch
     requires allowed { All (λ placed. IsAllowed placed.call) script.now.calls }
-    requires ready { IsReady script.now (turns_by live.old.core (B.disk live.old.bank) live.old.journal live.old.progress)
-        live.old.journal.room }
+    requires ready { IsReady script.now
+        (turns_by live.old.core (B.disk live.old.bank) live.old.journal live.old.progress) live.old.journal.room }
     requires computed { IsReadyFor (calls_of script.now actor) computed }
     ensures next { IsNextFor (calls_of script.now actor) result.next }
-    ensures stands { MovesOn script.now (turns_by live.old.core (B.disk live.old.bank) live.old.journal live.old.progress)
+    ensures stands { MovesOn script.now
+        (turns_by live.old.core (B.disk live.old.bank) live.old.journal live.old.progress)
         live.old.journal.room live.old.progress.turns actor result.turns
         (turns_by live.new.core (B.disk live.new.bank) live.new.journal live.new.progress)
         live.new.journal.room live.new.progress.turns }

@@ -21,6 +21,7 @@ use bank_trait::{Bank, Gate};
 use client_script::Script;
 use core_state::Journal;
 use core_turns::Core;
+use crossbeam_utils::CachePadded;
 use schedule::{Ended, Ready, UsedUp, begin, take_turns};
 use std::alloc::Global;
 use std::marker::{Brand, PhantomData};
@@ -88,13 +89,13 @@ fn run_clients<R: Threads + Wait + Sync, B: Bank + Send, J: Setup + Send + Sync,
     let (mut seat, other) = join(
         rt,
         move || -> Seat<Shared<B, J>, Had>
-            requires { IsSync R.row × IsSync G.row × (script.now ≡ J.script) × (first < middle) × IsFreeSeat turns.now seat
-                × All (λ placed. IsAllowed placed.call) script.now.calls }
+            requires { IsSync R.row × IsSync G.row × (script.now ≡ J.script) × (first < middle)
+                × IsFreeSeat turns.now seat × All (λ placed. IsAllowed placed.call) script.now.calls }
             ensures { IsFreeSeat turns.entry.now result }
         { run_clients(rt, alloc, turns, seat, script, gate, first, middle) },
         move || -> Seat<Shared<B, J>, Had>
-            requires { IsSync R.row × IsSync G.row × (script.now ≡ J.script) × (middle < end) × IsFreeSeat turns.now other
-                × All (λ placed. IsAllowed placed.call) script.now.calls }
+            requires { IsSync R.row × IsSync G.row × (script.now ≡ J.script) × (middle < end)
+                × IsFreeSeat turns.now other × All (λ placed. IsAllowed placed.call) script.now.calls }
             ensures { IsFreeSeat turns.entry.now result }
         { run_clients(rt, alloc, turns, other, script, gate, middle, end) },
     );
@@ -180,13 +181,14 @@ fn take_turns_beside<
             },
         ) => return Box::into_inner(live),
     };
+    let turns = CachePadded::new(turns);
     let clients = script.clients();
     let last = if clients == 0 {
         seat
     } else {
         run_clients(rt, alloc, &turns, seat, script, gate, 0, clients)
     };
-    let Shared { live } = turns.close(rt, last);
+    let Shared { live } = turns.into_inner().close(rt, last);
     Box::into_inner(live)
 }
 

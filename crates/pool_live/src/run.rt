@@ -105,9 +105,9 @@ fn carry_out_with<R: Threads + Wait + Sync, B: Bank + Send, G: Gate + Sync>(
 
 /// Opens the pool that the devices show and carries out the calls of a script's clients on it, each client in a thread
 /// of its own. Beside them one more client attaches a device, where that is asked for, and copies; where an expansion
-/// runs it copies in any case. Without that client, the calls of an only one are carried out in one thread, in the order
-/// of their lines, and pass no gate. Lists what is answered: the opening's group, each group that a sync, an attach or a copy ends, and
-/// each call. Lists nothing where no pool is opened.
+/// runs it copies in any case. Without that client, the calls of an only one are carried out in one thread, in the
+/// order of their lines, and pass no gate. Lists what is answered: the opening's group, each group that a sync, an
+/// attach or a copy ends, and each call. Lists nothing where no pool is opened.
 pub fn run_pool_beside<R: Threads + Wait + Sync, B: Bank + Send, G: Gate + Sync>(
     rt: &R,
     alloc: Global,
