@@ -25,6 +25,11 @@ stands() {
 }
 widened='3 to 4 mark 0 state none'
 
+# not_attached PLACE POOL: what is told of an image that was taken.
+not_attached() {
+  echo "raidzx: disk3: not attached, as it shows image $1 of pool $2; nothing was written to it"
+}
+
 # An attach that goes well.
 old_and_one
 runs 'an image is attached' 0 '0 group 3 after 0
@@ -136,7 +141,7 @@ tells 'nothing is told'
 IMAGES=("${all[@]}")
 runs 'the new one is taken' 0 '0 group 8 after 0
 1 a.1 attach taken 5' attach
-tells 'nothing is told'
+tells 'what it shows is told' "$(not_attached 3 9)"
 same 'it is left alone' disk3 attached/disk3
 stands 3 none 1
 dd if=/dev/zero of=disk3 bs=512 count=32 conv=notrunc status=none
@@ -222,7 +227,7 @@ keep other4
 for other in other1/disk0 other2/disk0 other3/disk0 other4/disk3; do
   old_and_one
   cp $other disk3
-  refused "taken $(shown disk3)"
+  refused "taken $(shown disk3)" "$(not_attached "${other: -1}" 5)"
   mv disk3 taken
 done
 [ "$(shown other1/disk0) $(shown other2/disk0) $(shown other3/disk0)" = '1 0 7' ] || failed 'slots' 'other ones'
@@ -237,7 +242,7 @@ tells 'nothing is told'
 for number in 0 1 2; do
   old_and_one
   cp disk$number disk3
-  refused "taken $(shown disk3)"
+  refused "taken $(shown disk3)" "$(not_attached $number 9)"
 done
 
 # An image that is too short, missing, or no file.

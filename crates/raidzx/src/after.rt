@@ -2,10 +2,12 @@
 ghost use Rattle.bank_trait.specs.Disk.{Unchanged};
 
 use crate::bank::FileBank;
-use crate::notes::{note_failed_calls, note_further, note_out, note_seen, note_unknown};
+use crate::notes::{
+    note_failed_calls, note_further, note_out, note_seen, note_taken, note_unknown,
+};
 use crate::seen::{out_for_good, seen_anywhere, seen_in_place};
 use bank_trait::Bank;
-use core_state::Journal;
+use core_state::{Answer, Item, Journal};
 use raidzx_top::{Outcome, Status};
 use std::alloc::Global;
 
@@ -51,6 +53,40 @@ fn tell_seen<R: Eprint, B: Bank>(rt: &R, names: &[String], bank: &mut B)
     }
 }
 
+/// What the images show that an attach found taken: each was the one behind the pool's.
+#[tactic(auto, using(core_open::proofs::Unchanged::unchanged_none, core_open::proofs::Unchanged::unchanged_then))]
+fn tell_taken<R: Eprint, B: Bank>(rt: &R, names: &[String], journal: &Journal, bank: &mut B)
+    ensures { Unchanged (B.disk bank.old) (B.disk bank.new) }
+{
+    let mut width = 0;
+    for item in journal.as_slice() {
+        match item {
+            Item::Group(group) => width = group.to,
+            Item::Call(entry) => {
+                if let Answer::Taken { slot: _ } = entry.answer {
+                    tell_taken_at(rt, names, width, bank);
+                }
+            }
+        }
+    }
+}
+
+/// What this image shows, which was not attached.
+#[tactic(auto, using(core_open::proofs::Unchanged::unchanged_none, core_open::proofs::Unchanged::unchanged_then))]
+fn tell_taken_at<R: Eprint, B: Bank>(rt: &R, names: &[String], device: u32, bank: &mut B)
+    ensures { Unchanged (B.disk bank.old) (B.disk bank.new) }
+{
+    let Some(name) = names.get(device as usize) else {
+        return;
+    };
+    if device >= bank.devices() {
+        return;
+    }
+    if let Some(seen) = seen_anywhere(bank, device) {
+        note_taken(rt, name, seen);
+    }
+}
+
 /// What a status leaves to tell, where the command was a `create`.
 #[tactic(auto, using(core_open::proofs::Unchanged::unchanged_none, core_open::proofs::Unchanged::unchanged_then))]
 fn tell_of_create<R: Eprint, B: Bank>(
@@ -67,7 +103,8 @@ fn tell_of_create<R: Eprint, B: Bank>(
     }
 }
 
-/// What a run or a look has left to tell: what images show, where there was no pool, or which are out for good.
+/// What a run or a look has left to tell: what images show, where there was no pool, or which were taken and which are
+/// out for good.
 #[tactic(auto, using(core_open::proofs::Unchanged::unchanged_none, core_open::proofs::Unchanged::unchanged_then))]
 fn tell_of_run<R: Eprint, B: Bank>(
     rt: &R,
@@ -86,6 +123,7 @@ fn tell_of_run<R: Eprint, B: Bank>(
         }
         return;
     }
+    tell_taken(rt, names, journal, bank);
     match out_for_good(alloc, bank, journal) {
         Ok(out) => note_out(rt, names, out),
         Err(_) => note_unknown(rt),

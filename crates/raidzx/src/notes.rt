@@ -96,6 +96,14 @@ pub fn note_further<R: Eprint>(rt: &R, name: &str, width: usize, seen: Option<Se
     };
 }
 
+/// What an image shows that was not attached for it.
+pub fn note_taken<R: Eprint>(rt: &R, name: &str, seen: Seen) {
+    let _ = eprintln!(rt;
+        "raidzx: {name}: not attached, as it shows image {} of pool {}; nothing was written to it",
+        seen.place, seen.pool
+    );
+}
+
 /// What an image shows that a run could not take it for.
 pub fn note_seen<R: Eprint>(rt: &R, name: &str, seen: Seen) {
     let _ = eprintln!(rt;
