@@ -11,7 +11,6 @@ use Rattle.core_turns.specs.Core.{CoreState}
 use Rattle.schedule.specs.declared.whole_run.Ended.{Ended}
 use Rattle.schedule.specs.declared.whole_run.Ended.TheVariants.{Whole, NoMemory, Limit}
 use Rattle.schedule.specs.declared.whole_run.Ran.{Ran}
-use Rattle.schedule.specs.OfLines.{FollowsLines}
 use Rattle.schedule.specs.Playing.{CarriesOut}
 use Rattle.schedule.specs.Replaying.{blank_clients}
 use Rattle.schedule.specs.Turns.{Turns, most_turns, turns_of}
@@ -65,6 +64,5 @@ pub record HasRunBeside (script : Script) (attaches : Bool) (old new : Disk) (it
   pub counted : ran.turns ≡ length run.passed
   pub complete : ran.ended ≡ Whole → IsComplete (asked_by carried) items
   pub limit : ran.ended ≡ Limit → most_turns ≤ ran.turns
-  -- The turns of an only client are those of its calls in the order of their lines, and so are its answers.
+  -- The turns of an only client are those of its calls in the order of their lines.
   pub taken : IsAlone script attaches run.opened → HasTakenTurns carried [] run ran
-  pub lines : IsAlone script attaches run.opened → FollowsLines carried items

@@ -1,5 +1,5 @@
 -- A script that is carried out, whoever's turns they are, or for which no pool was opened.
-use Rattle.std.proofs.Common.{◌≡◌, ◌⊎◌, ⊎_elim, ◌≤◌, List, Bool, Result, Ok, Err, refl, sym, subst}
+use Rattle.std.proofs.Common.{◌≡◌, ◌⊎◌, ⊎_elim, ◌<◌, ◌≤◌, List, Bool, Result, Ok, Err, refl, sym, subst}
 use Rattle.std.specs.Prelude.{All, IfErr, IfOk}
 use Rattle.bank_trait.specs.Disk.{Disk, Unchanged}
 use Rattle.core_state.specs.declared.item.Item.{Item}
@@ -16,7 +16,7 @@ use Rattle.schedule.specs.Turns.{most_turns}
 use Rattle.schedule.specs.WholeRun.{HasRunInTurn}
 use Rattle.schedule.proofs.Whole.{turns_counted}
 use Rattle.pool_live.specs.Widening.{HasRunBeside}
-use Rattle.pool_live.proofs.Widening.{widening_allowed}
+use Rattle.pool_live.proofs.Widening.{carried_actors, widening_allowed}
 use Rattle.raidzx_top.specs.declared.order.Order.{Order}
 use Rattle.raidzx_top.specs.declared.order.Order.TheVariants.{AsTheyCome, AsListed}
 use Rattle.raidzx_top.specs.Order.{IsCarriedBy}
@@ -33,6 +33,16 @@ carried_allowed (AsTheyCome attaches) script carried opened is allowed = ⊎_eli
 carried_allowed AsListed script carried opened is allowed =
     subst (λ (s : Script). All (λ placed. IsAllowed placed.call) s.calls) (sym is) allowed
 
+-- Each call that was carried out is that of a client.
+pub carried_actors_in : (order : Order) (script carried : Script) (opened : GroupItem)
+    → IsCarriedBy order script opened carried → script.clients ≤ 8
+    → All (λ placed. placed.actor < script.clients) script.calls
+    → All (λ placed. placed.actor < carried.clients) carried.calls
+carried_actors_in (AsTheyCome attaches) script carried opened is few actors =
+    carried_actors script carried attaches opened is few actors
+carried_actors_in AsListed script carried opened is few actors =
+    subst (λ (s : Script). All (λ placed. placed.actor < s.clients) s.calls) (sym is) actors
+
 -- Each turn was that of the client whose turn it was.
 pub carried_in_turn : (script : Script) (old new : Disk) (items : List Item) (result : Result Ran OpenWhy)
     → IfOk result (HasRunInTurn script script.order old new items)
@@ -45,7 +55,6 @@ carried_in_turn script old new items (Ok ran) has complete limit = record {
   carried_is = refl;
   counted = turns_counted script script.order has.run ran has.turns;
   taken = λ in_turn. has.turns;
-  lines = λ in_turn none. has.lines none;
   complete = λ memory limit. complete (ended_whole ran memory limit);
   used_up = limit;
 }
@@ -61,7 +70,6 @@ carried_beside attaches script old new items (Ok ran) has = record {
   carried_is = has.carried_is;
   counted = has.counted;
   taken = has.taken;
-  lines = λ alone none. has.lines alone;
   complete = λ memory limit. has.complete (ended_whole ran memory limit);
   used_up = has.limit;
 }

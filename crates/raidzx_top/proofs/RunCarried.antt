@@ -32,12 +32,11 @@ use Rattle.schedule.specs.declared.whole_run.Ran.{Ran}
 use Rattle.raidzx_top.specs.declared.order.Order.{Order}
 use Rattle.raidzx_top.specs.Bearing.{setting_with}
 use Rattle.raidzx_top.specs.Call.{TopCall}
-use Rattle.raidzx_top.specs.Order.{IsInTurn, listed_by}
 use Rattle.raidzx_top.specs.Causes.{IsCause, FindsNoPool, MeetsLimit, most_turns}
 use Rattle.raidzx_top.specs.Promises.{RunPromises, RunsUnhindered, IsSmoothAnswer, CompletesAll}
 use Rattle.raidzx_top.specs.Running.{IsStatusOf, HasMet, StoppedFor, after_fault, EndsTelling, WasCarriedOut}
 use Rattle.raidzx_top.specs.RunText.{IsLineFor, TextIsRight}
-use Rattle.raidzx_top.proofs.Carrying.{carried_allowed}
+use Rattle.raidzx_top.proofs.Carrying.{carried_actors_in, carried_allowed}
 use Rattle.raidzx_top.proofs.Bearing.{may_bear}
 use Rattle.raidzx_top.proofs.Reopening.{survives_stops}
 use Rattle.raidzx_top.proofs.RunParts.{IsRunEnd, command_in, opens, held_at_entry, none_silent}
@@ -215,9 +214,8 @@ module _ (order : Order) (call : TopCall) (lawful : Lawful call.old)
     counted = was.done.counted;
     taken = was.done.taken;
     turns = was.turns_are;
-    lines = λ attaches is alone. was.done.lines
-        (subst (λ (o : Order). IsInTurn o was.script was.done.run.opened) (sym is) alone)
-        (ap (λ (o : Order). listed_by o was.script) is);
+    lines = λ one. was.done.run.lines one (carried_actors_in order was.script was.done.carried was.done.run.opened
+        was.done.carried_is was.read.clients was.read.actors);
     binds = λ setting first later failed may bears.
         was.done.run.keeps (setting_with setting failed) first later
         (may_bear setting first later call.old was.done.run.silent was.done.run.borne failed may bears)

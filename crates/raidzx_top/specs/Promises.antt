@@ -24,7 +24,6 @@ use Rattle.client_script.specs.Texts.{journal_text}
 use Rattle.schedule.specs.OfLines.{FollowsLines}
 use Rattle.schedule.specs.WholeRun.{HasRun, HasTakenTurns, RunKeeps, banks_of}
 use Rattle.schedule.specs.declared.whole_run.Ran.{Ran}
-use Rattle.pool_live.specs.Widening.{IsAlone}
 use Rattle.raidzx_top.specs.declared.order.Order.{Order}
 use Rattle.raidzx_top.specs.declared.order.Order.TheVariants.{AsTheyCome, AsListed}
 use Rattle.raidzx_top.specs.declared.running.Trouble.TheVariants as trouble
@@ -116,9 +115,8 @@ pub record RunPromises (order : Order) (call : TopCall) : Type 0 where
   pub counted : ran.turns ≡ length run.passed
   pub taken : IsInTurn order script run.opened
       → HasTakenTurns carried (listed_by order script) run ran
-  -- So the answers of a run with an only client stand in the order of the lines, each call whole before the next.
-  pub lines : (attaches : Bool) → order ≡ AsTheyCome attaches → IsAlone script attaches run.opened
-      → FollowsLines carried call.journal
+  -- The answers of an only client stand in the order of the lines, each call whole before the next.
+  pub lines : carried.clients ≤ 1 → FollowsLines carried call.journal
   -- That binds however many devices fail: those that have to be borne are no more than there are parities, and what was
   -- answered is right for whoever can bear them.
   pub binds : (setting : Setting) (first : Kept) (later : List Kept) (failed : ℕ) → MayBegin setting first later call.old

@@ -21,7 +21,6 @@ use Rattle.client_script.specs.declared.line_fault.LineFault.{LineFault}
 use Rattle.client_script.specs.declared.refused.ReadRefused.{ReadRefused}
 use Rattle.client_script.specs.declared.refused.ReadRefused.TheVariants as read
 use Rattle.schedule.specs.Turns.{most_turns}
-use Rattle.schedule.specs.OfLines.{FollowsLines}
 use Rattle.schedule.specs.WholeRun.{HasRun, HasTakenTurns}
 use Rattle.schedule.specs.declared.whole_run.Ended.TheVariants as ended
 use Rattle.schedule.specs.declared.whole_run.Ran.{Ran}
@@ -99,8 +98,6 @@ pub record HasCarried (order : Order) (script : Script) (old new : Disk) (items 
     pub counted : ran.turns ≡ length run.passed
     pub taken : IsInTurn order script run.opened
         → HasTakenTurns carried (listed_by order script) run ran
-    pub lines : IsInTurn order script run.opened → listed_by order script ≡ []
-        → FollowsLines carried items
     pub complete : (StoppedFor ran trouble.NoMemory → ⊥) → (StoppedFor ran trouble.Limit → ⊥)
         → IsComplete (asked_by carried) items
     pub used_up : StoppedFor ran trouble.Limit → most_turns ≤ ran.turns

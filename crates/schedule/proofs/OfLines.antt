@@ -1,8 +1,8 @@
--- Where no turns are listed the journal follows the lines of the script.
-use Rattle.std.proofs.Common.{◌≡◌, ◌≢◌, ◌⊎◌, inl, inr, ⊎_elim, ℕ, zero, suc, ◌+◌, ◌-◌, ◌<◌, ◌≤◌, List, [], ◌∷◌, ◌++◌, length, Option, Some, None, Bool, true, false, refl, sym, ◌∙◌, ap, subst, arith}
-use Rattle.std.specs.Prelude.{slice_get, map, take, All, is_some, ◌||◌, ⊤}
-use Rattle.std.proofs.lemmas.Bool.{cases_eq, true≢false}
-use Rattle.std.proofs.lemmas.List.{append-nil}
+-- The journal of an only client follows the lines of the script, whoever's turns they were.
+use Rattle.std.proofs.Common.{◌≡◌, ◌⊎◌, inl, inr, ⊎_elim, ℕ, zero, suc, ◌+◌, ◌-◌, ◌<◌, ◌≤◌, List, [], ◌∷◌, ◌++◌, length, Option, Some, None, Bool, refl, sym, ◌∙◌, ap, subst, arith}
+use Rattle.std.specs.Prelude.{slice_get, filter, map, not, replicate, take, All, ◌==◌, ⊤}
+use Rattle.std.proofs.lemmas.List.{append-nil, length-map, length-replicate, replicate_more}
+use Rattle.std.proofs.lemmas.List.Filters.{length-filter_both}
 use Rattle.std.proofs.lemmas.Option.{slice_get_within}
 use Rattle.core_state.specs.declared.answer.Answer.{Answer}
 use Rattle.core_state.specs.declared.answer.Answer.TheVariants as answer
@@ -15,7 +15,6 @@ use Rattle.core_state.specs.declared.item.Item.TheVariants.{Group, Call}
 use Rattle.core_state.specs.Legal.{CallAt, GroupAt, IsAnswerOf}
 use Rattle.core_commit.specs.CommitTurns.{CommitRun}
 use Rattle.client_script.specs.declared.call.ScriptCall.{ScriptCall}
-use Rattle.client_script.specs.InOrder.{given_of}
 use Rattle.client_script.specs.Script.{Placed, Script, calls_of}
 use Rattle.core_turns.specs.declared.rounds.CopyRound.TheVariants.{Rests, Copies, Commits}
 use Rattle.core_turns.specs.declared.turn.Turn.{Turn}
@@ -27,50 +26,19 @@ use Rattle.schedule.specs.declared.client.Client.{Client}
 use Rattle.schedule.specs.declared.client.UnderWay.{UnderWay}
 use Rattle.schedule.specs.declared.client.Work.{Work}
 use Rattle.schedule.specs.declared.client.Work.TheVariants as work
-use Rattle.schedule.specs.declared.whole_run.Ended.{Ended}
-use Rattle.schedule.specs.declared.whole_run.Ended.TheVariants.{Whole, NoMemory, Limit}
-use Rattle.schedule.specs.Clients.{Changes, answered_of}
-use Rattle.schedule.specs.InTurn.{Cursor, Goes, InOrder, InRest, InRound, IsCallOfScript, IsStepOf, IsTurnOf, Replay, ReplaySteps, cursor_after, has_left_at, is_any_busy, is_busy_at, is_under_way, replay_at, rest_after, turn_at, turn_in_rest}
-use Rattle.schedule.specs.OfLines.{FollowsLines, actors_in, callers_in}
-use Rattle.schedule.specs.Playing.{EndsAs}
-use Rattle.schedule.specs.Replaying.{AreIdle, blank_client, blank_clients}
+use Rattle.schedule.specs.Clients.{answered_of}
+use Rattle.schedule.specs.InTurn.{HaveTaken, IsTurnOf}
+use Rattle.schedule.specs.OfLines.{FollowsLines, callers_in}
+use Rattle.schedule.specs.Replaying.{blank_client}
 use Rattle.schedule.specs.Turned.{Station, Turned, Nothing, Began, Went, BeginsCall, BeginsWork, GoesOnBy, LeavesBegun, LeavesGoing, entry_for, group_by, group_for, listed_for, listed_of, listed_on}
 use Rattle.schedule.specs.Works.{begun_at, commit_in, made_by, made_in}
-use Rattle.schedule.specs.Turns.{Turns, TurnTaken}
+use Rattle.schedule.specs.Turns.{Turns, TurnTaken, last_left}
 use Rattle.schedule.specs.WholeRun.{first_turns}
-use Rattle.schedule.proofs.CallTaken.{given_more, given_own}
 use Rattle.schedule.proofs.CopyUses.{copy_plain}
 use Rattle.schedule.proofs.UsingEnds.{EndsPlainly}
 use Rattle.schedule.proofs.UsingWorks.{plain_listed}
-use Rattle.schedule.proofs.InTurn.{busy_in_rest, left_begun, left_in_rest, none_in_rest, none_left_begun, not_busy_idle, rest_next}
 use Rattle.schedule.proofs.Opened.{blank_is}
 use Rattle.schedule.proofs.Theirs.{none_some, some_is}
-use Rattle.schedule.proofs.TurnTaken.{all_at}
-
--- ---- lists
-
--- Where nothing is, the list has ended.
-past_end : (calls : List Placed) (number : ℕ) → slice_get calls number ≡ None → length calls ≤ number
-past_end [] number none = omega arith
-past_end (first ∷ calls) zero none = absurd (none_some (sym none))
-past_end (first ∷ calls) (suc number) none = let past = past_end calls number none in omega (arith, past)
-
-blank_there : (count index : ℕ) → index < count
-    → (client : Client) × (slice_get (blank_clients count) index ≡ Some client)
-blank_there zero index below = absurd (omega (arith, below))
-blank_there (suc count) zero below = (blank_client, refl)
-blank_there (suc count) (suc index) below = blank_there count index (omega (arith, below))
-
--- Where all are idle, none is under way.
-idle_none_busy : (clients : List Client) → AreIdle clients → is_any_busy clients ≡ false
-idle_none_busy [] idle = refl
-idle_none_busy (first ∷ clients) idle =
-    ap (λ (u : Option UnderWay). is_some u || is_any_busy clients) (idle.each 0 first refl)
-    ∙ idle_none_busy clients (record { each = λ index client there. idle.each (suc index) client there })
-
-no_under : (under : Option UnderWay) → ((its : UnderWay) → under ≡ Some its → ⊥) → under ≡ None
-no_under None none = refl
-no_under (Some its) none = absurd (none its refl)
 
 -- ---- a journal that follows the lines, and an item more
 
@@ -78,15 +46,6 @@ callers_more : (items more : List Item) → callers_in (items ++ more) ≡ calle
 callers_more [] more = refl
 callers_more (Group group ∷ items) more = callers_more items more
 callers_more (Call entry ∷ items) more = ap (λ (l : List ℕ). entry.caller ∷ l) (callers_more items more)
-
--- The first calls of a script and the next one are one call more.
-actors_more : (calls : List Placed) (count : ℕ) (placed : Placed) → slice_get calls count ≡ Some placed
-    → take (suc count) (map (λ (p : Placed). p.actor) calls)
-    ≡ take count (map (λ (p : Placed). p.actor) calls) ++ placed.actor ∷ []
-actors_more [] count placed there = absurd (none_some there)
-actors_more (first ∷ calls) zero placed there = ap (λ (p : Placed). p.actor ∷ []) (some_is there)
-actors_more (first ∷ calls) (suc count) placed there =
-    ap (λ (l : List ℕ). first.actor ∷ l) (actors_more calls count placed there)
 
 group_is : (one other : GroupItem) → Group one ≡ Group other → one ≡ other
 group_is one other is = cc
@@ -100,10 +59,9 @@ no_group entry group is = cc
 no_call : (group : GroupItem) (entry : Entry) → Group group ≡ Call entry → ⊥
 no_call group entry is = cc
 
--- A journal follows the lines, if each of its answers is of its call's kind.
-record Follows (script : Script) (items : List Item) : Type 0 where
-  answered : ℕ
-  callers : callers_in items ≡ take answered (actors_in script)
+-- So many calls of an only client are answered, if each answer is of its call's kind.
+record Follows (items : List Item) (answered : ℕ) : Type 0 where
+  callers : callers_in items ≡ replicate answered 0
   reads : (index : ℕ) (entry : Entry) → CallAt items index entry → IsAnswerOf entry.kind entry.answer
       → entry.at ≡ point_after entry.kind index entry.answer
   groups : (index : ℕ) (group : GroupItem) → GroupAt items index group → group.after ≡ index
@@ -125,11 +83,10 @@ no_point asked made (answer.DeviceOut device) number before now is of =
     ∙ sym (ap (λ (k : Kind). point_after k now (answer.DeviceOut device)) of)
 no_point asked made other number before now is of = absurd (none_some is)
 
-module _ (script : Script) (items : List Item) (follows : Follows script items) where
+module _ (items : List Item) (answered : ℕ) (follows : Follows items answered) where
   -- A group that has all items before it answers no call,
-  follows_group : (group : GroupItem) → group.after ≡ length items → Follows script (items ++ Group group ∷ [])
+  follows_group : (group : GroupItem) → group.after ≡ length items → Follows (items ++ Group group ∷ []) answered
   follows_group group after = record {
-    answered = follows.answered;
     callers = callers_more items (Group group ∷ []) ∙ append-nil (callers_in items) ∙ follows.callers;
     reads = λ index entry there fits. elim (new_or_before items (Group group) index (Call entry) there) [
       | inl last ↦ absurd (no_call group entry last.1)
@@ -141,19 +98,15 @@ module _ (script : Script) (items : List Item) (follows : Follows script items) 
     ];
   }
 
-  -- and an entry of the next call, which speaks of all items before it, answers one more.
-  follows_call : (placed : Placed) (entry : Entry) → slice_get script.calls follows.answered ≡ Some placed
-      → entry.caller ≡ placed.actor
+  -- and an entry of the client, which speaks of all items before it, answers one more.
+  follows_call : (entry : Entry) → entry.caller ≡ 0
       → (IsAnswerOf entry.kind entry.answer → entry.at ≡ point_after entry.kind (length items) entry.answer)
-      → Follows script (items ++ Call entry ∷ [])
-  follows_call placed entry there caller at = record {
-    answered = follows.answered + 1;
+      → Follows (items ++ Call entry ∷ []) (answered + 1)
+  follows_call entry caller at = record {
     callers = callers_more items (Call entry ∷ [])
         ∙ ap (λ (l : List ℕ). l ++ entry.caller ∷ []) follows.callers
-        ∙ ap (λ (n : ℕ). take follows.answered (actors_in script) ++ n ∷ []) caller
-        ∙ sym (actors_more script.calls follows.answered placed there)
-        ∙ ap (λ (n : ℕ). take n (actors_in script))
-        (let same : suc follows.answered ≡ follows.answered + 1 = omega arith in same);
+        ∙ ap (λ (n : ℕ). replicate answered 0 ++ n ∷ []) caller
+        ∙ replicate_more answered 0;
     reads = λ index other is. elim (new_or_before items (Call entry) index (Call other) is) [
       | inl last ↦ subst (λ (e : Entry). IsAnswerOf e.kind e.answer → e.at ≡ point_after e.kind index e.answer)
           (call_is entry other last.1) (subst (λ (n : ℕ). IsAnswerOf entry.kind entry.answer
@@ -168,15 +121,6 @@ module _ (script : Script) (items : List Item) (follows : Follows script items) 
 
 -- ---- what stands between two turns
 
--- where a run without a list is, when so many calls are answered: at its start, at the next call, or at the one that was
--- answered last; or all are answered
-abbrev IsPlaced : Script → ℕ → Cursor → Type 0
-IsPlaced script answered (InOrder []) = answered ≡ 0
-IsPlaced script answered (InOrder (letter ∷ letters)) = ⊥
-IsPlaced script answered (InRound actor) = ⊥
-IsPlaced script answered (InRest given) = (given ≡ answered)
-    ⊎ ((given + 1 ≡ answered) ⊎ ((answered ≡ length script.calls) × (answered ≤ given)))
-
 -- Nothing was listed since a call under way began, unless it is a copy that may have made groups since; nor was anything
 -- since the commit began that a copy has under way.
 abbrev AtEndOf : Work → ℕ → ℕ → Type 0
@@ -189,171 +133,16 @@ abbrev IsCopyFor : Kind → Work → Type 0
 IsCopyFor asked (work.Copy round) = asked ≡ kind.Copy
 IsCopyFor asked other = ⊤
 
--- A client has answered as many calls as are its among those that are answered. One under way is the call after these,
--- and began when all items had been listed.
-record IsInLine (script : Script) (items : List Item) (answered : ℕ) (cursor : Cursor) (actor : ℕ) (client : Client)
-    : Type 0 where
-  counted : answered_of client.begun client.under_way ≡ given_of script answered actor
+-- The client has answered the calls that it has begun, but for one under way, which began when all items had been listed.
+record GoesAlone (script : Script) (items : List Item) (client : Client) : Type 0 where
+  follows : Follows items (answered_of client.begun client.under_way)
+  few : client.begun ≤ length (calls_of script 0)
   under : (under : UnderWay) → client.under_way ≡ Some under
       → AtEndOf under.work under.at (length items) × (1 ≤ client.begun)
-      × (cursor ≡ InRest answered) × (placed : Placed) × (slice_get script.calls answered ≡ Some placed)
-      × (placed.actor ≡ actor)
   asked : (under : UnderWay) (call : ScriptCall) → client.under_way ≡ Some under
-      → slice_get (calls_of script actor) (client.begun - 1) ≡ Some call → IsCopyFor call.kind under.work
+      → slice_get (calls_of script 0) (client.begun - 1) ≡ Some call → IsCopyFor call.kind under.work
 
-record GoesByLines (script : Script) (items : List Item) (clients : List Client) (cursor : Cursor) : Type 0 where
-  follows : Follows script items
-  few : follows.answered ≤ length script.calls
-  place : IsPlaced script follows.answered cursor
-  there : (number : ℕ) (placed : Placed) → slice_get script.calls number ≡ Some placed
-      → (client : Client) × (slice_get clients placed.actor ≡ Some client)
-  each : (actor : ℕ) (client : Client) → slice_get clients actor ≡ Some client
-      → IsInLine script items follows.answered cursor actor client
-
--- ---- a turn of the next call
-
-module _ (script : Script) (items : List Item) (clients news : List Client) (given : ℕ)
-    (goes : GoesByLines script items clients (InRest given)) (placed : Placed)
-    (next : slice_get script.calls goes.follows.answered ≡ Some placed) (now : Client)
-    (changes : Changes clients news placed.actor now) where
-  abbrev answered : ℕ
-  answered = goes.follows.answered
-
-  -- Its client is there, and so is each other.
-  still_there : (number : ℕ) (other : Placed) → slice_get script.calls number ≡ Some other
-      → (client : Client) × (slice_get news other.actor ≡ Some client)
-  still_there number other is = ⊎_elim
-      (λ (same : other.actor ≡ placed.actor).
-      (now, subst (λ (n : ℕ). slice_get news n ≡ Some now) (sym same) changes.there))
-      (λ (apart : other.actor ≢ placed.actor). let was = goes.there number other is in
-      (was.0, changes.others other.actor apart ∙ was.1))
-      (cases_eq other.actor placed.actor)
-
-  -- No other client has a call under way.
-  only_next : (actor : ℕ) (client : Client) (under : UnderWay) → actor ≢ placed.actor
-      → slice_get clients actor ≡ Some client → client.under_way ≡ Some under → ⊥
-  only_next actor client under apart is going =
-      let its = (goes.each actor client is).under under going in
-      apart (sym its.5 ∙ ap (λ (p : Placed). p.actor) (some_is (sym its.4 ∙ next)))
-
-  module _ {T : ℕ → Client → Type 0} (own : T placed.actor now)
-      (others : (actor : ℕ) (client : Client) → actor ≢ placed.actor → slice_get clients actor ≡ Some client
-      → T actor client) where
-    each_client : (actor : ℕ) (client : Client) → slice_get news actor ≡ Some client → T actor client
-    each_client actor client is = ⊎_elim
-        (λ (same : actor ≡ placed.actor).
-        let its : slice_get news placed.actor ≡ Some client = subst (λ (n : ℕ). slice_get news n ≡ Some client) same is in
-        subst (λ (n : ℕ). T n client) (sym same) (subst (T placed.actor) (some_is (sym changes.there ∙ its)) own))
-        (λ (apart : actor ≢ placed.actor). others actor client apart (sym (changes.others actor apart) ∙ is))
-        (cases_eq actor placed.actor)
-
-  -- A client whose call is not the next one has none under way, and as many calls are answered.
-  other_line : (more : List Item) (now_answered : ℕ) (actor : ℕ) (client : Client) → actor ≢ placed.actor
-      → slice_get clients actor ≡ Some client → given_of script now_answered actor ≡ given_of script answered actor
-      → IsInLine script more now_answered (InRest given) actor client
-  other_line more now_answered actor client apart is same = record {
-    counted = (goes.each actor client is).counted ∙ sym same;
-    under = λ its going. absurd (only_next actor client its apart is going);
-    asked = λ its call going called. absurd (only_next actor client its apart is going);
-  }
-
-  -- It began, waits or goes on, and lists no answer.
-  goes_on_by : (more : List Item) (follows : Follows script more) → follows.answered ≡ answered
-      → answered_of now.begun now.under_way ≡ given_of script answered placed.actor
-      → ((under : UnderWay) → now.under_way ≡ Some under
-      → AtEndOf under.work under.at (length more) × (1 ≤ now.begun))
-      → ((under : UnderWay) (call : ScriptCall) → now.under_way ≡ Some under
-      → slice_get (calls_of script placed.actor) (now.begun - 1) ≡ Some call → IsCopyFor call.kind under.work)
-      → given ≡ answered → GoesByLines script more news (InRest given)
-  goes_on_by more follows same counted under asked at = record {
-    follows = follows;
-    few = subst (λ (n : ℕ). n ≤ length script.calls) (sym same) goes.few;
-    place = inl (at ∙ sym same);
-    there = still_there;
-    each = each_client {T = λ actor client. IsInLine script more follows.answered (InRest given) actor client}
-        (record {
-          counted = counted ∙ sym (ap (λ (n : ℕ). given_of script n placed.actor) same);
-          under = λ its going. let has = under its going in (
-            has.0,
-            has.1,
-            ap InRest (at ∙ sym same),
-            placed,
-            subst (λ (n : ℕ). slice_get script.calls n ≡ Some placed) (sym same) next,
-            refl,
-          );
-          asked = asked;
-        })
-        (λ actor client apart is. other_line more follows.answered actor client apart is
-        (ap (λ (n : ℕ). given_of script n actor) same));
-  }
-
-  -- It is answered.
-  answers_by : (more : List Item) (follows : Follows script more) → follows.answered ≡ answered + 1
-      → now.under_way ≡ None → now.begun ≡ given_of script answered placed.actor + 1 → given ≡ answered
-      → GoesByLines script more news (InRest given)
-  answers_by more follows one idle begun at = record {
-    follows = follows;
-    few = let low = slice_get_within script.calls answered placed next in omega (arith, one, low);
-    place = inr (inl (omega (arith, one, at)));
-    there = still_there;
-    each = each_client {T = λ actor client. IsInLine script more follows.answered (InRest given) actor client}
-        (record {
-          counted = ap (answered_of now.begun) idle ∙ begun
-              ∙ sym (given_own script answered placed.actor placed next refl)
-              ∙ sym (ap (λ (n : ℕ). given_of script n placed.actor) one);
-          under = λ its going. absurd (none_some (sym idle ∙ going));
-          asked = λ its call going called. absurd (none_some (sym idle ∙ going));
-        })
-        (λ actor client apart is. other_line more follows.answered actor client apart is
-        (ap (λ (n : ℕ). given_of script n actor) one ∙ as_before actor apart));
-  }
-    where
-      as_before : (actor : ℕ) → actor ≢ placed.actor
-          → given_of script (answered + 1) actor ≡ given_of script answered actor
-      as_before actor apart = elim (given_more script answered actor placed next) [
-        | inl own ↦ absurd (apart own.0)
-        | inr other ↦ other.1
-      ]
-
-  -- ---- what its client does
-
-  module _ (client : Client) (was : slice_get clients placed.actor ≡ Some client) (at : given ≡ answered) where
-    abbrev line : IsInLine script items answered (InRest given) placed.actor client
-    line = goes.each placed.actor client was
-
-    -- An answer alone,
-    answers_alone : (call : ScriptCall) (number begun : ℕ) (answer : Answer)
-        → now ≡ record { begun = begun; under_way = None } → begun ≡ given_of script answered placed.actor + 1
-        → GoesByLines script (items ++ Call (entry_for call placed.actor number (length items) answer) ∷ []) news
-        (InRest given)
-    unfolding follows_call
-    answers_alone call number begun answer now_is counted =
-        answers_by (items ++ Call entry ∷ []) (follows_call script items goes.follows placed entry next refl (λ of. refl)) refl
-        (ap (λ (c : Client). c.under_way) now_is) (ap (λ (c : Client). c.begun) now_is ∙ counted) at
-      where
-        entry : Entry
-        entry = entry_for call placed.actor number (length items) answer
-
-    -- or after its group.
-    answers_listed : (core : Core) (call : ScriptCall) (number begun : ℕ) (made : Option ℕ) (given_answer : Answer)
-        → now ≡ record { begun = begun; under_way = None } → begun ≡ given_of script answered placed.actor + 1
-        → GoesByLines script (listed_for core items (length items)
-        (entry_for call placed.actor number (length items) given_answer) made given_answer) news (InRest given)
-    unfolding follows_call follows_group
-    answers_listed core call number begun made given_answer now_is counted = by (group_by given_answer made) refl
-      where
-        entry : Entry
-        entry = entry_for call placed.actor number (length items) given_answer
-
-        by : (group : Option ℕ) → group_by given_answer made ≡ group
-            → GoesByLines script (listed_of core.pool.uber.reflow items (length items) entry group) news (InRest given)
-        by None is = answers_alone call number begun given_answer now_is counted
-        by (Some group) is = answers_by ((items ++ Group (group_for core (length items) group) ∷ []) ++ Call entry ∷ [])
-            (follows_call script (items ++ Group (group_for core (length items) group) ∷ [])
-            (follows_group script items goes.follows (group_for core (length items) group) refl) placed entry next refl
-            (no_point call.kind made given_answer group (length items)
-            (length (items ++ Group (group_for core (length items) group) ∷ [])) is))
-            refl (ap (λ (c : Client). c.under_way) now_is) (ap (λ (c : Client). c.begun) now_is ∙ counted) at
+-- ---- a turn
 
 -- Where nothing was listed meanwhile a group began after all items.
 begun_now : (does was : Option CommitRun) (at now : ℕ) → at ≡ now → begun_at does was at now ≡ now
@@ -449,144 +238,161 @@ begun_copy old new devices actor call kind.Attach None (work.Attach run) begins 
 begun_copy old new devices actor call kind.Copy None (work.Copy round) begins = refl
 begun_copy old new devices actor call asked id does begins = absurd begins
 
--- Whatever the next call's client does, the run goes by the lines.
-module _ (script : Script) (before after : Station) (clients news : List Client) (given : ℕ)
-    (goes : GoesByLines script before.items clients (InRest given)) (placed : Placed)
-    (next : slice_get script.calls goes.follows.answered ≡ Some placed)
-    (was : slice_get clients placed.actor ≡ Some before.client)
-    (changes : Changes clients news placed.actor after.client) (at : given ≡ goes.follows.answered) where
-  abbrev its : IsInLine script before.items goes.follows.answered (InRest given) placed.actor before.client
-  its = goes.each placed.actor before.client was
+module _ (script : Script) (before after : Station) (goes : GoesAlone script before.items before.client) where
+  abbrev Now : List Item → Client → Type 0
+  Now items client = GoesAlone script items client
 
-  abbrev Now : List Item → Type 0
-  Now items = GoesByLines script items news (InRest given)
+  abbrev answered : ℕ
+  answered = answered_of before.client.begun before.client.under_way
 
-  counted_by : (under : Option UnderWay) → before.client.under_way ≡ under
-      → answered_of before.client.begun under ≡ given_of script goes.follows.answered placed.actor
-  counted_by under is = ap (answered_of before.client.begun) (sym is) ∙ its.counted
+  moved : {items : List Item} {client : Client} → after.items ≡ items → after.client ≡ client → Now items client
+      → Now after.items after.client
+  moved {client = client} items_are client_is now = subst (λ (l : List Item). Now l after.client) (sym items_are)
+      (subst (Now _) (sym client_is) now)
 
-  -- It is the last call that the client has begun, by how many it has.
-  abbrev Calls : ℕ → ScriptCall → Type 0
-  Calls begun call = slice_get (calls_of script placed.actor) (begun - 1) ≡ Some call
+  answered_by : (under : Option UnderWay) → before.client.under_way ≡ under
+      → answered ≡ answered_of before.client.begun under
+  answered_by under is = ap (answered_of before.client.begun) is
 
-  stays : after.items ≡ before.items → after.client ≡ before.client → Now after.items
-  stays items client = subst Now (sym items)
-      (goes_on_by script before.items clients news given goes placed next after.client changes before.items goes.follows
-      refl
-      (ap (λ (c : Client). answered_of c.begun c.under_way) client ∙ its.counted)
-      (λ under going. let has = its.under under (sym (ap (λ (c : Client). c.under_way) client) ∙ going) in
-      (has.0, let same = ap (λ (c : Client). c.begun) client in let some = has.1 in omega (arith, same, some)))
-      (λ under call going is. its.asked under call (sym (ap (λ (c : Client). c.under_way) client) ∙ going)
-      (subst (λ (n : ℕ). Calls n call) (ap (λ (c : Client). c.begun) client) is))
-      at)
+  -- The call goes on, and lists no answer,
+  goes_on_from : (begun : ℕ) (under : UnderWay) (call : ScriptCall) (items : List Item) → Follows items answered
+      → begun - 1 ≡ answered → 1 ≤ begun → begun ≤ length (calls_of script 0)
+      → AtEndOf under.work under.at (length items) → slice_get (calls_of script 0) (begun - 1) ≡ Some call
+      → IsCopyFor call.kind under.work → Now items (record { begun = begun; under_way = Some under })
+  goes_on_from begun under call items follows counted some few began is of = record {
+    follows = subst (Follows items) (sym counted) follows;
+    few = few;
+    under = λ now going. (subst (λ (u : UnderWay). AtEndOf u.work u.at (length items)) (some_is going) began, some);
+    asked = λ now other going asked. subst (λ (u : UnderWay). IsCopyFor other.kind u.work) (some_is going)
+        (subst (λ (c : ScriptCall). IsCopyFor c.kind under.work) (some_is (sym is ∙ asked)) of);
+  }
 
-  -- The call goes on, and lists no answer.
-  goes_on_from : (begun : ℕ) (under : UnderWay) (call : ScriptCall) (more : List Item) (follows : Follows script more)
-      → follows.answered ≡ goes.follows.answered → after.items ≡ more
-      → after.client ≡ record { begun = begun; under_way = Some under }
-      → begun - 1 ≡ given_of script goes.follows.answered placed.actor → 1 ≤ begun
-      → AtEndOf under.work under.at (length more) → Calls begun call → IsCopyFor call.kind under.work → Now after.items
-  goes_on_from begun under call more follows same items client counted some began is of = subst Now (sym items)
-      (goes_on_by script before.items clients news given goes placed next after.client changes more follows same
-      (ap (λ (c : Client). answered_of c.begun c.under_way) client ∙ counted)
-      (λ now going. (
-        subst (λ (u : UnderWay). AtEndOf u.work u.at (length more)) (under_is now going) began,
-        let begun_is = ap (λ (c : Client). c.begun) client in omega (arith, begun_is, some),
-      ))
-      (λ now other going asked. subst (λ (u : UnderWay). IsCopyFor other.kind u.work) (under_is now going)
-      (subst (λ (c : ScriptCall). IsCopyFor c.kind under.work)
-      (some_is (sym is ∙ subst (λ (n : ℕ). Calls n other) (ap (λ (c : Client). c.begun) client) asked)) of))
-      at)
+  -- or is answered.
+  ends_as : (begun : ℕ) (items : List Item) → Follows items (answered + 1) → begun ≡ answered + 1
+      → begun ≤ length (calls_of script 0) → Now items (record { begun = begun; under_way = None })
+  ends_as begun items follows counted few = record {
+    follows = subst (Follows items) (sym counted) follows;
+    few = few;
+    under = λ its going. absurd (none_some going);
+    asked = λ its call going is. absurd (none_some going);
+  }
+
+  -- An answer alone,
+  answers_alone : (call : ScriptCall) (number begun : ℕ) (answer : Answer) → begun ≡ answered + 1
+      → begun ≤ length (calls_of script 0)
+      → Now (before.items ++ Call (entry_for call 0 number (length before.items) answer) ∷ [])
+      (record { begun = begun; under_way = None })
+  answers_alone call number begun answer counted few = ends_as begun _
+      (follows_call before.items answered goes.follows (entry_for call 0 number (length before.items) answer) refl
+      (λ of. refl)) counted few
+
+  -- or after its group.
+  answers_listed : (core : Core) (call : ScriptCall) (number begun : ℕ) (made : Option ℕ) (given : Answer)
+      → begun ≡ answered + 1 → begun ≤ length (calls_of script 0)
+      → Now (listed_for core before.items (length before.items) (entry_for call 0 number (length before.items) given)
+      made given) (record { begun = begun; under_way = None })
+  answers_listed core call number begun made given counted few = by (group_by given made) refl
     where
-      under_is : (now : UnderWay) → after.client.under_way ≡ Some now → under ≡ now
-      under_is now going = some_is (sym (ap (λ (c : Client). c.under_way) client) ∙ going)
+      entry : Entry
+      entry = entry_for call 0 number (length before.items) given
+
+      by : (group : Option ℕ) → group_by given made ≡ group
+          → Now (listed_of core.pool.uber.reflow before.items (length before.items) entry group)
+          (record { begun = begun; under_way = None })
+      by None is = answers_alone call number begun given counted few
+      by (Some group) is = ends_as begun _
+          (follows_call (before.items ++ Group (group_for core (length before.items) group) ∷ []) answered
+          (follows_group before.items answered goes.follows (group_for core (length before.items) group) refl) entry refl
+          (no_point call.kind made given group (length before.items)
+          (length (before.items ++ Group (group_for core (length before.items) group) ∷ [])) is))
+          counted few
 
   begins : (turn : Turn Work) (call : ScriptCall) → before.client.under_way ≡ None
-      → slice_get (calls_of script placed.actor) before.client.begun ≡ Some call
-      → BeginsCall before.state.core after.state.core before.state.disk.devices placed.actor call turn
-      → LeavesBegun placed.actor call before after turn → Now after.items
-  begins (More does) call idle is did leaves =
-      goes_on_from (before.client.begun + 1) (record { at = length before.items; work = does }) call before.items
-      goes.follows refl leaves.0 leaves.1
-      (let counted = counted_by None idle in omega (arith, counted)) (omega arith)
+      → slice_get (calls_of script 0) before.client.begun ≡ Some call
+      → BeginsCall before.state.core after.state.core before.state.disk.devices 0 call turn
+      → LeavesBegun 0 call before after turn → Now after.items after.client
+  begins (More does) call idle is did leaves = moved leaves.0 leaves.1
+      (goes_on_from (before.client.begun + 1) (record { at = length before.items; work = does }) call before.items
+      goes.follows (let counted = answered_by None idle in omega (arith, counted)) (omega arith)
+      (let low = slice_get_within (calls_of script 0) before.client.begun call is in omega (arith, low))
       (at_end does (length before.items) (length before.items) refl)
       (let same : before.client.begun ≡ before.client.begun + 1 - 1 = omega arith in
-      subst (λ (n : ℕ). slice_get (calls_of script placed.actor) n ≡ Some call) same is)
-      (begun_copy before.state.core after.state.core before.state.disk.devices placed.actor call call.kind call.id does
-      did)
-  begins (Busy by) call idle is did leaves = stays leaves.0 leaves.1
-  begins (Done answer) call idle is did leaves = subst Now (sym leaves.0)
-      (answers_alone script before.items clients news given goes placed next after.client changes before.client was at
-      call (before.client.begun + 1) (before.client.begun + 1) answer leaves.1
-      (ap (λ (n : ℕ). n + 1) (counted_by None idle)))
+      subst (λ (n : ℕ). slice_get (calls_of script 0) n ≡ Some call) same is)
+      (begun_copy before.state.core after.state.core before.state.disk.devices 0 call call.kind call.id does did))
+  begins (Busy by) call idle is did leaves = moved leaves.0 leaves.1 goes
+  begins (Done answer) call idle is did leaves = moved leaves.0 leaves.1
+      (answers_alone call (before.client.begun + 1) (before.client.begun + 1) answer
+      (let counted = answered_by None idle in omega (arith, counted))
+      (let low = slice_get_within (calls_of script 0) before.client.begun call is in omega (arith, low)))
 
   -- A call goes on, and lists the group that it made, if it made one.
-  goes_listing : (call : ScriptCall) (under : UnderWay) (does : Work) → before.client.under_way ≡ Some under
-      → Calls before.client.begun call → GoesOnBy before.state after.state call under.work (More does)
-      → LeavesGoing placed.actor call before after under (More does) → (made : Option ℕ) → made_in does ≡ made
-      → Now after.items
-  unfolding follows_group
-  goes_listing call under does going is did leaves None none =
-      let has = its.under under going in
-      goes_on_from before.client.begun _ call before.items goes.follows refl
-      (leaves.0 ∙ ap (listed_on after.state.core.pool.uber.reflow before.items began) none)
-      leaves.1 (counted_by (Some under) going) has.1
-      (went_at_end before.state after.state call under.work does under.at (length before.items) did has.0) is
-      (still_copy before.state after.state call under.work does did (its.asked under call going is))
+  goes_on : (call : ScriptCall) (under : UnderWay) (does : Work) → before.client.under_way ≡ Some under
+      → slice_get (calls_of script 0) (before.client.begun - 1) ≡ Some call
+      → GoesOnBy before.state after.state call under.work (More does)
+      → LeavesGoing 0 call before after under (More does) → (made : Option ℕ) → made_in does ≡ made
+      → Now after.items after.client
+  goes_on call under does going is did leaves made is_made = moved
+      (leaves.0 ∙ ap (listed_on after.state.core.pool.uber.reflow before.items began) is_made) leaves.1
+      (by made is_made)
     where
-      began : ℕ
-      began = begun_at (commit_in does) (commit_in under.work) under.at (length before.items)
-  goes_listing call under does going is did leaves (Some number) made =
-      let has = its.under under going in
-      goes_on_from before.client.begun _ call (before.items ++ Group group ∷ [])
-      (follows_group script before.items goes.follows group
-      (made_at_end before.state after.state call under.work does under.at (length before.items) number did made has.0))
-      refl (leaves.0 ∙ ap (listed_on after.state.core.pool.uber.reflow before.items began) made)
-      leaves.1 (counted_by (Some under) going) has.1
-      (made_rests does number began (length (before.items ++ Group group ∷ [])) made) is
-      (still_copy before.state after.state call under.work does did (its.asked under call going is))
-    where
+      has : AtEndOf under.work under.at (length before.items) × (1 ≤ before.client.begun)
+      has = goes.under under going
+
       began : ℕ
       began = begun_at (commit_in does) (commit_in under.work) under.at (length before.items)
 
-      group : GroupItem
-      group = group_for after.state.core began number
+      group : ℕ → GroupItem
+      group number = group_for after.state.core began number
+
+      still : IsCopyFor call.kind does
+      still = still_copy before.state after.state call under.work does did (goes.asked under call going is)
+
+      by : (made : Option ℕ) → made_in does ≡ made
+          → Now (listed_on after.state.core.pool.uber.reflow before.items began made)
+          (record { begun = before.client.begun; under_way = Some (record { at = began; work = does }) })
+      by None none = goes_on_from before.client.begun (record { at = began; work = does }) call before.items goes.follows
+          (sym (answered_by (Some under) going)) has.1 goes.few
+          (went_at_end before.state after.state call under.work does under.at (length before.items) did has.0) is still
+      by (Some number) made = goes_on_from before.client.begun (record { at = began; work = does }) call
+          (before.items ++ Group (group number) ∷ [])
+          (follows_group before.items answered goes.follows (group number)
+          (made_at_end before.state after.state call under.work does under.at (length before.items) number did made has.0))
+          (sym (answered_by (Some under) going)) has.1 goes.few
+          (made_rests does number began (length (before.items ++ Group (group number) ∷ [])) made) is still
 
   goes_further : (turn : Turn Work) (call : ScriptCall) (under : UnderWay) → before.client.under_way ≡ Some under
-      → Calls before.client.begun call → GoesOnBy before.state after.state call under.work turn
-      → LeavesGoing placed.actor call before after under turn → Now after.items
+      → slice_get (calls_of script 0) (before.client.begun - 1) ≡ Some call
+      → GoesOnBy before.state after.state call under.work turn
+      → LeavesGoing 0 call before after under turn → Now after.items after.client
   goes_further (More does) call under going is did leaves =
-      goes_listing call under does going is did leaves (made_in does) refl
+      goes_on call under does going is did leaves (made_in does) refl
   goes_further (Busy by) call under going is did leaves = absurd leaves
   goes_further (Done answer) call under going is did leaves =
-      let has = its.under under going in
-      let some = has.1 in
-      let counted = counted_by (Some under) going in
-      let begun : before.client.begun ≡ given_of script goes.follows.answered placed.actor + 1 =
-      omega (arith, counted, some) in
       ⊎_elim
       (λ (now : under.at ≡ length before.items).
-      subst Now (sym (leaves.0 ∙ ap (λ (n : ℕ). listed_for after.state.core before.items n
-      (entry_for call placed.actor before.client.begun n answer) (made_by under.work) answer) now))
-      (answers_listed script before.items clients news given goes placed next after.client changes before.client was at
-      after.state.core call before.client.begun before.client.begun (made_by under.work) answer leaves.1 begun))
+      moved (leaves.0 ∙ ap (λ (n : ℕ). listed_for after.state.core before.items n
+      (entry_for call 0 before.client.begun n answer) (made_by under.work) answer) now) leaves.1
+      (answers_listed after.state.core call before.client.begun before.client.begun (made_by under.work) answer counted
+      goes.few))
       (λ plain.
-      subst Now (sym (leaves.0
+      moved (leaves.0
       ∙ plain_listed after.state.core before.items under.at
-      (entry_for call placed.actor before.client.begun under.at answer) (made_by under.work) answer plain.0
-      ∙ ap (λ (e : Entry). before.items ++ Call e ∷ []) (same_entry call under.at answer plain.1)))
-      (answers_alone script before.items clients news given goes placed next after.client changes before.client was at
-      call before.client.begun before.client.begun answer leaves.1 begun))
-      (ends_right before.state after.state call under.work answer under.at (length before.items) did has.0
-      (its.asked under call going is))
+      (entry_for call 0 before.client.begun under.at answer) (made_by under.work) answer plain.0
+      ∙ ap (λ (e : Entry). before.items ++ Call e ∷ []) (same_entry plain.1)) leaves.1
+      (answers_alone call before.client.begun before.client.begun answer counted goes.few))
+      (ends_right before.state after.state call under.work answer under.at (length before.items) did
+      (goes.under under going).0 (goes.asked under call going is))
     where
+      counted : before.client.begun ≡ answered + 1
+      counted = let some = (goes.under under going).1 in let same = answered_by (Some under) going in
+          omega (arith, some, same)
+
       -- Where both speak of one point the entry is the same.
-      same_entry : (call : ScriptCall) (since : ℕ) (answer : Answer)
-          → point_after call.kind since answer ≡ point_after call.kind (length before.items) answer
-          → entry_for call placed.actor before.client.begun since answer
-          ≡ entry_for call placed.actor before.client.begun (length before.items) answer
-      same_entry call since answer point i = record {
-        caller = placed.actor;
+      same_entry : point_after call.kind under.at answer ≡ point_after call.kind (length before.items) answer
+          → entry_for call 0 before.client.begun under.at answer
+          ≡ entry_for call 0 before.client.begun (length before.items) answer
+      same_entry point i = record {
+        caller = 0;
         call = before.client.begun;
         kind = call.kind;
         id = call.id;
@@ -594,293 +400,145 @@ module _ (script : Script) (before after : Station) (clients news : List Client)
         answer = answer;
       }
 
-  turn_by_lines : Turned (calls_of script placed.actor) placed.actor before after → Now after.items
-  turn_by_lines (Nothing nothing) =
-      stays (ap (λ (s : Station). s.items) nothing.same) (ap (λ (s : Station). s.client) nothing.same)
-  turn_by_lines (Began turn begun leaves) = begins turn begun.call begun.idle begun.next begun.did leaves
-  turn_by_lines (Went under turn went leaves) = goes_further turn went.call under went.going went.is went.did leaves
+  turn_alone : Turned (calls_of script 0) 0 before after → Now after.items after.client
+  turn_alone (Nothing nothing) =
+      moved (ap (λ (s : Station). s.items) nothing.same) (ap (λ (s : Station). s.client) nothing.same) goes
+  turn_alone (Began turn begun leaves) = begins turn begun.call begun.idle begun.next begun.did leaves
+  turn_alone (Went under turn went leaves) = goes_further turn went.call under went.going went.is went.did leaves
 
--- ---- step after step
+-- ---- turn after turn
 
-abbrev GoesAt : Script → Replay → Type 0
-GoesAt script at = GoesByLines script at.turns.items at.turns.clients at.cursor
+-- There is an only client, or none, and the journal follows the lines.
+record AreAlone (script : Script) (turns : Turns) : Type 0 where
+  few : length turns.clients ≤ 1
+  answered : ℕ
+  follows : Follows turns.items answered
+  within : answered ≤ length (calls_of script 0)
+  each : (client : Client) → slice_get turns.clients 0 ≡ Some client → GoesAlone script turns.items client
 
-module _ (script : Script) (before after : Replay) (passed more : List TurnTaken)
-    (step : ReplaySteps script before passed more after) where
-  -- Where it is nobody's turn all stays but the cursor.
-  no_turn : turn_at script before.turns.clients before.cursor ≡ None → (cursor : Cursor)
-      → after.cursor ≡ cursor → GoesByLines script before.turns.items before.turns.clients cursor → GoesAt script after
-  no_turn none cursor is goes =
-      let taken = subst (IsStepOf script before passed more after) none step.turn in
-      subst (λ (c : Cursor). GoesByLines script after.turns.items after.turns.clients c) (sym is)
-      (subst (λ (turns : Turns). GoesByLines script turns.items turns.clients cursor) (sym taken.0) goes)
+second_none : (clients : List Client) → length clients ≤ 1 → slice_get clients 1 ≡ None
+second_none [] few = refl
+second_none (only ∷ []) few = refl
+second_none (first ∷ second ∷ clients) few = absurd (omega (arith, few))
 
-  -- At the start no call is under way, and the first one is next.
-  from_start : before.cursor ≡ InOrder [] → GoesAt script before → GoesAt script after
-  from_start at goes =
-      let here = subst (λ (c : Cursor). GoesByLines script before.turns.items before.turns.clients c) at goes in
-      no_turn (ap (turn_at script before.turns.clients) at) (InRest 0)
-      (step.cursor ∙ ap (cursor_after script before.turns.clients) at ∙ rest_next before.turns.clients (none_busy here))
-      (record {
-        follows = here.follows;
-        few = here.few;
-        place = inl (sym here.place);
-        there = here.there;
-        each = λ actor client is. record {
-          counted = (here.each actor client is).counted;
-          under = λ under going. absurd (not_there ((here.each actor client is).under under going).2);
-          asked = (here.each actor client is).asked;
-        };
-      })
-    where
-      not_there : {number : ℕ} → InOrder [] ≡ InRest number → ⊥
-      not_there same = cc
+none_second : (clients : List Client) → slice_get clients 1 ≡ None → length clients ≤ 1
+none_second [] none = omega arith
+none_second (only ∷ []) none = omega arith
+none_second (first ∷ second ∷ clients) none = absurd (none_some (sym none))
 
-      none_busy : GoesByLines script before.turns.items before.turns.clients (InOrder [])
-          → is_any_busy before.turns.clients ≡ false
-      none_busy here = idle_none_busy before.turns.clients (record {
-        each = λ actor client is. no_under client.under_way
-            (λ under going. not_there ((here.each actor client is).under under going).2);
-      })
+-- What the client has answered is within what it has to call.
+answered_within : (begun most : ℕ) (under : Option UnderWay) → begun ≤ most → answered_of begun under ≤ most
+answered_within begun most None few = few
+answered_within begun most (Some under) few = omega (arith, few)
 
-  -- Where no call is left, none is answered any more.
-  past_all : (given : ℕ) → before.cursor ≡ InRest given → slice_get script.calls given ≡ None → GoesAt script before
-      → GoesAt script after
-  past_all given at none goes =
-      let here = subst (λ (c : Cursor). GoesByLines script before.turns.items before.turns.clients c) at goes in
-      let past = past_end script.calls given none in
-      no_turn (ap (turn_at script before.turns.clients) at ∙ ap (turn_in_rest script before.turns.clients given) none)
-      (InRest (given + 1))
-      (step.cursor ∙ ap (cursor_after script before.turns.clients) at
-      ∙ ap (λ (c : Option Placed). rest_after given (turn_in_rest script before.turns.clients given c)) none)
-      (record {
-        follows = here.follows;
-        few = here.few;
-        place = inr (inr (all_answered here past));
-        there = here.there;
-        each = λ actor client is. record {
-          counted = (here.each actor client is).counted;
-          under = λ under going.
-              let its = (here.each actor client is).under under going in
-              let low = slice_get_within script.calls here.follows.answered its.3 its.4 in
-              let all = (all_answered here past).0 in
-              absurd (omega (arith, low, all));
-          asked = (here.each actor client is).asked;
-        };
-      })
-    where
-      all_answered : (here : GoesByLines script before.turns.items before.turns.clients (InRest given))
-          → length script.calls ≤ given
-          → (here.follows.answered ≡ length script.calls) × (here.follows.answered ≤ given + 1)
-      all_answered here past = let few = here.few in elim here.place [
-        | inl same ↦ (omega (arith, few, past, same), omega (arith, same))
-        | inr (inl one) ↦ absurd (omega (arith, few, past, one))
-        | inr (inr all) ↦ (all.0, let less = all.1 in omega (arith, less))
-      ]
+one_alone : (script : Script) (actor : ℕ) (before after : Turns) → IsTurnOf script actor before after
+    → AreAlone script before → AreAlone script after
+one_alone script actor before after turn alone = by actor refl before.clients refl
+  where
+    same : after ≡ before → AreAlone script after
+    same is = subst (AreAlone script) (sym is) alone
 
-  module _ (given : ℕ) (at : before.cursor ≡ InRest given) (placed : Placed)
-      (next : slice_get script.calls given ≡ Some placed)
-      (here : GoesByLines script before.turns.items before.turns.clients (InRest given)) where
-    abbrev clients : List Client
-    clients = before.turns.clients
+    taken : (client : Client) → actor ≡ 0 → slice_get before.clients 0 ≡ Some client → AreAlone script after
+    taken client first there =
+        let its = turn.one client (ap (slice_get before.clients) first ∙ there) in
+        let now = turn_alone script (record { state = before.state; items = before.items; client = client })
+        (record { state = after.state; items = after.items; client = its.0 }) (alone.each client there)
+        (subst (λ (n : ℕ). Turned (calls_of script n) n
+        (record { state = before.state; items = before.items; client = client })
+        (record { state = after.state; items = after.items; client = its.0 })) first its.1) in
+        record {
+          few = none_second after.clients (its.2.others 1 (λ one. omega (arith, first, one))
+              ∙ second_none before.clients alone.few);
+          answered = answered_of its.0.begun its.0.under_way;
+          follows = now.follows;
+          within = answered_within its.0.begun (length (calls_of script 0)) its.0.under_way now.few;
+          each = λ other is. subst (GoesAlone script after.items)
+              (some_is (sym (ap (slice_get after.clients) (sym first) ∙ its.2.there) ∙ is)) now;
+        }
 
-    abbrev its_place : IsCallOfScript script given placed.actor (given_of script given placed.actor + 1)
-    its_place = record { placed = placed; there = next; is = refl; counted = refl }
+    by : (whose : ℕ) → actor ≡ whose → (clients : List Client) → before.clients ≡ clients → AreAlone script after
+    by whose is [] none = same (turn.none (let long = ap length none in omega (arith, long)))
+    by zero is (only ∷ []) there = taken only is (ap (λ (l : List Client). slice_get l 0) there)
+    by (suc behind) is (only ∷ []) there = same (turn.none (let long = ap length there in omega (arith, long, is)))
+    by whose is (first ∷ second ∷ clients) there =
+        absurd (let few = alone.few in let long = ap length there in omega (arith, few, long))
 
-    abbrev its_client : (client : Client) × (slice_get clients placed.actor ≡ Some client)
-    its_client = here.there given placed next
-
-    -- It is this call's turn while the call isn't answered.
-    its_turn : given ≡ here.follows.answered → IsTurnOf script placed.actor before.turns after.turns
-        → after.cursor ≡ InRest given → GoesAt script after
-    its_turn same turn cursor =
-        let found = turn.one its_client.0 its_client.1 in
-        subst (λ (c : Cursor). GoesByLines script after.turns.items after.turns.clients c) (sym cursor)
-        (turn_by_lines script
-        (record { state = before.turns.state; items = before.turns.items; client = its_client.0 })
-        (record { state = after.turns.state; items = after.turns.items; client = found.0 }) clients after.turns.clients
-        given here placed (subst (λ (n : ℕ). slice_get script.calls n ≡ Some placed) same next) its_client.1 found.2
-        same found.1)
-
-    -- Then it is the next one's.
-    next_call : turn_at script clients (InRest given) ≡ None → given + 1 ≡ here.follows.answered → GoesAt script after
-    next_call none one =
-        no_turn (ap (turn_at script clients) at ∙ none) (InRest (given + 1))
-        (step.cursor ∙ ap (cursor_after script clients) at ∙ ap (rest_after given) none) (record {
-          follows = here.follows;
-          few = here.few;
-          place = inl one;
-          there = here.there;
-          each = λ actor client is. record {
-            counted = (here.each actor client is).counted;
-            under = λ under going.
-                absurd (not_same (rest_number ((here.each actor client is).under under going).2));
-            asked = (here.each actor client is).asked;
-          };
-        })
-      where
-        rest_number : {number other : ℕ} → InRest number ≡ InRest other → number ≡ other
-        rest_number same = cc
-
-        not_same : given ≡ here.follows.answered → ⊥
-        not_same same = omega (arith, one, same)
-
-    -- A call that isn't answered is under way or left,
-    unanswered_begun : given ≡ here.follows.answered → its_client.0.under_way ≡ None
-        → its_client.0.begun ≡ given_of script given placed.actor
-    unanswered_begun same idle =
-        ap (answered_of its_client.0.begun) (sym idle) ∙ (here.each placed.actor its_client.0 its_client.1).counted
-        ∙ ap (λ (n : ℕ). given_of script n placed.actor) (sym same)
-
-    -- and one that is answered is neither.
-    answered_begun : given + 1 ≡ here.follows.answered → its_client.0.under_way ≡ None
-        → its_client.0.begun ≡ given_of script given placed.actor + 1
-    answered_begun one idle =
-        ap (answered_of its_client.0.begun) (sym idle) ∙ (here.each placed.actor its_client.0 its_client.1).counted
-        ∙ ap (λ (n : ℕ). given_of script n placed.actor) (sym one)
-        ∙ given_own script given placed.actor placed next refl
-
-    -- One that is under way isn't answered.
-    busy_unanswered : is_busy_at clients placed.actor ≡ true → given ≡ here.follows.answered
-    busy_unanswered busy = by its_client.0.under_way refl
-      where
-        by : (under : Option UnderWay) → its_client.0.under_way ≡ under → given ≡ here.follows.answered
-        by None idle = absurd (true≢false (sym busy ∙ ap is_under_way its_client.1 ∙ ap (λ (u : Option UnderWay). is_some u) idle))
-        by (Some under) going =
-            rest_number ((here.each placed.actor its_client.0 its_client.1).under under going).2
-          where
-            rest_number : {number other : ℕ} → InRest number ≡ InRest other → number ≡ other
-            rest_number same = cc
-
-    at_call : GoesAt script after
-    at_call = by (is_busy_at clients placed.actor) (has_left_at clients placed.actor (given_of script given placed.actor + 1)) refl refl
-      where
-        turn_is : turn_at script clients (InRest given) ≡ Some placed.actor
-            → IsTurnOf script placed.actor before.turns after.turns × (after.cursor ≡ InRest given)
-        turn_is whose = (
-          (subst (IsStepOf script before passed more after) (ap (turn_at script clients) at ∙ whose) step.turn).0,
-          step.cursor ∙ ap (cursor_after script clients) at ∙ ap (rest_after given) whose,
-        )
-
-        at_turn : given ≡ here.follows.answered → turn_at script clients (InRest given) ≡ Some placed.actor
-            → GoesAt script after
-        at_turn same whose = let turn = turn_is whose in its_turn same turn.0 turn.1
-
-        idle_left : is_busy_at clients placed.actor ≡ false
-            → has_left_at clients placed.actor (given_of script given placed.actor + 1) ≡ true
-            → given ≡ here.follows.answered
-        idle_left free left =
-            let idle = not_busy_idle clients placed.actor free its_client.0 its_client.1 in
-            let less = left_begun clients placed.actor (given_of script given placed.actor + 1) left its_client.0 its_client.1 in
-            let low = slice_get_within script.calls given placed next in
-            elim here.place [
-              | inl same ↦ same
-              | inr (inl one) ↦ let begun = answered_begun one idle in absurd (omega (arith, less, begun))
-              | inr (inr all) ↦ let same = all.0 in let past = all.1 in absurd (omega (arith, low, same, past))
-            ]
-
-        idle_none : is_busy_at clients placed.actor ≡ false
-            → has_left_at clients placed.actor (given_of script given placed.actor + 1) ≡ false
-            → given + 1 ≡ here.follows.answered
-        idle_none free none =
-            let idle = not_busy_idle clients placed.actor free its_client.0 its_client.1 in
-            let enough = none_left_begun clients placed.actor (given_of script given placed.actor + 1) none its_client.0 its_client.1 in
-            let low = slice_get_within script.calls given placed next in
-            elim here.place [
-              | inl same ↦ let begun = unanswered_begun same idle in absurd (omega (arith, enough, begun))
-              | inr (inl one) ↦ one
-              | inr (inr all) ↦ let same = all.0 in let past = all.1 in absurd (omega (arith, low, same, past))
-            ]
-
-        by : (busy left : Bool) → is_busy_at clients placed.actor ≡ busy
-            → has_left_at clients placed.actor (given_of script given placed.actor + 1) ≡ left → GoesAt script after
-        by true left busy has = at_turn (busy_unanswered busy)
-            (busy_in_rest script clients given placed.actor (given_of script given placed.actor + 1) its_place busy)
-        by false true free left = at_turn (idle_left free left)
-            (left_in_rest script clients given placed.actor (given_of script given placed.actor + 1) its_place free left)
-        by false false free none = next_call
-            (none_in_rest script clients given placed.actor (given_of script given placed.actor + 1) its_place free none)
-            (idle_none free none)
-
-  step_by_lines : GoesAt script before → GoesAt script after
-  step_by_lines goes = by before.cursor refl
-    where
-      here : (cursor : Cursor) → before.cursor ≡ cursor
-          → GoesByLines script before.turns.items before.turns.clients cursor
-      here cursor at = subst (λ (c : Cursor). GoesByLines script before.turns.items before.turns.clients c) at goes
-
-      in_rest : (given : ℕ) → before.cursor ≡ InRest given → (found : Option Placed)
-          → slice_get script.calls given ≡ found → GoesAt script after
-      in_rest given at None none = past_all given at none goes
-      in_rest given at (Some placed) next = at_call given at placed next (here (InRest given) at)
-
-      by : (cursor : Cursor) → before.cursor ≡ cursor → GoesAt script after
-      by (InOrder []) at = from_start at goes
-      by (InOrder (letter ∷ letters)) at = absurd (here (InOrder (letter ∷ letters)) at).place
-      by (InRound actor) at = absurd (here (InRound actor) at).place
-      by (InRest given) at = in_rest given at (slice_get script.calls given) refl
-
-steps_by_lines : (script : Script) (steps : ℕ) (start now : Replay) (passed : List TurnTaken)
-    → Goes script steps start passed now → GoesAt script start → GoesAt script now
-steps_by_lines script zero start now passed goes at = subst (GoesAt script) (sym goes.0) at
-steps_by_lines script (suc steps) start now passed goes at =
-    step_by_lines script goes.0 now goes.1 passed goes.3 (steps_by_lines script steps start goes.0 goes.1 goes.2 at)
+all_alone : (script : Script) (start : Turns) (passed : List TurnTaken) → HaveTaken script start passed
+    → AreAlone script start → AreAlone script (last_left start passed)
+all_alone script start [] taken alone = alone
+all_alone script start (turn ∷ later) taken alone =
+    all_alone script turn.left later taken.1 (one_alone script turn.actor start turn.left taken.0 alone)
 
 -- ---- a whole run
 
--- It begins at the first line,
-begins_by_lines : (script : Script) (start : CoreState) (opened : GroupItem)
-    → All (λ (placed : Placed). placed.actor < script.clients) script.calls → opened.after ≡ 0
-    → GoesAt script (replay_at (first_turns script start opened) 0 (InOrder []))
-begins_by_lines script start opened actors first = record {
-  follows = record {
-    answered = 0;
-    callers = refl;
-    reads = λ index entry there of. absurd (only_group index entry there);
-    groups = λ index group there. only_first index group there;
-  };
-  few = omega arith;
-  place = refl;
-  there = λ number placed there.
-      blank_there script.clients placed.actor (all_at (λ (p : Placed). p.actor < script.clients) script.calls number placed actors there);
-  each = λ actor client there. record {
-    counted = ap (λ (c : Client). answered_of c.begun c.under_way) (blank_is script.clients actor client there);
-    under = λ under going. absurd (none_some
-        (sym (ap (λ (c : Client). c.under_way) (blank_is script.clients actor client there)) ∙ going));
-    asked = λ under call going is. absurd (none_some
-        (sym (ap (λ (c : Client). c.under_way) (blank_is script.clients actor client there)) ∙ going));
-  };
+-- Where there is an only client each call is its.
+firsts : (most : ℕ) → most ≤ 1 → (calls : List Placed) (count : ℕ) → All (λ (placed : Placed). placed.actor < most) calls
+    → count ≤ length calls → take count (map (λ (placed : Placed). placed.actor) calls) ≡ replicate count 0
+firsts most one [] zero actors few = refl
+firsts most one [] (suc count) actors few = absurd (omega (arith, few))
+firsts most one (first ∷ calls) zero actors few = refl
+firsts most one (first ∷ calls) (suc count) actors few =
+    ap (λ (n : ℕ). n ∷ take count (map (λ (placed : Placed). placed.actor) calls))
+    (let its = actors 0 first (omega arith) in let same : first.actor ≡ 0 = omega (arith, one, its) in same)
+    ∙ ap (λ (l : List ℕ). 0 ∷ l)
+    (firsts most one calls count (λ place other low. actors (suc place) other (omega (arith, low))) (omega (arith, few)))
+
+its_calls : (script : Script) → length (calls_of script 0) ≤ length script.calls
+its_calls script =
+    let its : Placed → Bool = λ placed. placed.actor == 0 in
+    let both = length-filter_both its (λ placed. not (its placed)) (λ placed. refl) script.calls in
+    let long = length-map (filter its script.calls) (λ (placed : Placed). placed.call) in
+    omega (arith, both, long)
+
+-- A run begins with the opening's group,
+begins_alone : (script : Script) (start : CoreState) (opened : GroupItem) → script.clients ≤ 1 → opened.after ≡ 0
+    → AreAlone script (first_turns script start opened)
+begins_alone script start opened one first = record {
+  few = let long = length-replicate script.clients blank_client in omega (arith, one, long);
+  answered = 0;
+  follows = nothing;
+  within = omega arith;
+  each = λ client there. subst (GoesAlone script (Group opened ∷ [])) (sym (blank_is script.clients 0 client there))
+      (record {
+        follows = nothing;
+        few = omega arith;
+        under = λ under going. absurd (none_some going);
+        asked = λ under call going is. absurd (none_some going);
+      });
 }
   where
-    only_group : (index : ℕ) (entry : Entry) → CallAt (Group opened ∷ []) index entry → ⊥
-    only_group zero entry there = no_call opened entry (some_is there)
-    only_group (suc index) entry there = none_some there
-
-    only_first : (index : ℕ) (group : GroupItem) → GroupAt (Group opened ∷ []) index group → group.after ≡ index
-    only_first zero group there = ap (λ (g : GroupItem). g.after) (sym (group_is opened group (some_is there))) ∙ first
-    only_first (suc index) group there = absurd (none_some there)
-
--- and goes on by the lines to its end.
-pub follows_lines : (script : Script) (start : CoreState) (opened : GroupItem) (now : Replay) (passed : List TurnTaken)
-    (ended : Ended) → All (λ (placed : Placed). placed.actor < script.clients) script.calls → opened.after ≡ 0
-    → EndsAs script (replay_at (first_turns script start opened) 0 (InOrder [])) passed now ended
-    → ((index : ℕ) (entry : Entry) → CallAt now.turns.items index entry → IsAnswerOf entry.kind entry.answer)
-    → FollowsLines script now.turns.items
-follows_lines script start opened now passed ended actors first ends fits = by (goes ended ends).follows
-  where
-    from : GoesAt script (replay_at (first_turns script start opened) 0 (InOrder []))
-    from = begins_by_lines script start opened actors first
-
-    goes : (ended : Ended) → EndsAs script (replay_at (first_turns script start opened) 0 (InOrder [])) passed now ended
-        → GoesAt script now
-    goes Whole ends = steps_by_lines script ends.0.steps _ now passed ends.0.goes from
-    goes NoMemory ends = subst (GoesAt script) (sym ends.0) from
-    goes Limit ends = steps_by_lines script ends.0.steps _ now passed ends.0.goes from
-
-    by : Follows script now.turns.items → FollowsLines script now.turns.items
-    by follows = record {
-      answered = follows.answered;
-      callers = follows.callers;
-      reads = λ index entry there. follows.reads index entry there (fits index entry there);
-      groups = follows.groups;
+    nothing : Follows (Group opened ∷ []) 0
+    nothing = record {
+      callers = refl;
+      reads = λ index entry there of. absurd (only_group index entry there);
+      groups = λ index group there. only_first index group there;
     }
+      where
+        only_group : (index : ℕ) (entry : Entry) → CallAt (Group opened ∷ []) index entry → ⊥
+        only_group zero entry there = no_call opened entry (some_is there)
+        only_group (suc index) entry there = none_some there
+
+        only_first : (index : ℕ) (group : GroupItem) → GroupAt (Group opened ∷ []) index group → group.after ≡ index
+        only_first zero group there = ap (λ (g : GroupItem). g.after) (sym (group_is opened group (some_is there))) ∙ first
+        only_first (suc index) group there = absurd (none_some there)
+
+-- and goes on by the lines to its end, whatever turns are taken.
+pub follows_lines : (script : Script) (start : CoreState) (opened : GroupItem) (passed : List TurnTaken)
+    (items : List Item) → HaveTaken script (first_turns script start opened) passed
+    → (last_left (first_turns script start opened) passed).items ≡ items → opened.after ≡ 0
+    → ((index : ℕ) (entry : Entry) → CallAt items index entry → IsAnswerOf entry.kind entry.answer)
+    → script.clients ≤ 1 → All (λ (placed : Placed). placed.actor < script.clients) script.calls
+    → FollowsLines script items
+follows_lines script start opened passed items taken are first fits one actors = record {
+  answered = alone.answered;
+  callers = follows.callers ∙ sym (firsts script.clients one script.calls alone.answered actors
+      (let few = alone.within in let its = its_calls script in omega (arith, few, its)));
+  reads = λ index entry there. follows.reads index entry there (fits index entry there);
+  groups = follows.groups;
+}
+  where
+    alone : AreAlone script (last_left (first_turns script start opened) passed)
+    alone = all_alone script (first_turns script start opened) passed taken (begins_alone script start opened one first)
+
+    follows : Follows items alone.answered
+    follows = subst (λ (l : List Item). Follows l alone.answered) are alone.follows

@@ -252,6 +252,11 @@ module _ (script : Script) (old mid : Disk) (pool : Pool) (silent : ℕ) (items 
     fits = λ index entry there. ⊎_elim (λ at. absurd (no_call item index entry at)) (fits_run entry)
         (come.fits index entry there);
     numbers = (come.numbers (first_numbered pool)).numbered;
+    lines = λ one actors. follows_lines script (at_disk (resting pool) mid) item passed items taken
+        (ap (λ (turns : Turns). turns.items) come.ends) refl
+        (λ index entry there. ⊎_elim (λ at. absurd (no_call item index entry at)) (λ fit. fit.of_kind)
+        (come.fits index entry there))
+        one actors;
     borne = come.borne;
     few = come.few;
     within = come.within;
@@ -267,22 +272,15 @@ module _ (script : Script) (old mid : Disk) (pool : Pool) (silent : ℕ) (items 
 
   -- and the turns were those of the clients whose turn it was.
   pub has_run_in_turn : (listed : List ℕ) (ended : Ended) (turns : ℕ) (cursor : Cursor)
-      → All (λ (placed : Placed). placed.actor < script.clients) script.calls
       → EndsAs script (replay_at first_state 0 (InOrder listed)) passed
       (replay_at (turns_of final items clients) turns cursor) ended
       → HasRunInTurn script listed old final.disk items
       (record { ended = ended; turns = turns; out = final.core.pool.out })
   unfolding has_run
-  has_run_in_turn listed ended turns cursor actors ends = record {
+  has_run_in_turn listed ended turns cursor ends = record {
     run = has_run;
     turns = record { now = turns_of final items clients; cursor = cursor; ends = ends };
-    lines = λ none. follows_lines script (at_disk (resting pool) mid) item now passed ended actors refl
-        (subst (λ (l : List ℕ). EndsAs script (replay_at first_state 0 (InOrder l)) passed now ended) none ends)
-        (λ index entry there. (has_run.fits index entry there).of_kind);
   }
-    where
-      now : Replay
-      now = replay_at (turns_of final items clients) turns cursor
 
 -- However they ended, the turns were taken one after the other.
 pub ends_taken : (script : Script) (start now : Replay) (passed : List TurnTaken) (ended : Ended)

@@ -1,5 +1,5 @@
 -- What a run of turns keeps, from the opening of its pool to its end.
-use Rattle.std.specs.Prelude.{◌≡◌, ◌≢◌, ℕ, ◌+◌, ◌≤◌, List, [], ◌∷◌, ◌++◌, Contains}
+use Rattle.std.specs.Prelude.{◌≡◌, ◌≢◌, ℕ, ◌+◌, ◌<◌, ◌≤◌, List, [], ◌∷◌, ◌++◌, All, Contains}
 use Rattle.bank_trait.specs.Disk.{Image, Disk, Later}
 use Rattle.bank_trait.specs.Regions.{TouchesOnly}
 use Rattle.uberblock_ring.specs.Devices.{count_of, IsWithin}
@@ -110,6 +110,9 @@ pub record HasRun (script : Script) (old new : Disk) (items : List Item) (out : 
   pub fits : (index : ℕ) (entry : Entry) → CallAt items index entry
       → FitsCall parity old.devices out (IsDropCause old new out) entry
   pub numbers : GroupsAreNumbered items
+  -- Those of an only client follow the lines of the script.
+  pub lines : script.clients ≤ 1 → All (λ placed. placed.actor < script.clients) script.calls
+      → FollowsLines script items
   -- Some devices have to be borne: no more than there are parities, of those that are out at the end; with the silent
   -- ones of the pool, and those that the opening's group lists as out.
   pub borne : ℕ
@@ -140,9 +143,8 @@ pub record HasTakenTurns (script : Script) (listed : List ℕ) {old new : Disk} 
       (replay_at now ran.turns cursor) ran.ended
 
 -- A script was carried out on the pool that the devices showed, and the turns were those of the list and then the
--- script's. Where none were listed the answers follow the lines of the script.
+-- script's.
 pub record HasRunInTurn (script : Script) (listed : List ℕ) (old new : Disk) (items : List Item) (ran : Ran) : Type 0
   where
     pub run : HasRun script old new items ran.out
     pub turns : HasTakenTurns script listed run ran
-    pub lines : listed ≡ [] → FollowsLines script items

@@ -12,7 +12,7 @@ use Rattle.schedule.proofs.Opened.{resting}
 use Rattle.schedule.proofs.Whole.{ends_taken, has_run, has_run_counted, has_run_in_turn, turns_counted}
 use Rattle.pool_live.specs.Widening.{HasRunBeside, IsAlone, IsCarriedWith, IsScriptWith}
 use Rattle.pool_live.proofs.Sharing.{counted_first}
-use Rattle.pool_live.proofs.Widening.{carried_actors, one_first}
+use Rattle.pool_live.proofs.Widening.{one_first}
 use Rattle.pool_live.proofs.run.run_pool_beside.Goals as goal
 
 pub carry_out_with-carried-requires-clause-bank : goal.carry_out_with-carried-requires-clause-bank
@@ -50,7 +50,6 @@ returns-clause-run g c =
     (ends_taken with.carried (replay_at start 0 (InOrder [])) (replay_at (turns_of final items alone.clients) turns alone.cursor)
     alone.passed ended alone.ends)
     alone.come with.calls [] ended turns alone.cursor
-    (carried_actors script with.carried attaches (first_item pool) with.carried_is c.requires.clients c.requires.actors)
     alone.ends in
     record {
       carried = with.carried;
@@ -62,7 +61,6 @@ returns-clause-run g c =
       complete = with.complete;
       limit = with.limit;
       taken = λ is. has.turns;
-      lines = λ is. has.lines refl;
     })
     (λ beside.
     let taken = beside.1 in
@@ -81,6 +79,5 @@ returns-clause-run g c =
       complete = with.complete;
       limit = with.limit;
       taken = λ is. absurd (beside.0 (subst (λ (group : GroupItem). IsAlone script attaches group) same is));
-      lines = λ is. absurd (beside.0 (subst (λ (group : GroupItem). IsAlone script attaches group) same is));
     })
     with.taken)

@@ -36,4 +36,4 @@ returns-clause-run g c =
     (ends_taken script (replay_at start 0 (InOrder c.args.listed.now))
     (replay_at (turns_of final items out.clients) carried.result.turns out.cursor) out.passed carried.result.ended
     out.ends)
-    out.come carried.ensures.calls c.args.listed.now carried.result.ended carried.result.turns out.cursor c.requires.actors out.ends)
+    out.come carried.ensures.calls c.args.listed.now carried.result.ended carried.result.turns out.cursor out.ends)
