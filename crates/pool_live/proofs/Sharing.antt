@@ -89,28 +89,12 @@ counts_more script before core disk journal progress counted after actor had roo
     (subst (λ (clients : List Client). HasTurn script actor (turns_of (at_disk core disk) journal.items clients) after) same
     turn) ready)
 
--- It had none yet.
-pub moves_none : (script : Script) (now : Turns) (actor room taken : ℕ) → MovesOn script now room taken actor 0 now room taken
-moves_none script now actor room taken = λ start actors stands.
-    subst (λ (l : List ℕ). StandsFor script start l now room taken) (sym (append-nil actors)) stands
-
 -- What was told has one entry more.
 pub actors_more : (told : List Had) (had : Had) → actors_told (told ++ had ∷ []) ≡ actors_told told ++ replicate had.turns had.actor
 actors_more [] had = append-nil (replicate had.turns had.actor)
 actors_more (first ∷ told) had =
     ap (λ (l : List ℕ). replicate first.turns first.actor ++ l) (actors_more told had)
     ∙ sym (append_assoc (replicate first.turns first.actor) (actors_told told) (replicate had.turns had.actor))
-
-pub stands_ready : (script : Script) (start : Option Turns) (now : Turns) (actors : List ℕ) (room taken : ℕ)
-    → StandsFor script start actors now room taken → IsReady script now room
-stands_ready script None now actors room taken stands = absurd stands
-stands_ready script (Some start) now actors room taken stands = stands.0.ready
-
--- As many turns were counted as were had.
-pub stands_counted : (script : Script) (start : Option Turns) (now : Turns) (actors : List ℕ) (room taken : ℕ)
-    → StandsFor script start actors now room taken → taken ≡ length actors
-stands_counted script None now actors room taken stands = absurd stands
-stands_counted script (Some start) now actors room taken stands = stands.1
 
 -- ---- what follows the turns
 

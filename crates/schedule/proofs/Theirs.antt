@@ -104,13 +104,7 @@ its_actor index (work.Copy (Commits run)) call its held = absurd (none_listed ca
 
 -- ---- who has a call under way
 
--- A client that has no call under way goes on with none,
-pub none_going : {clients : List Client} {index : ℕ} {client its : Client} {under : UnderWay}
-    → slice_get clients index ≡ Some client → client.under_way ≡ None → IsGoing clients index its under → ⊥
-none_going was idle is =
-    none_some (sym idle ∙ ap (λ (c : Client). c.under_way) (some_is (sym was ∙ is.there)) ∙ is.under_way)
-
--- Where it holds no sectors, all calls under way that do are others',
+-- Where a client holds no sectors, all calls under way that do are others',
 pub held_by_others : {script : Script} {core : Core} {clients : List Client} {index : ℕ} {client : Client}
     → slice_get clients index ≡ Some client → call_of_client client ≡ [] → AreGoing script core clients
     → (call : HoldingCall) → Contains (calls_under_way clients) call → actor_of call ≢ index
