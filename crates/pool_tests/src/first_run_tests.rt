@@ -1,11 +1,11 @@
 // The first run of a pool, stopped on its way, and what a later run reads without some devices.
-use crate::banks::bank_of_width;
-use crate::runs::run;
 use bank_mem::{MemBank, Tear, Torn};
 use bank_trait::Bank;
 use std::alloc::{AllocError, Global};
 use std::process::Abort;
 use std::test::Fail;
+use test_pools::banks::bank_of_width;
+use test_pools::runs::run;
 use uberblock_ring::DeviceSet;
 
 /// Fronts of the run: without a call, up to its sync, and the whole run.
@@ -43,11 +43,11 @@ struct FirstRun {
 
 impl FirstRun {
     fn on(rt: &impl Abort, alloc: Global, parity: u32, width: u32) -> Result<FirstRun, Fail> {
-        let made = bank_of_width(rt, alloc, parity, width)?.clock();
-        let mut bank = bank_of_width(rt, alloc, parity, width)?;
+        let made = bank_of_width(alloc, parity, width)?.clock();
+        let mut bank = bank_of_width(alloc, parity, width)?;
         let mut after = [0; 3];
         for (clock, front) in after.iter_mut().zip(FRONTS) {
-            bank = bank_of_width(rt, alloc, parity, width)?;
+            bank = bank_of_width(alloc, parity, width)?;
             let told = run(alloc, &mut bank, front)?;
             assert!(rt; TOLD.starts_with(told.text.as_slice()));
             *clock = bank.clock();

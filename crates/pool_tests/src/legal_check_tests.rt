@@ -1,10 +1,9 @@
 // Journals with an attach or a copy that the plain checker passes, and wrong ones that it refuses.
-use crate::legal_check::{Journaled, Wrong};
-use crate::plans::PlannedCall;
 use core_state::{Answer, Entry, Group, Item, Kind};
 use std::alloc::{AllocError, Global};
-use std::process::Abort;
 use std::test::Fail;
+use test_pools::journaled::{Journaled, Wrong};
+use test_pools::plans::PlannedCall;
 
 /// Calls of one client.
 const ATTACH: &[Kind] = &[Kind::Attach];

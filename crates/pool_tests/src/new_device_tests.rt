@@ -1,5 +1,4 @@
 // What an opening does with the device in the place of the new one of an attach, of which nothing was copied yet.
-use crate::banks::show;
 use bank_mem::MemBank;
 use bank_trait::Bank;
 use core_open::{look, open};
@@ -7,6 +6,7 @@ use reflow_mark::{Reflow, State};
 use std::alloc::Global;
 use std::process::Abort;
 use std::test::Fail;
+use test_pools::banks::show;
 use uberblock_ring::{DeviceSet, Uber, slot};
 
 /// An uberblock that stands on device 3: its pool, its group, and the number of the device that it is for.
@@ -45,7 +45,7 @@ fn widening(pool: u64, group: u64) -> Uber {
 fn bank_of(rt: &impl Abort, alloc: Global, case: &Case) -> Result<MemBank, Fail> {
     let mut bank = MemBank::new(alloc, case.devices, 256)?;
     for device in 0..3 {
-        show(rt, &mut bank, &widening(9, 2), device)?;
+        show(&mut bank, &widening(9, 2), device)?;
     }
     for standing in case.stands.iter().flatten() {
         let uber = widening(standing.pool, standing.group);

@@ -1,11 +1,11 @@
 // Pools that are found on banks in memory.
-use crate::banks::{MAKING, RING, bank_of_nine, show};
 use bank_mem::MemBank;
 use bank_trait::Bank;
 use core_open::{OpenWhy, find, look, open};
 use sha2::{Digest, Sha256};
 use std::process::Abort;
 use std::test::Fail;
+use test_pools::banks::{MAKING, RING, bank_of_nine, show};
 use uberblock_ring::{DeviceSet, Uber, area_sector, slot};
 
 /// The index page of block 7, three bytes at sector 0, born in group 1.
@@ -92,7 +92,7 @@ fn most_devices_choose_the_pool_and_the_lowest_among_equals(rt: HostRuntime) -> 
     for (pools, wanted, lowest) in cases {
         let mut bank = MemBank::new(rt.alloc(), 3, 256)?;
         for (device, pool) in pools.into_iter().enumerate() {
-            show(&rt, &mut bank, &Uber::first(pool, 1, 3, 64), device as u32)?;
+            show(&mut bank, &Uber::first(pool, 1, 3, 64), device as u32)?;
         }
         let found = find(rt.alloc(), &mut bank)?;
         assert_eq!(rt;
@@ -107,7 +107,7 @@ fn most_devices_choose_the_pool_and_the_lowest_among_equals(rt: HostRuntime) -> 
 #[test]
 fn a_group_is_found_where_any_device_gives_its_page(rt: HostRuntime) -> Result<(), Fail> {
     let mut bank = bank_of_nine(rt.alloc())?;
-    show(&rt, &mut bank, &second_group(), 1)?;
+    show(&mut bank, &second_group(), 1)?;
     let found = find(rt.alloc(), &mut bank)?;
     assert_eq!(rt;
         (found.uber.group(), found.device),
@@ -131,8 +131,8 @@ fn what_any_candidate_of_the_group_lists_is_out(rt: HostRuntime) -> Result<(), F
     let mut bank = bank_of_nine(rt.alloc())?;
     let mut later = second_group();
     later.set_out(DeviceSet::from_bits(4));
-    show(&rt, &mut bank, &second_group(), 0)?;
-    show(&rt, &mut bank, &later, 1)?;
+    show(&mut bank, &second_group(), 0)?;
+    show(&mut bank, &later, 1)?;
     give(&rt, &mut bank, 0)?;
     let found = find(rt.alloc(), &mut bank)?;
     assert!(rt; found.uber == second_group());
@@ -144,7 +144,7 @@ fn what_any_candidate_of_the_group_lists_is_out(rt: HostRuntime) -> Result<(), F
 fn a_page_read_that_fails_makes_the_choice_anew(rt: HostRuntime) -> Result<(), Fail> {
     let mut bank = bank_of_nine(rt.alloc())?;
     for device in 0..3 {
-        show(&rt, &mut bank, &second_group(), device)?;
+        show(&mut bank, &second_group(), device)?;
         give(&rt, &mut bank, device)?;
     }
     bank.fail_at(&[(0, MAKING + 2 + RING)])?; // after the copy, the page and the ring
@@ -178,7 +178,7 @@ fn a_look_tells_the_uberblock_and_who_is_out_and_writes_nothing(
     let mut later = second_group();
     later.set_out(DeviceSet::from_bits(4));
     for device in 0..2 {
-        show(&rt, &mut bank, &later, device)?;
+        show(&mut bank, &later, device)?;
         give(&rt, &mut bank, device)?;
     }
     let clock = bank.clock();
@@ -203,7 +203,7 @@ fn a_look_is_refused_where_too_many_are_out_and_for_no_number(rt: HostRuntime) -
         let mut bank = bank_of_nine(rt.alloc())?;
         let out = DeviceSet::from_bits(bits);
         for device in 0..3 {
-            show(&rt, &mut bank, &last, device)?;
+            show(&mut bank, &last, device)?;
             if out.has(device) {
                 bank.fail_from(device, MAKING + 1)?;
             }

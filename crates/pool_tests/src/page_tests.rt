@@ -1,7 +1,6 @@
 // Index pages that devices give, lack, or give wrongly, and which blocks fit.
 ghost use Rattle.std.specs.Prelude.{◌≤◌};
 
-use crate::banks::{MAKING, RING, bank_of_nine, bank_of_width, show};
 use bank_mem::MemBank;
 use bank_trait::Bank;
 use core_open::{find, open};
@@ -9,6 +8,7 @@ use sha2::{Digest, Sha256};
 use std::alloc::Global;
 use std::process::Abort;
 use std::test::Fail;
+use test_pools::banks::{MAKING, RING, bank_of_nine, bank_of_width, show};
 use uberblock_ring::{DeviceSet, Uber, area_sector};
 
 /// Group 4 of pool 9, which records this page of so many blocks in index area 1.
@@ -77,10 +77,10 @@ fn page_of_nine() -> [u8; 1024] {
 }
 
 /// Pool 9 on three devices, which show its group 4 with this page.
-fn bank_that_shows(rt: &impl Abort, alloc: Global, uber: &Uber) -> Result<MemBank, Fail> {
+fn bank_that_shows(alloc: Global, uber: &Uber) -> Result<MemBank, Fail> {
     let mut bank = bank_of_nine(alloc)?;
     for device in 0..3 {
-        show(rt, &mut bank, uber, device)?;
+        show(&mut bank, uber, device)?;
     }
     Ok(bank)
 }
@@ -103,7 +103,7 @@ fn blocks_fit_where_they_are_apart_and_inside(rt: HostRuntime) -> Result<(), Fai
     for (one, other, wanted) in cases {
         let page = page_of_two(one, other);
         let uber = fourth_group(1, 3, &page, 2);
-        let mut bank = bank_that_shows(&rt, rt.alloc(), &uber)?;
+        let mut bank = bank_that_shows(rt.alloc(), &uber)?;
         give(&rt, &mut bank, 0, &page)?;
         let found = find(rt.alloc(), &mut bank)?;
         assert_eq!(rt; found.uber.group(), wanted, "{one:?} and {other:?}");
@@ -115,7 +115,7 @@ fn blocks_fit_where_they_are_apart_and_inside(rt: HostRuntime) -> Result<(), Fai
 fn a_page_is_given_where_it_stands(rt: HostRuntime) -> Result<(), Fail> {
     let page = page_of_nine();
     let uber = fourth_group(1, 3, &page, 9);
-    let mut bank = bank_that_shows(&rt, rt.alloc(), &uber)?;
+    let mut bank = bank_that_shows(rt.alloc(), &uber)?;
     give(&rt, &mut bank, 1, &page)?;
     let found = find(rt.alloc(), &mut bank)?;
     assert!(rt; found.uber == uber);
@@ -140,7 +140,7 @@ fn one_wrong_byte_and_a_page_is_not_given(rt: HostRuntime) -> Result<(), Fail> {
             (fourth_group(1, 3, &page, 9), "its digest is another"),
             (fourth_group(1, 3, &spoiled, 9), "it is no page"),
         ] {
-            let mut bank = bank_that_shows(&rt, rt.alloc(), &uber)?;
+            let mut bank = bank_that_shows(rt.alloc(), &uber)?;
             give(&rt, &mut bank, 1, &spoiled)?;
             let found = find(rt.alloc(), &mut bank)?;
             assert_eq!(rt; found.uber.group(), 1, "at {place}: {why}");
@@ -153,7 +153,7 @@ fn one_wrong_byte_and_a_page_is_not_given(rt: HostRuntime) -> Result<(), Fail> {
 fn a_device_whose_page_fails_in_its_second_sector_is_silent(rt: HostRuntime) -> Result<(), Fail> {
     let page = page_of_nine();
     let uber = fourth_group(1, 3, &page, 9);
-    let mut bank = bank_that_shows(&rt, rt.alloc(), &uber)?;
+    let mut bank = bank_that_shows(rt.alloc(), &uber)?;
     for device in 1..3 {
         give(&rt, &mut bank, device, &page)?;
     }
@@ -173,7 +173,7 @@ fn a_page_is_brought_to_devices_with_another_or_none_and_no_others(
     let uber = fourth_group(1, 3, &page, 1);
     // (the devices that have the page, that have another, how many pages an opening writes)
     for (whole, wrong, written) in [(7, 0, 0), (1, 2, 2), (4, 0, 2), (2, 5, 2)] {
-        let mut bank = bank_that_shows(&rt, rt.alloc(), &uber)?;
+        let mut bank = bank_that_shows(rt.alloc(), &uber)?;
         for device in 0..3 {
             if DeviceSet::from_bits(whole).has(device) {
                 give(&rt, &mut bank, device, &page)?;
@@ -205,9 +205,9 @@ fn a_device_whose_page_fails_goes_out_and_one_that_is_out_gets_none(
     let page = page_of_one(1);
     let mut uber = fourth_group(2, 4, &page, 1);
     uber.set_out(DeviceSet::from_bits(2));
-    let mut bank = bank_of_width(&rt, rt.alloc(), 2, 4)?;
+    let mut bank = bank_of_width(rt.alloc(), 2, 4)?;
     for device in 0..4 {
-        show(&rt, &mut bank, &uber, device)?;
+        show(&mut bank, &uber, device)?;
     }
     give(&rt, &mut bank, 2, &page)?;
     // after the uberblock and the ring: device 2 gives the page by which the group is chosen

@@ -1,14 +1,14 @@
 // Puts that find no room: in the pool, and in its table.
 ghost use Rattle.std.specs.Prelude.{◌<◌, ◌^◌};
 
-use crate::plans::letter;
-use crate::runs::replay;
 use bank_mem::MemBank;
 use bank_trait::Bank;
 use core_open::create;
 use std::alloc::{AllocError, Global};
 use std::process::Abort;
 use std::test::Fail;
+use test_pools::plans::letter;
+use test_pools::runs::replay;
 
 /// What some clients ask for, in which order, and what they are told.
 #[derive(Drop)]

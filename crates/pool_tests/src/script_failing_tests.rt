@@ -1,12 +1,11 @@
 // Runs whose devices fail.
-use crate::banks::{MAKING, OPENING, bank_of_width};
-use crate::runs::run;
 use bank_mem::{MemBank, MemSink};
 use client_script::TextWriter;
 use core_open::OpenWhy;
 use std::alloc::Global;
-use std::process::Abort;
 use std::test::Fail;
+use test_pools::banks::{MAKING, OPENING, bank_of_width};
+use test_pools::runs::run;
 use uberblock_ring::DeviceSet;
 
 /// Block 8 has two data sectors, so that with the parities it has one on each device.
@@ -65,13 +64,12 @@ fn refused(alloc: Global, lines: &[&[u8]], out: DeviceSet) -> Result<MemSink, Fa
 
 /// A new pool, each of these devices failing from the first read of the block on.
 fn failing_bank(
-    rt: &impl Abort,
     alloc: Global,
     parity: u32,
     width: u32,
     failing: DeviceSet,
 ) -> Result<MemBank, Fail> {
-    let mut bank = bank_of_width(rt, alloc, parity, width)?;
+    let mut bank = bank_of_width(alloc, parity, width)?;
     for device in 0..width {
         if failing.has(device) {
             bank.fail_from(device, MAKING + OPENING + 1)?;
@@ -94,7 +92,7 @@ fn all_is_right_while_no_more_devices_fail_than_there_are_parities(
             if out.len() > parity {
                 continue;
             }
-            let mut bank = failing_bank(&rt, alloc, parity, width, out)?;
+            let mut bank = failing_bank(alloc, parity, width, out)?;
             for (script, wanted) in [(SCRIPT, ANSWERED), (READS, READS_ANSWERED)] {
                 let told = run(alloc, &mut bank, script)?;
                 assert_eq!(rt; told.text.as_slice(), wanted, "{bits} of {width}");
@@ -114,7 +112,7 @@ fn one_device_more_is_told_and_no_run_opens_then(rt: HostRuntime) -> Result<(), 
             if out.len() != parity + 1 {
                 continue;
             }
-            let mut bank = failing_bank(&rt, alloc, parity, width, out)?;
+            let mut bank = failing_bank(alloc, parity, width, out)?;
             let told = run(alloc, &mut bank, SCRIPT)?;
             let wanted = refused(alloc, &READ_REFUSED, out)?;
             assert_eq!(rt;
@@ -145,7 +143,7 @@ fn no_device_is_called_once_too_many_are_out(rt: HostRuntime) -> Result<(), Fail
     for (parity, width, lowest) in [(1, 3, 3), (2, 4, 7), (3, 5, 15)] {
         let out = DeviceSet::from_bits(lowest);
         for (from, lines) in cases {
-            let mut bank = bank_of_width(&rt, alloc, parity, width)?;
+            let mut bank = bank_of_width(alloc, parity, width)?;
             for device in 0..width {
                 bank.fail_from(device, from)?;
             }
@@ -164,13 +162,12 @@ fn no_device_is_called_once_too_many_are_out(rt: HostRuntime) -> Result<(), Fail
 
 /// The first devices of a new pool, so many of them.
 fn bank_that_lacks_the_last(
-    rt: &impl Abort,
     alloc: Global,
     parity: u32,
     width: u32,
     there: usize,
 ) -> Result<MemBank, Fail> {
-    let bank = bank_of_width(rt, alloc, parity, width)?;
+    let bank = bank_of_width(alloc, parity, width)?;
     let mut images = bank.crash_at(alloc, bank.clock(), &[])?;
     images.truncate(there);
     Ok(MemBank::from_images(alloc, images)?)
@@ -181,7 +178,7 @@ fn a_bank_may_lack_as_many_devices_as_there_are_parities(rt: HostRuntime) -> Res
     let alloc = rt.alloc();
     // (the parities, the devices, how many are there, those that aren't)
     for (parity, width, there, lacking) in [(1, 3, 2, 4), (2, 4, 2, 12), (3, 5, 2, 28)] {
-        let mut bank = bank_that_lacks_the_last(&rt, alloc, parity, width, there)?;
+        let mut bank = bank_that_lacks_the_last(alloc, parity, width, there)?;
         for (script, wanted) in [(SCRIPT, ANSWERED), (READS, READS_ANSWERED)] {
             let told = run(alloc, &mut bank, script)?;
             assert_eq!(rt; told.text.as_slice(), wanted, "{there} of {width}");
@@ -200,7 +197,7 @@ fn a_bank_that_lacks_one_device_more_has_no_run(rt: HostRuntime) -> Result<(), F
     let alloc = rt.alloc();
     for (parity, width, lacking) in [(1, 3, 6), (2, 4, 14), (3, 5, 30)] {
         let out = DeviceSet::from_bits(lacking);
-        let mut bank = bank_that_lacks_the_last(&rt, alloc, parity, width, 1)?;
+        let mut bank = bank_that_lacks_the_last(alloc, parity, width, 1)?;
         let told = run(alloc, &mut bank, SCRIPT)?;
         assert_eq!(rt; told.text.as_slice(), b"".as_slice(), "{width}");
         assert_eq!(rt; told.ended, Err(OpenWhy::TooManyFailed { out }), "{width}");

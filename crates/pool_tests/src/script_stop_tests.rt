@@ -1,9 +1,9 @@
 // What a run reads after a stop in the run before.
-use crate::banks::bank_of_nine;
-use crate::runs::run;
 use bank_mem::{MemBank, Tear, Torn};
 use std::alloc::{AllocError, Global};
 use std::test::Fail;
+use test_pools::banks::bank_of_nine;
+use test_pools::runs::run;
 use uberblock_ring::DeviceSet;
 
 const DEVICES: u32 = 3;

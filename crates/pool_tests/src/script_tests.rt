@@ -1,9 +1,9 @@
 // Runs and their journals, line by line.
-use crate::banks::bank_of_nine;
-use crate::runs::run;
 use bank_mem::MemBank;
 use core_open::OpenWhy;
 use std::test::Fail;
+use test_pools::banks::bank_of_nine;
+use test_pools::runs::run;
 use uberblock_ring::DeviceSet;
 
 /// Blocks 7 and 8 are synced, and then 7 is freed, 8 put anew and 9 put.

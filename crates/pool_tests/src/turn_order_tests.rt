@@ -1,9 +1,9 @@
 // Replays and their journals, line by line.
-use crate::banks::bank_of_nine;
-use crate::runs::{finished, replay};
 use std::alloc::Global;
 use std::process::Abort;
 use std::test::Fail;
+use test_pools::banks::bank_of_nine;
+use test_pools::runs::{finished, replay};
 use uberblock_ring::DeviceSet;
 
 /// Whether a script that is replayed on a new pool is told this, in so many turns.

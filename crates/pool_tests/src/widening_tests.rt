@@ -1,12 +1,12 @@
 // Pools on their way from three devices to four, and from where their blocks are read.
-use crate::banks::{Way, bank_of_nine, bank_on_the_way};
-use crate::runs::run;
 use bank_mem::MemBank;
 use bank_trait::Bank;
 use reflow_mark::State;
 use std::alloc::Global;
 use std::process::Abort;
 use std::test::Fail;
+use test_pools::banks::{Way, bank_of_nine, bank_on_the_way, copy_of};
+use test_pools::runs::run;
 use uberblock_ring::DeviceSet;
 
 /// How many blocks of two content sectors are put. With their parity and a spare one they take four sectors each,
@@ -53,11 +53,6 @@ fn filled(alloc: Global, bank: MemBank) -> Result<MemBank, Fail> {
     Ok(bank)
 }
 
-/// What the devices hold.
-fn copy_of(alloc: Global, bank: &MemBank) -> Result<MemBank, Fail> {
-    Ok(MemBank::from_images(alloc, bank.crash_at(alloc, bank.clock(), &[])?)?)
-}
-
 #[test]
 fn a_pool_on_its_way_reads_what_one_at_rest_reads_also_without_a_device(
     rt: HostRuntime,
@@ -69,7 +64,7 @@ fn a_pool_on_its_way_reads_what_one_at_rest_reads_also_without_a_device(
     // Each of the bytes is told by two digits.
     assert!(rt; wanted.text.as_slice().len() > 47 * 2000);
     for way in [(State::None, 0), SCRATCH, NEW, (State::Moved, 167)] {
-        let bank = filled(alloc, bank_on_the_way(&rt, alloc, way)?)?;
+        let bank = filled(alloc, bank_on_the_way(alloc, way)?)?;
         for failing in 0..5 {
             let mut left = copy_of(alloc, &bank)?;
             left.fail_from(failing, 0)?;
@@ -136,7 +131,7 @@ fn a_block_is_read_from_where_it_stands_and_nowhere_else(rt: HostRuntime) -> Res
         (NEW, 33, OLD_33, &[NEW_33]),
     ];
     for (way, block, stands, others) in rows {
-        let bank = filled(alloc, bank_on_the_way(&rt, alloc, way)?)?;
+        let bank = filled(alloc, bank_on_the_way(alloc, way)?)?;
         assert!(rt;
             is_damaged_by(&rt, alloc, &bank, block, stands)?,
             "{block} of {way:?}"

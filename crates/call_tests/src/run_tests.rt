@@ -1,12 +1,9 @@
 // Runs, and what they say line by line.
-use crate::banks::bank_of_nine;
-use crate::calls::{REPLAY, RUN, call};
-use bank_mem::MemBank;
-use bank_trait::Bank;
+use crate::calls::{REPLAY, RUN, call, sector_of};
 use client_script::{CallFault, LineFault};
 use raidzx_top::Status;
-use std::process::Abort;
 use std::test::Fail;
+use test_pools::banks::bank_of_nine;
 
 const FIRST: &[u8] = b"clients 1
 a put 7 3 5
@@ -43,14 +40,6 @@ fn what_was_synced_is_read_in_later_runs_also_without_a_device(
     assert_eq!(rt; told.status, Status::Done);
     assert_eq!(rt; told.text.as_slice(), text);
     Ok(())
-}
-
-/// What stands in a device sector.
-fn sector_of(rt: &impl Abort, bank: &mut MemBank, device: u32, sector: u64) -> [u8; 512] {
-    let mut bytes = [1; 512];
-    assert!(rt; device < bank.devices() && sector < bank.sectors());
-    assert_eq!(rt; bank.read(device, sector, &mut bytes), Ok(()));
-    bytes
 }
 
 /// The block's three bytes, and zeros up to the sector's end.

@@ -1,9 +1,9 @@
 // Words, and pools that are made.
-use crate::banks::{MAKING, bank_of_nine};
 use crate::calls::{MAKE_NINE, call};
 use bank_mem::MemBank;
 use raidzx_top::Status;
 use std::test::Fail;
+use test_pools::banks::{MAKING, bank_of_nine};
 use uberblock_ring::DeviceSet;
 
 #[test]

@@ -1,5 +1,4 @@
 // A group whose uberblock comes to light late, and the block of the group before it.
-use crate::banks::{MAKING, OPENING, bank_of_nine};
 use crate::calls::{RUN, call};
 use bank_mem::{MemBank, Tear, Torn};
 use bank_trait::Bank;
@@ -9,6 +8,7 @@ use std::process::Abort;
 use std::sync::Wait;
 use std::test::Fail;
 use std::thread::Threads;
+use test_pools::banks::{MAKING, OPENING, bank_of_nine};
 use uberblock_ring::DeviceSet;
 
 /// The sync of block 2 lays its page, and then the uberblock fails on devices 0 and 1.

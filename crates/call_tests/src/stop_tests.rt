@@ -1,10 +1,10 @@
 // Runs on what a stop or damage left.
-use crate::banks::bank_of_nine;
 use crate::calls::{RUN, call};
 use bank_mem::{MemBank, Tear, Torn};
 use bank_trait::Bank;
 use raidzx_top::Status;
 use std::test::Fail;
+use test_pools::banks::bank_of_nine;
 use uberblock_ring::DeviceSet;
 
 const PUT: &[u8] = b"clients 1\na puthex 1 616263\na sync\n";

@@ -1,7 +1,5 @@
 // A copy and another client's call that go on beside each other, held up by a gate until each has seen the other.
-use crate::banks::bank_of_nine_and_a_blank;
 use crate::calls::{REPLAY, RUN, RUN_AND_ATTACH, Told, call, call_held_up};
-use crate::plans::pattern;
 use bank_mem::MemBank;
 use bank_trait::{Gate, Point};
 use client_script::COPIER;
@@ -11,6 +9,8 @@ use std::process::Abort;
 use std::sync::{Mutex, Wait};
 use std::test::Fail;
 use std::thread::{Threads, yield_now};
+use test_pools::banks::bank_of_nine_and_a_blank;
+use test_pools::plans::pattern;
 
 /// The client beside the one that copies.
 const CLIENT: u8 = 0;

@@ -1,5 +1,4 @@
 // What a run reads after a stop in a replay.
-use crate::banks::bank_of_nine;
 use crate::calls::{REPLAY, RUN, call};
 use bank_mem::{MemBank, Tear, Torn};
 use raidzx_top::Status;
@@ -7,6 +6,7 @@ use std::alloc::{AllocError, Global};
 use std::sync::Wait;
 use std::test::Fail;
 use std::thread::Threads;
+use test_pools::banks::bank_of_nine;
 
 /// While the first client's sync is under way the second one puts a block and frees another.
 const SCRIPT: &[u8] = b"clients 2

@@ -1,4 +1,4 @@
-// New pools on banks in memory.
+// New pools on banks in memory, and copies of these banks.
 ghost use Rattle.std.specs.Prelude.{◌≤◌};
 
 use bank_mem::MemBank;
@@ -6,7 +6,6 @@ use bank_trait::Bank;
 use core_open::create;
 use reflow_mark::{Reflow, State};
 use std::alloc::Global;
-use std::process::Abort;
 use std::test::Fail;
 use uberblock_ring::{Uber, slot};
 use width_map::Births;
@@ -52,19 +51,18 @@ pub fn bank_of_sixteen_and_a_blank(alloc: Global) -> Result<MemBank, Fail> {
 }
 
 /// As many devices as pool 9 is wide, which was made on them.
-pub fn bank_of_width(
-    rt: &impl Abort,
-    alloc: Global,
-    parity: u32,
-    width: u32,
-) -> Result<MemBank, Fail> {
-    assert!(rt; 2 <= width && width <= 16);
+pub fn bank_of_width(alloc: Global, parity: u32, width: u32) -> Result<MemBank, Fail> {
+    if width < 2 || 16 < width {
+        return Err("no pool is so wide".into());
+    }
     bank_with_pool(alloc, width, parity, width)
 }
 
-/// Writes an uberblock to its slot on a device.
-pub fn show(rt: &impl Abort, bank: &mut MemBank, uber: &Uber, device: u32) -> Result<(), Fail> {
-    assert!(rt; uber.is_right() && device < bank.devices() && bank.sectors() == 256);
+/// Writes an uberblock to its slot on a device, which has 256 sectors.
+pub fn show(bank: &mut MemBank, uber: &Uber, device: u32) -> Result<(), Fail> {
+    if !(uber.is_right() && device < bank.devices() && bank.sectors() == 256) {
+        return Err("the uberblock has no place there".into());
+    }
     bank.write(device, u64::from(slot(uber.group())), &uber.encode(device))?;
     Ok(())
 }
@@ -73,7 +71,7 @@ pub fn show(rt: &impl Abort, bank: &mut MemBank, uber: &Uber, device: u32) -> Re
 pub type Way = (State, u64);
 
 /// Four devices with pool 9, which has one parity and was made on three of them.
-pub fn bank_on_the_way(rt: &impl Abort, alloc: Global, way: Way) -> Result<MemBank, Fail> {
+pub fn bank_on_the_way(alloc: Global, way: Way) -> Result<MemBank, Fail> {
     let (state, mark) = way;
     let reflow = Reflow {
         from: 3,
@@ -86,7 +84,12 @@ pub fn bank_on_the_way(rt: &impl Abort, alloc: Global, way: Way) -> Result<MemBa
     uber.set_widths(reflow, Births::first(3));
     let mut bank = MemBank::new(alloc, 4, 256)?;
     for device in 0..4 {
-        show(rt, &mut bank, &uber, device)?;
+        show(&mut bank, &uber, device)?;
     }
     Ok(bank)
+}
+
+/// What the devices hold, where no call fails.
+pub fn copy_of(alloc: Global, bank: &MemBank) -> Result<MemBank, Fail> {
+    Ok(MemBank::from_images(alloc, bank.crash_at(alloc, bank.clock(), &[])?)?)
 }

@@ -1,5 +1,4 @@
 // What a look at a pool tells, and that it changes nothing.
-use crate::banks::{MAKING, bank_of_nine, bank_of_width, bank_on_the_way};
 use crate::calls::{RUN, STATUS, Told, call, call_with};
 use bank_mem::{MemBank, MemSink, MemSource};
 use raidzx_top::Status;
@@ -9,6 +8,7 @@ use std::process::Abort;
 use std::sync::Wait;
 use std::test::Fail;
 use std::thread::Threads;
+use test_pools::banks::{MAKING, bank_of_nine, bank_of_width, bank_on_the_way};
 use uberblock_ring::DeviceSet;
 
 /// Looks at the pool on a bank. The source fails at its first read, and none is made.
@@ -52,7 +52,7 @@ fn a_pool_is_told_as_it_stands(rt: HostRuntime) -> Result<(), Fail> {
         ),
         (
             "a wide one of three parities",
-            bank_of_width(&rt, alloc, 3, 16)?,
+            bank_of_width(alloc, 3, 16)?,
             b"pool 9 parity 3 rows 64 group 1\nwidth 16\nbirths 0:16\nout none\nblocks 0\n",
         ),
         (
@@ -67,12 +67,12 @@ fn a_pool_is_told_as_it_stands(rt: HostRuntime) -> Result<(), Fail> {
         ),
         (
             "one on its way, in the scratch area",
-            bank_on_the_way(&rt, alloc, (State::Valid, 128))?,
+            bank_on_the_way(alloc, (State::Valid, 128))?,
             b"pool 9 parity 1 rows 64 group 1\nwidth 3 to 4 mark 128 state valid\nbirths 0:3\nout none\nblocks 0\n",
         ),
         (
             "one on its way, at its new places",
-            bank_on_the_way(&rt, alloc, (State::Moved, 128))?,
+            bank_on_the_way(alloc, (State::Moved, 128))?,
             b"pool 9 parity 1 rows 64 group 1\nwidth 3 to 4 mark 128 state moved\nbirths 0:3\nout none\nblocks 0\n",
         ),
     ];

@@ -1,12 +1,11 @@
 // Plans that are replayed, their journals checked item by item, and what is read afterwards.
-use crate::legal_check::{Held, Journaled};
+use crate::journaled::{Held, Journaled};
 use crate::plans::{Plan, plan_of_reads};
 use crate::runs::{Order, run_into};
 use bank_mem::MemBank;
 use core_state::{Answer, Group, Item, Journal};
-use schedule::Ended;
+use schedule::{Ended, Ran};
 use std::alloc::Global;
-use std::process::Abort;
 use std::test::Fail;
 use uberblock_ring::DeviceSet;
 
@@ -58,7 +57,6 @@ fn is_paused_rightly(failing: Option<u32>, journal: &Journal) -> bool {
 
 /// Replays a plan. Each call is answered, and no device is out but the one that may fail.
 fn replay_plan(
-    rt: &impl Abort,
     alloc: Global,
     bank: &mut MemBank,
     plan: &Plan,
@@ -73,36 +71,45 @@ fn replay_plan(
         Order::AsListed,
         &mut journal,
     )??;
-    assert_eq!(rt; ran.ended, Ended::Whole, "plan {number}");
-    assert!(rt;
-        may_be_out(failing, ran.out),
-        "plan {number}: {:?}",
-        ran.out
-    );
-    assert!(rt;
-        is_paused_rightly(failing, &journal),
-        "plan {number} is paused"
-    );
+    let Ran { ended, out, .. } = ran;
+    if ended != Ended::Whole {
+        return Err(Fail::new(format_args!("plan {number}: {ended:?}")));
+    }
+    if !may_be_out(failing, out) {
+        return Err(Fail::new(format_args!("plan {number}: {out:?} are out")));
+    }
+    if !is_paused_rightly(failing, &journal) {
+        return Err(Fail::new(format_args!("plan {number} is paused")));
+    }
     Ok(journal)
+}
+
+/// Nothing is wrong with a journal, that of a plan or of what is read after it.
+fn check_legal(told: &Journaled, number: u64, when: &str) -> Result<(), Fail> {
+    match told.first_wrong() {
+        None => Ok(()),
+        Some((index, wrong)) => {
+            Err(Fail::new(format_args!("plan {number}, {when}: {wrong:?} at item {index}")))
+        }
+    }
 }
 
 /// Replays a plan on a new pool, where this device may fail, or none. Its journal is legal.
 pub fn check_plan(
-    rt: &impl Abort,
     alloc: Global,
     bank: &mut MemBank,
     plan: &Plan,
     failing: Option<u32>,
     number: u64,
 ) -> Result<Left, Fail> {
-    let journal = replay_plan(rt, alloc, bank, plan, failing, number)?;
+    let journal = replay_plan(alloc, bank, plan, failing, number)?;
     let told = Journaled {
         opening_group: FIRST_OPENING,
         opening: &[],
         calls: plan.calls.as_slice(),
         items: journal.as_slice(),
     };
-    assert_eq!(rt; told.first_wrong(), None, "plan {number}");
+    check_legal(&told, number, "replayed")?;
     let last = told.last_group().ok_or("no group")?;
     let held = told.held_after(alloc, last.after)?;
     Ok(Left { last, held })
@@ -110,7 +117,6 @@ pub fn check_plan(
 
 /// What is read afterwards is the map of the last group, and a copy goes on. It ends where no device may fail.
 pub fn check_reads(
-    rt: &impl Abort,
     alloc: Global,
     bank: &mut MemBank,
     left: &Left,
@@ -118,18 +124,20 @@ pub fn check_reads(
     number: u64,
 ) -> Result<(), Fail> {
     let reads = plan_of_reads(alloc)?;
-    let journal = replay_plan(rt, alloc, bank, &reads, failing, number)?;
+    let journal = replay_plan(alloc, bank, &reads, failing, number)?;
     let told = Journaled {
         opening_group: opening_after(&left.last),
         opening: left.held.as_slice(),
         calls: reads.calls.as_slice(),
         items: journal.as_slice(),
     };
-    assert_eq!(rt; told.first_wrong(), None, "plan {number}, read afterwards");
+    check_legal(&told, number, "read afterwards")?;
     let last = told.last_group().ok_or("no group")?;
-    assert_eq!(rt; last.to, left.last.to, "plan {number}, read afterwards");
-    if failing.is_none() {
-        assert_eq!(rt; last.from, last.to, "plan {number}, copied afterwards");
+    if last.to != left.last.to {
+        return Err(Fail::new(format_args!("plan {number}, read afterwards: {last:?}")));
+    }
+    if failing.is_none() && last.from != last.to {
+        return Err(Fail::new(format_args!("plan {number}, copied afterwards: {last:?}")));
     }
     Ok(())
 }

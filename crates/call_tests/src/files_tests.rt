@@ -1,7 +1,6 @@
 // A pool on files in memory, beside one on a bank in memory: both tell and hold the same.
 ghost use Rattle.std.specs.Prelude.{◌↔◌, ◌<◌, IsTrue};
 
-use crate::banks::MAKING;
 use crate::calls::{MAKE_NINE, REPLAY, RUN, STATUS, words_of};
 use bank_mem::{MemBank, MemSink, MemSource};
 use bank_trait::{Bank, Failed};
@@ -13,6 +12,7 @@ use std::process::Abort;
 use std::sync::Wait;
 use std::test::Fail;
 use std::thread::Threads;
+use test_pools::banks::MAKING;
 
 const SECTORS: u32 = 256;
 

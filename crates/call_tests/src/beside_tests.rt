@@ -1,8 +1,4 @@
 // Clients in threads of their own, their journals checked item by item.
-use crate::banks::bank_of_nine_and_a_blank;
-use crate::legal_check::Journaled;
-use crate::plan_check::{FIRST_OPENING, Left, check_reads};
-use crate::plans::{Plan, PlannedCall, plan_of_eight};
 use client_script::{COPIER, parse};
 use core_state::{Journal, Kind};
 use pool_live::{OpenGate, PoolRun, run_pool_beside};
@@ -12,6 +8,10 @@ use std::process::Abort;
 use std::sync::Wait;
 use std::test::Fail;
 use std::thread::Threads;
+use test_pools::banks::bank_of_nine_and_a_blank;
+use test_pools::journaled::Journaled;
+use test_pools::plan_check::{FIRST_OPENING, Left, check_reads};
+use test_pools::plans::{Plan, PlannedCall, plan_of_eight};
 
 /// How many plans are carried out, and how many beside a client that widens the pool.
 const PLANS: u64 = 100;
@@ -62,7 +62,7 @@ fn check_beside<R: Abort + Threads + Wait + Sync>(
     assert_eq!(rt; told.first_wrong(), None, "plan {number}");
     let last = told.last_group().ok_or("no group")?;
     let held = told.held_after(alloc, last.after)?;
-    check_reads(rt, alloc, &mut bank, &Left { last, held }, None, number)
+    check_reads(alloc, &mut bank, &Left { last, held }, None, number)
 }
 
 #[test]

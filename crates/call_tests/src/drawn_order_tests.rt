@@ -1,14 +1,14 @@
 // Two hundred orders, their journals checked item by item.
-use crate::banks::bank_of_nine_and_a_blank;
 use crate::calls::{REPLAY, RUN, call};
-use crate::plan_check::{check_plan, check_reads};
-use crate::plans::{Draw, Plan, plan_of, plan_of_lines};
 use bank_mem::MemBank;
 use std::alloc::{AllocError, Global};
 use std::process::Abort;
 use std::sync::Wait;
 use std::test::Fail;
 use std::thread::Threads;
+use test_pools::banks::bank_of_nine_and_a_blank;
+use test_pools::plan_check::{check_plan, check_reads};
+use test_pools::plans::{Draw, Plan, plan_of, plan_of_lines};
 
 /// The calls on each device of the pool that make it, and most of those that open it.
 const OPENING: u64 = 65;
@@ -32,11 +32,11 @@ fn check_order(
     number: u64,
 ) -> Result<(), Fail> {
     let plan = plan_of(alloc, number)?;
-    let left = check_plan(rt, alloc, bank, &plan, failing, number)?;
+    let left = check_plan(alloc, bank, &plan, failing, number)?;
     if failing.is_none() {
         assert_eq!(rt; left.last.to == 4, plan.attaches(), "order {number}");
     }
-    check_reads(rt, alloc, bank, &left, failing, number)
+    check_reads(alloc, bank, &left, failing, number)
 }
 
 /// Checks the orders from this number up to that one.

@@ -1,15 +1,15 @@
 // Runs that attach a device: what they answer, and what later runs read.
-use crate::banks::{
-    MAKING, OPENING, RING, bank_of_nine, bank_of_nine_and_a_blank, bank_of_sixteen_and_a_blank,
-};
 use crate::calls::{REPLAY, RUN, RUN_AND_ATTACH, STATUS, call};
-use crate::runs::run;
 use bank_mem::MemBank;
 use bank_trait::Bank;
 use raidzx_top::Status;
 use std::alloc::Global;
 use std::process::Abort;
 use std::test::Fail;
+use test_pools::banks::{
+    MAKING, OPENING, RING, bank_of_nine, bank_of_nine_and_a_blank, bank_of_sixteen_and_a_blank,
+};
+use test_pools::runs::run;
 use uberblock_ring::{DeviceSet, Uber, slot};
 
 const FIRST: &[u8] = b"clients 1

@@ -1,5 +1,4 @@
 // Devices, sinks and sources that fail.
-use crate::banks::{MAKING, OPENING, bank_of_nine};
 use crate::calls::{MAKE_NINE, REPLAY, RUN, STATUS, call, call_with};
 use bank_mem::{MemBank, MemSink, MemSource};
 use raidzx_top::Status;
@@ -7,6 +6,7 @@ use std::alloc::Global;
 use std::sync::Wait;
 use std::test::Fail;
 use std::thread::Threads;
+use test_pools::banks::{MAKING, OPENING, bank_of_nine};
 use uberblock_ring::DeviceSet;
 
 #[test]

@@ -1,9 +1,9 @@
 // Replays, and what they say line by line.
-use crate::banks::{MAKING, OPENING, bank_of_nine};
 use crate::calls::{REPLAY, RUN, call};
 use client_script::LineFault;
 use raidzx_top::Status;
 use std::test::Fail;
+use test_pools::banks::{MAKING, OPENING, bank_of_nine};
 
 /// The second put ends first: the later last turn wins. A put of one sector has four turns: its first, two writes, its
 /// last. So has a read of it.

@@ -1,9 +1,10 @@
-// Calls over banks in memory, and what they tell.
+// Calls over banks in memory, what they tell, and what they leave in a sector.
 use bank_mem::{MemBank, MemSink, MemSource};
-use bank_trait::Gate;
+use bank_trait::{Bank, Gate};
 use pool_live::OpenGate;
 use raidzx_top::{Outcome, Status, raidzx};
 use std::alloc::{AllocError, Global};
+use std::process::Abort;
 use std::sync::Wait;
 use std::test::Fail;
 use std::thread::Threads;
@@ -111,4 +112,12 @@ pub fn call<R: Threads + Wait + Sync>(
     script: &[u8],
 ) -> Result<Told, Fail> {
     call_held_up(rt, alloc, &OpenGate, words, bank, script)
+}
+
+/// What stands in a device sector.
+pub fn sector_of(rt: &impl Abort, bank: &mut MemBank, device: u32, sector: u64) -> [u8; 512] {
+    let mut bytes = [1; 512];
+    assert!(rt; device < bank.devices() && sector < bank.sectors());
+    assert_eq!(rt; bank.read(device, sector, &mut bytes), Ok(()));
+    bytes
 }
