@@ -18,7 +18,7 @@ use std::sync::Wait;
 use turn_lock::{Seat, Turns};
 
 /// Most turns that a client has at once, while others wait for theirs.
-const MOST_AT_ONCE: u64 = 16;
+const MOST_AT_ONCE: u64 = 32;
 
 /// What a client has before it after a turn.
 #[derive(Drop)]
