@@ -54,10 +54,7 @@ pub enum Round {
 }
 
 /// The bytes that a get is answered by.
-fn bytes_read(turn: Turn<GetRun>) -> Result<Vec<u8>, Fail> {
-    let Turn::Done(answer) = turn else {
-        return Err("a get is not answered".into());
-    };
+fn bytes_read(answer: Answer) -> Result<Vec<u8>, Fail> {
     let Answer::Read { bytes } = answer else {
         return Err("a block is not read".into());
     };
@@ -101,15 +98,15 @@ impl PoolOnBank {
         let mut run = run;
         for _ in 0..MOST_TURNS {
             if run.is_written() {
-                return match self.core.put_end(run) {
-                    Turn::Done(Answer::Stored) => Ok(()),
+                return match self.core.put_end(&run) {
+                    Answer::Stored => Ok(()),
                     _ => Err("a put is not answered".into()),
                 };
             }
-            let Turn::More(next) = self.core.put_write(&mut self.bank, run) else {
-                return Err("a put does not go on".into());
-            };
-            run = next;
+            match self.core.put_write(&mut self.bank, &mut run) {
+                None => {}
+                Some(_) => return Err("a put does not go on".into()),
+            }
         }
         Err("a put has no end".into())
     }
@@ -141,12 +138,12 @@ impl PoolOnBank {
         for _ in 0..MOST_TURNS {
             if run.is_read() {
                 run.solve(alloc)?;
-                return bytes_read(self.core.get_end(run));
+                return bytes_read(self.core.get_end(&mut run));
             }
-            let Turn::More(next) = self.core.get_read(&mut self.bank, run) else {
-                return Err("a get does not go on".into());
-            };
-            run = next;
+            match self.core.get_read(alloc, &mut self.bank, &mut run) {
+                None => {}
+                Some(_) => return Err("a get does not go on".into()),
+            }
         }
         Err("a get has no end".into())
     }
@@ -169,10 +166,10 @@ impl PoolOnBank {
             if run.is_read() {
                 return Err("a block is read".into());
             }
-            let Turn::More(next) = self.core.get_read(&mut self.bank, run) else {
-                return Err("a get does not go on".into());
-            };
-            run = next;
+            match self.core.get_read(alloc, &mut self.bank, &mut run) {
+                None => {}
+                Some(_) => return Err("a get does not go on".into()),
+            }
         }
         Err("a get has no end".into())
     }

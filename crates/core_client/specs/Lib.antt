@@ -4,3 +4,4 @@ pub mod Writing
 pub mod Reading
 pub mod Got
 pub mod BlockTurns
+pub mod Shared

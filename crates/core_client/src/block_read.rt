@@ -1,14 +1,15 @@
 // A block that is read, one column at a time.
-ghost use Rattle.std.specs.Prelude.{◌≡◌, ◌+◌, ◌^◌, ◌<◌, ◌↔◌, IfOk, IsTrue, false, ℕ, ◌≤◌};
+ghost use Rattle.std.specs.Prelude.{◌≡◌, ◌+◌, ◌^◌, ◌<◌, ◌↔◌, IfOk, IsTrue, IfSome, false, ℕ, ◌≤◌};
 ghost use Rattle.bank_trait.specs.Disk.{Unchanged};
 ghost use Rattle.row_layout.specs.Layout.{IsLayout, rows_of};
 ghost use Rattle.core_client.specs.Outs.{OnlyFailedGoOut};
 ghost use Rattle.core_state.specs.Committing.{point_of};
 ghost use Rattle.core_client.specs.Pool.{IsInPool, HasPool};
 ghost use Rattle.core_client.specs.Got.{IsShapedAs};
-ghost use Rattle.core_client.specs.BlockTurns.{IsReadBegun, ReadsColumn};
+ghost use Rattle.core_client.specs.BlockTurns.{IsAtColumn, IsReadBegun, ReadsColumn};
 
-use crate::{ColumnsRead, read_column};
+use crate::columns::Columns;
+use crate::{ColumnsRead, SharedColumns, read_column};
 use bank_trait::Bank;
 use reflow_mark::Reflow;
 use row_layout::Layout;
@@ -26,30 +27,33 @@ pub struct BlockRead {
 #[derive(Drop)]
 struct ReadSoFar {
     layout: Layout,
-    read: ColumnsRead,
+    columns: Columns,
     row: u32,
     column: u32,
 }
 
 impl Model for BlockRead {
+    ghost use Rattle.std.specs.Prelude.{◌<◌};
+    ghost use Rattle.row_layout.specs.Layout.{rows_of};
     ghost use Rattle.core_client.specs.Got.{IsShapedAs};
     ghost use Rattle.core_client.specs.BlockTurns.{BlockRead as BlockReadOf, IsAtColumn};
+    ghost use Rattle.core_client.specs.Shared.{IsOwn, columns_had};
 
     ghost Value = { BlockReadOf };
 
     ghost view = { λ run. record {
       layout = run.run.value.layout;
-      read = run.run.value.read;
+      read = columns_had run.run.value.columns;
       row = run.run.value.row;
       column = run.run.value.column;
     } };
 
     ghost invariant = { λ run. IsAtColumn (record {
       layout = run.run.value.layout;
-      read = run.run.value.read;
+      read = columns_had run.run.value.columns;
       row = run.run.value.row;
       column = run.run.value.column;
-    }) };
+    }) × (run.run.value.row < rows_of run.run.value.layout → IsOwn run.run.value.columns) };
 }
 
 impl BlockRead {
@@ -61,7 +65,7 @@ impl BlockRead {
         let read = ColumnsRead::blank(alloc, layout)?;
         let begun = ReadSoFar {
             layout: *layout,
-            read,
+            columns: Columns::Own(read),
             row: 0,
             column: 0,
         };
@@ -74,6 +78,7 @@ impl BlockRead {
     pub fn is_done(&self) -> bool
         ensures value { IsTrue result ↔ (self.now.row ≡ rows_of self.now.layout) }
         ensures left { result ≡ false → self.now.row < rows_of self.now.layout }
+        ensures place { IsAtColumn self.now }
     {
         self.run.row == self.run.layout.rows()
     }
@@ -89,12 +94,30 @@ impl BlockRead {
         ensures value { result.now ≡ self.now.read }
         ensures shape { IsShapedAs self.now.layout result.now }
     {
-        &self.run.read
+        self.run.columns.as_read()
+    }
+
+    /// The columns, for whoever solves them beside the read: once all were read, where there was memory for that.
+    pub fn share(&self) -> Option<SharedColumns>
+        ensures value { IfSome result (λ shared. shared ≡ self.now.read) }
+        ensures shape { IfSome result (IsShapedAs self.now.layout) }
+        ensures done { IfSome result (λ _. self.now.row ≡ rows_of self.now.layout) }
+    {
+        match &self.run.columns {
+            Columns::Own(_) => None,
+            Columns::Shared(shared) => shared.share(),
+        }
     }
 
     /// Reads the next column where its row stands. A device that is out is passed over; one whose read
-    /// fails is out.
-    pub fn step<B: Bank>(&mut self, bank: &mut B, reflow: &Reflow, out: &mut DeviceSet)
+    /// fails is out. The last that is read can be shared.
+    pub fn step<B: Bank>(
+        &mut self,
+        alloc: Global,
+        bank: &mut B,
+        reflow: &Reflow,
+        out: &mut DeviceSet,
+    )
         requires left { self.old.row < rows_of self.old.layout }
         requires pool { IsInPool self.old.layout reflow.now }
         requires bank { HasPool reflow.now out.old (B.disk bank.old) }
@@ -109,12 +132,14 @@ impl BlockRead {
         let row = run.row;
         let column = run.column;
         let got = read_column(bank, &run.layout, reflow, row, column, out);
-        run.read.put(row, column, got);
+        run.columns.put(row, column, got);
         if column + 1 < run.layout.columns_in(row) {
             run.column = column + 1;
             return;
         }
         run.row = row + 1;
         run.column = 0;
+        let all_read = run.row == run.layout.rows();
+        run.columns.share(alloc, all_read);
     }
 }

@@ -18,6 +18,14 @@ pub struct ColumnsRead {
 }
 
 impl ColumnsRead {
+    /// No columns.
+    pub(crate) fn none(alloc: Global) -> ColumnsRead {
+        ColumnsRead {
+            rows: Rows::none(alloc),
+            lost: Vec::new(alloc),
+        }
+    }
+
     /// Zeros in all columns, of which none is lost.
     pub fn blank(alloc: Global, layout: &Layout) -> Result<ColumnsRead, AllocError>
         ensures shape { IfOk result (IsShapedAs layout.now) }

@@ -9,10 +9,12 @@
 
 mod block_read;
 mod block_write;
+mod columns;
 mod columns_read;
 mod fetching;
 mod reading;
 mod refused;
+mod shared_columns;
 mod spot;
 mod standing;
 mod writing;
@@ -23,6 +25,7 @@ pub use columns_read::ColumnsRead;
 pub use fetching::checked_bytes;
 pub use reading::read_column;
 pub use refused::FetchRefused;
+pub use shared_columns::SharedColumns;
 pub use spot::Spot;
 pub use standing::spot_of;
 pub use writing::write_column;

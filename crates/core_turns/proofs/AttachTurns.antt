@@ -1,6 +1,6 @@
 -- Attaches, turn by turn: that a core stays one, and what each turn comes to.
-use Rattle.std.proofs.Common.{◌≡◌, inl, inr, ⊎_elim, ℕ, ◌+◌, ◌^◌, ◌<◌, Option, Some, None, length, sym, ◌∙◌, ap, subst, arith}
-use Rattle.std.proofs.lemmas.Bool.{true≢false, cases_lt}
+use Rattle.std.proofs.Common.{◌≡◌, inl, inr, ⊎_elim, ℕ, ◌+◌, ◌^◌, ◌<◌, Option, Some, None, sym, ◌∙◌, ap, subst, arith}
+use Rattle.std.proofs.lemmas.Bool.{true≢false}
 use Rattle.bank_trait.specs.Disk.{Disk, Lawful}
 use Rattle.bank_trait.specs.Regions.{TouchesOnly}
 use Rattle.bank_trait.proofs.Touches.{synced_touches, touches_widen, wrote_touches}
@@ -22,29 +22,15 @@ use Rattle.join_commit.specs.declared.join_run.JoinStep.{JoinStep}
 use Rattle.join_commit.specs.declared.join_run.JoinStep.TheVariants as step
 use Rattle.join_commit.specs.declared.join_run.WhyDropped.{WhyDropped}
 use Rattle.join_commit.specs.JoinRun.{JoinRun}
-use Rattle.join_commit.specs.JoinTurns.{FitsJoin, JoinSteps}
+use Rattle.join_commit.specs.JoinTurns.{JoinSteps}
 use Rattle.join_commit.proofs.Spares.{join_gone, join_spares}
 use Rattle.core_turns.specs.declared.attaching.AttachRun.TheVariants.{Joins, Signs}
-use Rattle.core_turns.specs.Core.{Core, HasBankOf, IsCore}
+use Rattle.core_turns.specs.Core.{Core, IsCore}
 use Rattle.core_turns.specs.Committing.{IsCommitOf}
 use Rattle.core_turns.specs.Attaching.{HasNewDevice, IsAttachRunOf, MayReachOn}
-use Rattle.core_turns.proofs.CommitGoes.{commit_fits, commit_stays, step_touches}
+use Rattle.core_turns.proofs.CommitGoes.{commit_stays, step_touches}
 use Rattle.core_turns.proofs.Cores.{core_out}
 use Rattle.core_turns.proofs.Joining.{joined_commit, joined_core}
-
--- Another may attach a device, or none.
-pub attaching_core : (core : Core) (by : Option ℕ) → IsCore core → IsCore (record core { attaching = by })
-attaching_core core by is = record {
-  is = is.is;
-  reach = is.reach;
-  rests = is.rests;
-  below = is.below;
-  begun = is.begun;
-  few = is.few;
-  step = is.step;
-  shared = is.shared;
-  copies = is.copies;
-}
 
 -- It has the same commit under way.
 pub attaching_commit : {run : CommitRun} (core : Core) (by : Option ℕ) → IsCommitOf core run
@@ -69,26 +55,6 @@ rest_records core chosen is may reach (Widens wider) =
     let wider_to : chosen.to ≡ core.pool.uber.reflow.to + 1 = ap (λ (r : Reflow). r.to) wider.wider_is in
     let own = may.reach in
     absurd (omega (arith, wider_to, own, reach))
-
--- The bank has what the first half of a commit calls that a device may join.
-pub joining_fits : (core : Core) (join : JoinRun) (disk : Disk) → IsCore core → IsCommitOf core join.run
-    → length join.run.entries ≡ join.run.uber.count → join.run.uber.reflow.to < 16
-    → join.run.uber.reflow.to < disk.devices → HasBankOf core disk
-    → FitsJoin join core.pool.out disk
-joining_fits core join disk is of counted room there bank =
-    let fits = commit_fits core join.run disk is of counted bank in
-    record {
-      bank = record {
-        devices = λ device below used. ⊎_elim (λ low. fits.devices device low used)
-            (λ high. omega (arith, below, high, there)) (cases_lt device join.run.uber.reflow.to);
-        few = omega (arith, room);
-        sectors = fits.sectors;
-        area = fits.area;
-        counted = fits.counted;
-        count = fits.count;
-      };
-      below = subst (λ (n : ℕ). core.pool.out < 2 ^ n) of.reach is.below;
-    }
 
 -- ---- a step of the first half, and the decision
 

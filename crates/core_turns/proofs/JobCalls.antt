@@ -27,13 +27,6 @@ ranges_copied left calls run gains = ap ranges_of gains.is
     ∙ filter_map-append range_in gains.before (Copying run ∷ gains.after)
     ∙ sym (filter_map-append range_in gains.before gains.after) ∙ ap ranges_of (sym gains.was)
 
--- Two jobs are not under way at once.
-only_job : (core : Core) (one other : CopyRun) → IsJobOf core one → IsJobOf core other → one.hold.actor ≡ other.hold.actor
-only_job core one other of of_other = same (sym of.under_way ∙ of_other.under_way)
-  where
-    same : {a b : ℕ} → Some a ≡ Some b → a ≡ b
-    same is = cc
-
 -- ---- a job begins
 
 -- the widths of the core that it leaves

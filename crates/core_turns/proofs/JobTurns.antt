@@ -30,7 +30,7 @@ use Rattle.core_turns.specs.declared.copying.CopyRun.{CopyRun}
 use Rattle.core_turns.specs.Core.{Core, CoreState, IsCore, alone_below, as_begun, jobs_begun}
 use Rattle.core_turns.specs.Copying.{BeginsJobSo, IsDue, IsJobOf, StepsJob, hold_for_job}
 use Rattle.core_turns.specs.UnderWay.{TurnGoesOn}
-use Rattle.core_turns.proofs.Holds.{front_passes, job_ended, job_gained}
+use Rattle.core_turns.proofs.Holds.{front_passes, job_ended}
 use Rattle.core_turns.proofs.JobLaws.{all_used}
 
 -- ---- a job begins
@@ -78,32 +78,6 @@ job_begins core job actor hold holds is due hold_is gains clear =
   where
     none_odd : 0 % 2 ≡ 1 → ⊥
     none_odd same = omega (arith, same)
-
--- The core stays one.
-pub job_begun_core : (core : Core) (job : Job) (actor : ℕ) (hold : Hold) (holds : List Hold) → IsCore core
-    → IsDue core job → hold ≡ hold_for_job core.pool.uber.reflow job actor → Gains core.holds holds hold
-    → IsCore (record core { holds = holds; copying = Some actor })
-job_begun_core core job actor hold holds is due hold_is gains =
-    let may = due_runs core job due in
-    let begins : hold.lo ≡ core.pool.done =
-    ap (λ (h : Hold). h.lo) hold_is ∙ job_at_front core.pool.uber.reflow core.pool.done job may in
-    let more = job_gained core.pool.done core.holds holds hold (ap (λ (h : Hold). h.kind) hold_is)
-    (omega (arith, begins)) gains in
-    let none : jobs_begun core.copying ≡ 0 = ap jobs_begun due.none in
-    let all = more.0 in
-    let below = more.1 in
-    let copies = is.copies in
-    record {
-      is = is.is;
-      reach = is.reach;
-      rests = is.rests;
-      below = is.below;
-      begun = is.begun;
-      few = is.few;
-      step = is.step;
-      shared = λ rests. below ∙ is.shared rests;
-      copies = omega (arith, all, below, copies, none);
-    }
 
 -- ---- a job goes on
 

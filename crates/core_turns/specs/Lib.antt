@@ -1,4 +1,5 @@
 pub mod Core
+pub mod Steps
 pub mod Getting
 pub mod Freeing
 pub mod Putting

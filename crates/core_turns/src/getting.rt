@@ -13,9 +13,11 @@ ghost use Rattle.core_state.specs.Committing.{point_of};
 ghost use Rattle.open_pool.specs.Pool.{HoldsMap};
 ghost use Rattle.core_turns.specs.declared.getting.GetRun.{GetRun as GetRunOf};
 ghost use Rattle.core_turns.specs.Core.{Core as CoreOf, CoreState, IsCore, at_disk, pool_at, HasBankOf};
-ghost use Rattle.core_turns.specs.Getting.{HasLayout, HoldsGet, FindsGet, KeepsGet, TellsGet, IsAlike, IsGetOf, IsMoreOf, IsReadKind, BeginsGet, ReadsTurn, IsSolvable, IsSolved, SolvesGet, EndsGet, answer_of, to_solve_of};
+ghost use Rattle.core_turns.specs.Getting.{HasLayout, HoldsGet, FindsGet, KeepsGet, TellsGet, IsAlike, IsGetOf, IsMoreOf, IsReadKind, BeginsGet, ReadsTurn, IsSolvable, IsSolved, SolvesGet, EndsGetSo, answer_of, to_solve_of};
+ghost use Rattle.core_turns.specs.Steps.{turn_with};
+ghost use Rattle.core_turns.specs.declared.turn.Turn.TheVariants.{Done};
 
-use crate::solving::{Solved, SolvedFrom, ToSolve, copy_columns, solve_columns};
+use crate::solving::{Solved, SolvedFrom, ToSolve, solve_columns};
 use crate::turn::too_many;
 use crate::{Core, Turn};
 use bank_trait::Bank;
@@ -25,6 +27,7 @@ use core_state::{Answer, Bytes, Kind};
 use range_locks::{Hold, LockRefused};
 use row_layout::Layout;
 use std::alloc::Global;
+use std::mem::replace;
 use uberblock_ring::Uber;
 use width_map::width_at;
 
@@ -60,26 +63,21 @@ impl GetRun {
     pub fn is_read(&self) -> bool
         ensures value { IsTrue result ↔ (self.now.read.row ≡ rows_of self.now.read.layout) }
         ensures left { result ≡ false → self.now.read.row < rows_of self.now.read.layout }
+        ensures place { IsAtColumn self.now.read }
     {
         self.read.is_done()
     }
 
-    /// What is to be solved, once all columns were read: they are copied. Nothing where memory is wanting for that.
-    pub fn to_solve(&self, alloc: Global) -> Option<ToSolve>
+    /// What is to be solved, once all columns were read: the columns are shared. Nothing where memory was wanting for that.
+    pub fn to_solve(&self) -> Option<ToSolve>
         requires len { sectors_for self.now.entry.len ≡ self.now.read.layout.sectors }
         ensures solvable { IfSome result IsSolvable }
         ensures alike { IfSome result (λ block. IsAlike block (to_solve_of self.now)) }
         ensures read { IfSome result (λ _. self.now.read.row ≡ rows_of self.now.read.layout) }
     {
-        if !self.is_read() {
-            return None;
-        }
-        let layout = *self.read.layout();
-        let Ok(read) = copy_columns(alloc, &layout, self.read.columns()) else {
-            return None;
-        };
+        let read = self.read.share()?;
         Some(ToSolve {
-            layout,
+            layout: *self.read.layout(),
             read,
             len: self.entry.len,
             digest: self.entry.digest,
@@ -154,32 +152,38 @@ impl Core {
         self.begin_get(alloc, actor, kind, id)
     }
 
-    /// The next column of a block that is read.
-    pub fn get_read<B: Bank>(&mut self, bank: &mut B, run: GetRun) -> Turn<GetRun>
-        requires left { run.read.row < rows_of run.read.layout }
-        requires of { IsGetOf self.old run }
+    /// The next column of a block that is read; or the answer, where too many devices are out, which ends the read.
+    pub fn get_read<B: Bank>(
+        &mut self,
+        alloc: Global,
+        bank: &mut B,
+        run: &mut GetRun,
+    ) -> Option<Answer>
+        requires left { run.old.read.row < rows_of run.old.read.layout }
+        requires of { IsGetOf self.old run.old }
         requires bank { HasBankOf self.old (B.disk bank.old) }
-        ensures reads { ReadsTurn (at_disk self.old (B.disk bank.old)) run
-            (at_disk self.new (B.disk bank.new)) result }
+        ensures reads { ReadsTurn (at_disk self.old (B.disk bank.old)) run.old
+            (at_disk self.new (B.disk bank.new)) (turn_with run.new result) }
         ensures keeps { (content : List ℕ)
-            → HoldsGet content (at_disk self.old (B.disk bank.old)) run
-            → KeepsGet content (at_disk self.new (B.disk bank.new)) result }
-        ensures of { IsMoreOf self.new result }
+            → HoldsGet content (at_disk self.old (B.disk bank.old)) run.old
+            → KeepsGet content (at_disk self.new (B.disk bank.new)) (turn_with run.new result) }
+        ensures of { IsMoreOf self.new (turn_with run.new result) }
         ensures bank { HasBankOf self.new (B.disk bank.new) }
         ensures unchanged { Unchanged (B.disk bank.old) (B.disk bank.new) }
         ensures out { OnlyFailedGoOut (point_of self.old.pool.out (B.disk bank.old))
             (point_of self.new.pool.out (B.disk bank.new)) }
     {
-        self.read_get(bank, run)
+        self.read_get(alloc, bank, run)
     }
 
-    /// The last turn of a read: tells its block, once it was solved, or that memory was wanting for that.
-    pub fn get_end(&mut self, run: GetRun) -> Turn<GetRun>
-        requires kind { IsReadKind run.kind }
-        requires of { IsGetOf self.old run }
-        ensures ends { EndsGet self.old run self.new result }
-        ensures tells { (content : List ℕ) (disk : Disk) → HoldsGet content (at_disk self.old disk) run
-            → TellsGet content run result }
+    /// The last turn of a read: tells its block, once it was solved, or that memory was wanting for that. What was solved
+    /// is taken from it.
+    pub fn get_end(&mut self, run: &mut GetRun) -> Answer
+        requires kind { IsReadKind run.old.kind }
+        requires of { IsGetOf self.old run.old }
+        ensures ends { EndsGetSo self.old self.new run.old result }
+        ensures tells { (content : List ℕ) (disk : Disk) → HoldsGet content (at_disk self.old disk) run.old
+            → TellsGet content run.old (Done result) }
     {
         self.end_get(run)
     }
@@ -213,48 +217,42 @@ impl Core {
         })
     }
 
-    fn read_get<B: Bank>(&mut self, bank: &mut B, run: GetRun) -> Turn<GetRun>
-        requires left { run.read.row < rows_of run.read.layout }
-        requires of { IsGetOf self.old run }
+    fn read_get<B: Bank>(&mut self, alloc: Global, bank: &mut B, run: &mut GetRun) -> Option<Answer>
+        requires left { run.old.read.row < rows_of run.old.read.layout }
+        requires of { IsGetOf self.old run.old }
         requires bank { HasBankOf self.old (B.disk bank.old) }
-        ensures reads { ReadsTurn (at_disk self.old (B.disk bank.old)) run
-            (at_disk self.new (B.disk bank.new)) result }
-        ensures place { IsAtColumn run.read }
+        ensures reads { ReadsTurn (at_disk self.old (B.disk bank.old)) run.old
+            (at_disk self.new (B.disk bank.new)) (turn_with run.new result) }
+        ensures place { IsAtColumn run.old.read }
         ensures front { IsFrontOf self.old.pool.uber.reflow self.old.pool.done }
         ensures unchanged { Unchanged (B.disk bank.old) (B.disk bank.new) }
         ensures out { OnlyFailedGoOut (point_of self.old.pool.out (B.disk bank.old))
             (point_of self.new.pool.out (B.disk bank.new)) }
     {
-        let mut run = run;
+        // That its column is one of its row is known by a call of it.
+        let _ = run.is_read();
         if self.has_too_many_out() {
             self.locks.end(run.hold);
-            return Turn::Done(too_many(self.out));
+            return Some(too_many(self.out));
         }
         let reflow = self.uber.reflow();
-        run.read.step(bank, &reflow, &mut self.out);
-        Turn::More(run)
+        run.read.step(alloc, bank, &reflow, &mut self.out);
+        None
     }
 
-    fn end_get(&mut self, run: GetRun) -> Turn<GetRun>
-        requires of { IsGetOf self.old run }
-        ensures { EndsGet self.old run self.new result }
+    fn end_get(&mut self, run: &mut GetRun) -> Answer
+        requires of { IsGetOf self.old run.old }
+        ensures { EndsGetSo self.old self.new run.old result }
     {
-        let GetRun {
-            kind,
-            hold,
-            entry,
-            read: _,
-            solved,
-        } = run;
-        self.locks.end(hold);
+        self.locks.end(run.hold);
         if self.has_too_many_out() {
-            return Turn::Done(too_many(self.out));
+            return too_many(self.out);
         }
-        Turn::Done(match solved {
+        match replace(&mut run.solved, Solved::NotYet) {
             Solved::NotYet => Answer::NoMemory,
             Solved::Damaged => Answer::Damaged,
-            Solved::Bytes(bytes) => answer_of(kind, &entry, bytes),
-        })
+            Solved::Bytes(bytes) => answer_of(run.kind, &run.entry, bytes),
+        }
     }
 }
 

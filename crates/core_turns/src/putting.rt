@@ -13,7 +13,9 @@ ghost use Rattle.core_turns.specs.declared.filling.Filled.{Filled as FilledOf};
 ghost use Rattle.core_turns.specs.Core.{Core as CoreOf, IsCore, at_disk, HasBankOf};
 ghost use Rattle.core_turns.specs.Getting.{HasTooManyOut};
 ghost use Rattle.core_turns.specs.Putting.{BeginsPutTurn, EndsPut, FillsPut, IsFillable, IsMadeUp, left_to_fill, to_fill_of, GivesUp, GivesUpTurn, HoldsRange, IsMorePut, IsPutOf, IsStoppedPut, WritesTurn, refused_turn};
+ghost use Rattle.core_turns.specs.Steps.{turn_with};
 ghost use Rattle.core_turns.specs.UnderWay.{TurnGoesOn};
+ghost use Rattle.core_turns.specs.declared.turn.Turn.TheVariants.{Done};
 
 use crate::filling::{Filled, MadeUp, ToFill};
 use crate::getting::OutOfMemory;
@@ -181,16 +183,17 @@ impl Core {
         })
     }
 
-    /// The next write of a put's block, or past it where its device is out.
-    pub fn put_write<B: Bank>(&mut self, bank: &mut B, run: PutRun) -> Turn<PutRun>
-        requires of { IsPutOf self.old run }
-        requires under_way { IsUnderWay self.old.pool.blocks run.range }
-        requires left { (filled : FilledOf) × (run.filled ≡ Some filled)
+    /// The next write of a put's block, or past it where its device is out; or the answer, where too many devices are,
+    /// which ends the put.
+    pub fn put_write<B: Bank>(&mut self, bank: &mut B, run: &mut PutRun) -> Option<Answer>
+        requires of { IsPutOf self.old run.old }
+        requires under_way { IsUnderWay self.old.pool.blocks run.old.range }
+        requires left { (filled : FilledOf) × (run.old.filled ≡ Some filled)
             × (filled.write.next < length filled.write.writes) }
         requires bank { HasBankOf self.old (B.disk bank.old) }
-        ensures writes { WritesTurn (at_disk self.old (B.disk bank.old)) run
-            (at_disk self.new (B.disk bank.new)) result }
-        ensures of { IsMorePut self.new result }
+        ensures writes { WritesTurn (at_disk self.old (B.disk bank.old)) run.old
+            (at_disk self.new (B.disk bank.new)) (turn_with run.new result) }
+        ensures of { IsMorePut self.new (turn_with run.new result) }
         ensures goes_on { TurnGoesOn (at_disk self.old (B.disk bank.old))
             (at_disk self.new (B.disk bank.new)) }
         ensures bank { HasBankOf self.new (B.disk bank.new) }
@@ -202,74 +205,71 @@ impl Core {
 
     /// The last turn of a put, all of whose writes were made or passed over: its block stands in the map
     /// from now on, in place of the one that the id had, if it had one.
-    pub fn put_end(&mut self, run: PutRun) -> Turn<PutRun>
-        requires of { IsPutOf self.old run }
-        requires under_way { IsUnderWay self.old.pool.blocks run.range }
-        requires written { (filled : FilledOf) × (run.filled ≡ Some filled)
+    pub fn put_end(&mut self, run: &PutRun) -> Answer
+        requires of { IsPutOf self.old run.now }
+        requires under_way { IsUnderWay self.old.pool.blocks run.now.range }
+        requires written { (filled : FilledOf) × (run.now.filled ≡ Some filled)
             × (filled.write.next ≡ length filled.write.writes) }
-        ensures ends { EndsPut self.old run self.new result }
+        ensures ends { EndsPut self.old run.now self.new (Done result) }
     {
         if self.has_too_many_out() {
-            return Turn::Done(self.stop_put(run));
+            return self.stop_put(run);
         }
-        let PutRun {
-            hold,
-            range,
-            len,
-            reflow: _,
-            done: _,
-            filled,
-        } = run;
-        let digest = match filled {
+        let digest = match &run.filled {
             Some(filled) => filled.digest,
             None => unreachable!(),
         };
-        self.locks.end(hold);
+        self.locks.end(run.hold);
         let group = self.begun + 1;
-        self.blocks.end_put(range.into_entry(len, digest), group);
-        Turn::Done(Answer::Stored)
+        let range = PutRange {
+            id: run.range.id,
+            birth: run.range.birth,
+            layout: run.range.layout,
+        };
+        self.blocks
+            .end_put(range.into_entry(run.len, digest), group);
+        Answer::Stored
     }
 
     /// The last turn of a put for whose block memory was wanting.
-    pub fn put_give_up(&mut self, run: PutRun) -> Turn<PutRun>
-        requires of { IsPutOf self.old run }
-        requires under_way { IsUnderWay self.old.pool.blocks run.range }
-        ensures gives_up { GivesUpTurn self.old run self.new result }
+    pub fn put_give_up(&mut self, run: &PutRun) -> Answer
+        requires of { IsPutOf self.old run.now }
+        requires under_way { IsUnderWay self.old.pool.blocks run.now.range }
+        ensures gives_up { GivesUpTurn self.old run.now self.new (Done result) }
     {
         if self.has_too_many_out() {
-            return Turn::Done(self.stop_put(run));
+            return self.stop_put(run);
         }
         self.give_up(run);
-        Turn::Done(Answer::NoMemory)
+        Answer::NoMemory
     }
 
-    fn write_put<B: Bank>(&mut self, bank: &mut B, run: PutRun) -> Turn<PutRun>
-        requires of { IsPutOf self.old run }
-        requires under_way { IsUnderWay self.old.pool.blocks run.range }
-        requires left { (filled : FilledOf) × (run.filled ≡ Some filled)
+    fn write_put<B: Bank>(&mut self, bank: &mut B, run: &mut PutRun) -> Option<Answer>
+        requires of { IsPutOf self.old run.old }
+        requires under_way { IsUnderWay self.old.pool.blocks run.old.range }
+        requires left { (filled : FilledOf) × (run.old.filled ≡ Some filled)
             × (filled.write.next < length filled.write.writes) }
         requires bank { HasBankOf self.old (B.disk bank.old) }
         ensures is { IsCore self.old }
-        ensures writes { WritesTurn (at_disk self.old (B.disk bank.old)) run
-            (at_disk self.new (B.disk bank.new)) result }
+        ensures writes { WritesTurn (at_disk self.old (B.disk bank.old)) run.old
+            (at_disk self.new (B.disk bank.new)) (turn_with run.new result) }
     {
-        let mut run = run;
         if self.has_too_many_out() {
-            return Turn::Done(self.stop_put(run));
+            return Some(self.stop_put(run));
         }
         match &mut run.filled {
             Some(filled) => filled.write.step(bank, &mut self.out),
             None => unreachable!(),
         }
-        Turn::More(run)
+        None
     }
 
     /// Ends a put because too many devices are out.
-    fn stop_put(&mut self, run: PutRun) -> Answer
+    fn stop_put(&mut self, run: &PutRun) -> Answer
         requires many { HasTooManyOut self.old }
-        requires of { IsPutOf self.old run }
-        requires under_way { IsUnderWay self.old.pool.blocks run.range }
-        ensures { IsStoppedPut self.old self.new run result }
+        requires of { IsPutOf self.old run.now }
+        requires under_way { IsUnderWay self.old.pool.blocks run.now.range }
+        ensures { IsStoppedPut self.old self.new run.now result }
     {
         let out = self.out;
         self.give_up(run);
@@ -277,12 +277,17 @@ impl Core {
     }
 
     /// Ends a put without a block: its hold has ended, and its sectors are free.
-    fn give_up(&mut self, run: PutRun)
-        requires of { IsPutOf self.old run }
-        requires under_way { IsUnderWay self.old.pool.blocks run.range }
-        ensures { GivesUp self.old self.new run }
+    fn give_up(&mut self, run: &PutRun)
+        requires of { IsPutOf self.old run.now }
+        requires under_way { IsUnderWay self.old.pool.blocks run.now.range }
+        ensures { GivesUp self.old self.new run.now }
     {
         self.locks.end(run.hold);
-        self.blocks.give_up(run.range);
+        let range = PutRange {
+            id: run.range.id,
+            birth: run.range.birth,
+            layout: run.range.layout,
+        };
+        self.blocks.give_up(range);
     }
 }

@@ -6,16 +6,16 @@ ghost use Rattle.core_client.specs.Got.{IsShapedAs};
 ghost use Rattle.core_turns.specs.Getting.{HasSameColumns, HasSameRow, IsAlike, IsSolvable, IsSolved};
 
 use crate::getting::OutOfMemory;
-use core_client::{ColumnsRead, FetchRefused, checked_bytes};
+use core_client::{ColumnsRead, FetchRefused, SharedColumns, checked_bytes};
 use core_state::Bytes;
 use row_layout::Layout;
-use std::alloc::{AllocError, Global};
+use std::alloc::Global;
 
 /// What a read is to solve: the columns that it got, and the length and digest of the block's bytes.
 #[derive(Drop)]
 pub struct ToSolve {
     pub(crate) layout: Layout,
-    pub(crate) read: ColumnsRead,
+    pub(crate) read: SharedColumns,
     pub(crate) len: u32,
     pub(crate) digest: [u8; 32],
 }
@@ -42,7 +42,13 @@ impl ToSolve {
         ensures block { IfOk result (λ from. from.block ≡ self) }
         ensures solved { IfOk result (λ from. IsSolved from.block from.solved) }
     {
-        let solved = solve_columns(alloc, &self.layout, &self.read, self.len, &self.digest)?;
+        let solved = solve_columns(
+            alloc,
+            &self.layout,
+            self.read.columns(),
+            self.len,
+            &self.digest,
+        )?;
         Ok(SolvedFrom {
             block: self,
             solved,
@@ -64,7 +70,7 @@ impl ToSolve {
         self.layout == *layout
             && self.len == len
             && self.digest == *digest
-            && has_same_columns(layout, &self.read, read)
+            && has_same_columns(layout, self.read.columns(), read)
     }
 }
 
@@ -84,38 +90,6 @@ pub(crate) fn solve_columns(
         Ok(bytes) => Ok(Solved::Bytes(Bytes::new(bytes))),
         Err(FetchRefused::NoMemory) => Err(OutOfMemory),
         Err(_) => Ok(Solved::Damaged),
-    }
-}
-
-/// The same columns once more.
-pub(crate) fn copy_columns(
-    alloc: Global,
-    layout: &Layout,
-    read: &ColumnsRead,
-) -> Result<ColumnsRead, AllocError>
-    requires shape { IsShapedAs layout.now read.now }
-    ensures shape { IfOk result (IsShapedAs layout.now) }
-    ensures same { IfOk result (λ copy. HasSameColumns layout.now copy read.now) }
-{
-    let mut copy = ColumnsRead::blank(alloc, layout)?;
-    for row in 0..layout.rows() {
-        copy_row(layout, read, row, &mut copy);
-    }
-    copy.lost.copy_from_slice(&read.lost);
-    Ok(copy)
-}
-
-/// Copies the columns of a row.
-fn copy_row(layout: &Layout, read: &ColumnsRead, row: u32, copy: &mut ColumnsRead)
-    requires row { row < rows_of layout.now }
-    requires shape { IsShapedAs layout.now read.now }
-    requires copy { IsShapedAs layout.now copy.old }
-    ensures shape { IsShapedAs layout.now copy.new }
-    ensures here { HasSameRow layout.now copy.new read.now row }
-    ensures others { (other : ℕ) → other < row → HasSameRow layout.now copy.new copy.old other }
-{
-    for column in 0..layout.cols() {
-        copy.rows.put(row, column, read.rows.column(row, column));
     }
 }
 

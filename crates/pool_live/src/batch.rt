@@ -41,20 +41,13 @@ pub struct Batch {
 }
 
 /// What the client of this number has before it, after a turn by which the journal came from so many items to this.
-fn next_of(
-    alloc: Global,
-    progress: &Progress,
-    script: &Script,
-    actor: u8,
-    before: usize,
-    now: usize,
-) -> Next
+fn next_of(progress: &Progress, script: &Script, actor: u8, before: usize, now: usize) -> Next
     requires ready { (state : CoreState) × (items : List ItemOf) × (room : ℕ)
         × IsReady script.now (turns_of state items progress.now.clients.items) room }
     ensures { IsNextFor (calls_of script.now actor) result }
 {
     if progress.is_busy(actor) {
-        Next::GoesOn(progress.ahead(alloc, script, actor))
+        Next::GoesOn(progress.ahead(script, actor))
     } else if !progress.has_left(actor, script.calls(actor).len() as u64) {
         Next::Ended
     } else if now == before {
@@ -120,7 +113,7 @@ fn have_turns<B: Bank, J: Setup>(
         turns += 1;
         let now = live.journal.len();
         answered += count_answered(&live.progress, actor, before, now);
-        match next_of(alloc, &live.progress, script, actor, before, now) {
+        match next_of(&live.progress, script, actor, before, now) {
             Next::GoesOn(Ahead::Nothing) => computed = Ready::Nothing,
             next => {
                 return Batch {

@@ -8,11 +8,7 @@ use Rattle.core_state.specs.Keeps.{Kept, Setting, Keeps, IsNotOutvoted}
 use Rattle.core_state.proofs.Fresh.{count_grows, lacks_one}
 use Rattle.core_state.proofs.Listed.{contains_head}
 use Rattle.core_state.proofs.Reader.{shown_alike}
-use Rattle.core_state.specs.declared.item.Item.{Item}
-use Rattle.core_open.specs.Opens.{IsWithinBelow}
 use Rattle.open_pool.specs.Opening.{MayBegin}
-use Rattle.client_script.specs.Script.{Script}
-use Rattle.schedule.specs.WholeRun.{HasRun}
 use Rattle.raidzx_top.specs.Bearing.{CanBear, setting_with}
 
 -- A device that may not fail still could not before.
@@ -77,12 +73,6 @@ keeps_with setting first later failed image more few votes keeps = record {
 
     some : (device : ℕ) × (device < first.uber.reflow.to) × (has_device failed device ≡ false)
     some = lacks_one failed first.uber.reflow.to enough
-
--- Where the pool that a run opened has no fewer devices, those of so many that were silent are borne.
-pub silent_borne : {script : Script} {old new : Disk} {items : List Item} {out : ℕ}
-    (run : HasRun script old new items out) (width failed : ℕ) → width ≤ run.opened.to → IsWithin run.borne failed → IsWithinBelow width run.silent failed
-silent_borne run width failed wide bears device below gone =
-    bears device (run.missed device (omega (arith, below, wide)) gone)
 
 -- So a run may begin there too: who bears what failed meets what is asked, also after the last device too many.
 pub may_bear : (setting : Setting) (first : Kept) (later : List Kept) (disk : Disk) (silent borne failed : ℕ)

@@ -30,6 +30,17 @@ impl Model for Rows {
 }
 
 impl Rows {
+    /// No rows.
+    pub fn none(alloc: Global) -> Rows
+        ensures { result ≡ record { rows = 0; cols = 0; columns = [] } }
+    {
+        Rows {
+            rows: 0,
+            cols: 0,
+            columns: Vec::new(alloc),
+        }
+    }
+
     /// Rows with nothing but zeros.
     pub fn blank(alloc: Global, layout: &Layout) -> Result<Rows, AllocError>
         ensures shape { IfOk result (λ rows. IsShaped layout.now rows) }

@@ -31,13 +31,14 @@ use Rattle.core_turns.specs.declared.turn.Turn.TheVariants.{More, Busy, Done}
 use Rattle.core_turns.specs.Core.{Core, CoreState, at_disk}
 use Rattle.core_turns.specs.Getting.{IsReadKind, IsGetOf, BeginsGet, ReadsTurn, SolvesGet, EndsGet}
 use Rattle.core_turns.specs.Putting.{IsFillable, IsPutOf, FillsPut, EndsPut, GivesUpTurn, left_to_fill, to_fill_of}
+use Rattle.core_turns.specs.Steps.{turn_with}
 use Rattle.core_turns.specs.UnderWay.{TurnGoesOn}
 use Rattle.core_turns.proofs.GetTurns.{reads_reaching, solved_of}
 use Rattle.core_turns.proofs.PutTurns.{fills_of}
 use Rattle.schedule.specs.declared.client.Work.{Work}
 use Rattle.schedule.specs.declared.client.Work.TheVariants as work
 use Rattle.schedule.specs.Playing.{MakesRoom, taken_for}
-use Rattle.schedule.specs.Turned.{AnswersAtOnce, Waits, BeginsWork, BeginsCall, GoesOnBy, IsFilledIn, MayGoOn, PutGoesOn, WritesOn, ReadGoesOn, WorkGoesOn, attach_turn, copy_turn, group_by, read_turn}
+use Rattle.schedule.specs.Turned.{AnswersAtOnce, Waits, BeginsWork, BeginsCall, GoesOnBy, HasDeviceForTurn, IsFilledIn, MayGoOn, PutGoesOn, WritesOn, ReadGoesOn, WorkGoesOn, attach_turn, copy_turn, group_by, read_turn}
 use Rattle.schedule.specs.Works.{made_by, made_in}
 use Rattle.schedule.proofs.LeavesPool.{pool_goes}
 use Rattle.schedule.proofs.Rooms.{taken_one}
@@ -207,6 +208,19 @@ pub put_ahead : (core : Core) (call : ScriptCall) (run : PutRun) (block : ToFill
     → left_to_fill run run.filled ≡ Some block → IsFillable block (fill_bytes call.fill)
 put_ahead core call run block may left = subst (λ (b : ToFill). IsFillable b (fill_bytes call.fill))
     (left_is run run.filled block left) (put_fillable core run (fill_bytes call.fill) may.0 may.2)
+
+-- ---- works in their places
+
+-- Neither brings a device.
+pub put_there : (disk : Disk) (next : PutRun) (given : Option Answer)
+    → HasDeviceForTurn disk (turn_with (work.Put next) given)
+put_there disk next None = tt
+put_there disk next (Some answer) = tt
+
+pub read_there : (disk : Disk) (next : GetRun) (given : Option Answer)
+    → HasDeviceForTurn disk (turn_with (work.Read next) given)
+read_there disk next None = tt
+read_there disk next (Some answer) = tt
 
 -- ---- attaches
 

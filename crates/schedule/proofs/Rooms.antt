@@ -59,15 +59,6 @@ answered_uses before after client left idle none uses =
     let now = ap (λ (u : Option UnderWay). 2 * answered_of (client.begun + 1) u + taken_under u) none in
     omega (arith, was, now, uses)
 
--- A client whose call under way was taken, and none was, takes what it takes.
-pub idle_uses : (before after : ℕ) (client now : Client) (left : Option UnderWay) → client.under_way ≡ None
-    → left ≡ None → UsesRoom before after (record { begun = client.begun; under_way = left }) now
-    → UsesRoom before after client now
-idle_uses before after client now left idle none uses =
-    let was = ap (λ (u : Option UnderWay). 2 * answered_of client.begun u + taken_under u) idle in
-    let same = ap (λ (u : Option UnderWay). 2 * answered_of client.begun u + taken_under u) none in
-    omega (arith, was, same, uses)
-
 -- The entry of an answer, with the group that was made, takes as much room as these.
 pub listed_room : (call : ScriptCall) (actor number at : ℕ) (entry : Entry) (group : Option ℕ) (given : Answer)
     (made : Option ℕ) → entry ≡ entry_for call actor number at given → group ≡ made

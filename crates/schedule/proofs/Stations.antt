@@ -1,5 +1,5 @@
 -- A turn of a client.
-use Rattle.std.proofs.Common.{◌≡◌, ℕ, ◌+◌, ◌-◌, List, [], ◌∷◌, ◌++◌, length, Option, Some, None, refl, sym, ◌∙◌, ap, subst}
+use Rattle.std.proofs.Common.{◌≡◌, ℕ, ◌+◌, ◌-◌, List, [], ◌∷◌, ◌++◌, length, Option, Some, None, refl, ◌∙◌, ap}
 use Rattle.std.specs.Prelude.{slice_get}
 use Rattle.bank_trait.specs.Disk.{Disk}
 use Rattle.reflow_mark.specs.declared.reflow.Reflow.{Reflow}
@@ -13,17 +13,8 @@ use Rattle.core_turns.specs.Core.{Core, CoreState, IsCore}
 use Rattle.schedule.specs.declared.client.Client.{Client}
 use Rattle.schedule.specs.declared.client.UnderWay.{UnderWay}
 use Rattle.schedule.specs.declared.client.Work.{Work}
-use Rattle.schedule.specs.Turned.{Station, Turned, Began, Went, BeginsCall, GoesOnBy, HasTableOf, WorkGoesOn, entry_for, listed_on, listed_with, station_of}
+use Rattle.schedule.specs.Turned.{Turned, Began, Went, BeginsCall, GoesOnBy, HasTableOf, WorkGoesOn, entry_for, listed_on, listed_with, station_of}
 use Rattle.schedule.specs.Works.{begun_at, commit_in, made_by, made_in}
-
--- A client whose call under way was taken, and none was, is as it was.
-pub idle_turn : (calls : List ScriptCall) (actor : ℕ) (core : Core) (disk : Disk) (items : List Item) (client : Client)
-    (left : Option UnderWay) (after : Station) → client.under_way ≡ None → left ≡ None
-    → Turned calls actor (station_of core disk items (record { begun = client.begun; under_way = left })) after
-    → Turned calls actor (station_of core disk items client) after
-idle_turn calls actor core disk items client left after none left_is turned =
-    subst (λ (under : Option UnderWay). Turned calls actor
-    (station_of core disk items (record { begun = client.begun; under_way = under })) after) (left_is ∙ sym none) turned
 
 -- The client's next call had its first turn.
 module _ (calls : List ScriptCall) (actor : ℕ) (core new : Core) (disk : Disk) (items : List Item) (client : Client)

@@ -3,6 +3,8 @@ ghost use Rattle.std.specs.Prelude.{◌≡◌, ◌≤◌, ◌↔◌, List, IsTru
 ghost use Rattle.client_script.specs.declared.call.ScriptCall.{ScriptCall as CallOf};
 ghost use Rattle.core_turns.specs.Core.{Core as CoreOf};
 ghost use Rattle.schedule.specs.declared.client.UnderWay.{UnderWay as UnderWayOf};
+ghost use Rattle.core_turns.specs.declared.rounds.CopyRound.TheVariants.{Rests};
+ghost use Rattle.schedule.specs.declared.client.Work.TheVariants as work;
 ghost use Rattle.schedule.specs.Ahead.{IsAheadFor, IsAskedBy, IsAskedOf, MayGoOnAs};
 ghost use Rattle.schedule.specs.Turned.{MayGoOn};
 ghost use Rattle.schedule.specs.Works.{MakesCommit, made_by, made_in};
@@ -24,6 +26,16 @@ pub enum Work {
 }
 
 impl Work {
+    /// A copy that rests: what stands in the place of a work while that has its turn.
+    pub fn resting() -> Work
+        ensures { result ≡ work.Copy (Rests 0 None) }
+    {
+        Work::Copy(CopyRound::Rests {
+            actor: 0,
+            made: None,
+        })
+    }
+
     /// Whether it makes a commit, which was begun.
     pub fn makes_commit(&self) -> bool
         ensures { IsTrue result ↔ MakesCommit self.now }
@@ -56,8 +68,8 @@ impl Work {
         }
     }
 
-    /// What its next turn asks to be computed, of the call of this number, from 0. What a read got is copied for that.
-    fn ahead(&self, alloc: Global, call: &ScriptCall, number: usize) -> Ahead
+    /// What its next turn asks to be computed, of the call of this number, from 0. What a read got is shared for that.
+    fn ahead(&self, call: &ScriptCall, number: usize) -> Ahead
         requires may { (core : CoreOf) × MayGoOn core call.now self.now }
         ensures can { (calls : List CallOf) → slice_get calls number ≡ Some call.now → IsAheadFor calls result }
         ensures asked { IsAskedOf number self.now result }
@@ -70,7 +82,7 @@ impl Work {
                 },
                 None => Ahead::Nothing,
             },
-            Work::Read(run) => match run.to_solve(alloc) {
+            Work::Read(run) => match run.to_solve() {
                 Some(block) => Ahead::Solve(block),
                 None => Ahead::Nothing,
             },
@@ -106,8 +118,8 @@ impl Client {
     }
 
     /// What the next turn of its call under way asks to be computed, if it has one, of a client with these calls.
-    /// What a read got is copied for that.
-    pub fn ahead(&self, alloc: Global, calls: &[ScriptCall]) -> Ahead
+    /// What a read got is shared for that.
+    pub fn ahead(&self, calls: &[ScriptCall]) -> Ahead
         requires begun { (under : UnderWayOf) → self.now.under_way ≡ Some under → 1 ≤ self.now.begun }
         requires may { MayGoOnAs calls.now self.now }
         ensures can { IsAheadFor calls.now result }
@@ -118,7 +130,7 @@ impl Client {
         };
         let number = self.begun - 1;
         match calls.get(number) {
-            Some(call) => under_way.work.ahead(alloc, call, number),
+            Some(call) => under_way.work.ahead(call, number),
             None => Ahead::Nothing,
         }
     }

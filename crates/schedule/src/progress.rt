@@ -71,7 +71,7 @@ impl Progress {
 
     /// What the next turn of the call that a client has under way asks to be computed. What a read got is copied for
     /// that.
-    pub fn ahead(&self, alloc: Global, script: &Script, actor: u8) -> Ahead
+    pub fn ahead(&self, script: &Script, actor: u8) -> Ahead
         requires ready { (state : CoreState) × (items : List ItemOf) × (room : ℕ)
             × IsReady script.now (turns_of state items self.now.clients.items) room }
         ensures can { IsAheadFor (calls_of script.now actor) result }
@@ -79,7 +79,7 @@ impl Progress {
             → IsAskedBy (calls_of script.now actor) client result }
     {
         match self.clients.get(usize::from(actor)) {
-            Some(client) => client.ahead(alloc, script.calls(actor)),
+            Some(client) => client.ahead(script.calls(actor)),
             None => Ahead::Nothing,
         }
     }

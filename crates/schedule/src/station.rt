@@ -5,6 +5,7 @@ ghost use Rattle.client_script.specs.declared.call.ScriptCall.{ScriptCall as Cal
 ghost use Rattle.client_script.specs.Script.{IsAllowed};
 ghost use Rattle.core_commit.specs.CommitTurns.{CommitRun as RunOf};
 ghost use Rattle.core_turns.specs.Core.{IsCore, HasBankOf, at_disk};
+ghost use Rattle.core_turns.specs.Steps.{turn_with};
 ghost use Rattle.schedule.specs.declared.client.UnderWay.{UnderWay as UnderWayOf};
 ghost use Rattle.schedule.specs.Playing.{MakesRoom, UsesRoom, owed, taken_for};
 ghost use Rattle.schedule.specs.Ahead.{IsReadyFor, IsReadyWith};
@@ -115,25 +116,25 @@ fn go_further<B: Bank>(
     core: &mut Core,
     journal: &mut Journal,
     call: &ScriptCall,
-    work: Work,
+    work: &mut Work,
     ready: Ready,
-) -> Turn<Work>
-    requires may { MayGoOn core.old call.now work }
+) -> Option<Answer>
+    requires may { MayGoOn core.old call.now work.old }
     requires ready { IsReadyWith call.now ready }
-    requires there { HasDeviceFor (B.disk bank.old) work }
+    requires there { HasDeviceFor (B.disk bank.old) work.old }
     requires bank { HasBankOf core.old (B.disk bank.old) }
     ensures goes { GoesOnBy (at_disk core.old (B.disk bank.old)) (at_disk core.new (B.disk bank.new))
-        call.now work result }
-    ensures goes_on { WorkGoesOn work (at_disk core.old (B.disk bank.old))
+        call.now work.old (turn_with work.new result) }
+    ensures goes_on { WorkGoesOn work.old (at_disk core.old (B.disk bank.old))
         (at_disk core.new (B.disk bank.new)) }
-    ensures there { HasDeviceForTurn (B.disk bank.new) result }
+    ensures there { HasDeviceForTurn (B.disk bank.new) (turn_with work.new result) }
     ensures bank { HasBankOf core.new (B.disk bank.new) }
     ensures items { journal.new.items ≡ journal.old.items }
-    ensures room { MakesRoom work journal.old.room journal.new.room result }
+    ensures room { MakesRoom work.old journal.old.room journal.new.room (turn_with work.new result) }
 {
     match make_room(journal, work.made()) {
         Ok(()) => go_on(alloc, bank, core, call, work, ready),
-        Err(AllocError) => Turn::Done(Answer::NoMemory),
+        Err(AllocError) => Some(Answer::NoMemory),
     }
 }
 
@@ -208,34 +209,36 @@ pub fn take_turn<B: Bank>(
 {
     // That the core is one is known by a call of it.
     let _ = core.reflow();
-    let Some(under_way) = client.under_way.take() else {
-        return begin_next(alloc, bank, core, journal, calls, actor, client);
-    };
-    let number = client.begun - 1;
-    let call = &calls[number];
-    let UnderWay { at, work } = under_way;
-    let made = work.group();
-    let makes = work.makes_commit();
-    let turn = go_further(
-        alloc,
-        bank,
-        core,
-        journal,
-        call,
-        work,
-        ready.of_call(number),
-    );
-    let widths = core.reflow();
-    match turn {
-        Turn::More(work) => {
-            let at = begun_at(&work, makes, at, journal.len());
-            list_made(journal, &widths, at, work.made());
-            client.under_way = Some(UnderWay { at, work });
-        }
-        Turn::Busy { by: _ } => unreachable!(),
-        Turn::Done(answer) => {
-            let entry = entry_for(call, actor, client.begun, at, answer);
-            list_answer(journal, &widths, at, made, entry);
+    match &mut client.under_way {
+        None => begin_next(alloc, bank, core, journal, calls, actor, client),
+        Some(under_way) => {
+            let number = client.begun - 1;
+            let call = &calls[number];
+            let made = under_way.work.group();
+            let makes = under_way.work.makes_commit();
+            let given = go_further(
+                alloc,
+                bank,
+                core,
+                journal,
+                call,
+                &mut under_way.work,
+                ready.of_call(number),
+            );
+            let widths = core.reflow();
+            match given {
+                None => {
+                    let at = begun_at(&under_way.work, makes, under_way.at, journal.len());
+                    list_made(journal, &widths, at, under_way.work.made());
+                    under_way.at = at;
+                }
+                Some(answer) => {
+                    let at = under_way.at;
+                    let entry = entry_for(call, actor, client.begun, at, answer);
+                    list_answer(journal, &widths, at, made, entry);
+                    client.under_way = None;
+                }
+            }
         }
     }
 }

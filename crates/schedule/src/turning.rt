@@ -11,18 +11,20 @@ ghost use Rattle.core_turns.specs.declared.filling.Filled.{Filled as FilledOf};
 ghost use Rattle.core_turns.specs.Core.{Core as CoreOf, at_disk, HasBankOf};
 ghost use Rattle.core_turns.specs.Getting.{IsGetOf, IsReadKind, SolvesGet};
 ghost use Rattle.core_turns.specs.Putting.{IsFillable, IsPutOf, to_fill_of};
+ghost use Rattle.core_turns.specs.Steps.{turn_with};
 ghost use Rattle.core_turns.specs.UnderWay.{TurnGoesOn};
 ghost use Rattle.schedule.specs.Ahead.{IsMadeUpOf, IsReadyWith, IsSolvedOf};
-ghost use Rattle.schedule.specs.Turned.{BeginsCall, GoesOnBy, HasDeviceFor, HasDeviceForTurn, HasTableOf, IsFilledIn, MayGoOn, PutGoesOn, ReadGoesOn, WorkGoesOn, WritesOn, attach_turn, copy_turn, put_turn, read_turn, sync_turn};
+ghost use Rattle.schedule.specs.Turned.{BeginsCall, GoesOnBy, HasDeviceFor, HasDeviceForTurn, HasTableOf, IsFilledIn, IsOfPool, MayGoOn, PutGoesOn, ReadGoesOn, WorkGoesOn, WritesOn, attach_turn, copy_turn, put_turn, read_turn, sync_turn};
 
 use crate::ahead::Ready;
 use crate::client::Work;
 use bank_trait::Bank;
 use client_script::{Fill, ScriptCall};
 use core_commit::CommitRun;
-use core_state::Kind;
+use core_state::{Answer, Kind};
 use core_turns::{AttachRun, CopyRound, Core, GetRun, MadeUp, PutRun, SolvedFrom, Turn};
 use std::alloc::Global;
+use std::mem::replace;
 
 /// How many bytes a put is handed.
 fn fill_len(fill: &Fill) -> u32
@@ -178,18 +180,18 @@ fn fill_in(alloc: Global, call: &ScriptCall, run: &mut PutRun, made: Option<Made
 }
 
 /// The next write of a put that is filled in, or its last turn.
-fn write_on<B: Bank>(bank: &mut B, core: &mut Core, run: PutRun) -> Turn<PutRun>
-    requires of { IsPutOf core.old run }
-    requires under_way { IsUnderWay core.old.pool.blocks run.range }
-    requires filled { (filled : FilledOf) × (run.filled ≡ Some filled) }
+fn write_on<B: Bank>(bank: &mut B, core: &mut Core, run: &mut PutRun) -> Option<Answer>
+    requires of { IsPutOf core.old run.old }
+    requires under_way { IsUnderWay core.old.pool.blocks run.old.range }
+    requires filled { (filled : FilledOf) × (run.old.filled ≡ Some filled) }
     requires bank { HasBankOf core.old (B.disk bank.old) }
-    ensures writes { WritesOn (at_disk core.old (B.disk bank.old)) run
-        (at_disk core.new (B.disk bank.new)) result }
+    ensures writes { WritesOn (at_disk core.old (B.disk bank.old)) run.old
+        (at_disk core.new (B.disk bank.new)) (turn_with run.new result) }
     ensures goes_on { TurnGoesOn (at_disk core.old (B.disk bank.old))
         (at_disk core.new (B.disk bank.new)) }
 {
     if run.is_written() {
-        core.put_end(run)
+        Some(core.put_end(run))
     } else {
         core.put_write(bank, run)
     }
@@ -201,24 +203,23 @@ fn go_on_putting<B: Bank>(
     bank: &mut B,
     core: &mut Core,
     call: &ScriptCall,
-    run: PutRun,
+    run: &mut PutRun,
     made: Option<MadeUp>,
-) -> Turn<PutRun>
-    requires of { IsPutOf core.old run }
-    requires under_way { IsUnderWay core.old.pool.blocks run.range }
-    requires len { length (fill_bytes call.now.fill) ≡ run.len }
+) -> Option<Answer>
+    requires of { IsPutOf core.old run.old }
+    requires under_way { IsUnderWay core.old.pool.blocks run.old.range }
+    requires len { length (fill_bytes call.now.fill) ≡ run.old.len }
     requires made { IfSome made (IsMadeUpOf (fill_bytes call.now.fill)) }
     requires bank { HasBankOf core.old (B.disk bank.old) }
     ensures goes { PutGoesOn (at_disk core.old (B.disk bank.old)) (at_disk core.new (B.disk bank.new))
-        call.now run result }
+        call.now run.old (turn_with run.new result) }
     ensures goes_on { TurnGoesOn (at_disk core.old (B.disk bank.old))
         (at_disk core.new (B.disk bank.new)) }
 {
-    let mut run = run;
-    if fill_in(alloc, call, &mut run, made) {
+    if fill_in(alloc, call, run, made) {
         write_on(bank, core, run)
     } else {
-        core.put_give_up(run)
+        Some(core.put_give_up(run))
     }
 }
 
@@ -241,37 +242,35 @@ fn go_on_reading<B: Bank>(
     alloc: Global,
     bank: &mut B,
     core: &mut Core,
-    run: GetRun,
+    run: &mut GetRun,
     solved: Option<SolvedFrom>,
-) -> Turn<GetRun>
-    requires kind { IsReadKind run.kind }
-    requires of { IsGetOf core.old run }
+) -> Option<Answer>
+    requires kind { IsReadKind run.old.kind }
+    requires of { IsGetOf core.old run.old }
     requires solved { IfSome solved IsSolvedOf }
     requires bank { HasBankOf core.old (B.disk bank.old) }
     ensures goes { ReadGoesOn (at_disk core.old (B.disk bank.old))
-        (at_disk core.new (B.disk bank.new)) run result }
+        (at_disk core.new (B.disk bank.new)) run.old (turn_with run.new result) }
     ensures goes_on { TurnGoesOn (at_disk core.old (B.disk bank.old))
         (at_disk core.new (B.disk bank.new)) }
 {
     if !run.is_read() {
-        return core.get_read(bank, run);
+        return core.get_read(alloc, bank, run);
     }
-    let mut run = run;
-    solve(alloc, &mut run, solved);
-    core.get_end(run)
+    solve(alloc, run, solved);
+    Some(core.get_end(run))
 }
 
-/// The next turn of a call that is under way.
-pub fn go_on<B: Bank>(
+/// The next turn of a call of the whole pool.
+fn go_on_with_pool<B: Bank>(
     alloc: Global,
     bank: &mut B,
     core: &mut Core,
     call: &ScriptCall,
     work: Work,
-    ready: Ready,
 ) -> Turn<Work>
     requires may { MayGoOn core.old call.now work }
-    requires ready { IsReadyWith call.now ready }
+    requires pool { IsOfPool work }
     requires there { HasDeviceFor (B.disk bank.old) work }
     requires bank { HasBankOf core.old (B.disk bank.old) }
     ensures goes { GoesOnBy (at_disk core.old (B.disk bank.old)) (at_disk core.new (B.disk bank.new))
@@ -282,12 +281,49 @@ pub fn go_on<B: Bank>(
     ensures bank { HasBankOf core.new (B.disk bank.new) }
 {
     match work {
-        Work::Put(run) => {
-            put_turn(go_on_putting(alloc, bank, core, call, run, ready.into_block()))
-        },
-        Work::Read(run) => read_turn(go_on_reading(alloc, bank, core, run, ready.into_solved())),
         Work::Sync(run) => sync_turn(core.commit_step(bank, run)),
         Work::Attach(run) => attach_turn(core.attach_step(alloc, bank, run)),
         Work::Copy(round) => copy_turn(core.copy_step(alloc, bank, round)),
+        _ => unreachable!(),
+    }
+}
+
+/// The next turn of a call that is under way: it goes on, or is answered.
+pub fn go_on<B: Bank>(
+    alloc: Global,
+    bank: &mut B,
+    core: &mut Core,
+    call: &ScriptCall,
+    work: &mut Work,
+    ready: Ready,
+) -> Option<Answer>
+    requires may { MayGoOn core.old call.now work.old }
+    requires ready { IsReadyWith call.now ready }
+    requires there { HasDeviceFor (B.disk bank.old) work.old }
+    requires bank { HasBankOf core.old (B.disk bank.old) }
+    ensures goes { GoesOnBy (at_disk core.old (B.disk bank.old)) (at_disk core.new (B.disk bank.new))
+        call.now work.old (turn_with work.new result) }
+    ensures goes_on { WorkGoesOn work.old (at_disk core.old (B.disk bank.old))
+        (at_disk core.new (B.disk bank.new)) }
+    ensures there { HasDeviceForTurn (B.disk bank.new) (turn_with work.new result) }
+    ensures bank { HasBankOf core.new (B.disk bank.new) }
+{
+    match work {
+        Work::Put(run) => {
+            return go_on_putting(alloc, bank, core, call, run, ready.into_block());
+        }
+        Work::Read(run) => {
+            return go_on_reading(alloc, bank, core, run, ready.into_solved());
+        }
+        _ => {}
+    }
+    let was = replace(work, Work::resting());
+    match go_on_with_pool(alloc, bank, core, call, was) {
+        Turn::More(next) => {
+            *work = next;
+            None
+        }
+        Turn::Busy { by: _ } => unreachable!(),
+        Turn::Done(answer) => Some(answer),
     }
 }

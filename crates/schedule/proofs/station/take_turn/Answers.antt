@@ -1,123 +1,114 @@
-use Rattle.std.proofs.Common.{◌≤◌, ◌+◌, ◌-◌, ◌∙◌, ℕ, Option, length, refl, sym, subst, arith}
+use Rattle.std.proofs.Common.{◌≤◌, ◌+◌, ◌-◌, ℕ, None, Option, length, refl, sym, subst, arith}
 use Rattle.std.proofs.lemmas.Option.{slice_get_read}
 use Rattle.core_turns.specs.Core.{at_disk}
 use Rattle.schedule.specs.Playing.{taken_for}
 use Rattle.schedule.specs.Turned.{HasDeviceUnder, station_of}
 use Rattle.schedule.specs.Works.{commit_in, made_by}
-use Rattle.schedule.proofs.Rooms.{ended_uses, going_uses, idle_uses, listed_room, room_to_begin, room_to_end, room_to_go}
-use Rattle.schedule.proofs.Stations.{idle_turn, went_more, went_done}
+use Rattle.schedule.proofs.Rooms.{ended_uses, going_uses, listed_room, room_to_begin, room_to_end, room_to_go}
+use Rattle.schedule.proofs.Stations.{went_more, went_done}
 use Rattle.schedule.proofs.station.take_turn.Goals as goal
 
-pub returns-in_default-clause-turned : goal.returns-in_default-clause-turned
-returns-in_default-clause-turned g c =
-    let disk = g.B.Bank.disk c.args.bank.now in
-    idle_turn c.args.calls.now c.args.actor c.args.core.now disk c.args.journal.now.items c.args.client.now c.take.new.self
-    (station_of c.begin_next.new.core disk c.begin_next.new.journal.items c.begin_next.new.client)
-    (sym c.take.ensures.value ∙ c.in_default.is) c.take.ensures.after c.begin_next.ensures.turned
+pub returns-in-None-clause-bank : goal.returns-in-None-clause-bank
+returns-in-None-clause-bank g c = c.begin_next.ensures.bank (g.B.Bank.disk c.args.bank.now) c.requires.bank
 
-pub returns-in_default-clause-bank : goal.returns-in_default-clause-bank
-returns-in_default-clause-bank g c = c.begin_next.ensures.bank (g.B.Bank.disk c.args.bank.now) c.requires.bank
-
-pub returns-in-More-clause-turned : goal.returns-in-More-clause-turned
-returns-in-More-clause-turned g c =
-    let going = sym c.take.ensures.value ∙ c.in-Some.is in
+pub returns-in-None-given-clause-turned : goal.returns-in-None-given-clause-turned
+returns-in-None-given-clause-turned g c =
+    let going = c.in-Some.is in
     let begun : 1 ≤ c.args.client.now.begun = c.requires.begun c.in-Some.under_way going in
     let few = c.requires.few in
     went_more c.args.calls.now c.args.actor (at_disk c.args.core.now (g.B.Bank.disk c.args.bank.now))
-    (at_disk c.go_further-turn.new.core (g.B.Bank.disk c.go_further-turn.new.bank)) c.args.journal.now.items
-    c.go_further-turn.new.journal.items c.args.client.now c.in-Some.under_way c.index-calls-number.result going
+    (at_disk c.go_further-given.new.core (g.B.Bank.disk c.go_further-given.new.bank)) c.args.journal.now.items
+    c.go_further-given.new.journal.items c.args.client.now c.in-Some.under_way c.index-calls-number.result going
     (slice_get_read c.args.calls.now (length c.args.calls.now) (c.args.client.now.begun - 1) c.index-calls-number.result refl
     (omega (arith, begun, few)) c.index-calls-number.is)
-    c.go_further-turn.ensures.goes_on c.reflow-widths-2.ensures.is c.go_further-turn.ensures.items c.in-More.work
-    c.begun_at-at.result c.len.result c.reflow-widths-2.result c.list_made.new.journal.items c.made.result
-    c.in-More.ensures.goes
+    c.go_further-given.ensures.goes_on c.reflow-widths.ensures.is c.go_further-given.ensures.items c.go_further-given.new.work
+    c.begun_at-at.result c.len.result c.reflow-widths.result c.list_made.new.journal.items c.made.result
+    c.in-None-given.ensures.goes
     (c.begun_at-at.ensures (commit_in c.in-Some.under_way.work) c.makes_commit-makes.ensures) c.len.ensures
-    c.reflow-widths-2.ensures.value c.made.ensures c.list_made.ensures.items
+    c.reflow-widths.ensures.value c.made.ensures c.list_made.ensures.items
 
-pub returns-in-Done-clause-turned : goal.returns-in-Done-clause-turned
-returns-in-Done-clause-turned g c =
-    let going = sym c.take.ensures.value ∙ c.in-Some.is in
+pub returns-in-Some-given-clause-turned : goal.returns-in-Some-given-clause-turned
+returns-in-Some-given-clause-turned g c =
+    let going = c.in-Some.is in
     let begun : 1 ≤ c.args.client.now.begun = c.requires.begun c.in-Some.under_way going in
     let few = c.requires.few in
     went_done c.args.calls.now c.args.actor (at_disk c.args.core.now (g.B.Bank.disk c.args.bank.now))
-    (at_disk c.go_further-turn.new.core (g.B.Bank.disk c.go_further-turn.new.bank)) c.args.journal.now.items
-    c.go_further-turn.new.journal.items c.args.client.now c.in-Some.under_way c.index-calls-number.result going
+    (at_disk c.go_further-given.new.core (g.B.Bank.disk c.go_further-given.new.bank)) c.args.journal.now.items
+    c.go_further-given.new.journal.items c.args.client.now c.in-Some.under_way c.index-calls-number.result going
     (slice_get_read c.args.calls.now (length c.args.calls.now) (c.args.client.now.begun - 1) c.index-calls-number.result refl
     (omega (arith, begun, few)) c.index-calls-number.is)
-    c.go_further-turn.ensures.goes_on c.reflow-widths-2.ensures.is c.go_further-turn.ensures.items c.in-Done.answer
-    c.reflow-widths-2.result c.entry_for-entry.result c.list_answer.new.journal.items c.group-made.result
-    c.take.new.self c.in-Done.ensures.goes c.reflow-widths-2.ensures.value c.entry_for-entry.ensures
+    c.go_further-given.ensures.goes_on c.reflow-widths.ensures.is c.go_further-given.ensures.items c.in-Some-given.answer
+    c.reflow-widths.result c.entry_for-entry.result c.list_answer.new.journal.items c.group-made.result
+    None c.in-Some-given.ensures.goes c.reflow-widths.ensures.value c.entry_for-entry.ensures
     c.list_answer.ensures.items c.group-made.ensures
-    c.take.ensures.after
+    refl
 
-pub go_further-turn-requires-clause-may : goal.go_further-turn-requires-clause-may
-go_further-turn-requires-clause-may g c =
-    let going = sym c.take.ensures.value ∙ c.in-Some.is in
+pub go_further-given-requires-clause-may : goal.go_further-given-requires-clause-may
+go_further-given-requires-clause-may g c =
+    let going = c.in-Some.is in
     let begun : 1 ≤ c.args.client.now.begun = c.requires.begun c.in-Some.under_way going in
     let few = c.requires.few in
     c.requires.may c.in-Some.under_way c.index-calls-number.result going
     (slice_get_read c.args.calls.now (length c.args.calls.now) (c.args.client.now.begun - 1) c.index-calls-number.result refl
     (omega (arith, begun, few)) c.index-calls-number.is)
 
-pub go_further-turn-requires-clause-there : goal.go_further-turn-requires-clause-there
-go_further-turn-requires-clause-there g c =
-    subst (HasDeviceUnder (g.B.Bank.disk c.args.bank.now)) (sym c.take.ensures.value ∙ c.in-Some.is) c.requires.there
+pub go_further-given-requires-clause-there : goal.go_further-given-requires-clause-there
+go_further-given-requires-clause-there g c =
+    subst (HasDeviceUnder (g.B.Bank.disk c.args.bank.now)) c.in-Some.is c.requires.there
 
 pub begin_next-requires-clause-room : goal.begin_next-requires-clause-room
 begin_next-requires-clause-room g c = room_to_begin (length c.args.calls.now) c.args.journal.now.room c.args.client.now
-    (sym c.take.ensures.value ∙ c.in_default.is) c.requires.room
+    c.in-None.is c.requires.room
 
 pub list_made-requires : goal.list_made-requires
 list_made-requires g c =
-    let going = sym c.take.ensures.value ∙ c.in-Some.is in record {
-      room = subst (λ (made : Option ℕ). taken_for made ≤ c.go_further-turn.new.journal.room) (sym c.made.ensures)
-          (room_to_go (length c.args.calls.now) c.args.journal.now.room c.go_further-turn.new.journal.room
-          c.args.client.now c.in-Some.under_way going (c.requires.begun c.in-Some.under_way going) c.in-More.work
-          c.requires.few c.requires.room c.in-More.ensures.room);
+    let going = c.in-Some.is in record {
+      room = subst (λ (made : Option ℕ). taken_for made ≤ c.go_further-given.new.journal.room) (sym c.made.ensures)
+          (room_to_go (length c.args.calls.now) c.args.journal.now.room c.go_further-given.new.journal.room
+          c.args.client.now c.in-Some.under_way going (c.requires.begun c.in-Some.under_way going) c.go_further-given.new.work
+          c.requires.few c.requires.room c.in-None-given.ensures.room);
     }
 
 pub list_answer-requires : goal.list_answer-requires
 list_answer-requires g c =
-    let going = sym c.take.ensures.value ∙ c.in-Some.is in record {
-      room = subst (λ (n : ℕ). n + 1 ≤ c.go_further-turn.new.journal.room) (sym (listed_room
+    let going = c.in-Some.is in record {
+      room = subst (λ (n : ℕ). n + 1 ≤ c.go_further-given.new.journal.room) (sym (listed_room
           c.index-calls-number.result c.args.actor c.args.client.now.begun c.in-Some.under_way.at
-          c.entry_for-entry.result c.group-made.result c.in-Done.answer (made_by c.in-Some.under_way.work)
+          c.entry_for-entry.result c.group-made.result c.in-Some-given.answer (made_by c.in-Some.under_way.work)
           c.entry_for-entry.ensures c.group-made.ensures))
-          (room_to_end (length c.args.calls.now) c.args.journal.now.room c.go_further-turn.new.journal.room
-          c.args.client.now c.in-Some.under_way going (c.requires.begun c.in-Some.under_way going) c.in-Done.answer
-          c.requires.few c.requires.room c.in-Done.ensures.room);
+          (room_to_end (length c.args.calls.now) c.args.journal.now.room c.go_further-given.new.journal.room
+          c.args.client.now c.in-Some.under_way going (c.requires.begun c.in-Some.under_way going) c.in-Some-given.answer
+          c.requires.few c.requires.room c.in-Some-given.ensures.room);
     }
 
-pub returns-in_default-clause-room : goal.returns-in_default-clause-room
-returns-in_default-clause-room g c = idle_uses c.args.journal.now.room c.begin_next.new.journal.room c.args.client.now
-    c.begin_next.new.client c.take.new.self (sym c.take.ensures.value ∙ c.in_default.is) c.take.ensures.after
-    c.begin_next.ensures.room
-
-pub returns-in-More-clause-room : goal.returns-in-More-clause-room
-returns-in-More-clause-room g c =
-    let going = sym c.take.ensures.value ∙ c.in-Some.is in
-    going_uses (length c.args.calls.now) c.args.journal.now.room c.go_further-turn.new.journal.room c.args.client.now
+pub returns-in-None-given-clause-room : goal.returns-in-None-given-clause-room
+returns-in-None-given-clause-room g c =
+    let going = c.in-Some.is in
+    going_uses (length c.args.calls.now) c.args.journal.now.room c.go_further-given.new.journal.room c.args.client.now
     c.in-Some.under_way going (c.requires.begun c.in-Some.under_way going) c.list_made.new.journal.room
-    c.begun_at-at.result c.in-More.work c.in-More.ensures.room
-    (subst (λ (made : Option ℕ). c.go_further-turn.new.journal.room ≤ c.list_made.new.journal.room + taken_for made)
+    c.begun_at-at.result c.go_further-given.new.work c.in-None-given.ensures.room
+    (subst (λ (made : Option ℕ). c.go_further-given.new.journal.room ≤ c.list_made.new.journal.room + taken_for made)
     c.made.ensures c.list_made.ensures.room)
 
-pub returns-in-Done-clause-room : goal.returns-in-Done-clause-room
-returns-in-Done-clause-room g c =
-    let going = sym c.take.ensures.value ∙ c.in-Some.is in
-    ended_uses (length c.args.calls.now) c.args.journal.now.room c.go_further-turn.new.journal.room c.args.client.now
+pub returns-in-Some-given-clause-room : goal.returns-in-Some-given-clause-room
+returns-in-Some-given-clause-room g c =
+    let going = c.in-Some.is in
+    ended_uses (length c.args.calls.now) c.args.journal.now.room c.go_further-given.new.journal.room c.args.client.now
     c.in-Some.under_way going (c.requires.begun c.in-Some.under_way going) c.list_answer.new.journal.room
-    c.in-Done.answer c.take.new.self c.take.ensures.after c.in-Done.ensures.room
-    (subst (λ (n : ℕ). c.go_further-turn.new.journal.room ≤ c.list_answer.new.journal.room + (n + 1))
+    c.in-Some-given.answer None refl c.in-Some-given.ensures.room
+    (subst (λ (n : ℕ). c.go_further-given.new.journal.room ≤ c.list_answer.new.journal.room + (n + 1))
     (listed_room c.index-calls-number.result c.args.actor c.args.client.now.begun c.in-Some.under_way.at
-    c.entry_for-entry.result c.group-made.result c.in-Done.answer (made_by c.in-Some.under_way.work)
+    c.entry_for-entry.result c.group-made.result c.in-Some-given.answer (made_by c.in-Some.under_way.work)
     c.entry_for-entry.ensures c.group-made.ensures) c.list_answer.ensures.room)
 
-pub go_further-turn-requires-clause-ready : goal.go_further-turn-requires-clause-ready
-go_further-turn-requires-clause-ready g c =
-    let going = sym c.take.ensures.value ∙ c.in-Some.is in
+pub go_further-given-requires-clause-ready : goal.go_further-given-requires-clause-ready
+go_further-given-requires-clause-ready g c =
+    let going = c.in-Some.is in
     let begun : 1 ≤ c.args.client.now.begun = c.requires.begun c.in-Some.under_way going in
     let few = c.requires.few in
     c.of_call.ensures.ready c.args.calls.now c.index-calls-number.result c.requires.ready
     (slice_get_read c.args.calls.now (length c.args.calls.now) (c.args.client.now.begun - 1) c.index-calls-number.result refl
     (omega (arith, begun, few)) c.index-calls-number.is)
+
+pub returns-in-None-given-clause-there : goal.returns-in-None-given-clause-there
+returns-in-None-given-clause-there g c = c.in-None-given.ensures.there

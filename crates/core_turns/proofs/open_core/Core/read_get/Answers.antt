@@ -17,8 +17,8 @@ step-requires-clause-bank g c =
 pub invariant_of-self : goal.invariant_of-self
 invariant_of-self g c =
     let at = c.self.inside in
-    read_ended (core_with at.uber at.blocks at.out at.done at.locks at.begun at.committing at.copying at.attaching at.reach) c.args.run c.end.new.self
-    c.self.invariant (subst (λ (core : Core). IsGetOf core c.args.run) (sym c.self.view_is) c.requires.of)
+    read_ended (core_with at.uber at.blocks at.out at.done at.locks at.begun at.committing at.copying at.attaching at.reach) c.args.run.now c.end.new.self
+    c.self.invariant (subst (λ (core : Core). IsGetOf core c.args.run.now) (sym c.self.view_is) c.requires.of)
     c.end.ensures.ends
 
 pub invariant_of-self-2 : goal.invariant_of-self-2
@@ -28,3 +28,9 @@ invariant_of-self-2 g c =
     core_out _ c.step.new.out c.self.invariant
     (c.step.ensures.below c.self.inside.reach (omega (arith, to, more)) c.self.invariant.below)
     c.step.ensures.out.still
+
+pub returns-then-has_too_many_out-clause-place : goal.returns-then-has_too_many_out-clause-place
+returns-then-has_too_many_out-clause-place g c = c.is_read.ensures.place
+
+pub returns-clause-place : goal.returns-clause-place
+returns-clause-place g c = c.is_read.ensures.place
