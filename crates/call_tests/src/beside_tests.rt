@@ -1,8 +1,8 @@
 // Clients in threads of their own, their journals checked item by item.
 use client_script::{COPIER, parse};
 use core_state::{Journal, Kind};
-use pool_live::{OpenGate, PoolRun, run_pool_beside};
-use schedule::Ended;
+use pool_live::{OpenGate, run_pool_beside};
+use schedule::{Ended, PoolRun};
 use std::alloc::{AllocError, Global};
 use std::process::Abort;
 use std::sync::Wait;

@@ -1,8 +1,7 @@
 -- What spells bytes.
-use Rattle.std.proofs.Common.{◌≡◌, ℕ, zero, suc, ◌+◌, ◌*◌, ◌/◌, ◌%◌, ◌<◌, ◌≤◌, List, [], ◌∷◌, ◌++◌, length, get_or, take, refl, sym, ◌∙◌, ap, arith, append_assoc}
+use Rattle.std.proofs.Common.{◌≡◌, ℕ, zero, suc, ◌+◌, ◌*◌, ◌/◌, ◌%◌, ◌<◌, ◌≤◌, List, [], ◌∷◌, length, get_or, take, refl, sym, ◌∙◌, ap, arith}
 use Rattle.std.specs.Prelude.{All}
-use Rattle.std.proofs.lemmas.List.{take_more, take_all}
-use Rattle.std.proofs.lemmas.List.Concat.{flat_map-append}
+use Rattle.std.proofs.lemmas.List.{take_all}
 use Rattle.client_script.specs.Lines.{hex_digit, hex_text}
 use Rattle.client_script.specs.Words.{IsHex}
 
@@ -24,19 +23,6 @@ low_digit (byte ∷ bytes) zero within = refl
 low_digit (byte ∷ bytes) (suc place) within =
     let e : 2 * suc place + 1 ≡ suc (suc (2 * place + 1)) = omega arith in
     ap (λ n. get_or (hex_text (byte ∷ bytes)) n 0) e ∙ low_digit bytes place (omega arith)
-
--- Two digits more are a byte more.
-pub spelled_more : (text bytes : List ℕ) (place byte : ℕ) → 2 * place + 1 < length text → take (2 * place) text ≡ hex_text bytes
-    → get_or text (2 * place) 0 ≡ hex_digit (byte / 16) → get_or text (2 * place + 1) 0 ≡ hex_digit (byte % 16)
-    → take (2 * (place + 1)) text ≡ hex_text (bytes ++ byte ∷ [])
-spelled_more text bytes place byte within so_far high low =
-    let e : 2 * (place + 1) ≡ 2 * place + 1 + 1 = omega arith in
-    ap (λ n. take n text) e
-    ∙ take_more text (2 * place + 1) 0 within
-    ∙ ap (λ (l : List ℕ). l ++ get_or text (2 * place + 1) 0 ∷ []) (take_more text (2 * place) 0 (omega arith))
-    ∙ append_assoc (take (2 * place) text) (get_or text (2 * place) 0 ∷ []) (get_or text (2 * place + 1) 0 ∷ [])
-    ∙ (λ i. so_far i ++ high i ∷ low i ∷ [])
-    ∙ sym (flat_map-append (λ b. hex_digit (b / 16) ∷ hex_digit (b % 16) ∷ []) bytes (byte ∷ []))
 
 -- A text of an odd length, of none, or of too many digits spells no bytes.
 pub wrong_length : (text bytes : List ℕ) → IsHex text bytes → (length text ≡ 2 * length bytes) × (1 ≤ length bytes) × (length bytes ≤ 65536)

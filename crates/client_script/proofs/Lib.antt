@@ -4,6 +4,7 @@ pub mod Cuts
 pub mod Faults
 pub mod FromSource
 pub mod Groups
+pub mod HexLanes
 pub mod Hexes
 pub mod InOrder
 pub mod LineFaults

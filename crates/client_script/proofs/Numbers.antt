@@ -82,13 +82,7 @@ after_is_greater number (byte ∷ digits) =
 nine_of : (number : ℕ) → 9 ≤ number → 9 ≡ min number 9
 nine_of number above = omega arith
 
--- A number of one digit, and one of two digits or more, which is above 9.
-pub one_digit : (digit : ℕ) → AllDigits 10 (digit ∷ []) → IsCount (digit ∷ []) (digit - 48)
-one_digit digit all =
-    let here = digit_from_value digit all.0 in
-    let value : digit_value digit ≡ digit - 48 = value_of_digit digit here.0 here.1 in
-    (digits_value 10 (digit ∷ []), record { digits = (omega arith, all); first = λ e. refl; value = refl }, omega (arith, value, here))
-
+-- A number of two digits or more is above 9.
 pub long_number : (first second : ℕ) (rest : List ℕ) → AllDigits 10 (first ∷ second ∷ rest) → first ≢ 48 → IsCount (first ∷ second ∷ rest) 9
 long_number first second rest all nonzero =
     let here = digit_from_value first all.0 in

@@ -1,6 +1,6 @@
 -- One piece more of a text.
 use Rattle.std.proofs.Common.{◌≡◌, ℕ, suc, ◌+◌, ◌/◌, ◌%◌, ◌<◌, List, [], ◌∷◌, ◌++◌, length, get_or, take, drop, Bool, true, false, cond, sym, ◌∙◌, ap, arith, append_assoc}
-use Rattle.std.specs.Prelude.{flat_map, codes, decimal}
+use Rattle.std.specs.Prelude.{codes, decimal}
 use Rattle.std.proofs.lemmas.List.{take_more, append-nil, length-take-le}
 use Rattle.std.proofs.Math.Seq.{take-add}
 use Rattle.std.proofs.lemmas.List.Concat.{flat_map-append}
@@ -9,23 +9,11 @@ use Rattle.uberblock_ring.specs.Devices.{has_device}
 use Rattle.client_script.specs.Lines.{hex_digit, hex_text}
 use Rattle.client_script.specs.Texts.{numbers_text, devices_in, item_text, lines_from}
 
--- The pieces of one element more.
-pieces_more : {X A : Type 0} (f : X → List A) (xs : List X) (i : ℕ) (d : X) → i < length xs → flat_map f (take (i + 1) xs) ≡ flat_map f (take i xs) ++ f (get_or xs i d)
-pieces_more f xs i d within =
-    ap (flat_map f) (take_more xs i d within) ∙ flat_map-append f (take i xs) (get_or xs i d ∷ []) ∙ ap (λ l. flat_map f (take i xs) ++ l) (append-nil (f (get_or xs i d)))
-
-pub hex_more : (bytes : List ℕ) (i : ℕ) → i < length bytes
-    → hex_text (take (i + 1) bytes) ≡ hex_text (take i bytes) ++ hex_digit (get_or bytes i 0 / 16) ∷ hex_digit (get_or bytes i 0 % 16) ∷ []
-hex_more bytes i within = pieces_more (λ byte. hex_digit (byte / 16) ∷ hex_digit (byte % 16) ∷ []) bytes i 0 within
-
 -- The digits of a part, after those of the bytes before it.
 pub hex_run : (bytes : List ℕ) (from count : ℕ) → hex_text (take (from + count) bytes) ≡ hex_text (take from bytes) ++ hex_text (take count (drop from bytes))
 hex_run bytes from count =
     ap hex_text (take-add from count bytes)
     ∙ flat_map-append (λ byte. hex_digit (byte / 16) ∷ hex_digit (byte % 16) ∷ []) (take from bytes) (take count (drop from bytes))
-
-pub numbers_more : (numbers : List ℕ) (i : ℕ) → i < length numbers → numbers_text (take (i + 1) numbers) ≡ numbers_text (take i numbers) ++ (codes " " ++ decimal (get_or numbers i 0))
-numbers_more numbers i within = pieces_more (λ number. codes " " ++ decimal number) numbers i 0 within
 
 -- One device more, which the set has.
 pub devices_more : (devices device : ℕ) → has_device devices device ≡ true

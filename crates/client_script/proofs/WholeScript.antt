@@ -120,13 +120,6 @@ module _ (bytes rest below text : List ℕ) (number : ℕ) (old : Option Script)
         breaks pushed.last pushed.last_is (subst (λ (o : Option Script). MayFollow o pushed.last) (sym so_far.script_is) (may_follow 1 so_far.lines pushed.last right));
   }
 
--- Limits by the lines above, and by what was read of them.
-passed_limit : (lines : List Line) (text : List ℕ) (reached : ℕ) (state : Option Script) → AreRightLines lines → state ≡ state_from 1 lines → Reaches state text reached → PassesLimit lines text
-passed_limit lines text reached None right is over = inl (over.0, over.1, over.2, undescribed 1 lines right (sym is))
-passed_limit lines text reached (Some script) right is over =
-    let says = described 1 lines script right (sym is) in
-    inr (over.0, over.1, over.2, over.3, over.4, omega (arith, over.5, says.clients), omega (arith, over.6, ap length says.calls, few_calls 1 lines right))
-
 -- What was read passes a limit where the lines do.
 limit_passed : (lines : List Line) (text : List ℕ) (state : Option Script) → AreRightLines lines → state ≡ state_from 1 lines → PassesLimit lines text → (reached : ℕ) × Reaches state text reached
 limit_passed lines text None right is (inl (count, is_text, above, none)) = (most_clients + 1, (count, is_text, above, refl))

@@ -52,10 +52,6 @@ blames_then one two three a b c first second = record {
       (second.failed yes);
 }
 
--- A writer that stays as it was blames nobody.
-pub blames_none : (faults : ℕ) (a b : Writing) → b.failed ≡ a.failed → FailsOnlyWithFault faults faults a b
-blames_none faults a b same = record { later = omega arith; failed = λ yes. inl (sym same ∙ yes) }
-
 -- A text that waits behind what waited.
 pub gains_waiting : (sink : Option (List ℕ)) (a b : Writing) (text : List ℕ) → b.failed ≡ a.failed → b.waiting ≡ a.waiting ++ text → GainsText sink sink a b text
 gains_waiting sink a b text same waits = record {

@@ -3,13 +3,11 @@ ghost use Rattle.std.specs.Prelude.{◌≡◌, ◌≢◌, ◌*◌, ◌/◌, ◌%
 ghost use Rattle.client_script.specs.Lines.{hex_digit, hex_text};
 ghost use Rattle.client_script.specs.Words.{IsHex};
 
+use crate::hex_lanes::spell_lanes;
 use std::alloc::{AllocError, Global};
 
 /// Most bytes of a put.
 const MOST_BYTES: usize = 65_536;
-
-/// Most bytes that are spelled at once.
-pub const SPELLED: usize = 256;
 
 /// The bytes that a text spells: one at least, and not too many.
 pub fn hex_bytes(alloc: Global, text: &[u8]) -> Result<Option<Vec<u8>>, AllocError>
@@ -51,14 +49,19 @@ fn hex_value(digit: u8) -> Option<u8>
     }
 }
 
-/// Spells bytes at the front of a place that has room for the digits of `SPELLED` bytes.
-pub fn spell(bytes: &[u8], digits: &mut [u8; 512])
-    requires { length bytes.now ≤ SPELLED }
-    ensures { take (2 * length bytes.now) digits.new ≡ hex_text bytes.now }
+/// Spells bytes into a place as long as their digits: 16 at once, and those left over one by one.
+pub fn spell(bytes: &[u8], digits: &mut [u8])
+    requires { length digits.old ≡ 2 * length bytes.now }
+    ensures { digits.new ≡ hex_text bytes.now }
 {
-    for (place, byte) in bytes.iter().enumerate() {
-        digits[2 * place] = digit(*byte / 16);
-        digits[2 * place + 1] = digit(*byte % 16);
+    let mut done = 0;
+    while done + 16 <= bytes.len() {
+        spell_lanes(bytes, done, digits);
+        done += 16;
+    }
+    for place in done..bytes.len() {
+        digits[2 * place] = digit(bytes[place] / 16);
+        digits[2 * place + 1] = digit(bytes[place] % 16);
     }
 }
 

@@ -13,6 +13,7 @@ mod call_fault;
 mod copier;
 mod cut;
 mod hex;
+mod hex_lanes;
 mod in_order;
 mod journal_text;
 mod line_fault;

@@ -1,11 +1,11 @@
 // Short pieces of text, gathered in front of a sink.
-ghost use Rattle.std.specs.Prelude.{◌≡◌, ◌⊎◌, ◌+◌, ◌<◌, ◌≤◌, ℕ, List, [], Option, Bool, true, false, length, take, decimal, OnOk, OnErr};
+ghost use Rattle.std.specs.Prelude.{◌≡◌, ◌⊎◌, ◌+◌, ◌*◌, ◌<◌, ◌≤◌, ℕ, List, [], Option, Bool, true, false, length, take, decimal, OnOk, OnErr};
 ghost use Rattle.bank_trait.specs.Causes.{FaultCounted};
 ghost use Rattle.client_script.specs.Lines.{hex_text};
 ghost use Rattle.client_script.specs.Texts.{devices_text};
 ghost use Rattle.client_script.specs.Written.{IsAdded, IsPartAdded, WriterHasText, GainsText, FailsOnlyWithFault};
 
-use crate::hex::{SPELLED, spell};
+use crate::hex::spell;
 use crate::output::write_all;
 use bank_trait::{Failed, Sink};
 use itoa::Buffer;
@@ -13,6 +13,9 @@ use std::marker::Model;
 
 /// Bytes that wait at most.
 const ROOM: usize = 8192;
+
+/// Bytes that are spelled at once, at most: so few that what waits goes out long.
+const PIECE: usize = 512;
 
 /// Gathers text, and hands it to a sink in pieces of more than 4 KiB where its own are shorter.
 ///
@@ -75,7 +78,7 @@ impl TextWriter {
     {
         let mut done = 0;
         while done < bytes.len() {
-            let end = bytes.len().min(done + SPELLED);
+            let end = bytes.len().min(done + PIECE);
             self.piece(out, &bytes[done..end]);
             done = end;
         }
@@ -109,16 +112,29 @@ impl TextWriter {
         if self.failed { Err(Failed) } else { Ok(()) }
     }
 
-    // Bytes that are spelled at once.
+    // Bytes that are spelled at once. What waits is handed over where they would not fit behind it.
     fn piece<K: Sink>(&mut self, out: &mut K, bytes: &[u8])
-        requires { length bytes.now ≤ SPELLED }
+        requires { length bytes.now ≤ PIECE }
         ensures gains { GainsText (K.held out.old) (K.held out.new) self.old self.new
             (hex_text bytes.now) }
         ensures cause { FailsOnlyWithFault (K.faults out.old) (K.faults out.new) self.old self.new }
     {
-        let mut digits = [0; 2 * SPELLED];
-        spell(bytes, &mut digits);
-        self.text(out, &digits[..2 * bytes.len()]);
+        if 2 * bytes.len() > ROOM - self.used {
+            self.flush(out);
+        }
+        self.keep_hex(bytes);
+    }
+
+    // Lets the digits of bytes wait, for which there is room.
+    fn keep_hex(&mut self, bytes: &[u8])
+        requires room { length self.old.waiting + 2 * length bytes.now ≤ ROOM }
+        ensures gains { (sink : Option (List ℕ))
+            → GainsText sink sink self.old self.new (hex_text bytes.now) }
+        ensures failed { self.new.failed ≡ self.old.failed }
+    {
+        let end = self.used + 2 * bytes.len();
+        spell(bytes, &mut self.buffer[self.used..end]);
+        self.used = end;
     }
 
     // Lets a text wait, for which there is room.

@@ -140,7 +140,7 @@ impl PoolOnBank {
                 run.solve(alloc)?;
                 return bytes_read(self.core.get_end(&mut run));
             }
-            match self.core.get_read(alloc, &mut self.bank, &mut run) {
+            match self.core.get_read(&mut self.bank, &mut run) {
                 None => {}
                 Some(_) => return Err("a get does not go on".into()),
             }
@@ -166,7 +166,7 @@ impl PoolOnBank {
             if run.is_read() {
                 return Err("a block is read".into());
             }
-            match self.core.get_read(alloc, &mut self.bank, &mut run) {
+            match self.core.get_read(&mut self.bank, &mut run) {
                 None => {}
                 Some(_) => return Err("a get does not go on".into()),
             }

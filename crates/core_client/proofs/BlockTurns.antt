@@ -269,7 +269,7 @@ read_more bytes reflow done before after here there place left pool front right 
     others : (row column : ℕ) → row < rows_of before.layout → column < columns_of before.layout
         → (row ≡ before.row → column ≡ before.column → ⊥)
         → got_of after.read row column ≡ got_of before.read row column
-    others row column row_in column_in apart = reads.put.others row column
+    others row column row_in column_in apart = reads.column.put.others row column
         (subst (λ (n : ℕ). row < n) (sym place.shape.rows.rows_are) row_in)
         (subst (λ (n : ℕ). column < n) (sym place.shape.rows.cols_are) column_in)
         (⊎_elim (λ same. inr (λ also. apart same also)) (λ differs. inl differs) (cases_eq row before.row))
@@ -280,10 +280,10 @@ read_more bytes reflow done before after here there place left pool front right 
         let at : IsColumn before.layout before.row before.column = record { row_in = left; column_in = place.column_in left } in
         subst (λ (r : ℕ). IsColumnOf before.layout bytes reflow there.out r column (got_of after.read r column)) (sym same)
         (subst (λ (c : ℕ). IsColumnOf before.layout bytes reflow there.out before.row c (got_of after.read before.row c)) (sym also)
-        (subst (IsColumnOf before.layout bytes reflow there.out before.row before.column) (sym reads.put.here)
-        (column_got before.layout bytes reflow done here.disk.reads here.out there.out before.row before.column reads.given pool
+        (subst (IsColumnOf before.layout bytes reflow there.out before.row before.column) (sym reads.column.put.here)
+        (column_got before.layout bytes reflow done here.disk.reads here.out there.out before.row before.column reads.column.given pool
         front right at
-        (got_by_step (spot_of before.layout reflow before.row before.column) reads.given here there reads.read))))
+        (got_by_step (spot_of before.layout reflow before.row before.column) reads.column.given here there reads.column.read))))
 
     old_got : (row column : ℕ) → IsColumn before.layout row column → IsPassedColumn before row column
         → (row ≡ before.row) ⊎ (row ≢ before.row) → (column ≡ before.column) ⊎ (column ≢ before.column)
@@ -295,7 +295,7 @@ read_more bytes reflow done before after here there place left pool front right 
         (sym (others row column is.row_in wide
         (λ same also. ⊎_elim (λ low. omega (arith, low, same)) (λ at. omega (arith, at.1, also)) old)))
         (column_stays before.layout bytes reflow here.out there.out row column (got_of before.read row column)
-        (outs_by_step (spot_of before.layout reflow before.row before.column) reads.given here there reads.read).still
+        (outs_by_step (spot_of before.layout reflow before.row before.column) reads.column.given here there reads.column.read).still
         (so_far.got row column is old))
 
 -- ---- what a whole reading has

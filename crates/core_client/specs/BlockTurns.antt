@@ -9,9 +9,9 @@ use Rattle.reconstruct.specs.Rows.{Rows}
 use Rattle.uberblock_ring.specs.Devices.{has_device}
 use Rattle.core_state.specs.Committing.{Point}
 use Rattle.core_client.specs.declared.columns_read.ColumnsRead.{ColumnsRead}
-use Rattle.core_client.specs.Reading.{spot_of, IsPassedOrRead}
+use Rattle.core_client.specs.Reading.{spot_of}
 use Rattle.core_client.specs.Writing.{bytes_of, IsPlanOf}
-use Rattle.core_client.specs.Got.{got_of, has_lost, HasPut, IsShapedAs}
+use Rattle.core_client.specs.Got.{got_of, has_lost, HasRead, IsShapedAs}
 
 -- ---- writes
 
@@ -72,9 +72,8 @@ pub record GoesOneOn (before after : BlockRead) : Type 0 where
 -- The next column was read where its row stands, or passed over, and what that gave is put in its place.
 pub record ReadsColumn (reflow : Reflow) (before : BlockRead) (here : Point) (after : BlockRead)
     (there : Point) : Type 0 where
-  pub given : Option (List ℕ)
-  pub read : IsPassedOrRead (spot_of before.layout reflow before.row before.column) given here there
-  pub put : HasPut before.row before.column given before.read after.read
+  pub column : HasRead (spot_of before.layout reflow before.row before.column) before.row before.column before.read here
+      after.read there
   pub on : GoesOneOn before after
 
 -- A column is the block's, or was lost with its device.

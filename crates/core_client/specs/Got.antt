@@ -4,7 +4,10 @@ use Rattle.gf_solve.specs.Row.{is_masked}
 use Rattle.row_layout.specs.Layout.{Layout, rows_of}
 use Rattle.reconstruct.specs.Rows.{IsShaped, column_at}
 use Rattle.reconstruct.specs.Lost.{HasTooFew}
+use Rattle.core_state.specs.Committing.{Point}
 use Rattle.core_client.specs.declared.columns_read.ColumnsRead.{ColumnsRead}
+use Rattle.core_client.specs.declared.spot.Spot.{Spot}
+use Rattle.core_client.specs.Reading.{IsPassedOrRead}
 
 -- The reading has not got this column.
 abbrev pub has_lost : ColumnsRead → ℕ → ℕ → Bool
@@ -29,6 +32,13 @@ pub record HasPut (row column : ℕ) (got : Option (List ℕ)) (old new : Column
   pub others : (other_row other : ℕ) → other_row < old.rows.rows → other < old.rows.cols
       → (other_row ≢ row) ⊎ (other ≢ column)
       → got_of new other_row other ≡ got_of old other_row other
+
+-- A spot was read, or passed over, and what that gave was put in one column.
+pub record HasRead (spot : Spot) (row column : ℕ) (old : ColumnsRead) (here : Point) (new : ColumnsRead) (there : Point)
+    : Type 0 where
+  pub given : Option (List ℕ)
+  pub read : IsPassedOrRead spot given here there
+  pub put : HasPut row column given old new
 
 -- No row has lost more columns than it has parity.
 pub record HasLostFew (layout : Layout) (read : ColumnsRead) : Type 0 where

@@ -1,5 +1,5 @@
 -- Where a column is read, and what a reading has of it.
-use Rattle.std.specs.Prelude.{◌≡◌, ◌⊎◌, ℕ, ◌+◌, List, Option, Some, None, true, false, Result, Ok, Err, OnOk, OnErr}
+use Rattle.std.specs.Prelude.{◌≡◌, ◌⊎◌, ℕ, ◌+◌, Bool, List, Option, Some, None, true, false, Result, Ok, Err, OnOk, OnErr}
 use Rattle.bank_trait.specs.declared.Failed.{Failed}
 use Rattle.bank_trait.specs.Causes.{FaultCounted, FailedOnce}
 use Rattle.bank_trait.specs.Disk.{Known, Unchanged}
@@ -30,6 +30,11 @@ abbrev pub spot_of : Layout → Reflow → ℕ → ℕ → Spot
 spot_of layout reflow row column =
     spot_in (standing reflow (sector_of layout row 0) (columns_in layout row)) reflow
     (sector_of layout row column)
+
+-- what a read gave, by whether it went and what it left
+abbrev pub given_by : Bool → List ℕ → Option (List ℕ)
+given_by true left = Some left
+given_by false left = None
 
 -- What reading a spot gave while devices went out: nothing where its device is out by then, else
 -- the bytes that stand there, where that is told.

@@ -9,7 +9,7 @@ ghost use Rattle.core_client.specs.Got.{IsShapedAs};
 ghost use Rattle.core_client.specs.BlockTurns.{IsAtColumn, IsReadBegun, ReadsColumn};
 
 use crate::columns::Columns;
-use crate::{ColumnsRead, SharedColumns, read_column};
+use crate::{ColumnsRead, SharedColumns};
 use bank_trait::Bank;
 use reflow_mark::Reflow;
 use row_layout::Layout;
@@ -97,27 +97,22 @@ impl BlockRead {
         self.run.columns.as_read()
     }
 
-    /// The columns, for whoever solves them beside the read: once all were read, where there was memory for that.
-    pub fn share(&self) -> Option<SharedColumns>
-        ensures value { IfSome result (λ shared. shared ≡ self.now.read) }
-        ensures shape { IfSome result (IsShapedAs self.now.layout) }
-        ensures done { IfSome result (λ _. self.now.row ≡ rows_of self.now.layout) }
+    /// The columns, for whoever solves them beside the read: once all were read, where there is memory for that.
+    pub fn share(&mut self, alloc: Global) -> Option<SharedColumns>
+        ensures same { self.new ≡ self.old }
+        ensures value { IfSome result (λ shared. shared ≡ self.old.read) }
+        ensures shape { IfSome result (IsShapedAs self.old.layout) }
+        ensures done { IfSome result (λ _. self.old.row ≡ rows_of self.old.layout) }
     {
-        match &self.run.columns {
-            Columns::Own(_) => None,
-            Columns::Shared(shared) => shared.share(),
+        if !self.is_done() {
+            return None;
         }
+        self.run.columns.share(alloc)
     }
 
     /// Reads the next column where its row stands. A device that is out is passed over; one whose read
-    /// fails is out. The last that is read can be shared.
-    pub fn step<B: Bank>(
-        &mut self,
-        alloc: Global,
-        bank: &mut B,
-        reflow: &Reflow,
-        out: &mut DeviceSet,
-    )
+    /// fails is out.
+    pub fn step<B: Bank>(&mut self, bank: &mut B, reflow: &Reflow, out: &mut DeviceSet)
         requires left { self.old.row < rows_of self.old.layout }
         requires pool { IsInPool self.old.layout reflow.now }
         requires bank { HasPool reflow.now out.old (B.disk bank.old) }
@@ -131,15 +126,13 @@ impl BlockRead {
         let run = &mut *self.run;
         let row = run.row;
         let column = run.column;
-        let got = read_column(bank, &run.layout, reflow, row, column, out);
-        run.columns.put(row, column, got);
+        run.columns
+            .read(bank, &run.layout, reflow, row, column, out);
         if column + 1 < run.layout.columns_in(row) {
             run.column = column + 1;
             return;
         }
         run.row = row + 1;
         run.column = 0;
-        let all_read = run.row == run.layout.rows();
-        run.columns.share(alloc, all_read);
     }
 }

@@ -1,13 +1,22 @@
 // A block's columns as they were read.
-ghost use Rattle.std.specs.Prelude.{◌≡◌, ◌≢◌, ◌⊎◌, ℕ, ◌<◌, ◌≤◌, Option, IfOk, Some, IsTrue, length, false, true, ◌^◌, ◌↔◌, EachIndex, slice_index};
+ghost use Rattle.std.specs.Prelude.{◌≡◌, ◌≢◌, ◌⊎◌, ℕ, ◌<◌, ◌≤◌, IfOk, Some, IsTrue, length, false, true, ◌^◌, ◌↔◌, EachIndex, slice_index};
+ghost use Rattle.bank_trait.specs.Disk.{Unchanged};
 ghost use Rattle.reconstruct.specs.Columns.{zero_sector};
-ghost use Rattle.row_layout.specs.Layout.{columns_of, rows_of};
+ghost use Rattle.row_layout.specs.Layout.{IsColumn, columns_of, rows_of};
 ghost use Rattle.uberblock_ring.specs.Devices.{with_device};
-ghost use Rattle.core_client.specs.Got.{got_of, has_lost, HasPut, IsShapedAs};
+ghost use Rattle.core_state.specs.Committing.{point_of};
+ghost use Rattle.core_client.specs.Got.{got_of, has_lost, HasRead, IsShapedAs};
+ghost use Rattle.core_client.specs.Outs.{OnlyFailedGoOut};
+ghost use Rattle.core_client.specs.Pool.{HasPool, IsInPool};
+ghost use Rattle.core_client.specs.Reading.{spot_of};
 
+use crate::read_column;
+use bank_trait::Bank;
 use reconstruct::Rows;
+use reflow_mark::Reflow;
 use row_layout::Layout;
 use std::alloc::{AllocError, Global};
+use uberblock_ring::DeviceSet;
 
 /// A block's columns as far as they are there, and a mask for each row of those that are lost. What
 /// stands in a lost column means nothing.
@@ -37,18 +46,35 @@ impl ColumnsRead {
         Ok(ColumnsRead { rows, lost })
     }
 
-    /// Puts what reading a column gave in its place. It is lost where that is nothing.
-    pub fn put(&mut self, row: u32, column: u32, got: Option<[u8; 512]>)
+    /// Reads a column where its row stands, into its place. It is lost where its device is out, or goes out at this
+    /// read.
+    pub(crate) fn read<B: Bank>(
+        &mut self,
+        bank: &mut B,
+        layout: &Layout,
+        reflow: &Reflow,
+        row: u32,
+        column: u32,
+        out: &mut DeviceSet,
+    )
         requires masks { length self.old.lost.items ≡ self.old.rows.rows }
         requires row { row < self.old.rows.rows }
         requires column { column < self.old.rows.cols }
         requires narrow { self.old.rows.cols ≤ 64 }
         requires unread { has_lost self.old row column ≡ false }
-        ensures { HasPut row column got self.old self.new }
+        requires pool { IsInPool layout.now reflow.now }
+        requires bank { HasPool reflow.now out.old (B.disk bank.old) }
+        requires there { IsColumn layout.now row column }
+        ensures step { HasRead (spot_of layout.now reflow.now row column) row column
+            self.old (point_of out.old (B.disk bank.old)) self.new (point_of out.new (B.disk bank.new)) }
+        ensures unchanged { Unchanged (B.disk bank.old) (B.disk bank.new) }
+        ensures out { OnlyFailedGoOut (point_of out.old (B.disk bank.old))
+            (point_of out.new (B.disk bank.new)) }
+        ensures below { (devices : ℕ) → reflow.now.to ≤ devices → out.old < 2 ^ devices → out.new < 2 ^ devices }
     {
-        match got {
-            Some(bytes) => self.rows.put(row, column, &bytes),
-            None => self.lose(row, column),
+        let place = self.rows.column_mut(row, column);
+        if !read_column(bank, layout, reflow, row, column, out, place) {
+            self.lose(row, column);
         }
     }
 

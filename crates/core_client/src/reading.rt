@@ -1,13 +1,12 @@
 // A column that is read.
-ghost use Rattle.std.specs.Prelude.{◌≡◌, ℕ, ◌^◌, ◌<◌, List, Some, IfOk, OnErr, OnOk, false, ◌≤◌};
-ghost use Rattle.bank_trait.specs.Causes.{FaultCounted, FailedOnce};
+ghost use Rattle.std.specs.Prelude.{◌≡◌, ℕ, ◌^◌, ◌<◌, false, ◌≤◌};
 ghost use Rattle.bank_trait.specs.Disk.{Unchanged};
 ghost use Rattle.row_layout.specs.Layout.{IsColumn};
 ghost use Rattle.uberblock_ring.specs.Devices.{has_device};
 ghost use Rattle.core_client.specs.Outs.{OnlyFailedGoOut};
 ghost use Rattle.core_state.specs.Committing.{point_of};
 ghost use Rattle.core_client.specs.Pool.{IsInPool, HasPool};
-ghost use Rattle.core_client.specs.Reading.{spot_of, IsGot, IsPassedOrRead};
+ghost use Rattle.core_client.specs.Reading.{given_by, spot_of, IsGot, IsPassedOrRead};
 
 use crate::{Spot, spot_of};
 use bank_trait::{Bank, Failed};
@@ -15,7 +14,8 @@ use reflow_mark::Reflow;
 use row_layout::Layout;
 use uberblock_ring::DeviceSet;
 
-/// Reads a column where its row stands. None where its device is out, or goes out at this read.
+/// Reads a column where its row stands, and tells whether that went: not where its device is out, or goes out at this
+/// read. What is left in its place then means nothing.
 pub fn read_column<B: Bank>(
     bank: &mut B,
     layout: &Layout,
@@ -23,57 +23,40 @@ pub fn read_column<B: Bank>(
     row: u32,
     column: u32,
     out: &mut DeviceSet,
-) -> Option<[u8; 512]>
+    into: &mut [u8; 512],
+) -> bool
     requires pool { IsInPool layout.now reflow.now }
     requires bank { HasPool reflow.now out.old (B.disk bank.old) }
     requires there { IsColumn layout.now row column }
-    ensures step { IsPassedOrRead (spot_of layout.now reflow.now row column) result
+    ensures step { IsPassedOrRead (spot_of layout.now reflow.now row column) (given_by result into.new)
         (point_of out.old (B.disk bank.old)) (point_of out.new (B.disk bank.new)) }
     ensures got { IsGot (B.disk bank.old).reads out.old out.new
-        (spot_of layout.now reflow.now row column) result }
+        (spot_of layout.now reflow.now row column) (given_by result into.new) }
     ensures unchanged { Unchanged (B.disk bank.old) (B.disk bank.new) }
     ensures out { OnlyFailedGoOut (point_of out.old (B.disk bank.old))
         (point_of out.new (B.disk bank.new)) }
     ensures below { (devices : ℕ) → reflow.now.to ≤ devices → out.old < 2 ^ devices → out.new < 2 ^ devices }
 {
-    read_spot(bank, spot_of(layout, reflow, row, column), out)
+    read_spot(bank, spot_of(layout, reflow, row, column), out, into)
 }
 
 /// Reads a spot, unless its device is out; where that fails, it is out.
-fn read_spot<B: Bank>(bank: &mut B, spot: Spot, out: &mut DeviceSet) -> Option<[u8; 512]>
+fn read_spot<B: Bank>(bank: &mut B, spot: Spot, out: &mut DeviceSet, into: &mut [u8; 512]) -> bool
     requires device { has_device out.old spot.device ≡ false
         → spot.device < (B.disk bank.old).devices }
     requires few { spot.device < 64 }
     requires device_sector { spot.device_sector < (B.disk bank.old).sectors }
-    ensures { IsPassedOrRead spot result (point_of out.old (B.disk bank.old))
+    ensures { IsPassedOrRead spot (given_by result into.new) (point_of out.old (B.disk bank.old))
         (point_of out.new (B.disk bank.new)) }
 {
     if out.has(spot.device) {
-        return None;
+        return false;
     }
-    match sector_at(bank, spot) {
-        Ok(bytes) => Some(bytes),
+    match bank.read(spot.device, spot.device_sector, into) {
+        Ok(()) => true,
         Err(Failed) => {
             out.insert(spot.device);
-            None
+            false
         }
     }
-}
-
-/// What stands at a spot, by one read.
-fn sector_at<B: Bank>(bank: &mut B, spot: Spot) -> Result<[u8; 512], Failed>
-    requires device { spot.device < (B.disk bank.old).devices }
-    requires device_sector { spot.device_sector < (B.disk bank.old).sectors }
-    ensures bytes { IfOk result (λ bytes. (told : List ℕ)
-        → (B.disk bank.old).reads spot.device spot.device_sector ≡ Some told → bytes ≡ told) }
-    ensures well { OnOk result (B.disk bank.new ≡ B.disk bank.old) }
-    ensures failed { OnErr result
-        (FaultCounted ((B.disk bank.old).faults spot.device) ((B.disk bank.new).faults spot.device)) }
-    ensures once { OnErr result
-        (FailedOnce (B.disk bank.old).faults (B.disk bank.new).faults spot.device) }
-    ensures unchanged { Unchanged (B.disk bank.old) (B.disk bank.new) }
-{
-    let mut bytes = [0; 512];
-    bank.read(spot.device, spot.device_sector, &mut bytes)?;
-    Ok(bytes)
 }

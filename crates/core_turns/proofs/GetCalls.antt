@@ -110,8 +110,8 @@ read_swaps {core} {run} {next} {left} {calls} {nexts} hold layout of gains again
 -- Devices that are out stay out over a column,
 column_outs : {reflow : Reflow} {old new : BlockRead} {here there : Point} → ReadsColumn reflow old here new there
     → IsWithin here.out there.out
-column_outs {reflow} {old} {new} {here} {there} column =
-    (outs_by_step (spot_of old.layout reflow old.row old.column) column.given here there column.read).still
+column_outs {reflow} {old} {new} {here} {there} reads =
+    (outs_by_step (spot_of old.layout reflow old.row old.column) reads.column.given here there reads.column.read).still
 
 -- when one more is read,
 pub get_reads_calls : {before after : CoreState} {run next : GetRun} {left calls nexts : List HoldingCall}

@@ -68,14 +68,15 @@ impl GetRun {
         self.read.is_done()
     }
 
-    /// What is to be solved, once all columns were read: the columns are shared. Nothing where memory was wanting for that.
-    pub fn to_solve(&self) -> Option<ToSolve>
-        requires len { sectors_for self.now.entry.len ≡ self.now.read.layout.sectors }
+    /// What is to be solved, once all columns were read: the columns are shared. Nothing where memory is wanting for that.
+    pub fn to_solve(&mut self, alloc: Global) -> Option<ToSolve>
+        requires len { sectors_for self.old.entry.len ≡ self.old.read.layout.sectors }
+        ensures same { self.new ≡ self.old }
         ensures solvable { IfSome result IsSolvable }
-        ensures alike { IfSome result (λ block. IsAlike block (to_solve_of self.now)) }
-        ensures read { IfSome result (λ _. self.now.read.row ≡ rows_of self.now.read.layout) }
+        ensures alike { IfSome result (λ block. IsAlike block (to_solve_of self.old)) }
+        ensures read { IfSome result (λ _. self.old.read.row ≡ rows_of self.old.read.layout) }
     {
-        let read = self.read.share()?;
+        let read = self.read.share(alloc)?;
         Some(ToSolve {
             layout: *self.read.layout(),
             read,
@@ -153,12 +154,7 @@ impl Core {
     }
 
     /// The next column of a block that is read; or the answer, where too many devices are out, which ends the read.
-    pub fn get_read<B: Bank>(
-        &mut self,
-        alloc: Global,
-        bank: &mut B,
-        run: &mut GetRun,
-    ) -> Option<Answer>
+    pub fn get_read<B: Bank>(&mut self, bank: &mut B, run: &mut GetRun) -> Option<Answer>
         requires left { run.old.read.row < rows_of run.old.read.layout }
         requires of { IsGetOf self.old run.old }
         requires bank { HasBankOf self.old (B.disk bank.old) }
@@ -173,7 +169,7 @@ impl Core {
         ensures out { OnlyFailedGoOut (point_of self.old.pool.out (B.disk bank.old))
             (point_of self.new.pool.out (B.disk bank.new)) }
     {
-        self.read_get(alloc, bank, run)
+        self.read_get(bank, run)
     }
 
     /// The last turn of a read: tells its block, once it was solved, or that memory was wanting for that. What was solved
@@ -217,7 +213,7 @@ impl Core {
         })
     }
 
-    fn read_get<B: Bank>(&mut self, alloc: Global, bank: &mut B, run: &mut GetRun) -> Option<Answer>
+    fn read_get<B: Bank>(&mut self, bank: &mut B, run: &mut GetRun) -> Option<Answer>
         requires left { run.old.read.row < rows_of run.old.read.layout }
         requires of { IsGetOf self.old run.old }
         requires bank { HasBankOf self.old (B.disk bank.old) }
@@ -236,7 +232,7 @@ impl Core {
             return Some(too_many(self.out));
         }
         let reflow = self.uber.reflow();
-        run.read.step(alloc, bank, &reflow, &mut self.out);
+        run.read.step(bank, &reflow, &mut self.out);
         None
     }
 

@@ -41,8 +41,8 @@ fn columns_of_a_small_block(rt: HostRuntime) -> Result<(), AllocError> {
     assert!(rt; *rows.column(0, 2) == sector, "content");
     let mut blank = Rows::blank(rt.alloc(), &layout)?;
     assert!(rt; *blank.column(0, 2) == [0; 512], "blank");
-    blank.put(0, 2, &sector);
-    assert!(rt; *blank.column(0, 2) == sector, "put");
+    *blank.column_mut(0, 2) = sector;
+    assert!(rt; *blank.column(0, 2) == sector, "written");
     Ok(())
 }
 
@@ -52,8 +52,8 @@ fn lost_columns_come_back_or_are_too_many(rt: HostRuntime) -> Result<(), AllocEr
     let layout = Layout::of(10, 5, 1, 4);
     let bytes = block();
     let mut rows = encode(rt.alloc(), &layout, &bytes)?;
-    rows.put(0, 2, &[0xee; 512]);
-    rows.put(1, 2, &[0xee; 512]);
+    *rows.column_mut(0, 2) = [0xee; 512];
+    *rows.column_mut(1, 2) = [0xee; 512];
     let back = decode(rt.alloc(), &layout, &rows, LEN, &[0b0100, 0b0100]);
     assert!(rt;
         back.is_ok_and(|back| back.as_slice() == bytes.as_slice()),
@@ -88,8 +88,8 @@ fn a_spoiled_device_is_found_by_the_digest(rt: HostRuntime) -> Result<(), AllocE
     let bytes = block();
     let digest = Sha256::digest(&bytes);
     let mut rows = encode(rt.alloc(), &layout, &bytes)?;
-    rows.put(0, 2, &[0xee; 512]);
-    rows.put(1, 2, &[0xee; 512]);
+    *rows.column_mut(0, 2) = [0xee; 512];
+    *rows.column_mut(1, 2) = [0xee; 512];
     let pairs = suspects(rt.alloc(), &Births::first(4), 4)?;
     for (lost, pairs, comes_back) in [
         ([0b0100, 0b0100], &pairs[..0], true),

@@ -89,6 +89,17 @@ counts_more script before core disk journal progress counted after actor had roo
     (subst (λ (clients : List Client). HasTurn script actor (turns_of (at_disk core disk) journal.items clients) after) same
     turn) ready)
 
+-- What clients ask for is told of what they have come to, which stays.
+pub moves_still : (script : Script) (before : Turns) (core : Core) (disk : Disk) (journal : Journal)
+    (progress next : Progress) (actor had room taken : ℕ) → next.clients.items ≡ progress.clients.items
+    → next.turns ≡ progress.turns
+    → MovesOn script before room taken actor had (turns_by core disk journal progress) journal.room progress.turns
+    → MovesOn script before room taken actor had (turns_by core disk journal next) journal.room next.turns
+moves_still script before core disk journal progress next actor had room taken same counted moves =
+    subst (λ (n : ℕ). MovesOn script before room taken actor had (turns_by core disk journal next) journal.room n) (sym counted)
+    (subst (λ (clients : List Client). MovesOn script before room taken actor had
+    (turns_of (at_disk core disk) journal.items clients) journal.room progress.turns) (sym same) moves)
+
 -- What was told has one entry more.
 pub actors_more : (told : List Had) (had : Had) → actors_told (told ++ had ∷ []) ≡ actors_told told ++ replicate had.turns had.actor
 actors_more [] had = append-nil (replicate had.turns had.actor)

@@ -1,11 +1,12 @@
 -- A script that is carried out with the client that widens the pool, or without.
-use Rattle.std.proofs.Common.{◌≡◌, ◌⊎◌, inl, inr, ⊎_elim, ℕ, ◌<◌, ◌≤◌, List, [], ◌∷◌, map, Bool, true, false, refl, sym, ◌∙◌, ap, subst, arith}
-use Rattle.std.specs.Prelude.{All, Some}
+use Rattle.std.proofs.Common.{◌≡◌, ◌⊎◌, inl, inr, ⊎_elim, ℕ, zero, suc, ◌<◌, ◌≤◌, List, [], ◌∷◌, map, Bool, true, false, refl, sym, ◌∙◌, ap, subst, arith}
+use Rattle.std.specs.Prelude.{All, None, Option, Some}
 use Rattle.std.proofs.lemmas.List.Elements.{All-append, All-cons, All-map, All-nil, All-weaker}
 use Rattle.core_state.specs.declared.answer.Kind.TheVariants.{Attach, Copy}
+use Rattle.core_state.specs.declared.item.Entry.{Entry}
 use Rattle.core_state.specs.declared.item.Group.{Group as GroupItem}
 use Rattle.core_state.specs.declared.item.Item.{Item}
-use Rattle.core_state.specs.declared.item.Item.TheVariants.{Group}
+use Rattle.core_state.specs.declared.item.Item.TheVariants.{Call, Group}
 use Rattle.core_state.specs.Journal.{CallsAreRight, IsComplete}
 use Rattle.core_state.specs.Legal.{GroupAt}
 use Rattle.client_script.specs.declared.call.ScriptCall.{ScriptCall}
@@ -147,3 +148,16 @@ one_first items one other at_one at_other = same (sym at_one ∙ at_other)
   where
     same : Some (Group one) ≡ Some (Group other) → one ≡ other
     same is = cc
+
+-- ---- the journal of an opening
+
+-- Its group answers no call.
+pub group_answers_none : (group : GroupItem) → AnswersNone (Group group ∷ [])
+group_answers_none group zero entry there = other there
+  where
+    other : Some (Group group) ≡ Some (Call entry) → ⊥
+    other same = cc
+group_answers_none group (suc index) entry there = none there
+  where
+    none : (let nothing : Option Item = None in nothing ≡ Some (Call entry)) → ⊥
+    none same = cc

@@ -4,15 +4,15 @@ ghost use Rattle.core_state.specs.declared.item.Item.{Item as ItemOf};
 ghost use Rattle.client_script.specs.Script.{IsAllowed, calls_of};
 ghost use Rattle.core_turns.specs.Core.{CoreState};
 ghost use Rattle.schedule.specs.Ahead.{IsReadyFor};
-ghost use Rattle.schedule.specs.InTurn.{turns_by};
+ghost use Rattle.schedule.specs.Live.{turns_in};
 ghost use Rattle.schedule.specs.Playing.{IsReady};
 ghost use Rattle.schedule.specs.Turns.{turns_of};
 ghost use Rattle.pool_live.specs.Sharing.{IsFreeSeat, IsNextFor, MovesOn};
 
-use crate::live::{Had, Live, Setup, Shared};
+use crate::live::{Had, Setup, Shared};
 use bank_trait::Bank;
 use client_script::Script;
-use schedule::{Ahead, Progress, Ready, turn_of};
+use schedule::{Ahead, Live, Progress, Ready, turn_of};
 use std::alloc::Global;
 use std::sync::Wait;
 use turn_lock::{Seat, Turns};
@@ -41,13 +41,22 @@ pub struct Batch {
 }
 
 /// What the client of this number has before it, after a turn by which the journal came from so many items to this.
-fn next_of(progress: &Progress, script: &Script, actor: u8, before: usize, now: usize) -> Next
+fn next_of(
+    alloc: Global,
+    progress: &mut Progress,
+    script: &Script,
+    actor: u8,
+    before: usize,
+    now: usize,
+) -> Next
     requires ready { (state : CoreState) × (items : List ItemOf) × (room : ℕ)
-        × IsReady script.now (turns_of state items progress.now.clients.items) room }
-    ensures { IsNextFor (calls_of script.now actor) result }
+        × IsReady script.now (turns_of state items progress.old.clients.items) room }
+    ensures same { progress.new.clients.items ≡ progress.old.clients.items }
+    ensures turns { progress.new.turns ≡ progress.old.turns }
+    ensures next { IsNextFor (calls_of script.now actor) result }
 {
     if progress.is_busy(actor) {
-        Next::GoesOn(progress.ahead(script, actor))
+        Next::GoesOn(progress.ahead(alloc, script, actor))
     } else if !progress.has_left(actor, script.calls(actor).len() as u64) {
         Next::Ended
     } else if now == before {
@@ -70,22 +79,22 @@ fn count_answered(progress: &Progress, actor: u8, before: usize, now: usize) -> 
 
 /// A client's turns, one after the other: with what was computed for the first, and as long as the next asks for
 /// nothing to be computed, finds no other's call in its way, and others have not waited for too many.
-fn have_turns<B: Bank, J: Setup>(
+fn have_turns<B: Bank>(
     alloc: Global,
-    live: &mut Live<B, J>,
+    live: &mut Live<B>,
     script: &Script,
     actor: u8,
     computed: Ready,
 ) -> Batch
     requires allowed { All (λ placed. IsAllowed placed.call) script.now.calls }
     requires ready { IsReady script.now
-        (turns_by live.old.core (B.disk live.old.bank) live.old.journal live.old.progress) live.old.journal.room }
+        (turns_in B.disk live.old) live.old.journal.room }
     requires computed { IsReadyFor (calls_of script.now actor) computed }
     ensures next { IsNextFor (calls_of script.now actor) result.next }
     ensures stands { MovesOn script.now
-        (turns_by live.old.core (B.disk live.old.bank) live.old.journal live.old.progress)
+        (turns_in B.disk live.old)
         live.old.journal.room live.old.progress.turns actor result.turns
-        (turns_by live.new.core (B.disk live.new.bank) live.new.journal live.new.progress)
+        (turns_in B.disk live.new)
         live.new.journal.room live.new.progress.turns }
 {
     let mut computed = computed;
@@ -100,20 +109,11 @@ fn have_turns<B: Bank, J: Setup>(
             };
         };
         let before = live.journal.len();
-        turn_of(
-            alloc,
-            &mut live.bank,
-            &mut live.core,
-            script,
-            &mut live.journal,
-            &mut live.progress,
-            actor,
-            computed,
-        );
+        turn_of(alloc, live, script, actor, computed);
         turns += 1;
         let now = live.journal.len();
         answered += count_answered(&live.progress, actor, before, now);
-        match next_of(&live.progress, script, actor, before, now) {
+        match next_of(alloc, &mut live.progress, script, actor, before, now) {
             Next::GoesOn(Ahead::Nothing) => computed = Ready::Nothing,
             next => {
                 return Batch {

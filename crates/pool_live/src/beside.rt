@@ -7,7 +7,7 @@ ghost use Rattle.client_script.specs.Script.{IsAllowed, asked_by, calls_of};
 ghost use Rattle.core_turns.specs.Core.{CoreState, at_disk, HasBankOf};
 ghost use Rattle.schedule.specs.Ahead.{IsReadyFor};
 ghost use Rattle.schedule.specs.declared.whole_run.Ended.TheVariants.{Whole, NoMemory, Limit};
-ghost use Rattle.schedule.specs.InTurn.{turns_by};
+ghost use Rattle.schedule.specs.Live.{turns_in};
 ghost use Rattle.schedule.specs.Playing.{IsReady};
 ghost use Rattle.schedule.specs.Replaying.{IsAtRest, blank_clients};
 ghost use Rattle.schedule.specs.Turns.{most_turns, turns_of};
@@ -16,13 +16,13 @@ ghost use Rattle.pool_live.specs.Sharing.{IsUntouched, MovesOn, StandsFor};
 
 use crate::batch::{Next, take_turns_of};
 use crate::gate::pass_behind;
-use crate::live::{Had, Live, Setup, Shared};
+use crate::live::{Had, Setup, Shared};
 use bank_trait::{Bank, Gate};
 use client_script::Script;
 use core_state::Journal;
 use core_turns::Core;
 use crossbeam_utils::CachePadded;
-use schedule::{Ended, Ready, UsedUp, begin, take_turns};
+use schedule::{Carried, Ended, Live, Ready, UsedUp, begin, take_turns};
 use std::alloc::Global;
 use std::marker::{Brand, PhantomData};
 use std::sync::Wait;
@@ -103,55 +103,24 @@ fn run_clients<R: Threads + Wait + Sync, B: Bank + Send, J: Setup + Send + Sync,
     seat
 }
 
-/// How the calls of a script were carried out, in how many turns, with what the clients shared.
-#[derive(Drop)]
-pub struct Carried<B: Bank> {
-    pub bank: B,
-    pub core: Core,
-    pub journal: Journal,
-    pub ended: Ended,
-    pub turns: u64,
-}
-
 /// What the threads have left: calls under way go on in rounds, then the calls that are left follow.
-fn finish<B: Bank, J: Setup>(alloc: Global, live: Live<B, J>, script: &Script) -> Carried<B>
+fn finish<B: Bank>(alloc: Global, mut live: Live<B>, script: &Script) -> Carried<B>
     requires allowed { All (λ placed. IsAllowed placed.call) script.now.calls }
     requires actors { All (λ placed. placed.actor < script.now.clients) script.now.calls }
     requires ready { IsReady script.now
-        (turns_by live.core (B.disk live.bank) live.journal live.progress) live.journal.room }
-    ensures taken { HasCarriedOut script.now (turns_by live.core (B.disk live.bank) live.journal live.progress)
+        (turns_in B.disk live) live.journal.room }
+    ensures taken { HasCarriedOut script.now (turns_in B.disk live)
         live.progress.turns (at_disk result.core (B.disk result.bank)) result.journal.items result.turns }
     ensures calls { CallsAreRight (asked_by script.now) result.journal.items }
     ensures complete { result.ended ≡ Whole → IsComplete (asked_by script.now) result.journal.items }
     ensures limit { result.ended ≡ Limit → most_turns ≤ result.turns }
     ensures memory { result.ended ≡ NoMemory → ⊥ }
 {
-    let Live {
-        mut bank,
-        mut core,
-        mut journal,
-        mut progress,
-        of: _,
-    } = live;
-    let ended = match take_turns(
-        alloc,
-        &mut bank,
-        &mut core,
-        script,
-        &[],
-        &mut journal,
-        &mut progress,
-    ) {
+    let ended = match take_turns(alloc, &mut live, script, &[]) {
         Ok(()) => Ended::Whole,
         Err(UsedUp) => Ended::Limit,
     };
-    Carried {
-        bank,
-        core,
-        journal,
-        ended,
-        turns: progress.turns,
-    }
+    live.end(ended)
 }
 
 /// Threads take turns. Where there is no memory for a lock none is taken.
@@ -160,24 +129,27 @@ fn take_turns_beside<
     R: Threads + Wait + Sync,
     B: Bank + Send,
     G: Gate + Sync,
->(rt: &R, alloc: Global, live: Live<B, J>, script: &Script, gate: &G) -> Live<B, J>
+>(rt: &R, alloc: Global, live: Live<B>, script: &Script, gate: &G) -> Live<B>
     requires script { script.now ≡ J.script }
     requires allowed { All (λ placed. IsAllowed placed.call) script.now.calls }
     requires stands { StandsFor J.script J.start []
-        (turns_by live.core (B.disk live.bank) live.journal live.progress) live.journal.room live.progress.turns }
+        (turns_in B.disk live) live.journal.room live.progress.turns }
     ensures stands { HasStoodFor J.script J.start
-        (turns_by result.core (B.disk result.bank) result.journal result.progress) result.journal.room
+        (turns_in B.disk result) result.journal.room
         result.progress.turns }
 {
-    let shared = match Box::new(alloc, live) {
-        Ok(live) => Shared { live },
+    let shared: Shared<B, J> = match Box::new(alloc, live) {
+        Ok(live) => Shared {
+            live,
+            of: PhantomData,
+        },
         Err(refused) => return refused.value,
     };
     let (turns, seat) = match Turns::new(alloc, shared, &()) {
         Ok(made) => made,
         Err(
             NewRefused {
-                state: Shared { live },
+                state: Shared { live, of: _ },
             },
         ) => return Box::into_inner(live),
     };
@@ -188,7 +160,7 @@ fn take_turns_beside<
     } else {
         run_clients(rt, alloc, &turns, seat, script, gate, 0, clients)
     };
-    let Shared { live } = turns.into_inner().close(rt, last);
+    let Shared { live, of: _ } = turns.into_inner().close(rt, last);
     Box::into_inner(live)
 }
 
@@ -196,25 +168,25 @@ fn take_turns_beside<
 fn share<J: Setup + Send + Sync, R: Threads + Wait + Sync, B: Bank + Send, G: Gate + Sync>(
     rt: &R,
     alloc: Global,
-    live: Live<B, J>,
+    live: Live<B>,
     script: &Script,
     gate: &G,
 ) -> Carried<B>
     requires script { script.now ≡ J.script }
-    requires start { J.start ≡ Some (turns_by live.core (B.disk live.bank) live.journal live.progress) }
+    requires start { J.start ≡ Some (turns_in B.disk live) }
     requires allowed { All (λ placed. IsAllowed placed.call) script.now.calls }
     requires actors { All (λ placed. placed.actor < script.now.clients) script.now.calls }
     requires ready { IsReady script.now
-        (turns_by live.core (B.disk live.bank) live.journal live.progress) live.journal.room }
+        (turns_in B.disk live) live.journal.room }
     requires none { live.progress.turns ≡ 0 }
-    ensures taken { HasCarriedOut script.now (turns_by live.core (B.disk live.bank) live.journal live.progress) 0
+    ensures taken { HasCarriedOut script.now (turns_in B.disk live) 0
         (at_disk result.core (B.disk result.bank)) result.journal.items result.turns }
     ensures calls { CallsAreRight (asked_by script.now) result.journal.items }
     ensures complete { result.ended ≡ Whole → IsComplete (asked_by script.now) result.journal.items }
     ensures limit { result.ended ≡ Limit → most_turns ≤ result.turns }
     ensures memory { result.ended ≡ NoMemory → ⊥ }
 {
-    let left = take_turns_beside(rt, alloc, live, script, gate);
+    let left = take_turns_beside::<J, R, B, G>(rt, alloc, live, script, gate);
     finish(alloc, left, script)
 }
 
@@ -258,7 +230,6 @@ pub fn carry_out_beside<R: Threads + Wait + Sync, B: Bank + Send, G: Gate + Sync
         core,
         journal,
         progress,
-        of: PhantomData,
     };
     share::<Brand, R, B, G>(rt, alloc, live, script, gate)
 }

@@ -11,6 +11,6 @@ mod gate;
 mod live;
 mod run;
 
-pub use beside::{Carried, carry_out_beside};
+pub use beside::carry_out_beside;
 pub use gate::OpenGate;
-pub use run::{PoolRun, run_pool_beside};
+pub use run::run_pool_beside;

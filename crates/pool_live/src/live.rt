@@ -3,9 +3,7 @@ ghost use Rattle.std.specs.Prelude.{◌≡◌, ◌+◌, ℕ, All, length};
 ghost use Rattle.client_script.specs.Script.{IsAllowed};
 
 use bank_trait::Bank;
-use core_state::Journal;
-use core_turns::Core;
-use schedule::Progress;
+use schedule::Live;
 use std::marker::{Brand, PhantomData};
 use turn_lock::Stood;
 
@@ -35,25 +33,17 @@ pub struct Had {
     pub turns: u64,
 }
 
-/// An open pool, its bank, the journal, and what the clients have come to: all that a turn changes.
-pub struct Live<B: Bank, J: Setup> {
-    pub bank: B,
-    pub core: Core,
-    pub journal: Journal,
-    pub progress: Progress,
+/// An open pool and what the clients have come to, behind a pointer, so that they stay where they are while the lock goes
+/// from thread to thread.
+pub struct Shared<B: Bank, J: Setup> {
+    pub live: Box<Live<B>>,
     pub of: PhantomData<J>,
 }
 
-/// It, behind a pointer, so that it stays where it is while the lock goes from thread to thread.
-pub struct Shared<B: Bank, J: Setup> {
-    pub live: Box<Live<B, J>>,
-}
-
 impl<B: Bank, J: Setup> Stood<(), Had> for Shared<B, J> {
-    ghost use Rattle.schedule.specs.InTurn.{turns_by};
+    ghost use Rattle.schedule.specs.Live.{turns_in};
     ghost use Rattle.pool_live.specs.Sharing.{StandsFor, actors_told};
 
     ghost stands = { λ base told shared. StandsFor J.script J.start (actors_told told)
-        (turns_by shared.live.value.core (B.disk shared.live.value.bank) shared.live.value.journal
-        shared.live.value.progress) shared.live.value.journal.room shared.live.value.progress.turns };
+        (turns_in B.disk shared.live.value) shared.live.value.journal.room shared.live.value.progress.turns };
 }

@@ -14,54 +14,17 @@ ghost use Rattle.schedule.specs.Turns.{turns_of};
 ghost use Rattle.pool_live.specs.Sharing.{AnswersNone};
 ghost use Rattle.pool_live.specs.Widening.{HasRunBeside, IsCarriedWith};
 
-use crate::beside::{Carried, carry_out_beside};
+use crate::beside::carry_out_beside;
 use bank_trait::{Bank, Gate};
 use client_script::{Script, add_copier};
 use core_open::OpenWhy;
 use core_state::{Item, Journal};
 use core_turns::Core;
 use open_pool::open_pool;
-use schedule::{Ended, Ran, carry_out};
+use schedule::{Carried, Ended, PoolRun, carry_out};
 use std::alloc::Global;
 use std::sync::Wait;
 use std::thread::Threads;
-
-/// How a run went, or why there was no pool, with the bank and the journal.
-#[derive(Drop)]
-pub struct PoolRun<B: Bank> {
-    pub ran: Result<Ran, OpenWhy>,
-    pub bank: B,
-    pub journal: Journal,
-}
-
-/// Carries out the calls of an only client here, in the order of their lines.
-fn carry_out_alone<B: Bank>(
-    alloc: Global,
-    mut bank: B,
-    mut core: Core,
-    script: &Script,
-    mut journal: Journal,
-) -> Carried<B>
-    requires bank { HasBankOf core (B.disk bank) }
-    requires rest { IsAtRest core }
-    requires allowed { All (λ placed. IsAllowed placed.call) script.now.calls }
-    requires actors { All (λ placed. placed.actor < script.now.clients) script.now.calls }
-    requires none { AnswersNone journal.items }
-    ensures taken { CarriesOut script.now [] (turns_of (at_disk core (B.disk bank)) journal.items
-        (blank_clients script.now.clients)) result.ended result.turns (at_disk result.core (B.disk result.bank))
-        result.journal.items }
-    ensures calls { CallsAreRight (asked_by script.now) result.journal.items }
-    ensures complete { result.ended ≡ Whole → IsComplete (asked_by script.now) result.journal.items }
-{
-    let carried_out = carry_out(alloc, &mut bank, &mut core, script, &[], &mut journal);
-    Carried {
-        bank,
-        core,
-        journal,
-        ended: carried_out.ended,
-        turns: carried_out.turns,
-    }
-}
 
 /// Carries out the calls of a script's clients on an open pool, each client in a thread of its own; with one more that
 /// widens the pool, where a device is to be attached or an expansion runs. The calls of an only client are carried out
@@ -98,7 +61,7 @@ fn carry_out_with<R: Threads + Wait + Sync, B: Bank + Send, G: Gate + Sync>(
         return carry_out_beside(rt, alloc, bank, core, &script, gate, journal);
     }
     if script.clients() <= 1 {
-        return carry_out_alone(alloc, bank, core, &script, journal);
+        return carry_out(alloc, bank, core, &script, &[], journal);
     }
     carry_out_beside(rt, alloc, bank, core, &script, gate, journal)
 }
@@ -145,14 +108,5 @@ pub fn run_pool_beside<R: Threads + Wait + Sync, B: Bank + Send, G: Gate + Sync>
     };
     journal.list(Item::Group(opened.pool.first_item()));
     let core = Core::new(alloc, opened.pool);
-    let carried = carry_out_with(rt, alloc, bank, core, script, attaches, gate, journal);
-    PoolRun {
-        ran: Ok(Ran {
-            ended: carried.ended,
-            turns: carried.turns,
-            out: carried.core.out(),
-        }),
-        bank: carried.bank,
-        journal: carried.journal,
-    }
+    PoolRun::of(carry_out_with(rt, alloc, bank, core, script, attaches, gate, journal))
 }

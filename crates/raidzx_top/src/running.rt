@@ -11,8 +11,8 @@ use crate::status::Status;
 use bank_trait::{Bank, Gate, Sink, Source};
 use client_script::{Script, read_script};
 use core_state::{Answer, Item, Journal};
-use pool_live::{PoolRun, run_pool_beside};
-use schedule::{Ended, Ran, run_pool};
+use pool_live::run_pool_beside;
+use schedule::{Ended, PoolRun, Ran, run_pool};
 use std::alloc::Global;
 use std::sync::Wait;
 use std::thread::Threads;
@@ -106,10 +106,10 @@ fn carry_script<R: Threads + Wait + Sync, B: Bank + Send, G: Gate + Sync>(
     rt: &R,
     alloc: Global,
     order: Order,
-    mut bank: B,
+    bank: B,
     script: Script,
     gate: &G,
-    mut journal: Journal,
+    journal: Journal,
 ) -> PoolRun<B>
     requires empty { journal.items ≡ [] }
     requires room { 1 ≤ journal.room }
@@ -125,10 +125,7 @@ fn carry_script<R: Threads + Wait + Sync, B: Bank + Send, G: Gate + Sync>(
         Order::AsTheyCome { attaches } => {
             run_pool_beside(rt, alloc, bank, script, attaches, gate, journal)
         }
-        Order::AsListed => {
-            let ran = run_pool(alloc, &mut bank, &script, script.order(), &mut journal);
-            PoolRun { ran, bank, journal }
-        }
+        Order::AsListed => { run_pool(alloc, bank, &script, script.order(), journal) }
     }
 }
 

@@ -1,5 +1,6 @@
 pub mod Columns
 pub mod Rows
+pub mod Lending
 pub mod Lost
 pub mod SolvedRow
 pub mod Suspects

@@ -1,5 +1,5 @@
 -- The columns of a block's rows.
-use Rattle.std.specs.Prelude.{◌≡◌, ℕ, ◌+◌, ◌*◌, ◌/◌, ◌<◌, ◌≤◌, List, [], length, slice_index, slice_index_or}
+use Rattle.std.specs.Prelude.{◌≡◌, ◌≢◌, ◌⊎◌, ℕ, ◌+◌, ◌*◌, ◌/◌, ◌<◌, ◌≤◌, List, [], length, slice_index, slice_index_or, slice_set}
 use Rattle.row_layout.specs.declared.column.Part.TheVariants.{Content}
 use Rattle.row_layout.specs.Layout.{Layout, IsColumn, rows_of, columns_of, part_of}
 use Rattle.reconstruct.specs.Columns.{column_bytes}
@@ -18,6 +18,19 @@ column_at rows row column = slice_index_or rows.columns (row * rows.cols + colum
 abbrev pub AreWide : List (List ℕ) → Type 0
 AreWide columns = (place : ℕ) → place < length columns
     → length (slice_index_or columns place []) ≡ 512
+
+-- these rows with other bytes in one column
+abbrev pub with_column : Rows → ℕ → ℕ → List ℕ → Rows
+with_column rows row column bytes =
+    record { rows = rows.rows; cols = rows.cols; columns = slice_set rows.columns (row * rows.cols + column) bytes }
+
+-- One column holds these bytes then, and each other what it held.
+pub record IsWritten (row column : ℕ) (bytes : List ℕ) (old new : Rows) : Type 0 where
+  pub rows : new.rows ≡ old.rows
+  pub cols : new.cols ≡ old.cols
+  pub here : column_at new row column ≡ bytes
+  pub others : (other_row other : ℕ) → other_row < old.rows → other < old.cols → (other_row ≢ row) ⊎ (other ≢ column)
+      → column_at new other_row other ≡ column_at old other_row other
 
 -- The rows and columns are as many as the layout has.
 pub record IsShaped (layout : Layout) (rows : Rows) : Type 0 where

@@ -1,9 +1,9 @@
 // The columns of a block's rows, in one piece of memory.
 
-ghost use Rattle.std.specs.Prelude.{◌≡◌, ◌≢◌, ◌⊎◌, ℕ, ◌+◌, ◌*◌, ◌<◌, [], length, slice_index_or, IfOk};
+ghost use Rattle.std.specs.Prelude.{◌≡◌, ℕ, List, ◌+◌, ◌*◌, ◌<◌, [], length, slice_index_or, IfOk};
 ghost use Rattle.row_layout.specs.Layout.{rows_of, columns_of};
 ghost use Rattle.reconstruct.specs.Columns.{zero_sector};
-ghost use Rattle.reconstruct.specs.Rows.{column_at, AreWide, IsShaped};
+ghost use Rattle.reconstruct.specs.Rows.{column_at, with_column, AreWide, IsShaped, IsWritten};
 
 use crate::sectors::zero_columns;
 use row_layout::Layout;
@@ -30,6 +30,9 @@ impl Model for Rows {
 }
 
 impl Rows {
+    ghost use Rattle.std.specs.Borrow.{sem};
+    ghost use Rattle.reconstruct.specs.Lending.{LendsColumn};
+
     /// No rows.
     pub fn none(alloc: Global) -> Rows
         ensures { result ≡ record { rows = 0; cols = 0; columns = [] } }
@@ -83,18 +86,14 @@ impl Rows {
         one_of(&self.columns, row as usize * self.cols + column as usize)
     }
 
-    /// Puts bytes into a column of a row.
-    pub fn put(&mut self, row: u32, column: u32, bytes: &[u8; 512])
+    /// A column of a row, to be written in its place.
+    pub fn column_mut(&mut self, row: u32, column: u32) -> &mut [u8; 512]
         requires row { row < self.old.rows }
         requires column { column < self.old.cols }
-        ensures rows { self.new.rows ≡ self.old.rows }
-        ensures cols { self.new.cols ≡ self.old.cols }
-        ensures value { column_at self.new row column ≡ bytes.now }
-        ensures others { (other_row other : ℕ) → other_row < self.old.rows → other < self.old.cols
-            → (other_row ≢ row) ⊎ (other ≢ column)
-            → column_at self.new other_row other ≡ column_at self.old other_row other }
+        ensures* lends { sem 𝓛 (LendsColumn self.entry row column result) }
+        ensures written { (bytes : List ℕ) → IsWritten row column bytes self.old (with_column self.old row column bytes) }
     {
-        self.columns[row as usize * self.cols + column as usize] = *bytes;
+        &mut self.columns[row as usize * self.cols + column as usize]
     }
 }
 

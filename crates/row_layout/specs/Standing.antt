@@ -1,7 +1,7 @@
 -- What holds of every block's layout.
 use Rattle.std.specs.Prelude.{◌≡◌, ℕ, ◌^◌, ◌<◌, ◌≤◌}
 use Rattle.row_layout.specs.declared.column.Part.TheVariants.{Content}
-use Rattle.row_layout.specs.Layout.{Layout, IsLayout, IsColumn, rows_of, columns_of, part_of}
+use Rattle.row_layout.specs.Layout.{Layout, IsLayout, IsColumn, rows_of, columns_of, left_over, part_of, whole_rows}
 
 -- Layouts that can be made: the start of a block, its size and its width have limits.
 pub record IsWithinLimits (layout : Layout) : Type 0 where
@@ -10,6 +10,12 @@ pub record IsWithinLimits (layout : Layout) : Type 0 where
   pub sectors : layout.sectors ≤ 128
   pub parity : layout.parity ≤ 3
   pub width : layout.width ≤ 64
+
+-- Beside a layout within these limits stand its whole rows, and the content behind them.
+pub record KeepsRows (layout : Layout) (whole left : ℕ) : Type 0 where
+  pub within : IsWithinLimits layout
+  pub whole_is : whole ≡ whole_rows layout
+  pub left_is : left ≡ left_over layout
 
 -- Of all columns of all rows this one alone holds the content sector.
 pub record IsOnlyPlace (layout : Layout) (content row column : ℕ) : Type 0 where

@@ -2,34 +2,43 @@
 
 ghost use Rattle.std.specs.Prelude.{◌≡◌, ℕ, ◌+◌, ◌%◌, ◌^◌, ◌<◌, ◌≤◌, ◌≢◌, ◌↔◌};
 ghost use Rattle.row_layout.specs.declared.column.Part.TheVariants.{Content, Missing};
-ghost use Rattle.row_layout.specs.Layout.{IsColumn, content_columns, whole_rows, left_over, rows_of, columns_of, columns_in, total_of, allocated_of, sector_of, end_of, content_before, part_of, column_of};
+ghost use Rattle.row_layout.specs.Layout.{IsColumn, whole_rows, left_over, rows_of, columns_of, columns_in, total_of, allocated_of, sector_of, end_of, content_before, part_of, column_of};
 ghost use Rattle.row_layout.specs.Standing.{IsWithinLimits, IsOnlyPlace, StandsOnce};
 
 use crate::{Column, Holder, Part};
 use std::marker::Model;
 
 /// Where a block starts, how many sectors of content it has, and the parity and width that it was
-/// born with.
+/// born with. How its content fills rows is kept beside, so that no call divides for that.
 #[derive(Clone, Copy, Debug, PartialEq, Eq)]
 pub struct Layout {
     start: u64,
     sectors: u32,
     parity: u32,
     width: u32,
+    whole_rows: u32,
+    left_over: u32,
 }
 
 impl Model for Layout {
-    ghost use Rattle.row_layout.specs.Layout.{Layout};
-    ghost use Rattle.row_layout.specs.Standing.{IsWithinLimits};
+    ghost use Rattle.row_layout.specs.Layout.{Layout, left_over as left_over_of, whole_rows as whole_rows_of};
+    ghost use Rattle.row_layout.specs.Standing.{KeepsRows};
 
     ghost Value = { Layout };
 
     ghost view = { λ a. record { start = a.start; sectors = a.sectors; parity = a.parity; width = a.width } };
 
-    ghost invariant = { λ a. IsWithinLimits
-        (record { start = a.start; sectors = a.sectors; parity = a.parity; width = a.width }) };
+    ghost invariant = { λ a. KeepsRows
+        (record { start = a.start; sectors = a.sectors; parity = a.parity; width = a.width }) a.whole_rows a.left_over };
 
-    ghost inverse = { λ d. record { start = d.start; sectors = d.sectors; parity = d.parity; width = d.width } };
+    ghost inverse = { λ d. record {
+      start = d.start;
+      sectors = d.sectors;
+      parity = d.parity;
+      width = d.width;
+      whole_rows = whole_rows_of d;
+      left_over = left_over_of d;
+    } };
 }
 
 impl Layout {
@@ -54,6 +63,8 @@ impl Layout {
             sectors,
             parity,
             width,
+            whole_rows: sectors / (width - parity),
+            left_over: sectors % (width - parity),
         }
     }
 
@@ -89,25 +100,17 @@ impl Layout {
         self.width
     }
 
-    fn content_columns(&self) -> u32
-        ensures value { result ≡ content_columns self.now }
-        ensures some { 0 < result }
-        ensures within { IsWithinLimits self.now }
-    {
-        self.width - self.parity
-    }
-
     fn whole_rows(&self) -> u32
         ensures { result ≡ whole_rows self.now }
     {
-        self.sectors / self.content_columns()
+        self.whole_rows
     }
 
     fn left_over(&self) -> u32
         ensures value { result ≡ left_over self.now }
         ensures within { IsWithinLimits self.now }
     {
-        self.sectors % self.content_columns()
+        self.left_over
     }
 
     /// Rows, the last one perhaps short.

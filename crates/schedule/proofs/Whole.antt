@@ -1,6 +1,6 @@
 -- A run of turns from the opening of its pool to its end.
-use Rattle.std.proofs.Common.{◌≡◌, inl, inr, ⊎_elim, ℕ, ◌≤◌, List, [], ◌∷◌, ◌++◌, Bool, true, false, refl, sym, ◌∙◌, ap, arith, length, subst, ◌+◌, ◌<◌}
-use Rattle.std.specs.Prelude.{Contains, All}
+use Rattle.std.proofs.Common.{◌≡◌, inl, inr, ⊎_elim, ℕ, ◌≤◌, List, [], ◌∷◌, ◌++◌, Bool, true, false, refl, sym, ◌∙◌, ap, arith, length, subst, ◌+◌}
+use Rattle.std.specs.Prelude.{Contains}
 use Rattle.bank_trait.specs.Disk.{Image, Disk, Later}
 use Rattle.bank_trait.specs.Regions.{TouchesOnly}
 use Rattle.bank_trait.proofs.Touches.{touches_then}
@@ -29,7 +29,7 @@ use Rattle.core_open.proofs.Ends.{present_held}
 use Rattle.core_open.specs.Regions.{IsOnBelow}
 use Rattle.open_pool.specs.Opening.{AreLoaded, MayBegin, OpensPool, IsBegunWith}
 use Rattle.open_pool.specs.Pool.{Pool}
-use Rattle.client_script.specs.Script.{Placed, Script, asked_by, handed_by}
+use Rattle.client_script.specs.Script.{Script, asked_by, handed_by}
 use Rattle.join_commit.specs.declared.join_run.WhyDropped.{WhyDropped}
 use Rattle.join_commit.specs.declared.join_run.WhyDropped.TheVariants as why
 use Rattle.journal_law.specs.Moments.{KeepsLast}

@@ -1,5 +1,6 @@
 -- What of a call's next turn can be computed while others have their turns.
 use Rattle.std.specs.Prelude.{◌≡◌, ◌==◌, ℕ, ◌-◌, List, Option, None, Some, if◌then◌else◌, slice_get, ⊤}
+use Rattle.std.specs.Global.{Box}
 use Rattle.client_script.specs.declared.call.ScriptCall.{ScriptCall}
 use Rattle.client_script.specs.Lines.{fill_bytes}
 use Rattle.row_layout.specs.Layout.{rows_of}
@@ -38,14 +39,14 @@ IsSolvedOf from = IsSolvable from.block × IsSolved from.block from.solved
 abbrev pub IsReadyFor : List ScriptCall → Ready → Type 0
 IsReadyFor calls ready.Nothing = ⊤
 IsReadyFor calls (ready.Filled number made) = (call : ScriptCall) → slice_get calls number ≡ Some call
-    → IsMadeUpOf (fill_bytes call.fill) made
-IsReadyFor calls (ready.Solved from) = IsSolvedOf from
+    → IsMadeUpOf (fill_bytes call.fill) made.value
+IsReadyFor calls (ready.Solved from) = IsSolvedOf from.value
 
 -- of this call.
 abbrev pub IsReadyWith : ScriptCall → Ready → Type 0
 IsReadyWith call ready.Nothing = ⊤
-IsReadyWith call (ready.Filled number made) = IsMadeUpOf (fill_bytes call.fill) made
-IsReadyWith call (ready.Solved from) = IsSolvedOf from
+IsReadyWith call (ready.Filled number made) = IsMadeUpOf (fill_bytes call.fill) made.value
+IsReadyWith call (ready.Solved from) = IsSolvedOf from.value
 
 -- The call that a client has under way is one of a core, and one of these.
 abbrev pub MayGoOnAs : List ScriptCall → Client → Type 0
@@ -58,7 +59,7 @@ filling number (Some block) = ahead.Fill number block
 filling number None = ahead.Nothing
 
 -- What a call under way asks for, the call of this number among its client's. A read asks once it has all columns, where
--- there is memory to copy them.
+-- there is memory to share them.
 abbrev pub IsAskedOf : ℕ → Work → Ahead → Type 0
 IsAskedOf number (work.Put run) asked = asked ≡ filling number (left_to_fill run run.filled)
 IsAskedOf number (work.Read run) ahead.Nothing = ⊤
@@ -76,8 +77,8 @@ IsAskedBy calls client asked = ((under : UnderWay) (call : ScriptCall) → clien
 -- What was asked for was computed, unless memory was wanting for that.
 abbrev pub IsComputed : Ahead → Ready → Type 0
 IsComputed asked ready.Nothing = ⊤
-IsComputed (ahead.Fill number block) (ready.Filled other made) = (other ≡ number) × (made.block ≡ block)
-IsComputed (ahead.Solve block) (ready.Solved from) = from.block ≡ block
+IsComputed (ahead.Fill number block) (ready.Filled other made) = (other ≡ number) × (made.value.block ≡ block)
+IsComputed (ahead.Solve block) (ready.Solved from) = from.value.block ≡ block
 IsComputed asked computed = ⊥
 
 -- what was computed, unless it was for another call than the one of this number
@@ -86,11 +87,11 @@ for_call number (ready.Filled other made) = if other == number then ready.Filled
 for_call number computed = computed
 
 -- the block of a put in it
-abbrev pub block_in : Ready → Option MadeUp
+abbrev pub block_in : Ready → Option (Box MadeUp)
 block_in (ready.Filled number made) = Some made
 block_in other = None
 
 -- the block of a read in it
-abbrev pub solved_in : Ready → Option SolvedFrom
+abbrev pub solved_in : Ready → Option (Box SolvedFrom)
 solved_in (ready.Solved from) = Some from
 solved_in other = None

@@ -14,6 +14,7 @@ pub mod Turned
 pub mod Comes
 pub mod Ahead
 pub mod InTurn
+pub mod Live
 pub mod OfLines
 pub mod Replaying
 pub mod Playing

@@ -3,7 +3,8 @@ ghost use Rattle.std.specs.Prelude.{◌≡◌, List, IfSome, Some, slice_get};
 ghost use Rattle.client_script.specs.declared.call.ScriptCall.{ScriptCall as CallOf};
 ghost use Rattle.client_script.specs.Lines.{fill_bytes};
 ghost use Rattle.core_turns.specs.Putting.{IsFillable};
-ghost use Rattle.schedule.specs.declared.ahead.Ahead.TheVariants.{Fill};
+ghost use Rattle.core_turns.specs.Getting.{IsSolvable};
+ghost use Rattle.schedule.specs.declared.ahead.Ahead.TheVariants.{Fill, Solve};
 ghost use Rattle.schedule.specs.Ahead.{IsAheadFor, IsComputed, IsMadeUpOf, IsReadyFor, IsReadyWith, IsSolvedOf, block_in, for_call, solved_in};
 
 use client_script::ScriptCall;
@@ -23,8 +24,8 @@ pub enum Ahead {
 #[derive(Drop)]
 pub enum Ready {
     Nothing,
-    Filled { call: usize, made: MadeUp },
-    Solved(SolvedFrom),
+    Filled { call: usize, made: Box<MadeUp> },
+    Solved(Box<SolvedFrom>),
 }
 
 impl Ahead {
@@ -37,10 +38,7 @@ impl Ahead {
         match self {
             Ahead::Nothing => Ready::Nothing,
             Ahead::Fill { call, block } => make_up(alloc, calls, call, block),
-            Ahead::Solve(block) => match block.solve(alloc) {
-                Ok(solved) => Ready::Solved(solved),
-                Err(_) => Ready::Nothing,
-            },
+            Ahead::Solve(block) => solve(alloc, block),
         }
     }
 }
@@ -58,8 +56,26 @@ fn make_up(alloc: Global, calls: &[ScriptCall], number: usize, block: ToFill) ->
     let Ok(bytes) = call.fill.to_bytes(alloc) else {
         return Ready::Nothing;
     };
-    match block.make_up(alloc, bytes.as_slice()) {
+    let Ok(made) = block.make_up(alloc, bytes.as_slice()) else {
+        return Ready::Nothing;
+    };
+    match Box::new(alloc, made) {
         Ok(made) => Ready::Filled { call: number, made },
+        Err(_) => Ready::Nothing,
+    }
+}
+
+/// Solves the block of a read.
+fn solve(alloc: Global, block: ToSolve) -> Ready
+    requires solvable { IsSolvable block }
+    ensures ready { (calls : List CallOf) → IsReadyFor calls result }
+    ensures computed { IsComputed (Solve block) result }
+{
+    let Ok(solved) = block.solve(alloc) else {
+        return Ready::Nothing;
+    };
+    match Box::new(alloc, solved) {
+        Ok(solved) => Ready::Solved(solved),
         Err(_) => Ready::Nothing,
     }
 }
@@ -78,9 +94,9 @@ impl Ready {
     }
 
     /// The block of a put that was made up.
-    pub fn into_block(self) -> Option<MadeUp>
+    pub fn into_block(self) -> Option<Box<MadeUp>>
         ensures value { result ≡ block_in self }
-        ensures made { (call : CallOf) → IsReadyWith call self → IfSome result (IsMadeUpOf (fill_bytes call.fill)) }
+        ensures made { (call : CallOf) → IsReadyWith call self → IfSome result (λ made. IsMadeUpOf (fill_bytes call.fill) made.value) }
     {
         match self {
             Ready::Filled { call: _, made } => Some(made),
@@ -89,9 +105,9 @@ impl Ready {
     }
 
     /// The block of a read that was solved.
-    pub fn into_solved(self) -> Option<SolvedFrom>
+    pub fn into_solved(self) -> Option<Box<SolvedFrom>>
         ensures value { result ≡ solved_in self }
-        ensures solved { (call : CallOf) → IsReadyWith call self → IfSome result IsSolvedOf }
+        ensures solved { (call : CallOf) → IsReadyWith call self → IfSome result (λ from. IsSolvedOf from.value) }
     {
         match self {
             Ready::Solved(from) => Some(from),

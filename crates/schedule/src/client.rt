@@ -69,10 +69,11 @@ impl Work {
     }
 
     /// What its next turn asks to be computed, of the call of this number, from 0. What a read got is shared for that.
-    fn ahead(&self, call: &ScriptCall, number: usize) -> Ahead
-        requires may { (core : CoreOf) × MayGoOn core call.now self.now }
+    fn ahead(&mut self, alloc: Global, call: &ScriptCall, number: usize) -> Ahead
+        requires may { (core : CoreOf) × MayGoOn core call.now self.old }
+        ensures same { self.new ≡ self.old }
         ensures can { (calls : List CallOf) → slice_get calls number ≡ Some call.now → IsAheadFor calls result }
-        ensures asked { IsAskedOf number self.now result }
+        ensures asked { IsAskedOf number self.old result }
     {
         match self {
             Work::Put(run) => match run.to_fill() {
@@ -82,7 +83,7 @@ impl Work {
                 },
                 None => Ahead::Nothing,
             },
-            Work::Read(run) => match run.to_solve() {
+            Work::Read(run) => match run.to_solve(alloc) {
                 Some(block) => Ahead::Solve(block),
                 None => Ahead::Nothing,
             },
@@ -97,6 +98,21 @@ impl Work {
 pub struct UnderWay {
     pub at: usize,
     pub work: Work,
+}
+
+impl UnderWay {
+    /// What its next turn asks to be computed, where it is the call of this number, from 0, among these.
+    fn ahead(&mut self, alloc: Global, calls: &[ScriptCall], number: usize) -> Ahead
+        requires may { (core : CoreOf) × ((call : CallOf) → slice_get calls.now number ≡ Some call → MayGoOn core call self.old.work) }
+        ensures same { self.new ≡ self.old }
+        ensures can { IsAheadFor calls.now result }
+        ensures asked { (call : CallOf) → slice_get calls.now number ≡ Some call → IsAskedOf number self.old.work result }
+    {
+        match calls.get(number) {
+            Some(call) => self.work.ahead(alloc, call, number),
+            None => Ahead::Nothing,
+        }
+    }
 }
 
 /// How many of a client's calls were begun, and the last of these while it is under way.
@@ -119,18 +135,15 @@ impl Client {
 
     /// What the next turn of its call under way asks to be computed, if it has one, of a client with these calls.
     /// What a read got is shared for that.
-    pub fn ahead(&self, calls: &[ScriptCall]) -> Ahead
-        requires begun { (under : UnderWayOf) → self.now.under_way ≡ Some under → 1 ≤ self.now.begun }
-        requires may { MayGoOnAs calls.now self.now }
+    pub fn ahead(&mut self, alloc: Global, calls: &[ScriptCall]) -> Ahead
+        requires begun { (under : UnderWayOf) → self.old.under_way ≡ Some under → 1 ≤ self.old.begun }
+        requires may { MayGoOnAs calls.now self.old }
+        ensures same { self.new ≡ self.old }
         ensures can { IsAheadFor calls.now result }
-        ensures asked { IsAskedBy calls.now self.now result }
+        ensures asked { IsAskedBy calls.now self.old result }
     {
-        let Some(under_way) = &self.under_way else {
-            return Ahead::Nothing;
-        };
-        let number = self.begun - 1;
-        match calls.get(number) {
-            Some(call) => under_way.work.ahead(call, number),
+        match &mut self.under_way {
+            Some(under_way) => under_way.ahead(alloc, calls, self.begun - 1),
             None => Ahead::Nothing,
         }
     }

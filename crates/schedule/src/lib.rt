@@ -10,6 +10,7 @@
 
 mod ahead;
 mod client;
+mod live;
 mod progress;
 mod replay;
 mod station;
@@ -18,7 +19,8 @@ mod whole_run;
 
 pub use ahead::{Ahead, Ready};
 pub use client::{Client, UnderWay, Work};
+pub use live::{Carried, Live};
 pub use progress::{Progress, UsedUp};
-pub use replay::{CarriedOut, begin, carry_out, take_listed, take_turns, turn_of};
+pub use replay::{begin, carry_out, take_listed, take_turns, turn_of};
 pub use station::take_turn;
-pub use whole_run::{Ended, Ran, run_pool};
+pub use whole_run::{Ended, PoolRun, Ran, run_pool};

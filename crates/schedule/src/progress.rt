@@ -69,17 +69,19 @@ impl Progress {
         }
     }
 
-    /// What the next turn of the call that a client has under way asks to be computed. What a read got is copied for
+    /// What the next turn of the call that a client has under way asks to be computed. What a read got is shared for
     /// that.
-    pub fn ahead(&self, script: &Script, actor: u8) -> Ahead
+    pub fn ahead(&mut self, alloc: Global, script: &Script, actor: u8) -> Ahead
         requires ready { (state : CoreState) × (items : List ItemOf) × (room : ℕ)
-            × IsReady script.now (turns_of state items self.now.clients.items) room }
+            × IsReady script.now (turns_of state items self.old.clients.items) room }
+        ensures same { self.new.clients.items ≡ self.old.clients.items }
+        ensures turns { self.new.turns ≡ self.old.turns }
         ensures can { IsAheadFor (calls_of script.now actor) result }
-        ensures asked { (client : ClientOf) → slice_get self.now.clients.items actor ≡ Some client
+        ensures asked { (client : ClientOf) → slice_get self.old.clients.items actor ≡ Some client
             → IsAskedBy (calls_of script.now actor) client result }
     {
-        match self.clients.get(usize::from(actor)) {
-            Some(client) => client.ahead(script.calls(actor)),
+        match self.clients.get_mut(usize::from(actor)) {
+            Some(client) => client.ahead(alloc, script.calls(actor)),
             None => Ahead::Nothing,
         }
     }

@@ -9,11 +9,13 @@ ghost use Rattle.schedule.specs.declared.client.Client.{Client as ClientOf};
 ghost use Rattle.schedule.specs.declared.whole_run.Ended.TheVariants.{Whole};
 ghost use Rattle.schedule.specs.Turns.{most_turns, turns_of};
 ghost use Rattle.schedule.specs.Ahead.{IsReadyFor};
-ghost use Rattle.schedule.specs.InTurn.{Cursor, InOrder, InRest, InRound, IsCallOfScript, has_left_at, replay_by, turns_by};
+ghost use Rattle.schedule.specs.InTurn.{Cursor, InOrder, InRest, InRound, IsCallOfScript, has_left_at};
+ghost use Rattle.schedule.specs.Live.{replay_in, turns_in};
 ghost use Rattle.schedule.specs.Playing.{CarriesOut, HasPlayed, HaveHadTurns, HasRunOutOfTurns, IsReady};
 ghost use Rattle.schedule.specs.Replaying.{AreIdle, BeginsOne, HasComeRound, HasTurn, HaveBegun, IsAtRest, blank_clients};
 
 use crate::ahead::Ready;
+use crate::live::{Carried, Live};
 use crate::progress::{Progress, UsedUp};
 use crate::station::take_turn;
 use crate::whole_run::Ended;
@@ -23,44 +25,34 @@ use core_state::Journal;
 use core_turns::Core;
 use std::alloc::{AllocError, Global};
 
-/// How the calls of a script were carried out, and in how many turns.
-#[derive(Clone, Copy, Debug, PartialEq, Eq)]
-pub struct CarriedOut {
-    pub ended: Ended,
-    pub turns: u64,
-}
-
 /// One turn of a client of the script, if there is one of this number, with what was computed for it. It is not
 /// counted.
 pub fn turn_of<B: Bank>(
     alloc: Global,
-    bank: &mut B,
-    core: &mut Core,
+    live: &mut Live<B>,
     script: &Script,
-    journal: &mut Journal,
-    progress: &mut Progress,
     actor: u8,
     computed: Ready,
 )
     requires allowed { All (λ placed. IsAllowed placed.call) script.now.calls }
     requires computed { IsReadyFor (calls_of script.now actor) computed }
     requires ready { IsReady script.now
-        (turns_by core.old (B.disk bank.old) journal.old progress.old) journal.old.room }
+        (turns_in B.disk live.old) live.old.journal.room }
     ensures turn { HasTurn script.now actor
-        (turns_by core.old (B.disk bank.old) journal.old progress.old)
-        (turns_by core.new (B.disk bank.new) journal.new progress.new) }
+        (turns_in B.disk live.old)
+        (turns_in B.disk live.new) }
     ensures ready { IsReady script.now
-        (turns_by core.new (B.disk bank.new) journal.new progress.new) journal.new.room }
-    ensures turns { progress.new.turns ≡ progress.old.turns }
+        (turns_in B.disk live.new) live.new.journal.room }
+    ensures turns { live.new.progress.turns ≡ live.old.progress.turns }
 {
     let place = usize::from(actor);
-    if place < progress.clients.len() {
-        let client = &mut progress.clients[place];
+    if place < live.progress.clients.len() {
+        let client = &mut live.progress.clients[place];
         take_turn(
             alloc,
-            bank,
-            core,
-            journal,
+            &mut live.bank,
+            &mut live.core,
+            &mut live.journal,
             script.calls(actor),
             actor,
             client,
@@ -72,66 +64,51 @@ pub fn turn_of<B: Bank>(
 /// One turn of a client of the script, counted, if it can be.
 fn count_turn_of<B: Bank>(
     alloc: Global,
-    bank: &mut B,
-    core: &mut Core,
+    live: &mut Live<B>,
     script: &Script,
-    journal: &mut Journal,
-    progress: &mut Progress,
     actor: u8,
 ) -> Result<(), UsedUp>
     requires allowed { All (λ placed. IsAllowed placed.call) script.now.calls }
     requires ready { IsReady script.now
-        (turns_by core.old (B.disk bank.old) journal.old progress.old) journal.old.room }
+        (turns_in B.disk live.old) live.old.journal.room }
     ensures turn { OnOk result (HasTurn script.now actor
-        (turns_by core.old (B.disk bank.old) journal.old progress.old)
-        (turns_by core.new (B.disk bank.new) journal.new progress.new)) }
+        (turns_in B.disk live.old)
+        (turns_in B.disk live.new)) }
     ensures ready { OnOk result (IsReady script.now
-        (turns_by core.new (B.disk bank.new) journal.new progress.new) journal.new.room) }
-    ensures turns { OnOk result (progress.new.turns ≡ progress.old.turns + 1) }
-    ensures below { OnOk result (progress.old.turns < most_turns) }
+        (turns_in B.disk live.new) live.new.journal.room) }
+    ensures turns { OnOk result (live.new.progress.turns ≡ live.old.progress.turns + 1) }
+    ensures below { OnOk result (live.old.progress.turns < most_turns) }
     ensures stopped { OnErr result ((cursor : Cursor) → HasRunOutOfTurns script.now
-        (replay_by core.old (B.disk bank.old) journal.old progress.old cursor)
-        (turns_by core.new (B.disk bank.new) journal.new progress.new) progress.new.turns journal.new.room) }
+        (replay_in B.disk live.old cursor)
+        (turns_in B.disk live.new) live.new.progress.turns live.new.journal.room) }
 {
-    progress.count()?;
-    turn_of(
-        alloc,
-        bank,
-        core,
-        script,
-        journal,
-        progress,
-        actor,
-        Ready::Nothing,
-    );
+    live.progress.count()?;
+    turn_of(alloc, live, script, actor, Ready::Nothing);
     Ok(())
 }
 
 /// A turn for each client of a list, in its order, whoever they are: a number that no client has is passed over.
 pub fn take_listed<B: Bank>(
     alloc: Global,
-    bank: &mut B,
-    core: &mut Core,
+    live: &mut Live<B>,
     script: &Script,
     listed: &[u8],
-    journal: &mut Journal,
-    progress: &mut Progress,
 ) -> Result<(), UsedUp>
     requires allowed { All (λ placed. IsAllowed placed.call) script.now.calls }
     requires ready { IsReady script.now
-        (turns_by core.old (B.disk bank.old) journal.old progress.old) journal.old.room }
+        (turns_in B.disk live.old) live.old.journal.room }
     ensures turns { OnOk result (HaveHadTurns script.now
-        (turns_by core.old (B.disk bank.old) journal.old progress.old) listed.now
-        (turns_by core.new (B.disk bank.new) journal.new progress.new) journal.new.room) }
+        (turns_in B.disk live.old) listed.now
+        (turns_in B.disk live.new) live.new.journal.room) }
     ensures played { OnOk result (HasPlayed script.now
-        (replay_by core.old (B.disk bank.old) journal.old progress.old (InOrder listed.now))
-        (replay_by core.new (B.disk bank.new) journal.new progress.new (InOrder [])) journal.new.room) }
+        (replay_in B.disk live.old (InOrder listed.now))
+        (replay_in B.disk live.new (InOrder [])) live.new.journal.room) }
     ensures stopped { OnErr result (HasRunOutOfTurns script.now
-        (replay_by core.old (B.disk bank.old) journal.old progress.old (InOrder listed.now))
-        (turns_by core.new (B.disk bank.new) journal.new progress.new) progress.new.turns journal.new.room) }
+        (replay_in B.disk live.old (InOrder listed.now))
+        (turns_in B.disk live.new) live.new.progress.turns live.new.journal.room) }
 {
     for actor in listed {
-        count_turn_of(alloc, bank, core, script, journal, progress, *actor)?;
+        count_turn_of(alloc, live, script, *actor)?;
     }
     Ok(())
 }
@@ -139,83 +116,66 @@ pub fn take_listed<B: Bank>(
 /// One turn for a client in a round, where it has a call under way.
 fn take_if_busy<B: Bank>(
     alloc: Global,
-    bank: &mut B,
-    core: &mut Core,
+    live: &mut Live<B>,
     script: &Script,
-    journal: &mut Journal,
-    progress: &mut Progress,
     actor: u8,
 ) -> Result<(), UsedUp>
     requires allowed { All (λ placed. IsAllowed placed.call) script.now.calls }
     requires ready { IsReady script.now
-        (turns_by core.old (B.disk bank.old) journal.old progress.old) journal.old.room }
+        (turns_in B.disk live.old) live.old.journal.room }
     requires client { actor < script.now.clients }
     ensures played { OnOk result (HasPlayed script.now
-        (replay_by core.old (B.disk bank.old) journal.old progress.old (InRound actor))
-        (replay_by core.new (B.disk bank.new) journal.new progress.new (InRound (actor + 1))) journal.new.room) }
+        (replay_in B.disk live.old (InRound actor))
+        (replay_in B.disk live.new (InRound (actor + 1))) live.new.journal.room) }
     ensures stopped { OnErr result (HasRunOutOfTurns script.now
-        (replay_by core.old (B.disk bank.old) journal.old progress.old (InRound actor))
-        (turns_by core.new (B.disk bank.new) journal.new progress.new) progress.new.turns journal.new.room) }
+        (replay_in B.disk live.old (InRound actor))
+        (turns_in B.disk live.new) live.new.progress.turns live.new.journal.room) }
     ensures round { OnOk result ((old : List ClientOf) (taken : ℕ)
-        → HasComeRound actor old taken progress.old.clients.items progress.old.turns
-        → HasComeRound (actor + 1) old taken progress.new.clients.items progress.new.turns) }
+        → HasComeRound actor old taken live.old.progress.clients.items live.old.progress.turns
+        → HasComeRound (actor + 1) old taken live.new.progress.clients.items live.new.progress.turns) }
 {
-    if !progress.is_busy(actor) {
+    if !live.progress.is_busy(actor) {
         return Ok(());
     }
-    count_turn_of(alloc, bank, core, script, journal, progress, actor)?;
+    count_turn_of(alloc, live, script, actor)?;
     Ok(())
 }
 
 /// One turn for each client that has a call under way.
-fn take_round<B: Bank>(
-    alloc: Global,
-    bank: &mut B,
-    core: &mut Core,
-    script: &Script,
-    journal: &mut Journal,
-    progress: &mut Progress,
-) -> Result<(), UsedUp>
+fn take_round<B: Bank>(alloc: Global, live: &mut Live<B>, script: &Script) -> Result<(), UsedUp>
     requires allowed { All (λ placed. IsAllowed placed.call) script.now.calls }
     requires ready { IsReady script.now
-        (turns_by core.old (B.disk bank.old) journal.old progress.old) journal.old.room }
+        (turns_in B.disk live.old) live.old.journal.room }
     ensures played { OnOk result (HasPlayed script.now
-        (replay_by core.old (B.disk bank.old) journal.old progress.old (InRound 0))
-        (replay_by core.new (B.disk bank.new) journal.new progress.new (InRound script.now.clients)) journal.new.room) }
+        (replay_in B.disk live.old (InRound 0))
+        (replay_in B.disk live.new (InRound script.now.clients)) live.new.journal.room) }
     ensures stopped { OnErr result (HasRunOutOfTurns script.now
-        (replay_by core.old (B.disk bank.old) journal.old progress.old (InRound 0))
-        (turns_by core.new (B.disk bank.new) journal.new progress.new) progress.new.turns journal.new.room) }
-    ensures round { OnOk result (HasComeRound script.now.clients progress.old.clients.items progress.old.turns
-        progress.new.clients.items progress.new.turns) }
+        (replay_in B.disk live.old (InRound 0))
+        (turns_in B.disk live.new) live.new.progress.turns live.new.journal.room) }
+    ensures round { OnOk result (HasComeRound script.now.clients live.old.progress.clients.items live.old.progress.turns
+        live.new.progress.clients.items live.new.progress.turns) }
 {
     for actor in 0..script.clients() {
-        take_if_busy(alloc, bank, core, script, journal, progress, actor)?;
+        take_if_busy(alloc, live, script, actor)?;
     }
     Ok(())
 }
 
 /// Rounds, once the order is over, until no call is under way.
-fn take_rounds<B: Bank>(
-    alloc: Global,
-    bank: &mut B,
-    core: &mut Core,
-    script: &Script,
-    journal: &mut Journal,
-    progress: &mut Progress,
-) -> Result<(), UsedUp>
+fn take_rounds<B: Bank>(alloc: Global, live: &mut Live<B>, script: &Script) -> Result<(), UsedUp>
     requires allowed { All (λ placed. IsAllowed placed.call) script.now.calls }
     requires ready { IsReady script.now
-        (turns_by core.old (B.disk bank.old) journal.old progress.old) journal.old.room }
+        (turns_in B.disk live.old) live.old.journal.room }
     ensures played { OnOk result (HasPlayed script.now
-        (replay_by core.old (B.disk bank.old) journal.old progress.old (InOrder []))
-        (replay_by core.new (B.disk bank.new) journal.new progress.new (InRest 0)) journal.new.room) }
+        (replay_in B.disk live.old (InOrder []))
+        (replay_in B.disk live.new (InRest 0)) live.new.journal.room) }
     ensures stopped { OnErr result (HasRunOutOfTurns script.now
-        (replay_by core.old (B.disk bank.old) journal.old progress.old (InOrder []))
-        (turns_by core.new (B.disk bank.new) journal.new progress.new) progress.new.turns journal.new.room) }
-    ensures idle { OnOk result (AreIdle progress.new.clients.items) }
+        (replay_in B.disk live.old (InOrder []))
+        (turns_in B.disk live.new) live.new.progress.turns live.new.journal.room) }
+    ensures idle { OnOk result (AreIdle live.new.progress.clients.items) }
 {
-    'rounds: while progress.is_any_busy() {
-        take_round(alloc, bank, core, script, journal, progress)?;
+    'rounds: while live.progress.is_any_busy() {
+        take_round(alloc, live, script)?;
     }
     Ok(())
 }
@@ -223,72 +183,53 @@ fn take_rounds<B: Bank>(
 /// A call of a client that hasn't begun it, from its first turn to its answer.
 fn take_call<B: Bank>(
     alloc: Global,
-    bank: &mut B,
-    core: &mut Core,
+    live: &mut Live<B>,
     script: &Script,
-    journal: &mut Journal,
-    progress: &mut Progress,
     actor: u8,
     number: u64,
 ) -> Result<(), UsedUp>
     requires allowed { All (λ placed. IsAllowed placed.call) script.now.calls }
     requires ready { IsReady script.now
-        (turns_by core.old (B.disk bank.old) journal.old progress.old) journal.old.room }
-    requires idle { AreIdle progress.old.clients.items }
-    requires left { has_left_at progress.old.clients.items actor number ≡ true }
+        (turns_in B.disk live.old) live.old.journal.room }
+    requires idle { AreIdle live.old.progress.clients.items }
+    requires left { has_left_at live.old.progress.clients.items actor number ≡ true }
     requires of_client { number ≤ length (calls_of script.now actor) }
     ensures played { OnOk result ((given : ℕ) → IsCallOfScript script.now given actor number → HasPlayed script.now
-        (replay_by core.old (B.disk bank.old) journal.old progress.old (InRest given))
-        (replay_by core.new (B.disk bank.new) journal.new progress.new (InRest given)) journal.new.room) }
+        (replay_in B.disk live.old (InRest given))
+        (replay_in B.disk live.new (InRest given)) live.new.journal.room) }
     ensures stopped { OnErr result ((given : ℕ) → IsCallOfScript script.now given actor number → HasRunOutOfTurns script.now
-        (replay_by core.old (B.disk bank.old) journal.old progress.old (InRest given))
-        (turns_by core.new (B.disk bank.new) journal.new progress.new) progress.new.turns journal.new.room) }
-    ensures begins { OnOk result (BeginsOne actor progress.old.clients.items progress.new.clients.items) }
-    ensures idle { OnOk result (AreIdle progress.new.clients.items) }
+        (replay_in B.disk live.old (InRest given))
+        (turns_in B.disk live.new) live.new.progress.turns live.new.journal.room) }
+    ensures begins { OnOk result (BeginsOne actor live.old.progress.clients.items live.new.progress.clients.items) }
+    ensures idle { OnOk result (AreIdle live.new.progress.clients.items) }
 {
-    count_turn_of(alloc, bank, core, script, journal, progress, actor)?;
-    'turns: while progress.is_busy(actor) {
-        count_turn_of(alloc, bank, core, script, journal, progress, actor)?;
+    count_turn_of(alloc, live, script, actor)?;
+    'turns: while live.progress.is_busy(actor) {
+        count_turn_of(alloc, live, script, actor)?;
     }
     Ok(())
 }
 
 /// The calls that are left, each whole, in the order of their lines.
-fn take_rest<B: Bank>(
-    alloc: Global,
-    bank: &mut B,
-    core: &mut Core,
-    script: &Script,
-    journal: &mut Journal,
-    progress: &mut Progress,
-) -> Result<(), UsedUp>
+fn take_rest<B: Bank>(alloc: Global, live: &mut Live<B>, script: &Script) -> Result<(), UsedUp>
     requires allowed { All (λ placed. IsAllowed placed.call) script.now.calls }
     requires ready { IsReady script.now
-        (turns_by core.old (B.disk bank.old) journal.old progress.old) journal.old.room }
-    requires idle { AreIdle progress.old.clients.items }
+        (turns_in B.disk live.old) live.old.journal.room }
+    requires idle { AreIdle live.old.progress.clients.items }
     ensures played { OnOk result (HasPlayed script.now
-        (replay_by core.old (B.disk bank.old) journal.old progress.old (InRest 0))
-        (replay_by core.new (B.disk bank.new) journal.new progress.new (InRest (length script.now.calls)))
-        journal.new.room) }
+        (replay_in B.disk live.old (InRest 0))
+        (replay_in B.disk live.new (InRest (length script.now.calls)))
+        live.new.journal.room) }
     ensures stopped { OnErr result (HasRunOutOfTurns script.now
-        (replay_by core.old (B.disk bank.old) journal.old progress.old (InRest 0))
-        (turns_by core.new (B.disk bank.new) journal.new progress.new) progress.new.turns journal.new.room) }
-    ensures begun { OnOk result (HaveBegun script.now (length script.now.calls) progress.new.clients.items) }
-    ensures idle { OnOk result (AreIdle progress.new.clients.items) }
+        (replay_in B.disk live.old (InRest 0))
+        (turns_in B.disk live.new) live.new.progress.turns live.new.journal.room) }
+    ensures begun { OnOk result (HaveBegun script.now (length script.now.calls) live.new.progress.clients.items) }
+    ensures idle { OnOk result (AreIdle live.new.progress.clients.items) }
 {
     let mut calls = script.calls_in_order();
     while let Some(next) = calls.next_call() {
-        if progress.has_left(next.actor, next.number) {
-            take_call(
-                alloc,
-                bank,
-                core,
-                script,
-                journal,
-                progress,
-                next.actor,
-                next.number,
-            )?;
+        if live.progress.has_left(next.actor, next.number) {
+            take_call(alloc, live, script, next.actor, next.number)?;
         }
     }
     Ok(())
@@ -297,29 +238,26 @@ fn take_rest<B: Bank>(
 /// The turns that are listed, then rounds until no call is under way, then the calls that are left, each whole.
 pub fn take_turns<B: Bank>(
     alloc: Global,
-    bank: &mut B,
-    core: &mut Core,
+    live: &mut Live<B>,
     script: &Script,
     listed: &[u8],
-    journal: &mut Journal,
-    progress: &mut Progress,
 ) -> Result<(), UsedUp>
     requires allowed { All (λ placed. IsAllowed placed.call) script.now.calls }
     requires ready { IsReady script.now
-        (turns_by core.old (B.disk bank.old) journal.old progress.old) journal.old.room }
+        (turns_in B.disk live.old) live.old.journal.room }
     ensures played { OnOk result (HasPlayed script.now
-        (replay_by core.old (B.disk bank.old) journal.old progress.old (InOrder listed.now))
-        (replay_by core.new (B.disk bank.new) journal.new progress.new (InRest (length script.now.calls)))
-        journal.new.room) }
+        (replay_in B.disk live.old (InOrder listed.now))
+        (replay_in B.disk live.new (InRest (length script.now.calls)))
+        live.new.journal.room) }
     ensures stopped { OnErr result (HasRunOutOfTurns script.now
-        (replay_by core.old (B.disk bank.old) journal.old progress.old (InOrder listed.now))
-        (turns_by core.new (B.disk bank.new) journal.new progress.new) progress.new.turns journal.new.room) }
-    ensures begun { OnOk result (HaveBegun script.now (length script.now.calls) progress.new.clients.items) }
-    ensures idle { OnOk result (AreIdle progress.new.clients.items) }
+        (replay_in B.disk live.old (InOrder listed.now))
+        (turns_in B.disk live.new) live.new.progress.turns live.new.journal.room) }
+    ensures begun { OnOk result (HaveBegun script.now (length script.now.calls) live.new.progress.clients.items) }
+    ensures idle { OnOk result (AreIdle live.new.progress.clients.items) }
 {
-    take_listed(alloc, bank, core, script, listed, journal, progress)?;
-    take_rounds(alloc, bank, core, script, journal, progress)?;
-    take_rest(alloc, bank, core, script, journal, progress)
+    take_listed(alloc, live, script, listed)?;
+    take_rounds(alloc, live, script)?;
+    take_rest(alloc, live, script)
 }
 
 /// Clients that have begun no call, with room in the journal for the answers of all their calls, and for a group
@@ -344,37 +282,41 @@ pub fn begin(alloc: Global, script: &Script, journal: &mut Journal) -> Result<Pr
 /// under way stay as they are.
 pub fn carry_out<B: Bank>(
     alloc: Global,
-    bank: &mut B,
-    core: &mut Core,
+    bank: B,
+    core: Core,
     script: &Script,
     listed: &[u8],
-    journal: &mut Journal,
-) -> CarriedOut
-    requires bank { HasBankOf core.old (B.disk bank.old) }
-    requires rest { IsAtRest core.old }
+    mut journal: Journal,
+) -> Carried<B>
+    requires bank { HasBankOf core (B.disk bank) }
+    requires rest { IsAtRest core }
     requires allowed { All (λ placed. IsAllowed placed.call) script.now.calls }
     requires actors { All (λ placed. placed.actor < script.now.clients) script.now.calls }
-    requires none { (index : ℕ) (entry : EntryOf) → CallAt journal.old.items index entry → ⊥ }
-    ensures taken { CarriesOut script.now listed.now (turns_of (at_disk core.old (B.disk bank.old)) journal.old.items
-        (blank_clients script.now.clients)) result.ended result.turns (at_disk core.new (B.disk bank.new))
-        journal.new.items }
-    ensures calls { CallsAreRight (asked_by script.now) journal.new.items }
-    ensures complete { result.ended ≡ Whole → IsComplete (asked_by script.now) journal.new.items }
+    requires none { (index : ℕ) (entry : EntryOf) → CallAt journal.items index entry → ⊥ }
+    ensures taken { CarriesOut script.now listed.now (turns_of (at_disk core (B.disk bank)) journal.items
+        (blank_clients script.now.clients)) result.ended result.turns (at_disk result.core (B.disk result.bank))
+        result.journal.items }
+    ensures calls { CallsAreRight (asked_by script.now) result.journal.items }
+    ensures complete { result.ended ≡ Whole → IsComplete (asked_by script.now) result.journal.items }
 {
-    let Ok(mut progress) = begin(alloc, script, journal) else {
-        return CarriedOut {
+    let Ok(progress) = begin(alloc, script, &mut journal) else {
+        return Carried {
+            bank,
+            core,
+            journal,
             ended: Ended::NoMemory,
             turns: 0,
         };
     };
-    match take_turns(alloc, bank, core, script, listed, journal, &mut progress) {
-        Ok(()) => CarriedOut {
-            ended: Ended::Whole,
-            turns: progress.turns,
-        },
-        Err(UsedUp) => CarriedOut {
-            ended: Ended::Limit,
-            turns: progress.turns,
-        },
-    }
+    let mut live = Live {
+        bank,
+        core,
+        journal,
+        progress,
+    };
+    let ended = match take_turns(alloc, &mut live, script, listed) {
+        Ok(()) => Ended::Whole,
+        Err(UsedUp) => Ended::Limit,
+    };
+    live.end(ended)
 }

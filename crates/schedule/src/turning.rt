@@ -158,9 +158,9 @@ fn begin_block_call<B: Bank>(
 }
 
 /// Fills a put's block in, unless it was before. Tells whether there was memory for it.
-fn fill_in(alloc: Global, call: &ScriptCall, run: &mut PutRun, made: Option<MadeUp>) -> bool
+fn fill_in(alloc: Global, call: &ScriptCall, run: &mut PutRun, made: Option<Box<MadeUp>>) -> bool
     requires fillable { IsFillable (to_fill_of run.old) (fill_bytes call.now.fill) }
-    requires made { IfSome made (IsMadeUpOf (fill_bytes call.now.fill)) }
+    requires made { IfSome made (λ made. IsMadeUpOf (fill_bytes call.now.fill) made.value) }
     ensures fills { result ≡ true → IsFilledIn call.now run.old run.new }
     ensures filled { result ≡ true → (filled : FilledOf) × (run.new.filled ≡ Some filled) }
     ensures wanting { result ≡ false → (run.new ≡ run.old) × (run.old.filled ≡ None) }
@@ -169,7 +169,7 @@ fn fill_in(alloc: Global, call: &ScriptCall, run: &mut PutRun, made: Option<Made
         return true;
     }
     if let Some(made) = made {
-        if run.take_block(made) {
+        if run.take_block(Box::into_inner(made)) {
             return true;
         }
     }
@@ -204,12 +204,12 @@ fn go_on_putting<B: Bank>(
     core: &mut Core,
     call: &ScriptCall,
     run: &mut PutRun,
-    made: Option<MadeUp>,
+    made: Option<Box<MadeUp>>,
 ) -> Option<Answer>
     requires of { IsPutOf core.old run.old }
     requires under_way { IsUnderWay core.old.pool.blocks run.old.range }
     requires len { length (fill_bytes call.now.fill) ≡ run.old.len }
-    requires made { IfSome made (IsMadeUpOf (fill_bytes call.now.fill)) }
+    requires made { IfSome made (λ made. IsMadeUpOf (fill_bytes call.now.fill) made.value) }
     requires bank { HasBankOf core.old (B.disk bank.old) }
     ensures goes { PutGoesOn (at_disk core.old (B.disk bank.old)) (at_disk core.new (B.disk bank.new))
         call.now run.old (turn_with run.new result) }
@@ -224,13 +224,13 @@ fn go_on_putting<B: Bank>(
 }
 
 /// Solves a read's block, where there is memory for that.
-fn solve(alloc: Global, run: &mut GetRun, solved: Option<SolvedFrom>)
+fn solve(alloc: Global, run: &mut GetRun, solved: Option<Box<SolvedFrom>>)
     requires len { sectors_for run.old.entry.len ≡ run.old.read.layout.sectors }
-    requires solved { IfSome solved IsSolvedOf }
+    requires solved { IfSome solved (λ from. IsSolvedOf from.value) }
     ensures { (run.new ≡ run.old) ⊎ SolvesGet run.old run.new }
 {
     if let Some(solved) = solved {
-        if run.take_solved(solved) {
+        if run.take_solved(Box::into_inner(solved)) {
             return;
         }
     }
@@ -243,11 +243,11 @@ fn go_on_reading<B: Bank>(
     bank: &mut B,
     core: &mut Core,
     run: &mut GetRun,
-    solved: Option<SolvedFrom>,
+    solved: Option<Box<SolvedFrom>>,
 ) -> Option<Answer>
     requires kind { IsReadKind run.old.kind }
     requires of { IsGetOf core.old run.old }
-    requires solved { IfSome solved IsSolvedOf }
+    requires solved { IfSome solved (λ from. IsSolvedOf from.value) }
     requires bank { HasBankOf core.old (B.disk bank.old) }
     ensures goes { ReadGoesOn (at_disk core.old (B.disk bank.old))
         (at_disk core.new (B.disk bank.new)) run.old (turn_with run.new result) }
@@ -255,7 +255,7 @@ fn go_on_reading<B: Bank>(
         (at_disk core.new (B.disk bank.new)) }
 {
     if !run.is_read() {
-        return core.get_read(alloc, bank, run);
+        return core.get_read(bank, run);
     }
     solve(alloc, run, solved);
     Some(core.get_end(run))

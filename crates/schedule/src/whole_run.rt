@@ -1,5 +1,5 @@
 // A whole run: a pool is opened, and a script's calls are carried out on it turn by turn.
-ghost use Rattle.std.specs.Prelude.{◌≡◌, ◌⊎◌, ◌<◌, ◌≤◌, [], All, IfOk, IfErr};
+ghost use Rattle.std.specs.Prelude.{◌≡◌, ◌⊎◌, ◌<◌, ◌≤◌, [], All, IfOk, IfErr, Ok};
 ghost use Rattle.bank_trait.specs.Disk.{Unchanged};
 ghost use Rattle.core_state.specs.Journal.{IsComplete};
 ghost use Rattle.core_open.specs.Causes.{IsOpenCause};
@@ -10,6 +10,7 @@ ghost use Rattle.schedule.specs.declared.whole_run.Ended.TheVariants.{Whole, Lim
 ghost use Rattle.schedule.specs.Turns.{most_turns};
 ghost use Rattle.schedule.specs.WholeRun.{HasRunInTurn};
 
+use crate::live::Carried;
 use crate::replay::carry_out;
 use bank_trait::Bank;
 use client_script::Script;
@@ -37,6 +38,35 @@ pub struct Ran {
     pub out: DeviceSet,
 }
 
+/// How a run went, or why there was no pool, with the bank and the journal.
+#[derive(Drop)]
+pub struct PoolRun<B: Bank> {
+    pub ran: Result<Ran, OpenWhy>,
+    pub bank: B,
+    pub journal: Journal,
+}
+
+impl<B: Bank> PoolRun<B> {
+    /// The calls of a script were carried out so.
+    pub fn of(carried: Carried<B>) -> PoolRun<B>
+        ensures { result ≡ record {
+          ran = Ok (record { ended = carried.ended; turns = carried.turns; out = carried.core.pool.out });
+          bank = carried.bank;
+          journal = carried.journal;
+        } }
+    {
+        PoolRun {
+            ran: Ok(Ran {
+                ended: carried.ended,
+                turns: carried.turns,
+                out: carried.core.out(),
+            }),
+            bank: carried.bank,
+            journal: carried.journal,
+        }
+    }
+}
+
 /// Opens the pool that the devices show and carries out the calls of a script's clients on it turn by turn. First
 /// each client of the list takes a turn, in its order; then each call that is under way is carried on to its
 /// answer, a turn a client in each round; then the calls that are left, each whole, in the order of their lines.
@@ -44,36 +74,40 @@ pub struct Ran {
 /// group that a sync, an attach or a copy ends, and each call. Lists nothing where no pool is opened.
 pub fn run_pool<B: Bank>(
     alloc: Global,
-    bank: &mut B,
+    mut bank: B,
     script: &Script,
     listed: &[u8],
-    journal: &mut Journal,
-) -> Result<Ran, OpenWhy>
-    requires empty { journal.old.items ≡ [] }
-    requires room { 1 ≤ journal.old.room }
+    mut journal: Journal,
+) -> PoolRun<B>
+    requires empty { journal.items ≡ [] }
+    requires room { 1 ≤ journal.room }
     requires allowed { All (λ placed. IsAllowed placed.call) script.now.calls }
     requires actors { All (λ placed. placed.actor < script.now.clients) script.now.calls }
-    ensures run { IfOk result (HasRunInTurn script.now listed.now (B.disk bank.old) (B.disk bank.new)
-        journal.new.items) }
-    ensures complete { IfOk result (λ ran. ran.ended ≡ Whole
-        → IsComplete (asked_by script.now) journal.new.items) }
-    ensures limit { IfOk result (λ ran. ran.ended ≡ Limit → most_turns ≤ ran.turns) }
-    ensures nothing { IfErr result (λ why. journal.new.items ≡ []) }
-    ensures cause { IfErr result (IsOpenCause (B.disk bank.old) (B.disk bank.new)) }
-    ensures cut { IfErr result (λ why. Unchanged (B.disk bank.old) (B.disk bank.new)
-        ⊎ CutsOpening (B.disk bank.old) (B.disk bank.new)) }
-    ensures untouched { IfErr result (λ why.
-        LeavesUnopened why (B.disk bank.old) (B.disk bank.new)) }
-    ensures opens { IfErr result (IsForMemory (B.disk bank.old) (B.disk bank.new)) }
-    ensures others { IfErr result (λ why. LeavesOthers (B.disk bank.old) (B.disk bank.new)) }
+    ensures run { IfOk result.ran (HasRunInTurn script.now listed.now (B.disk bank) (B.disk result.bank)
+        result.journal.items) }
+    ensures complete { IfOk result.ran (λ ran. ran.ended ≡ Whole
+        → IsComplete (asked_by script.now) result.journal.items) }
+    ensures limit { IfOk result.ran (λ ran. ran.ended ≡ Limit → most_turns ≤ ran.turns) }
+    ensures nothing { IfErr result.ran (λ why. result.journal.items ≡ []) }
+    ensures cause { IfErr result.ran (IsOpenCause (B.disk bank) (B.disk result.bank)) }
+    ensures cut { IfErr result.ran (λ why. Unchanged (B.disk bank) (B.disk result.bank)
+        ⊎ CutsOpening (B.disk bank) (B.disk result.bank)) }
+    ensures untouched { IfErr result.ran (λ why.
+        LeavesUnopened why (B.disk bank) (B.disk result.bank)) }
+    ensures opens { IfErr result.ran (IsForMemory (B.disk bank) (B.disk result.bank)) }
+    ensures others { IfErr result.ran (λ why. LeavesOthers (B.disk bank) (B.disk result.bank)) }
 {
-    let opened = open_pool(alloc, bank)?;
+    let opened = match open_pool(alloc, &mut bank) {
+        Ok(opened) => opened,
+        Err(why) => {
+            return PoolRun {
+                ran: Err(why),
+                bank,
+                journal,
+            };
+        }
+    };
     journal.list(Item::Group(opened.pool.first_item()));
-    let mut core = Core::new(alloc, opened.pool);
-    let carried_out = carry_out(alloc, bank, &mut core, script, listed, journal);
-    Ok(Ran {
-        ended: carried_out.ended,
-        turns: carried_out.turns,
-        out: core.out(),
-    })
+    let core = Core::new(alloc, opened.pool);
+    PoolRun::of(carry_out(alloc, bank, core, script, listed, journal))
 }

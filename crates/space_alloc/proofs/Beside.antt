@@ -1,63 +1,114 @@
 -- The edges stay beside the runs.
-use Rattle.std.proofs.Common.{◌≡◌, ℕ, ◌≤◌, ◌+◌, ◌*◌, List, [], ◌∷◌, length, sym, ◌∙◌, ap, subst, arith}
-use Rattle.std.specs.Prelude.{Contains, Vec, filter, vec_len}
+use Rattle.std.proofs.Common.{◌≡◌, ℕ, ◌≤◌, ◌+◌, ◌*◌, List, [], ◌∷◌, ◌++◌, sym, subst, arith}
+use Rattle.std.specs.Prelude.{All, Contains, Vec, filter, vec_len}
 use Rattle.std.specs.Vec.{vec_capacity}
 use Rattle.std.specs.declared.alloc.Global.{Global}
-use Rattle.std.proofs.lemmas.List.Elements.{All-contains}
-use Rattle.space_alloc.specs.declared.entry.Use.{Use}
+use Rattle.std.proofs.lemmas.List.Elements.{All-contains, Contains-append_left, Contains-append_right}
+use Rattle.range_locks.proofs.Lists.{all_listed}
 use Rattle.space_alloc.specs.declared.entry.Entry.{Entry}
-use Rattle.space_alloc.specs.Entries.{entry_end, is_left, AreEntries, IsEntry, IsInserted, IsRemoved, IsReplaced}
-use Rattle.space_alloc.specs.Edges.{AreEdgesOf, AreKept, IsFlipped, IsRising}
-use Rattle.space_alloc.proofs.Kept.{kept_filter, kept_remove, kept_replace}
-use Rattle.space_alloc.proofs.Unused.{edges_inserted, edges_removed, edges_replaced}
-use Rattle.space_alloc.proofs.Releasing.{inserted_length, removed_length, replaced_length}
-use Rattle.space_alloc.proofs.Steps.{taken_entry}
+use Rattle.space_alloc.specs.declared.held.HeldEntry.{HeldEntry}
+use Rattle.space_alloc.specs.Space.{Gains}
+use Rattle.space_alloc.specs.Entries.{entries_held, entry_end, in_use, is_left, AreApart, IsEntry, IsInserted}
+use Rattle.space_alloc.specs.Edges.{AreEdgesOf, AreKept, HasReleased, IsFlipped, IsRising}
+use Rattle.space_alloc.proofs.InUse.{held_gains, inserted_gains, listed_image, pushed_gains, taken_gains}
+use Rattle.space_alloc.proofs.Kept.{apart_filter, apart_gained, apart_lost, apart_moved, kept_insert, kept_remove, IsApart}
+use Rattle.space_alloc.proofs.Unused.{edges_gained, edges_lost, edges_moved}
+use Rattle.space_alloc.proofs.Releasing.{gained_length}
 
-module _ (entries others : Vec Entry Global) (edges new : Vec ℕ Global) (entry : Entry) (start len : ℕ)
-    (kept : AreKept entries edges) (entry_is : entry ≡ taken_entry start len) (rising : IsRising new.items) where
-  flips_entry : (old : List ℕ) → IsFlipped old new.items (start ∷ (start + len) ∷ []) → IsFlipped old new.items (entry.start ∷ entry_end entry ∷ [])
-  flips_entry old = subst (λ (e : Entry). IsFlipped old new.items (e.start ∷ entry_end e ∷ [])) (sym entry_is)
+-- Room may be made.
+pub kept_room : (taken : Vec Entry Global) (held roomy : Vec HeldEntry Global) (edges more : Vec ℕ Global) → AreKept taken held edges
+    → roomy.items ≡ held.items → vec_len roomy ≡ vec_len held → vec_capacity held ≤ vec_capacity roomy
+    → more.items ≡ edges.items → vec_len more ≡ vec_len edges → vec_capacity edges ≤ vec_capacity more → AreKept taken roomy more
+kept_room taken held roomy edges more kept same len room same_edges len_edges room_edges = record {
+  in_order = kept.in_order;
+  apart = subst (λ (l : List HeldEntry). AreApart (in_use taken.items l)) (sym same) kept.apart;
+  edges_of = subst (λ (l : List HeldEntry). AreEdgesOf (in_use taken.items l) more.items) (sym same)
+      (subst (λ (l : List ℕ). AreEdgesOf (in_use taken.items held.items) l) (sym same_edges) kept.edges_of);
+  room = (let was = kept.room in omega (arith, was, len, len_edges, room_edges));
+  held_room = (let was = kept.held_room in omega (arith, was, len, room));
+}
 
-  pub kept_put : (room : Vec ℕ Global) (count : ℕ) → AreEntries others.items → IsInserted entries.items others.items entry
-      → room.items ≡ edges.items → IsFlipped room.items new.items (start ∷ (start + len) ∷ []) → count ≡ vec_len entries
-      → vec_len room + (2 * count + 4) ≤ vec_capacity room → vec_len new ≤ vec_len room + 2 → vec_capacity new ≡ vec_capacity room → AreKept others new
-  kept_put room count are inserted same flipped counted roomy less stays = record {
-    entries_apart = are;
-    edges_of = edges_inserted entries.items others.items entry edges.items new.items kept.edges_of inserted rising
-        (flips_entry edges.items (subst (λ (l : List ℕ). IsFlipped l new.items (start ∷ (start + len) ∷ [])) same flipped));
-    room = (let more = inserted_length entries.items others.items entry inserted in let length_is = entries.ok.0 in
-        omega (arith, more, length_is, counted, roomy, less, stays));
-  }
+module _ (taken others : Vec Entry Global) (held : Vec HeldEntry Global) (edges new : Vec ℕ Global) (entry : Entry)
+    (kept : AreKept taken held edges) (rising : IsRising new.items) (flipped : IsFlipped edges.items new.items (entry.start ∷ entry_end entry ∷ []))
+    (less : vec_len new ≤ vec_len edges + 2) (stays : vec_capacity new ≡ vec_capacity edges) where
+  -- A run that no other meets is taken, where there is room for it.
+  pub kept_put : IsInserted taken.items others.items entry → IsEntry entry → IsApart (in_use taken.items held.items) entry
+      → vec_len edges + 2 * (vec_len taken + vec_len held) + 4 ≤ vec_capacity edges → vec_len taken + vec_len held + 1 ≤ vec_capacity held
+      → AreKept others held new
+  kept_put inserted is apart room held_room =
+      let gains = taken_gains taken.items others.items held.items entry (inserted_gains taken.items others.items entry inserted) in
+      let more = gained_length taken.items others.items entry (inserted_gains taken.items others.items entry inserted) in
+      let len = taken.ok.0 in
+      let len_others = others.ok.0 in
+      record {
+        in_order = kept_insert taken.items others.items entry kept.in_order is
+            (λ other listed. apart other (Contains-append_left taken.items (entries_held held.items) other listed)) inserted;
+        apart = apart_gained _ _ entry gains is apart kept.apart;
+        edges_of = edges_gained _ _ entry edges.items new.items kept.edges_of gains rising flipped;
+        room = omega (arith, more, len, len_others, less, stays, room);
+        held_room = omega (arith, more, len, len_others, held_room);
+      }
 
-  pub kept_drop : IsRemoved entries.items others.items entry → IsFlipped edges.items new.items (start ∷ (start + len) ∷ [])
-      → vec_len new ≤ vec_len edges + 2 → vec_capacity new ≡ vec_capacity edges → AreKept others new
-  kept_drop removed flipped less stays = record {
-    entries_apart = kept_remove entries.items others.items entry kept.entries_apart removed;
-    edges_of = edges_removed entries.items others.items entry edges.items new.items kept.edges_of removed rising (flips_entry edges.items flipped);
-    room = (let was = kept.room in let fewer = removed_length entries.items others.items entry removed in omega (arith, was, fewer, less, stays));
-  }
+  -- A taken run is dropped.
+  pub kept_drop : Gains others.items taken.items entry → AreKept others held new
+  kept_drop lost =
+      let loses = taken_gains others.items taken.items held.items entry lost in
+      let fewer = gained_length others.items taken.items entry lost in
+      let len = taken.ok.0 in
+      let len_others = others.ok.0 in
+      record {
+        in_order = kept_remove taken.items others.items entry kept.in_order lost;
+        apart = apart_lost _ _ entry loses kept.apart;
+        edges_of = edges_lost _ _ entry edges.items new.items kept.edges_of loses rising flipped;
+        room = (let was = kept.room in omega (arith, was, fewer, len, len_others, less, stays));
+        held_room = (let was = kept.held_room in omega (arith, was, fewer, len, len_others));
+      }
 
-pub entry_listed : (entries : Vec Entry Global) (edges : Vec ℕ Global) (entry : Entry) → AreKept entries edges → Contains entries.items entry → IsEntry entry
-entry_listed entries edges entry kept listed = All-contains IsEntry entries.items entry kept.entries_apart.each listed
+pub entry_listed : (taken : Vec Entry Global) (held : Vec HeldEntry Global) (edges : Vec ℕ Global) (entry : Entry) → AreKept taken held edges
+    → Contains taken.items entry → IsEntry entry
+entry_listed taken held edges entry kept listed = All-contains IsEntry taken.items entry kept.in_order.each listed
 
--- What is held until a group goes with its edges.
-pub kept_until : (entries others : Vec Entry Global) (edges new : Vec ℕ Global) (group : ℕ) (seen : List Entry) → seen ≡ entries.items
-    → AreKept entries edges → others.items ≡ filter (is_left group) entries.items → AreEdgesOf (filter (is_left group) seen) new.items
-    → vec_len new + 2 * length (filter (is_left group) seen) ≤ vec_capacity new → AreKept others new
-kept_until entries others edges new group seen same kept left edges_of room =
-    let all : others.items ≡ filter (is_left group) seen = left ∙ ap (filter (is_left group)) (sym same) in
+pub held_listed : (taken : Vec Entry Global) (held : Vec HeldEntry Global) (edges : Vec ℕ Global) (seen : List HeldEntry) → AreKept taken held edges
+    → seen ≡ held.items → All (λ (run : HeldEntry). IsEntry run.entry) seen
+held_listed taken held edges seen kept same =
+    subst (All (λ (run : HeldEntry). IsEntry run.entry)) (sym same) (all_listed (λ (run : HeldEntry). IsEntry run.entry) held.items (λ run listed.
+    All-contains IsEntry (in_use taken.items held.items) run.entry kept.apart.each
+    (Contains-append_right taken.items (entries_held held.items) run.entry (listed_image (λ (r : HeldEntry). r.entry) held.items run listed))))
+
+-- A taken run is held back from now on: it stands elsewhere, and no edge changes.
+pub kept_hold : (taken others : Vec Entry Global) (held now_held : Vec HeldEntry Global) (edges : Vec ℕ Global) (run : HeldEntry) → AreKept taken held edges
+    → Gains others.items taken.items run.entry → now_held.items ≡ held.items ++ run ∷ [] → vec_len now_held ≡ vec_len held + 1
+    → vec_capacity now_held ≡ vec_capacity held → AreKept others now_held edges
+kept_hold taken others held now_held edges run kept lost pushed len_held stays =
+    let loses = taken_gains others.items taken.items held.items run.entry lost in
+    let gains = held_gains others.items held.items now_held.items run (pushed_gains held.items now_held.items run pushed) in
+    let fewer = gained_length others.items taken.items run.entry lost in
+    let len = taken.ok.0 in
+    let len_others = others.ok.0 in
     record {
-      entries_apart = subst AreEntries (sym left) (kept_filter entries.items group kept.entries_apart);
-      edges_of = subst (λ (l : List Entry). AreEdgesOf l new.items) (sym all) edges_of;
-      room = subst (λ (l : List Entry). vec_len new + 2 * length l ≤ vec_capacity new) (sym all) room;
+      in_order = kept_remove taken.items others.items run.entry kept.in_order lost;
+      apart = apart_moved _ _ _ run.entry loses gains kept.apart;
+      edges_of = edges_moved _ _ _ run.entry edges.items kept.edges_of loses gains;
+      room = (let was = kept.room in omega (arith, was, fewer, len, len_others, len_held));
+      held_room = (let was = kept.held_room in omega (arith, was, fewer, len, len_others, len_held, stays));
     }
 
--- Another use of the same sectors changes no edge.
-pub kept_use : (entries others : Vec Entry Global) (edges : Vec ℕ Global) (start len : ℕ) (used other : Use) → AreKept entries edges
-    → IsReplaced entries.items others.items (record { start = start; len = len; used = used }) (record { start = start; len = len; used = other })
-    → AreKept others edges
-kept_use entries others edges start len used other kept replaced = record {
-  entries_apart = kept_replace entries.items others.items start len used other kept.entries_apart replaced;
-  edges_of = edges_replaced entries.items others.items start len used other edges.items kept.edges_of replaced;
-  room = (let was = kept.room in let same = replaced_length entries.items others.items _ _ replaced in omega (arith, was, same));
-}
+-- What is held until a group goes with its edges.
+pub kept_until : (taken : Vec Entry Global) (held left : Vec HeldEntry Global) (edges new : Vec ℕ Global) (group : ℕ) (seen : List HeldEntry)
+    → seen ≡ held.items → AreKept taken held edges → left.items ≡ filter (is_left group) held.items → vec_len left ≤ vec_len held
+    → vec_capacity left ≡ vec_capacity held → HasReleased seen (filter (is_left group) seen) edges new → AreKept taken left new
+kept_until taken held left edges new group seen same kept is few stays released =
+    let here : HasReleased held.items (filter (is_left group) held.items) edges new =
+    subst (λ (l : List HeldEntry). HasReleased l (filter (is_left group) l) edges new) same released in
+    let all : HasReleased held.items left.items edges new = subst (λ (l : List HeldEntry). HasReleased held.items l edges new) (sym is) here in
+    let len = held.ok.0 in
+    let len_left = left.ok.0 in
+    record {
+      in_order = kept.in_order;
+      apart = subst (λ (l : List HeldEntry). AreApart (in_use taken.items l)) (sym is)
+          (apart_filter (is_left group) taken.items held.items kept.apart);
+      edges_of = all.edges_of taken.items kept.edges_of;
+      room = (let was = kept.room in let room = all.room in let same_capacity = all.capacity in
+          omega (arith, was, room, same_capacity, len, len_left));
+      held_room = (let was = kept.held_room in omega (arith, was, few, stays));
+    }

@@ -9,8 +9,9 @@ use Rattle.range_locks.specs.Holds.{HasSectors, IsClear, Overlaps}
 use Rattle.range_locks.proofs.InOrder.{first_alone}
 use Rattle.range_locks.proofs.Searching.{busy_by_first}
 use Rattle.space_alloc.specs.declared.entry.Entry.{Entry}
+use Rattle.space_alloc.specs.declared.held.HeldEntry.{HeldEntry}
 use Rattle.space_alloc.specs.Space.{IsIn, IsFree, IsFreeRun, IsFirstFit, HasNoFreeRun, IsBusySpace}
-use Rattle.space_alloc.specs.Entries.{space_of, entry_end, IsEntry, AreEntries, Meets}
+use Rattle.space_alloc.specs.Entries.{space_of, entry_end, in_use, IsEntry, AreApart, Meets}
 use Rattle.space_alloc.specs.Edges.{AreEdgesOf, IsUnused}
 use Rattle.space_alloc.specs.Fit.{IsHinderedBy, IsLowest, IsRoom, Spares}
 use Rattle.space_alloc.proofs.InUse.{taken_covers, held_covers, covered_in_use}
@@ -24,33 +25,33 @@ common start len lo hi begins ends some long =
     (λ above. (lo, (above, begins), (omega arith, some))) (cases_lt lo start)
 
 -- A free run ends within the pool.
-pub free_within : (entries : List Entry) (holds : List Hold) (capacity len start : ℕ) → 0 < len
-    → IsFreeRun (space_of capacity entries) holds start len → start + len ≤ capacity
-free_within entries holds capacity len start long free =
-    let last : IsFree (space_of capacity entries) holds (start + len - 1) = free (start + len - 1) (omega (arith, long), omega (arith, long)) in
+pub free_within : (taken : List Entry) (held : List HeldEntry) (holds : List Hold) (capacity len start : ℕ) → 0 < len
+    → IsFreeRun (space_of capacity taken held) holds start len → start + len ≤ capacity
+free_within taken held holds capacity len start long free =
+    let last : IsFree (space_of capacity taken held) holds (start + len - 1) = free (start + len - 1) (omega (arith, long), omega (arith, long)) in
     omega (arith, last.below)
 
 -- No run in use meets it.
-pub free_apart : (entries : List Entry) (holds : List Hold) (capacity len start : ℕ) → 0 < len → AreEntries entries
-    → IsFreeRun (space_of capacity entries) holds start len → (entry : Entry) → Contains entries entry → Meets entry start (start + len) → ⊥
-free_apart entries holds capacity len start long are free entry listed meets =
-    let is : IsEntry entry = All-contains IsEntry entries entry are.each listed in
+pub free_apart : (taken : List Entry) (held : List HeldEntry) (holds : List Hold) (capacity len start : ℕ) → 0 < len → AreApart (in_use taken held)
+    → IsFreeRun (space_of capacity taken held) holds start len → (entry : Entry) → Contains (in_use taken held) entry → Meets entry start (start + len) → ⊥
+free_apart taken held holds capacity len start long are free entry listed meets =
+    let is : IsEntry entry = All-contains IsEntry (in_use taken held) entry are.each listed in
     let both = common start len entry.start (entry_end entry) meets.begins meets.ends (omega (arith, is.some)) long in
-    ⊎_elim (free both.0 both.1).untaken (free both.0 both.1).not_held (covered_in_use capacity entries entry both.0 listed both.2)
+    ⊎_elim (free both.0 both.1).untaken (free both.0 both.1).not_held (covered_in_use capacity taken held both.0 entry listed both.2)
 
 -- Of sectors below the capacity that no shared hold has, those are free that are unused.
-pub free_unused : (entries : List Entry) (edges : List ℕ) (holds : List Hold) (capacity sector : ℕ) → AreEdgesOf entries edges
-    → IsFree (space_of capacity entries) holds sector → IsUnused edges sector
-free_unused entries edges holds capacity sector of free = uncovered_unused entries edges sector of
-    (λ covers. ⊎_elim free.untaken free.not_held (covered_in_use capacity entries covers.entry sector covers.listed covers.inside))
+pub free_unused : (taken : List Entry) (held : List HeldEntry) (edges : List ℕ) (holds : List Hold) (capacity sector : ℕ) → AreEdgesOf (in_use taken held) edges
+    → IsFree (space_of capacity taken held) holds sector → IsUnused edges sector
+free_unused taken held edges holds capacity sector of free = uncovered_unused (in_use taken held) edges sector of
+    (λ covers. ⊎_elim free.untaken free.not_held (covered_in_use capacity taken held sector covers.entry covers.listed covers.inside))
 
-pub unused_free : (entries : List Entry) (edges : List ℕ) (holds : List Hold) (capacity sector : ℕ) → AreEntries entries → AreEdgesOf entries edges
+pub unused_free : (taken : List Entry) (held : List HeldEntry) (edges : List ℕ) (holds : List Hold) (capacity sector : ℕ) → AreApart (in_use taken held) → AreEdgesOf (in_use taken held) edges
     → sector < capacity → IsUnused edges sector → ((hold : Hold) → Contains holds hold → hold.kind ≡ Shared → Overlaps hold sector (sector + 1) → ⊥)
-    → IsFree (space_of capacity entries) holds sector
-unused_free entries edges holds capacity sector are of below unused spares = record {
+    → IsFree (space_of capacity taken held) holds sector
+unused_free taken held edges holds capacity sector are of below unused spares = record {
   below = below;
-  untaken = λ taken. covered_inside entries edges sector are of (taken_covers capacity entries sector taken) unused;
-  not_held = λ held. covered_inside entries edges sector are of (held_covers capacity entries sector held) unused;
+  untaken = λ is. covered_inside (in_use taken held) edges sector are of (taken_covers capacity taken held sector is) unused;
+  not_held = λ is. covered_inside (in_use taken held) edges sector are of (held_covers capacity taken held sector is) unused;
   not_shared = λ shared. spares shared.0 shared.1 shared.2 shared.3;
 }
 
@@ -60,21 +61,21 @@ apart hold shared exclusive = different (sym shared ∙ exclusive)
     different : Shared ≡ Exclusive → ⊥
     different same = cc
 
-module _ (entries : List Entry) (edges : List ℕ) (shared exclusive : List Hold) (capacity len : ℕ) (long : 0 < len) (are : AreEntries entries)
-    (of : AreEdgesOf entries edges) (some : All HasSectors (shared ++ exclusive)) (are_shared : All (λ hold. hold.kind ≡ Shared) shared)
+module _ (taken : List Entry) (held : List HeldEntry) (edges : List ℕ) (shared exclusive : List Hold) (capacity len : ℕ) (long : 0 < len) (are : AreApart (in_use taken held))
+    (of : AreEdgesOf (in_use taken held) edges) (some : All HasSectors (shared ++ exclusive)) (are_shared : All (λ hold. hold.kind ≡ Shared) shared)
     (are_exclusive : All (λ hold. hold.kind ≡ Exclusive) exclusive) where
-  room_is_free : (start : ℕ) → IsRoom edges shared capacity len start → IsFreeRun (space_of capacity entries) (shared ++ exclusive) start len
+  room_is_free : (start : ℕ) → IsRoom edges shared capacity len start → IsFreeRun (space_of capacity taken held) (shared ++ exclusive) start len
   room_is_free start room sector inside =
-      unused_free entries edges (shared ++ exclusive) capacity sector are of (omega (arith, inside, room.within)) (room.unused sector inside)
+      unused_free taken held edges (shared ++ exclusive) capacity sector are of (omega (arith, inside, room.within)) (room.unused sector inside)
       (λ hold listed kind overlaps. ⊎_elim
       (λ left. room.spares hold left (record { begins = omega (arith, overlaps.begins, inside); ends = omega (arith, overlaps.ends, inside) }))
       (λ right. apart hold kind (All-contains (λ h. h.kind ≡ Exclusive) exclusive hold are_exclusive right))
       (Contains-append_cases shared exclusive hold listed))
 
-  free_is_room : (start : ℕ) → IsFreeRun (space_of capacity entries) (shared ++ exclusive) start len → IsRoom edges shared capacity len start
+  free_is_room : (start : ℕ) → IsFreeRun (space_of capacity taken held) (shared ++ exclusive) start len → IsRoom edges shared capacity len start
   free_is_room start free = record {
-    within = free_within entries (shared ++ exclusive) capacity len start long free;
-    unused = λ sector inside. free_unused entries edges (shared ++ exclusive) capacity sector of (free sector inside);
+    within = free_within taken held (shared ++ exclusive) capacity len start long free;
+    unused = λ sector inside. free_unused taken held edges (shared ++ exclusive) capacity sector of (free sector inside);
     spares = λ hold listed overlaps.
         let here = Contains-append_left shared exclusive hold listed in
         let has : hold.lo < hold.hi = All-contains HasSectors (shared ++ exclusive) hold some here in
@@ -96,7 +97,7 @@ module _ (entries : List Entry) (edges : List ℕ) (shared exclusive : List Hold
       (λ hold listed blocks. spares hold listed blocks.overlaps)
 
   -- The lowest place is what a put takes.
-  pub lowest_is_first : (start : ℕ) → IsLowest edges shared exclusive capacity len start → IsFirstFit (space_of capacity entries) (shared ++ exclusive) len start
+  pub lowest_is_first : (start : ℕ) → IsLowest edges shared exclusive capacity len start → IsFirstFit (space_of capacity taken held) (shared ++ exclusive) len start
   lowest_is_first start lowest = record {
     free = room_is_free start lowest.room;
     clear = spares_clear start (start + len) lowest.clear;
@@ -106,13 +107,13 @@ module _ (entries : List Entry) (edges : List ℕ) (shared exclusive : List Hold
   }
 
   -- Where no room is long enough the space is full,
-  pub no_room_is_full : ((other : ℕ) → IsRoom edges shared capacity len other → ⊥) → HasNoFreeRun (space_of capacity entries) (shared ++ exclusive) len
+  pub no_room_is_full : ((other : ℕ) → IsRoom edges shared capacity len other → ⊥) → HasNoFreeRun (space_of capacity taken held) (shared ++ exclusive) len
   no_room_is_full none other free = none other (free_is_room other free)
 
   -- and where each is hindered it is busy.
   pub hindered_is_busy : (hold : Hold) → IsHinderedBy edges shared exclusive capacity len hold
       → ((other : ℕ) → IsRoom edges shared capacity len other → Spares exclusive other (other + len) → ⊥)
-      → IsBusySpace (space_of capacity entries) (shared ++ exclusive) len hold.actor
+      → IsBusySpace (space_of capacity taken held) (shared ++ exclusive) len hold.actor
   hindered_is_busy hold hindered none = record {
     start = hindered.start;
     free = room_is_free hindered.start hindered.room;

@@ -1,15 +1,16 @@
 -- The runs in use stay in order, and apart.
-use Rattle.std.proofs.Common.{◌≡◌, ℕ, ◌<◌, ◌≤◌, ◌+◌, List, ◌∷◌, ◌++◌, length, take, drop, get_or, sym, ap, subst, arith, ⊎_elim, length-drop, length-take}
-use Rattle.std.specs.Prelude.{Result, Ok, Err, OnOk, OnErr, All, Contains, filter}
-use Rattle.std.specs.declared.alloc.AllocError.{AllocError}
+use Rattle.std.proofs.Common.{◌≡◌, ℕ, ◌<◌, ◌≤◌, ◌+◌, List, [], ◌∷◌, ◌++◌, Bool, true, false, length, take, drop, get_or, refl, sym, ap, subst, arith, inl, inr, ⊎_elim, append_assoc, length-drop, length-take}
+use Rattle.std.specs.Prelude.{All, Contains, cond, filter}
 use Rattle.std.proofs.lemmas.Bool.{cases_lt}
 use Rattle.std.proofs.lemmas.List.{get_or-take, get_or-drop}
 use Rattle.std.proofs.lemmas.Option.{slice_get-get_or}
-use Rattle.std.proofs.lemmas.List.Elements.{All-take, All-drop, All-append, All-cons, All-filter, Contains-get_or}
-use Rattle.space_alloc.specs.declared.entry.Use.{Use}
+use Rattle.std.proofs.lemmas.List.Elements.{All-contains, All-take, All-drop, All-append, All-cons, Contains-get_or}
+use Rattle.space_alloc.specs.declared.held.HeldEntry.{HeldEntry}
 use Rattle.space_alloc.specs.declared.entry.Entry.{Entry}
-use Rattle.space_alloc.specs.Entries.{entry_end, IsEntry, IsBefore, Meets, AreEntries, IsPlaceBehind, IsInserted, IsRemoved, IsReplaced, is_left}
-use Rattle.range_locks.proofs.Pairs.{all_pairs_insert, all_pairs_swap, all_pairs_leave, all_pairs_filter, all_swap, all_leave}
+use Rattle.space_alloc.specs.Space.{Gains}
+use Rattle.space_alloc.specs.Entries.{entries_held, entry_end, in_use, IsEntry, IsBefore, IsBeside, Meets, AreApart, AreEntries, IsPlaceBehind, IsInserted}
+use Rattle.range_locks.proofs.Lists.{all_listed, gains_cases, gains_item, pairs_beside, pairs_gain}
+use Rattle.range_locks.proofs.Pairs.{all_pairs_insert, all_pairs_leave, all_leave}
 
 -- No run in use has a sector of this one.
 abbrev pub IsApart : List Entry → Entry → Type 0
@@ -55,33 +56,65 @@ kept_insert old new entry are is apart inserted = subst AreEntries (sym inserted
       (behind_it old entry inserted.at are apart inserted.place);
 })
 
--- So it stays, whether the run is put in or memory is wanting.
-pub kept_either : (result : Result (Unit {0}) AllocError) (old new : List Entry) (entry : Entry) → AreEntries old → IsEntry entry → IsApart old entry
-    → OnOk result (IsInserted old new entry) → OnErr result (new ≡ old) → AreEntries new
-kept_either (Ok x) old new entry are is apart inserted same = kept_insert old new entry are is apart inserted
-kept_either (Err x) old new entry are is apart inserted same = subst AreEntries (sym same) are
-
 -- One may be taken away.
-pub kept_remove : (old new : List Entry) (entry : Entry) → AreEntries old → IsRemoved old new entry → AreEntries new
-kept_remove old new entry are removed =
-    let parts : AreEntries (removed.before ++ entry ∷ removed.after) = subst AreEntries removed.was are in
-    subst AreEntries (sym removed.is) (record {
-      each = all_leave IsEntry removed.before removed.after entry parts.each;
-      apart = all_pairs_leave IsBefore removed.before removed.after entry parts.apart;
+pub kept_remove : (old new : List Entry) (entry : Entry) → AreEntries old → Gains new old entry → AreEntries new
+kept_remove old new entry are lost =
+    let parts : AreEntries (lost.before ++ entry ∷ lost.after) = subst AreEntries lost.is are in
+    subst AreEntries (sym lost.was) (record {
+      each = all_leave IsEntry lost.before lost.after entry parts.each;
+      apart = all_pairs_leave IsBefore lost.before lost.after entry parts.apart;
     })
 
--- The use of a run may change.
-pub kept_replace : (old new : List Entry) (start len : ℕ) (used other : Use) → AreEntries old
-    → IsReplaced old new (record { start = start; len = len; used = used }) (record { start = start; len = len; used = other }) → AreEntries new
-kept_replace old new start len used other are replaced =
-    let parts : AreEntries (replaced.before ++ record { start = start; len = len; used = used } ∷ replaced.after) = subst AreEntries replaced.was are in
-    subst AreEntries (sym replaced.is) (record {
-      each = all_swap IsEntry replaced.before replaced.after _ _ (λ is. record { some = is.some; fits = is.fits }) parts.each;
-      apart = all_pairs_swap IsBefore replaced.before replaced.after _ _ (λ earlier is. is) (λ later is. is) parts.apart;
-    })
+turned : (entry other : Entry) → IsBeside entry other → IsBeside other entry
+turned entry other beside = ⊎_elim (λ before. inr before) (λ behind. inl behind) beside
 
-pub kept_filter : (entries : List Entry) (group : ℕ) → AreEntries entries → AreEntries (filter (is_left group) entries)
-kept_filter entries group are = record {
-  each = All-filter (is_left group) IsEntry entries are.each;
-  apart = all_pairs_filter IsBefore (is_left group) entries are.apart;
+beside_it : (entry other : Entry) → (Meets other entry.start (entry_end entry) → ⊥) → IsBeside entry other
+beside_it entry other apart = ⊎_elim
+    (λ begins. ⊎_elim (λ ends. absurd (apart (record { begins = begins; ends = ends }))) (λ before. inr before)
+    (cases_lt entry.start (entry_end other)))
+    (λ behind. inl behind) (cases_lt other.start (entry_end entry))
+
+each_gained : (old new : List Entry) (entry : Entry) → Gains old new entry → IsEntry entry → All IsEntry old → All IsEntry new
+each_gained old new entry gains is each =
+    all_listed IsEntry new (λ other listed. ⊎_elim (λ same. subst IsEntry same is)
+    (λ before. All-contains IsEntry old other each before) (gains_cases old new entry other gains listed))
+
+-- In whatever order: one that no other meets may be put in,
+pub apart_gained : (old new : List Entry) (entry : Entry) → Gains old new entry → IsEntry entry → IsApart old entry → AreApart old → AreApart new
+apart_gained old new entry gains is apart are = record {
+  each = each_gained old new entry gains is are.each;
+  apart = pairs_gain IsBeside turned old new entry gains (λ other listed. beside_it entry other (apart other listed)) are.apart;
 }
+
+-- one may be taken away,
+pub apart_lost : (old new : List Entry) (entry : Entry) → Gains new old entry → AreApart old → AreApart new
+apart_lost old new entry lost are =
+    let parts : AreApart (lost.before ++ entry ∷ lost.after) = subst AreApart lost.is are in
+    subst AreApart (sym lost.was) (record {
+      each = all_leave IsEntry lost.before lost.after entry parts.each;
+      apart = all_pairs_leave IsBeside lost.before lost.after entry parts.apart;
+    })
+
+-- and one may stand elsewhere.
+pub apart_moved : (less old new : List Entry) (entry : Entry) → Gains less old entry → Gains less new entry → AreApart old → AreApart new
+apart_moved less old new entry lost gained are =
+    let left : AreApart less = apart_lost old less entry lost are in
+    record {
+      each = each_gained less new entry gained (All-contains IsEntry old entry are.each (gains_item less old entry lost)) left.each;
+      apart = pairs_gain IsBeside turned less new entry gained
+          (λ other listed. pairs_beside IsBeside turned old less entry other lost are.apart listed) left.apart;
+    }
+
+-- What a filter keeps of the runs that are held back stays apart.
+pub apart_filter : (test : HeldEntry → Bool) (taken : List Entry) (held : List HeldEntry) → AreApart (in_use taken held)
+    → AreApart (in_use taken (filter test held))
+apart_filter test taken [] are = are
+apart_filter test taken (run ∷ held) are = by_test (test run)
+    (apart_filter test (taken ++ run.entry ∷ []) held (subst AreApart (sym (append_assoc taken (run.entry ∷ []) (entries_held held))) are))
+    (apart_filter test taken held (apart_lost (in_use taken (run ∷ held)) (in_use taken held) run.entry
+    (record { before = taken; after = entries_held held; was = refl; is = refl }) are))
+  where
+    by_test : (left : Bool) → AreApart (in_use (taken ++ run.entry ∷ []) (filter test held)) → AreApart (in_use taken (filter test held))
+        → AreApart (in_use taken (cond left (run ∷ filter test held) (filter test held)))
+    by_test true with_it without = subst AreApart (append_assoc taken (run.entry ∷ []) (entries_held (filter test held))) with_it
+    by_test false with_it without = without

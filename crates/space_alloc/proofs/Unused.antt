@@ -1,15 +1,13 @@
 -- A sector is unused exactly where no run in use has it.
-use Rattle.std.proofs.Common.{◌≡◌, ℕ, suc, ◌+◌, ◌%◌, ◌<◌, ◌≤◌, List, [], ◌∷◌, ◌++◌, take, drop, refl, sym, ◌∙◌, ap, subst, arith, ⊎_elim}
+use Rattle.std.proofs.Common.{◌≡◌, ℕ, suc, ◌+◌, ◌%◌, ◌<◌, ◌≤◌, List, [], ◌∷◌, ◌++◌, refl, sym, ◌∙◌, ap, subst, arith, ⊎_elim}
 use Rattle.std.specs.Prelude.{All, AllPairs}
 use Rattle.std.proofs.lemmas.Bool.{cases_lt}
 use Rattle.std.proofs.lemmas.Bool.Decides.{nat_tests}
-use Rattle.std.proofs.lemmas.List.{take-append-drop}
 use Rattle.std.proofs.lemmas.List.Elements.{All-contains}
 use Rattle.range_locks.proofs.Lists.{first_listed, listed_cases, rest_listed}
-use Rattle.space_alloc.specs.declared.entry.Use.{Use}
 use Rattle.space_alloc.specs.declared.entry.Entry.{Entry}
-use Rattle.space_alloc.specs.Space.{IsIn}
-use Rattle.space_alloc.specs.Entries.{entry_end, AreEntries, IsBefore, IsInserted, IsRemoved, IsReplaced}
+use Rattle.space_alloc.specs.Space.{Gains, IsIn}
+use Rattle.space_alloc.specs.Entries.{entry_end, AreApart, IsBeside}
 use Rattle.space_alloc.specs.Edges.{edges_to, ends_of, AreEdgesOf, IsFlipped, IsUnused, IsRising}
 use Rattle.space_alloc.proofs.Flipping.{edges_append, edges_cons, step_of}
 use Rattle.space_alloc.proofs.InUse.{Covers}
@@ -45,29 +43,33 @@ uncovered_even (entry ∷ entries) sector none =
     (cases_lt sector entry.start)
 
 -- Where one covers it, that one alone has an end on each side.
-pub covered_odd : (entries : List Entry) (sector : ℕ) → AllPairs IsBefore entries → Covers entries sector → edges_to (ends_of entries) sector % 2 ≡ 1
+pub covered_odd : (entries : List Entry) (sector : ℕ) → AllPairs IsBeside entries → Covers entries sector → edges_to (ends_of entries) sector % 2 ≡ 1
 covered_odd [] sector apart covers = absurd (omega (arith, covers.listed.1))
 covered_odd (entry ∷ entries) sector apart covers =
     let both = both_ends entry entries sector in
-    let later : All (IsBefore entry) entries = λ k default within. apart 0 (suc k) default (omega arith) (omega (arith, within)) in
-    let rest_apart : AllPairs IsBefore entries = λ i j default order within. apart (suc i) (suc j) default (omega (arith, order)) (omega (arith, within)) in
+    let later : All (IsBeside entry) entries = λ k default within. apart 0 (suc k) default (omega arith) (omega (arith, within)) in
+    let rest_apart : AllPairs IsBeside entries = λ i j default order within. apart (suc i) (suc j) default (omega (arith, order)) (omega (arith, within)) in
     ⊎_elim
     (λ same. let inside : IsIn entry.start entry.len sector = subst (λ (e : Entry). IsIn e.start e.len sector) (sym same) covers.inside in
     let none : edges_to (ends_of entries) sector % 2 ≡ 0 = uncovered_even entries sector
-    (λ others. let behind : IsBefore entry others.entry = All-contains (IsBefore entry) entries others.entry later others.listed in
-    omega (arith, behind, inside, others.inside)) in
+    (λ others. ⊎_elim (λ behind. omega (arith, behind, inside, others.inside)) (λ before. omega (arith, before, inside, others.inside))
+    (All-contains (IsBeside entry) entries others.entry later others.listed)) in
     let one = step_one sector entry.start inside.0 in
     let other = step_none sector (entry_end entry) inside.1 in
     omega (arith, both, one, other, none))
     (λ listed. let odd : edges_to (ends_of entries) sector % 2 ≡ 1 =
     covered_odd entries sector rest_apart (record { entry = covers.entry; listed = listed; inside = covers.inside }) in
-    let behind : IsBefore entry covers.entry = All-contains (IsBefore entry) entries covers.entry later listed in
-    let one = step_one sector entry.start (omega (arith, behind, covers.inside)) in
+    ⊎_elim
+    (λ behind. let one = step_one sector entry.start (omega (arith, behind, covers.inside)) in
     let other = step_one sector (entry_end entry) (omega (arith, behind, covers.inside)) in
     omega (arith, both, one, other, odd))
+    (λ before. let one = step_none sector entry.start (omega (arith, before, covers.inside)) in
+    let other = step_none sector (entry_end entry) (omega (arith, before, covers.inside)) in
+    omega (arith, both, one, other, odd))
+    (All-contains (IsBeside entry) entries covers.entry later listed))
     (listed_cases entry covers.entry entries covers.listed)
 
-pub covered_inside : (entries : List Entry) (edges : List ℕ) (sector : ℕ) → AreEntries entries → AreEdgesOf entries edges → Covers entries sector
+pub covered_inside : (entries : List Entry) (edges : List ℕ) (sector : ℕ) → AreApart entries → AreEdgesOf entries edges → Covers entries sector
     → IsUnused edges sector → ⊥
 covered_inside entries edges sector are kept covers unused =
     let odd = covered_odd entries sector are.apart covers in
@@ -118,29 +120,30 @@ edges_less before after entry old new kept rising flipped = record {
       omega (arith, was, split, around, flip);
 }
 
-pub edges_inserted : (entries more : List Entry) (entry : Entry) (old new : List ℕ) → AreEdgesOf entries old → IsInserted entries more entry → IsRising new
+pub edges_gained : (entries more : List Entry) (entry : Entry) (old new : List ℕ) → AreEdgesOf entries old → Gains entries more entry → IsRising new
     → IsFlipped old new (entry.start ∷ entry_end entry ∷ []) → AreEdgesOf more new
-edges_inserted entries more entry old new kept inserted rising flipped =
-    subst (λ (l : List Entry). AreEdgesOf l new) (sym inserted.is)
-    (edges_more (take inserted.at entries) (drop inserted.at entries) entry old new
-    (subst (λ (l : List Entry). AreEdgesOf l old) (sym (take-append-drop inserted.at entries)) kept) rising flipped)
+edges_gained entries more entry old new kept gains rising flipped =
+    subst (λ (l : List Entry). AreEdgesOf l new) (sym gains.is)
+    (edges_more gains.before gains.after entry old new (subst (λ (l : List Entry). AreEdgesOf l old) gains.was kept) rising flipped)
 
-pub edges_removed : (entries less : List Entry) (entry : Entry) (old new : List ℕ) → AreEdgesOf entries old → IsRemoved entries less entry → IsRising new
+pub edges_lost : (entries less : List Entry) (entry : Entry) (old new : List ℕ) → AreEdgesOf entries old → Gains less entries entry → IsRising new
     → IsFlipped old new (entry.start ∷ entry_end entry ∷ []) → AreEdgesOf less new
-edges_removed entries less entry old new kept removed rising flipped =
-    subst (λ (l : List Entry). AreEdgesOf l new) (sym removed.is)
-    (edges_less removed.before removed.after entry old new (subst (λ (l : List Entry). AreEdgesOf l old) removed.was kept) rising flipped)
+edges_lost entries less entry old new kept gains rising flipped =
+    subst (λ (l : List Entry). AreEdgesOf l new) (sym gains.was)
+    (edges_less gains.before gains.after entry old new (subst (λ (l : List Entry). AreEdgesOf l old) gains.is kept) rising flipped)
 
--- Another use of the same sectors leaves them.
-pub edges_replaced : (entries others : List Entry) (start len : ℕ) (used other : Use) (edges : List ℕ) → AreEdgesOf entries edges
-    → IsReplaced entries others (record { start = start; len = len; used = used }) (record { start = start; len = len; used = other })
-    → AreEdgesOf others edges
-edges_replaced entries others start len used other edges kept replaced = record {
+-- Another place among the runs leaves them.
+pub edges_moved : (less entries others : List Entry) (entry : Entry) (edges : List ℕ) → AreEdgesOf entries edges → Gains less entries entry
+    → Gains less others entry → AreEdgesOf others edges
+edges_moved less entries others entry edges kept lost gained = record {
   rising = kept.rising;
   same = λ sector. let was = kept.same sector in
-      let old = ap (λ (l : List Entry). edges_to (ends_of l) sector) replaced.was in
-      let new = ap (λ (l : List Entry). edges_to (ends_of l) sector) replaced.is in
-      let around = ends_around replaced.before replaced.after (record { start = start; len = len; used = used }) sector in
-      let beside = ends_around replaced.before replaced.after (record { start = start; len = len; used = other }) sector in
-      omega (arith, was, old, new, around, beside);
+      let old = ap (λ (l : List Entry). edges_to (ends_of l) sector) lost.is in
+      let new = ap (λ (l : List Entry). edges_to (ends_of l) sector) gained.is in
+      let left = ap (λ (l : List Entry). edges_to (ends_of l) sector) (sym lost.was ∙ gained.was) in
+      let split = ends_split lost.before lost.after sector in
+      let other_split = ends_split gained.before gained.after sector in
+      let around = ends_around lost.before lost.after entry sector in
+      let beside = ends_around gained.before gained.after entry sector in
+      omega (arith, was, old, new, left, split, other_split, around, beside);
 }

@@ -3,7 +3,8 @@ use Rattle.std.specs.Prelude.{◌≡◌, ℕ, ◌+◌, ◌*◌, ◌%◌, ◌<◌
 use Rattle.std.specs.Vec.{vec_capacity}
 use Rattle.std.specs.declared.alloc.Global.{Global}
 use Rattle.space_alloc.specs.declared.entry.Entry.{Entry}
-use Rattle.space_alloc.specs.Entries.{entry_end, AreEntries}
+use Rattle.space_alloc.specs.declared.held.HeldEntry.{HeldEntry}
+use Rattle.space_alloc.specs.Entries.{entry_end, in_use, AreEntries, AreApart}
 
 -- how many of them stand at or below a sector
 abbrev pub edges_to : List ℕ → ℕ → ℕ
@@ -31,9 +32,19 @@ pub record AreEdgesOf (entries : List Entry) (edges : List ℕ) : Type 0 where
   pub rising : IsRising edges
   pub same : (sector : ℕ) → (edges_to edges sector + edges_to (ends_of entries) sector) % 2 ≡ 0
 
--- how a space keeps its runs: they are in order, their edges stand beside them, and there is room for those of
--- each run that is given back
-pub record AreKept (entries : Vec Entry Global) (edges : Vec ℕ Global) : Type 0 where
-  pub entries_apart : AreEntries entries.items
-  pub edges_of : AreEdgesOf entries.items edges.items
-  pub room : vec_len edges + 2 * length entries.items ≤ vec_capacity edges
+-- Of the runs that were held back only these are left: whatever is taken beside them, the edges of the runs in
+-- use are those of the ones still in use, and what was room for the edges of all runs is that for those left.
+pub record HasReleased (held left : List HeldEntry) (old new : Vec ℕ Global) : Type 0 where
+  pub rising : IsRising new.items
+  pub edges_of : (taken : List Entry) → AreEdgesOf (in_use taken held) old.items → AreEdgesOf (in_use taken left) new.items
+  pub room : vec_len new + 2 * length left ≤ vec_len old + 2 * length held
+  pub capacity : vec_capacity new ≡ vec_capacity old
+
+-- how a space keeps its runs: those that are taken are in order, no two in use meet, and their edges stand beside
+-- them. There is room for the edges of each run that is given back, and for each taken run among those held back.
+pub record AreKept (taken : Vec Entry Global) (held : Vec HeldEntry Global) (edges : Vec ℕ Global) : Type 0 where
+  pub in_order : AreEntries taken.items
+  pub apart : AreApart (in_use taken.items held.items)
+  pub edges_of : AreEdgesOf (in_use taken.items held.items) edges.items
+  pub room : vec_len edges + 2 * (vec_len taken + vec_len held) ≤ vec_capacity edges
+  pub held_room : vec_len taken + vec_len held ≤ vec_capacity held

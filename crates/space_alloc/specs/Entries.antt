@@ -1,32 +1,27 @@
--- The runs in use, in the order of their sectors.
-use Rattle.std.specs.Prelude.{◌≡◌, ◌^◌, ℕ, ◌+◌, ◌<◌, ◌≤◌, List, [], ◌∷◌, ◌++◌, All, AllPairs, Bool, true, nat_lt, get_or, length, take, drop, slice_get, Some}
-use Rattle.space_alloc.specs.declared.entry.Use.{Use}
-use Rattle.space_alloc.specs.declared.entry.Use.TheVariants.{Taken, Held}
+-- The runs in use: those that are taken, in the order of their sectors, and those that are held back.
+use Rattle.std.specs.Prelude.{◌≡◌, ◌⊎◌, ◌^◌, ℕ, ◌+◌, ◌<◌, ◌≤◌, List, ◌∷◌, ◌++◌, All, AllPairs, Bool, nat_lt, get_or, length, map, take, drop, slice_get, Some}
 use Rattle.space_alloc.specs.declared.entry.Entry.{Entry}
+use Rattle.space_alloc.specs.declared.held.HeldEntry.{HeldEntry}
 use Rattle.space_alloc.specs.Space.{Run, HeldRun, Space}
 
--- the run, where it is taken
-abbrev pub taken_run : Use → ℕ → ℕ → List Run
-taken_run Taken start len = record { start = start; len = len } ∷ []
-taken_run (Held until) start len = []
+abbrev pub run_of : Entry → Run
+run_of entry = record { start = entry.start; len = entry.len }
 
--- the run, where it is held
-abbrev pub held_run : Use → ℕ → ℕ → List HeldRun
-held_run Taken start len = []
-held_run (Held until) start len = record { start = start; len = len; group = until } ∷ []
-
-abbrev pub taken_of : List Entry → List Run
-taken_of [] = []
-taken_of (entry ∷ entries) = taken_run entry.used entry.start entry.len ++ taken_of entries
-
-abbrev pub held_of : List Entry → List HeldRun
-held_of [] = []
-held_of (entry ∷ entries) = held_run entry.used entry.start entry.len ++ held_of entries
+abbrev pub held_run_of : HeldEntry → HeldRun
+held_run_of run = record { start = run.entry.start; len = run.entry.len; group = run.until }
 
 -- a space with these runs in use
-abbrev pub space_of : ℕ → List Entry → Space
-space_of capacity entries =
-    record { capacity = capacity; taken = taken_of entries; held = held_of entries }
+abbrev pub space_of : ℕ → List Entry → List HeldEntry → Space
+space_of capacity taken held =
+    record { capacity = capacity; taken = map run_of taken; held = map held_run_of held }
+
+-- the sectors of the runs that are held back
+abbrev pub entries_held : List HeldEntry → List Entry
+entries_held held = map (λ run. run.entry) held
+
+-- all runs in use
+abbrev pub in_use : List Entry → List HeldEntry → List Entry
+in_use taken held = taken ++ entries_held held
 
 -- the sector after the run
 abbrev pub entry_end : Entry → ℕ
@@ -51,13 +46,18 @@ pub record AreEntries (entries : List Entry) : Type 0 where
   pub each : All IsEntry entries
   pub apart : AllPairs IsBefore entries
 
+-- One run ends before the other begins.
+abbrev pub IsBeside : Entry → Entry → Type 0
+IsBeside entry other = IsBefore entry other ⊎ IsBefore other entry
+
+-- No two of the runs have a sector in common, in whatever order they are.
+pub record AreApart (entries : List Entry) : Type 0 where
+  pub each : All IsEntry entries
+  pub apart : AllPairs IsBeside entries
+
 -- whether a run is still in use when a group is answered
-abbrev pub is_left : ℕ → Entry → Bool
-is_left group entry = left_in entry.used
-  where
-    left_in : Use → Bool
-    left_in Taken = true
-    left_in (Held until) = nat_lt group until
+abbrev pub is_left : ℕ → HeldEntry → Bool
+is_left group run = nat_lt group run.until
 
 -- the place of the first run that begins behind a sector
 pub record IsPlaceBehind (entries : List Entry) (start at : ℕ) : Type 0 where
@@ -77,17 +77,3 @@ pub record IsInserted (old new : List Entry) (entry : Entry) : Type 0 where
   pub at : ℕ
   pub place : IsPlaceBehind old entry.start at
   pub is : new ≡ take at old ++ entry ∷ drop at old
-
--- A run is taken away.
-pub record IsRemoved (old new : List Entry) (entry : Entry) : Type 0 where
-  pub before : List Entry
-  pub after : List Entry
-  pub was : old ≡ before ++ entry ∷ after
-  pub is : new ≡ before ++ after
-
--- Another stands in its place.
-pub record IsReplaced (old new : List Entry) (entry other : Entry) : Type 0 where
-  pub before : List Entry
-  pub after : List Entry
-  pub was : old ≡ before ++ entry ∷ after
-  pub is : new ≡ before ++ other ∷ after

@@ -4,10 +4,10 @@
 // without an end. Where two runs in use meet there is no edge, so neighbouring runs are one.
 ghost use Rattle.std.specs.Prelude.{◌≡◌, ◌+◌, ◌*◌, ◌<◌, ◌≤◌, [], ◌∷◌, All, filter, length, vec_len};
 ghost use Rattle.std.specs.Vec.{vec_capacity};
-ghost use Rattle.space_alloc.specs.Edges.{AreEdgesOf, IsFlipped, IsRising};
+ghost use Rattle.space_alloc.specs.Edges.{HasReleased, IsFlipped, IsRising};
 ghost use Rattle.space_alloc.specs.Entries.{IsEntry, is_left};
 
-use crate::entry::Entry;
+use crate::held::HeldEntry;
 
 /// What lies between the two sectors was free and is in use from now on, or the other way round.
 pub fn flip_run(edges: &mut Vec<u64>, start: u64, end: u64)
@@ -23,16 +23,15 @@ pub fn flip_run(edges: &mut Vec<u64>, start: u64, end: u64)
 }
 
 /// The runs that are held until this group or an earlier one are free from now on.
-pub fn flip_until(edges: &mut Vec<u64>, entries: &[Entry], group: u64)
-    requires entries { All IsEntry entries.now }
-    requires edges { AreEdgesOf entries.now edges.old.items }
-    requires room { vec_len edges.old + 2 * length entries.now ≤ vec_capacity edges.old }
-    ensures edges { AreEdgesOf (filter (is_left group) entries.now) edges.new.items }
-    ensures room { vec_len edges.new + 2 * length (filter (is_left group) entries.now) ≤ vec_capacity edges.new }
+pub fn flip_until(edges: &mut Vec<u64>, held: &[HeldEntry], group: u64)
+    requires entries { All (λ run. IsEntry run.entry) held.now }
+    requires rising { IsRising edges.old.items }
+    requires room { vec_len edges.old + 2 * length held.now ≤ vec_capacity edges.old }
+    ensures released { HasReleased held.now (filter (is_left group) held.now) edges.old edges.new }
 {
-    for entry in entries {
-        if !entry.is_left(group) {
-            flip_run(edges, entry.start, entry.end());
+    for run in held {
+        if !run.is_left(group) {
+            flip_run(edges, run.entry.start, run.entry.end());
         }
     }
 }

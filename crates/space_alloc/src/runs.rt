@@ -1,6 +1,7 @@
-// The list of runs in use, by their start.
-ghost use Rattle.std.specs.Prelude.{◌≡◌, AllPairs, Some, Contains, OnOk, OnErr, slice_get, filter};
-ghost use Rattle.space_alloc.specs.Entries.{AreEntries, IsBefore, IsInserted, IsRemoved, IsReplaced, IsPlaceBehind, is_left};
+// The list of taken runs, by their start.
+ghost use Rattle.std.specs.Prelude.{◌≡◌, AllPairs, Some, Contains, OnOk, OnErr, slice_get};
+ghost use Rattle.space_alloc.specs.Space.{Gains};
+ghost use Rattle.space_alloc.specs.Entries.{AreEntries, IsBefore, IsInserted, IsPlaceBehind};
 
 use crate::entry::Entry;
 use std::alloc::AllocError;
@@ -38,27 +39,10 @@ fn place(entries: &[Entry], start: u64) -> usize
 pub fn remove(entries: &mut Vec<Entry>, entry: &Entry)
     requires listed { Contains entries.old.items entry.now }
     requires entries { AreEntries entries.old.items }
-    ensures { IsRemoved entries.old.items entries.new.items entry.now }
+    ensures { Gains entries.new.items entries.old.items entry.now }
 {
     let at = position(entries, entry);
     entries.remove(at);
-}
-
-/// Puts another run in the place of one that is listed.
-pub fn replace(entries: &mut Vec<Entry>, entry: &Entry, other: Entry)
-    requires listed { Contains entries.old.items entry.now }
-    requires entries { AreEntries entries.old.items }
-    ensures { IsReplaced entries.old.items entries.new.items entry.now other }
-{
-    let at = position(entries, entry);
-    entries[at] = other;
-}
-
-/// Takes away the runs that are held until this group or an earlier one.
-pub fn remove_until(entries: &mut Vec<Entry>, group: u64)
-    ensures { entries.new.items ≡ filter (is_left group) entries.old.items }
-{
-    entries.retain(|entry| entry.is_left(group));
 }
 
 /// The place of a run that is listed: the last that does not begin behind it.

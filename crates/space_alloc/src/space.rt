@@ -3,19 +3,24 @@ ghost use Rattle.std.specs.Prelude.{◌≡◌, ◌≤◌, ◌<◌, [], Contains,
 ghost use Rattle.space_alloc.specs.Fit.{refusal_of};
 ghost use Rattle.space_alloc.specs.Space.{IsFreeRun, IsFirstFit, IsTaking, IsDropping, IsHolding, IsTakeCause, LooksAtEach, after_group};
 
-use crate::entry::{Entry, Use};
+use crate::entry::Entry;
+use crate::held::{self, HeldEntry};
 use crate::{TakeRefused, edges, fit, runs};
 use range_locks::{Hold, Locks, Steps};
 use std::alloc::{AllocError, Global};
 use std::marker::Model;
 use std::sync::ledger::Ledger;
 
-/// The runs of sectors that are taken or held back, by their start, and beside them the edges between what
-/// is free and what is in use.
+/// The runs of sectors that are taken, by their start, those that are held back, in the order in which they were
+/// given back, and beside both the edges between what is free and what is in use.
+///
+/// A run that is taken, or given back, shifts the taken ones behind it, so an entry there is two numbers and no
+/// more. There is always room to hold back all that are taken.
 #[derive(Drop, Debug)]
 pub struct Space {
     capacity: u64,
-    entries: Vec<Entry>,
+    taken: Vec<Entry>,
+    held: Vec<HeldEntry>,
     edges: Vec<u64>,
 }
 
@@ -26,9 +31,9 @@ impl Model for Space {
 
     ghost Value = { Space };
 
-    ghost view = { λ space. space_of space.capacity space.entries.items };
+    ghost view = { λ space. space_of space.capacity space.taken.items space.held.items };
 
-    ghost invariant = { λ space. AreKept space.entries space.edges };
+    ghost invariant = { λ space. AreKept space.taken space.held space.edges };
 }
 
 impl Space {
@@ -38,7 +43,8 @@ impl Space {
     {
         Space {
             capacity,
-            entries: Vec::new(alloc),
+            taken: Vec::new(alloc),
+            held: Vec::new(alloc),
             edges: Vec::new(alloc),
         }
     }
@@ -82,8 +88,10 @@ impl Space {
             Contains self.new.taken (record { start = start; len = len })) }
         ensures err { OnErr result (self.new ≡ self.old) }
     {
-        self.edges.reserve(2 * self.entries.len() + 4)?;
-        runs::insert(&mut self.entries, Entry::taken(start, len))?;
+        self.held.reserve(self.taken.len() + 1)?;
+        self.edges
+            .reserve(2 * (self.taken.len() + self.held.len()) + 4)?;
+        runs::insert(&mut self.taken, Entry { start, len })?;
         edges::flip_run(&mut self.edges, start, start + len);
         Ok(())
     }
@@ -93,8 +101,8 @@ impl Space {
         requires taken { Contains self.old.taken (record { start = start; len = len }) }
         ensures value { IsDropping self.old self.new start len }
     {
-        let entry = Entry::taken(start, len);
-        runs::remove(&mut self.entries, &entry);
+        let entry = Entry { start, len };
+        runs::remove(&mut self.taken, &entry);
         edges::flip_run(&mut self.edges, start, entry.end());
     }
 
@@ -103,20 +111,20 @@ impl Space {
         requires taken { Contains self.old.taken (record { start = start; len = len }) }
         ensures value { IsHolding self.old self.new start len group }
     {
-        let held = Entry {
-            start,
-            len,
-            used: Use::Held { until: group },
-        };
-        runs::replace(&mut self.entries, &Entry::taken(start, len), held);
+        let entry = Entry { start, len };
+        runs::remove(&mut self.taken, &entry);
+        self.held.push_reserved(HeldEntry {
+            entry,
+            until: group,
+        });
     }
 
     /// Frees what was held back until this group, which is answered, or an earlier one.
     pub fn synced(&mut self, group: u64)
         ensures value { self.new ≡ after_group self.old group }
     {
-        edges::flip_until(&mut self.edges, &self.entries, group);
-        runs::remove_until(&mut self.entries, group);
+        edges::flip_until(&mut self.edges, &self.held, group);
+        held::remove_until(&mut self.held, group);
     }
 
     /// The pool has so many sectors from now on.

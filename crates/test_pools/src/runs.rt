@@ -7,6 +7,7 @@ use core_open::OpenWhy;
 use core_state::Journal;
 use schedule::{Ended, Ran, run_pool};
 use std::alloc::Global;
+use std::mem::replace;
 use std::test::Fail;
 use uberblock_ring::DeviceSet;
 
@@ -63,7 +64,12 @@ pub fn run_into(
         Order::OfLines => &[],
         Order::AsListed => script.order(),
     };
-    Ok(run_pool(alloc, bank, &script, listed, journal))
+    let begun = replace(bank, MemBank::new(alloc, 1, 1)?);
+    let empty = replace(journal, Journal::new(alloc));
+    let run = run_pool(alloc, begun, &script, listed, empty);
+    *bank = run.bank;
+    *journal = run.journal;
+    Ok(run.ran)
 }
 
 fn tell(alloc: Global, bank: &mut MemBank, script: &[u8], order: Order) -> Result<Told, Fail> {

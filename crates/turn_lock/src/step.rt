@@ -14,7 +14,7 @@ use std::sync::Wait;
 pub const FULL: u64 = 1 << 63;
 
 /// How often a thread looks at the word before it sleeps.
-const LOOKS: u32 = 2_000;
+const LOOKS: u32 = 500;
 
 /// The history has become as long as it may.
 #[derive(Debug, Drop, PartialEq)]

@@ -16,7 +16,7 @@ returns-in-Ok g c = inr (record {
   called = record {
     in_use = sym c.has.ensures.value ∙ c.if-has.false;
     out = λ other. none_lost c.args.spot.device (Ok tt) refl c.args.out.now other;
-    lawful = g.met.B.Bank.lawful c.sector_at.new.bank;
+    lawful = g.met.B.Bank.lawful c.read.new.self;
   };
 })
 
@@ -35,6 +35,6 @@ returns-in-Err g c =
         out = λ other.
             subst (λ (out : ℕ). has_device out other ≡ (has_device c.args.out.now other || lost_by device (Err c.in-Err.field-0) other))
             (sym c.insert.ensures.value) (one_lost device (Err c.in-Err.field-0) refl c.args.out.now other);
-        lawful = g.met.B.Bank.lawful c.sector_at.new.bank;
+        lawful = g.met.B.Bank.lawful c.read.new.self;
       };
     })

@@ -1,7 +1,7 @@
 use Rattle.std.proofs.Common.{◌≡◌, ◌≤◌}
 use Rattle.client_script.specs.Script.{calls_of}
 use Rattle.schedule.specs.Ahead.{IsReadyFor}
-use Rattle.schedule.specs.InTurn.{turns_by}
+use Rattle.schedule.specs.Live.{turns_in}
 use Rattle.schedule.specs.Playing.{IsReady}
 use Rattle.pool_live.specs.Sharing.{MovesOn}
 use Rattle.pool_live.proofs.batch.have_turns.Given as goal
@@ -12,10 +12,10 @@ invariant-loop-turn g l = record {
   had : l.turns ≡ l._turn;
   answered : l.answered ≤ l._turn;
   computed : IsReadyFor (calls_of l.fn.script l.fn.actor) l.computed;
-  ready : IsReady l.fn.script (turns_by l.live.core (g.B.Bank.disk l.live.bank) l.live.journal l.live.progress)
+  ready : IsReady l.fn.script (turns_in g.B.Bank.disk l.live)
       l.live.journal.room;
-  moves : MovesOn l.fn.script (turns_by l.fn.live.core (g.B.Bank.disk l.fn.live.bank) l.fn.live.journal l.fn.live.progress)
+  moves : MovesOn l.fn.script (turns_in g.B.Bank.disk l.fn.live)
       l.fn.live.journal.room l.fn.live.progress.turns l.fn.actor l.turns
-      (turns_by l.live.core (g.B.Bank.disk l.live.bank) l.live.journal l.live.progress)
+      (turns_in g.B.Bank.disk l.live)
       l.live.journal.room l.live.progress.turns;
 }

@@ -1,6 +1,6 @@
 use Rattle.std.proofs.Common.{ℕ, List, subst, sym}
 use Rattle.client_script.specs.Script.{Script}
-use Rattle.schedule.specs.InTurn.{turns_by}
+use Rattle.schedule.specs.Live.{turns_in}
 use Rattle.turn_lock.specs.Turn.{entries}
 use Rattle.pool_live.specs.Sharing.{MovesOn, StandsFor, actors_told}
 use Rattle.pool_live.proofs.Sharing.{actors_more}
@@ -11,14 +11,14 @@ give-requires-clause-stands g c =
     let held = c.in-Ok.held.state.live.value in
     let lent = c.deref_mut.result.now in
     let new = c.have_turns-batch.new.live in
-    let after = turns_by new.core (g.B.Bank.disk new.bank) new.journal new.progress in
+    let after = turns_in g.B.Bank.disk new in
     let seen = entries c.take.new.seat.me.seen in
     let had = c.have_turns-batch.result.turns in
     subst (λ (actors : List ℕ). StandsFor g.J.Setup.script g.J.Setup.start actors after new.journal.room new.progress.turns)
     (sym (actors_more seen (record { actor = c.args.actor; turns = had })))
-    (subst (λ live. MovesOn g.J.Setup.script (turns_by live.core (g.B.Bank.disk live.bank) live.journal live.progress)
+    (subst (λ live. MovesOn g.J.Setup.script (turns_in g.B.Bank.disk live)
     live.journal.room live.progress.turns c.args.actor had after new.journal.room new.progress.turns)
     c.deref_mut.ensures.value
-    (subst (λ (s : Script). MovesOn s (turns_by lent.core (g.B.Bank.disk lent.bank) lent.journal lent.progress)
+    (subst (λ (s : Script). MovesOn s (turns_in g.B.Bank.disk lent)
     lent.journal.room lent.progress.turns c.args.actor had after new.journal.room new.progress.turns) c.requires.script
     c.have_turns-batch.ensures.stands) g.J.Setup.start (actors_told seen) c.in-Ok.ensures.stands)

@@ -46,7 +46,7 @@ returns-then-attaches g c =
 
 pub returns-then-clients-le1 : goal.returns-then-clients-le1
 returns-then-clients-le1 g c =
-    let done = c.carry_out_alone in
+    let done = c.carry_out in
     carried_alone c.args.script c.args.attaches (at_disk c.args.core (g.B.Bank.disk c.args.bank)) c.args.journal.items
     done.result.ended done.result.turns (at_disk done.result.core (g.B.Bank.disk done.result.bank))
     done.result.journal.items c.if-attaches.false

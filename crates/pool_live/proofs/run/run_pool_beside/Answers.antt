@@ -1,4 +1,4 @@
-use Rattle.std.proofs.Common.{◌∙◌, ◌++◌, ◌∷◌, [], ⊎_elim, List, ℕ, ap, refl, subst, sym}
+use Rattle.std.proofs.Common.{◌∙◌, ◌++◌, ◌∷◌, [], ⊎_elim, List, ap, refl, subst, sym}
 use Rattle.core_state.specs.declared.item.Group.{Group as GroupItem}
 use Rattle.core_state.specs.declared.item.Item.{Item}
 use Rattle.core_state.specs.declared.item.Item.TheVariants.{Group}
@@ -10,13 +10,14 @@ use Rattle.schedule.specs.Turns.{turns_of}
 use Rattle.schedule.specs.WholeRun.{first_turns}
 use Rattle.schedule.proofs.Opened.{resting}
 use Rattle.schedule.proofs.Whole.{ends_taken, has_run, has_run_counted, has_run_in_turn, turns_counted}
-use Rattle.pool_live.specs.Widening.{HasRunBeside, IsAlone, IsCarriedWith, IsScriptWith}
+use Rattle.pool_live.specs.Sharing.{AnswersNone}
+use Rattle.pool_live.specs.Widening.{IsAlone, IsCarriedWith, IsScriptWith}
 use Rattle.pool_live.proofs.Sharing.{counted_first}
-use Rattle.pool_live.proofs.Widening.{one_first}
+use Rattle.pool_live.proofs.Widening.{group_answers_none, one_first}
 use Rattle.pool_live.proofs.run.run_pool_beside.Goals as goal
 
-pub carry_out_with-carried-requires-clause-bank : goal.carry_out_with-carried-requires-clause-bank
-carry_out_with-carried-requires-clause-bank g c κs within =
+pub carry_out_with-requires-clause-bank : goal.carry_out_with-requires-clause-bank
+carry_out_with-requires-clause-bank g c κs within =
     subst (λ (core : Core). HasBankOf core (g.B.Bank.disk c.open_pool.new.bank)) (sym c.new-core.ensures)
     c.in-Ok.ensures.bank
 
@@ -28,7 +29,7 @@ returns-clause-run g c =
     let mid = g.B.Bank.disk c.open_pool.new.bank in
     let pool = c.in-Ok.opened.pool in
     let opened = c.in-Ok.ensures in
-    let carried = c.carry_out_with-carried in
+    let carried = c.carry_out_with in
     let final = at_disk carried.result.core (g.B.Bank.disk carried.result.bank) in
     let items = carried.result.journal.items in
     let ended = carried.result.ended in
@@ -40,8 +41,8 @@ returns-clause-run g c =
     c.new-core.ensures
     (subst (λ (l : List Item). IsCarriedWith script attaches (at_disk c.new-core.result mid) l ended turns final items)
     first carried.ensures) in
-    let ran : ℕ → Ran = λ devices. record { ended = ended; turns = turns; out = devices } in
-    subst (λ (devices : ℕ). HasRunBeside script attaches old final.disk items (ran devices)) (sym c.out.ensures) (⊎_elim
+    let ran : Ran = record { ended = ended; turns = turns; out = final.core.pool.out } in
+    rw c.of.ensures (⊎_elim
     (λ alone.
     let start = first_turns with.carried (at_disk (resting pool) mid) (first_item pool) in
     let has = has_run_in_turn with.carried old mid pool c.in-Ok.opened.silent items alone.clients final alone.passed
@@ -57,7 +58,7 @@ returns-clause-run g c =
       carried_is = subst (λ (group : GroupItem). IsScriptWith script attaches group with.carried)
           (one_first items (first_item pool) has.run.opened (alone.come.listed 0 (Group (first_item pool)) refl) has.run.there)
           with.carried_is;
-      counted = turns_counted with.carried [] has.run (ran final.core.pool.out) has.turns;
+      counted = turns_counted with.carried [] has.run ran has.turns;
       complete = with.complete;
       limit = with.limit;
       taken = λ is. has.turns;
@@ -81,3 +82,10 @@ returns-clause-run g c =
       taken = λ is. absurd (beside.0 (subst (λ (group : GroupItem). IsAlone script attaches group) same is));
     })
     with.taken)
+
+pub returns-clause-memory : goal.returns-clause-memory
+returns-clause-memory g c =
+    rw c.of.ensures (λ wanting. subst AnswersNone
+    (sym (c.carry_out_with.ensures.memory wanting ∙ c.list.ensures.items
+    ∙ ap (λ (l : List Item). l ++ Group c.first_item.result ∷ []) c.requires.empty))
+    (group_answers_none c.first_item.result))

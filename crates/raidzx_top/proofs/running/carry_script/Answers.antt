@@ -24,17 +24,16 @@ returns-in-AsTheyCome-clause-unopened g c =
 pub returns-in-AsListed-clause-carried : goal.returns-in-AsListed-clause-carried
 returns-in-AsListed-clause-carried g c =
     let old = g.B.Bank.disk c.args.bank in
-    let new = g.B.Bank.disk c.run_pool-ran.new.bank in
-    let items = c.run_pool-ran.new.journal.items in
-    let run = c.run_pool-ran.ensures in
-    subst (λ (order : OrderOf). IfOk c.run_pool-ran.result (HasCarried order c.args.script old new items))
-    (sym c.in-AsListed.is)
-    (carried_in_turn c.args.script old new items c.run_pool-ran.result
-    (subst (λ (letters : List ℕ). IfOk c.run_pool-ran.result (HasRunInTurn c.args.script letters old new items))
-    c.order.ensures run.run) run.complete run.limit)
+    let run = c.run_pool in
+    let new = g.B.Bank.disk run.result.bank in
+    let items = run.result.journal.items in
+    subst (λ (order : OrderOf). IfOk run.result.ran (HasCarried order c.args.script old new items)) (sym c.in-AsListed.is)
+    (carried_in_turn c.args.script old new items run.result.ran
+    (subst (λ (letters : List ℕ). IfOk run.result.ran (HasRunInTurn c.args.script letters old new items)) c.order.ensures
+    run.ensures.run) run.ensures.complete run.ensures.limit)
 
 pub returns-in-AsListed-clause-unopened : goal.returns-in-AsListed-clause-unopened
 returns-in-AsListed-clause-unopened g c =
-    let run = c.run_pool-ran.ensures in
-    was_unopened (g.B.Bank.disk c.args.bank) (g.B.Bank.disk c.run_pool-ran.new.bank) c.run_pool-ran.result run.cause
-    run.cut run.untouched run.others run.opens
+    let run = c.run_pool in
+    was_unopened (g.B.Bank.disk c.args.bank) (g.B.Bank.disk run.result.bank) run.result.ran run.ensures.cause
+    run.ensures.cut run.ensures.untouched run.ensures.others run.ensures.opens

@@ -12,12 +12,12 @@ returns-in_err-count_turn_of-clause-stopped g c =
 pub turns-init : goal.turns-init
 turns-init g c = record {
   ready = c.in_ok-count_turn_of.ensures.ready;
-  played = λ given is. played_first c.args.progress.now.turns c.requires.ready is
-      (idle_not_busy c.args.progress.now.clients.items c.args.actor c.requires.idle) c.requires.left
+  played = λ given is. played_first c.args.live.now.progress.turns c.requires.ready is
+      (idle_not_busy c.args.live.now.progress.clients.items c.args.actor c.requires.idle) c.requires.left
       c.in_ok-count_turn_of.ensures.turn c.in_ok-count_turn_of.ensures.turns c.in_ok-count_turn_of.ensures.ready;
   begins = begins_one c.in_ok-count_turn_of.ensures.turn c.requires.idle
       (λ client there.
-      let low = left_begun c.args.progress.now.clients.items c.args.actor c.args.number c.requires.left client there in
+      let low = left_begun c.args.live.now.progress.clients.items c.args.actor c.args.number c.requires.left client there in
       let few = c.requires.of_client in omega (arith, low, few));
 }
 
@@ -44,4 +44,4 @@ returns-in_err-count_turn_of-2-clause-stopped g c = at_err _ c.from_residual-in_
 
 pub returns-clause-idle : goal.returns-clause-idle
 returns-clause-idle g c = idle_again c.turns.invariant.begins c.requires.idle
-    (not_busy_idle c.turns.progress.clients.items c.args.actor (sym c.is_busy.ensures ∙ c.turns-test.false))
+    (not_busy_idle c.turns.live.progress.clients.items c.args.actor (sym c.is_busy.ensures ∙ c.turns-test.false))

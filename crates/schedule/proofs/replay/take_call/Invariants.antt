@@ -1,5 +1,6 @@
 use Rattle.std.proofs.Common.{ℕ, ◌-◌}
-use Rattle.schedule.specs.InTurn.{InRest, IsCallOfScript, replay_by, turns_by}
+use Rattle.schedule.specs.InTurn.{InRest, IsCallOfScript}
+use Rattle.schedule.specs.Live.{replay_in, turns_in}
 use Rattle.schedule.specs.Playing.{HasPlayed, IsReady}
 use Rattle.schedule.specs.Turns.{most_turns}
 use Rattle.schedule.specs.Replaying.{BeginsOne}
@@ -7,11 +8,11 @@ use Rattle.schedule.proofs.replay.take_call.Given as goal
 
 abbrev pub invariant-turns : goal.invariant-turns
 invariant-turns g l = record {
-  ready : IsReady l.script (turns_by l.core (g.B.Bank.disk l.bank) l.journal l.progress) l.journal.room;
-  played : (given : ℕ) → IsCallOfScript l.script given l.actor l.number → HasPlayed l.script (replay_by l.fn.core (g.B.Bank.disk l.fn.bank) l.fn.journal l.fn.progress (InRest given))
-      (replay_by l.core (g.B.Bank.disk l.bank) l.journal l.progress (InRest given)) l.journal.room;
-  begins : BeginsOne l.actor l.fn.progress.clients.items l.progress.clients.items;
+  ready : IsReady l.script (turns_in g.B.Bank.disk l.live) l.live.journal.room;
+  played : (given : ℕ) → IsCallOfScript l.script given l.actor l.number → HasPlayed l.script (replay_in g.B.Bank.disk l.fn.live (InRest given))
+      (replay_in g.B.Bank.disk l.live (InRest given)) l.live.journal.room;
+  begins : BeginsOne l.actor l.fn.live.progress.clients.items l.live.progress.clients.items;
 }
 
 abbrev pub decreases-turns : goal.decreases-turns
-decreases-turns g l = most_turns - l.progress.turns
+decreases-turns g l = most_turns - l.live.progress.turns

@@ -1,12 +1,12 @@
 use Rattle.std.proofs.Common.{drop, ap, arith}
 use Rattle.std.proofs.lemmas.List.{drop_all, take_all}
-use Rattle.schedule.specs.InTurn.{InOrder, replay_by}
+use Rattle.schedule.specs.InTurn.{InOrder}
+use Rattle.schedule.specs.Live.{replay_in}
 use Rattle.schedule.proofs.Playing.{at_err, have_had_turns, listed_more, listed_none, played_at, stopped_then}
 use Rattle.schedule.proofs.replay.take_listed.Goals as goal
 
 pub loop-actor-init : goal.loop-actor-init
-loop-actor-init g c = listed_none c.args.listed.now (replay_by c.args.core.now (g.B.Bank.disk c.args.bank.now)
-    c.args.journal.now c.args.progress.now (InOrder c.args.listed.now)) c.requires.ready
+loop-actor-init g c = listed_none c.args.listed.now (replay_in g.B.Bank.disk c.args.live.now (InOrder c.args.listed.now)) c.requires.ready
 
 pub count_turn_of-requires-clause-ready : goal.count_turn_of-requires-clause-ready
 count_turn_of-requires-clause-ready g c = c.loop-actor.invariant.played.ready

@@ -1,6 +1,7 @@
 use Rattle.std.proofs.Common.{ℕ, refl, sym, ◌∙◌, ap, subst, arith}
 use Rattle.client_script.specs.InOrder.{InOrder}
-use Rattle.schedule.specs.InTurn.{InRest, replay_by}
+use Rattle.schedule.specs.InTurn.{InRest}
+use Rattle.schedule.specs.Live.{replay_in}
 use Rattle.schedule.specs.Replaying.{HaveBegun}
 use Rattle.schedule.proofs.InTurn.{none_left_begun}
 use Rattle.schedule.proofs.Playing.{at_err, played_at, played_none, played_then, rest_goes, stopped_then}
@@ -12,11 +13,10 @@ loop-next-init g c =
     let none = ap (λ (calls : InOrder). calls.given) c.calls_in_order-calls.ensures in record {
       script = ap (λ (calls : InOrder). calls.script) c.calls_in_order-calls.ensures;
       few = omega (arith, none);
-      played = played_at (ap InRest (sym none)) (played_none (replay_by c.args.core.now (g.B.Bank.disk c.args.bank.now)
-          c.args.journal.now c.args.progress.now (InRest 0)) c.requires.ready);
+      played = played_at (ap InRest (sym none)) (played_none (replay_in g.B.Bank.disk c.args.live.now (InRest 0)) c.requires.ready);
       idle = c.requires.idle;
-      begun = subst (λ (n : ℕ). HaveBegun c.args.script.now n c.args.progress.now.clients.items) (sym none)
-          (begun_none c.args.script.now c.args.progress.now.clients.items);
+      begun = subst (λ (n : ℕ). HaveBegun c.args.script.now n c.args.live.now.progress.clients.items) (sym none)
+          (begun_none c.args.script.now c.args.live.now.progress.clients.items);
     }
 
 pub take_call-requires-clause-ready : goal.take_call-requires-clause-ready
@@ -57,7 +57,7 @@ pub loop-next-preserved : goal.loop-next-preserved
 loop-next-preserved g c =
     let is = next_is_call c.loop-next.invariant.script c.in-Some.ensures.some in
     let begun = next_begun c.loop-next.invariant.script c.in-Some.ensures.some c.loop-next.invariant.begun
-    (none_left_begun c.loop-next.progress.clients.items c.in-Some.next.actor c.in-Some.next.number
+    (none_left_begun c.loop-next.live.progress.clients.items c.in-Some.next.actor c.in-Some.next.number
     (sym c.has_left.ensures ∙ c.if-has_left.false))
     (λ other apart. refl) in record {
       script = ap (λ (calls : InOrder). calls.script) c.in-Some.ensures.some.one_more ∙ c.loop-next.invariant.script;

@@ -1,5 +1,6 @@
 use Rattle.std.proofs.Common.{◌≡◌, ◌≤◌, ◌-◌, length}
-use Rattle.schedule.specs.InTurn.{InRest, replay_by}
+use Rattle.schedule.specs.InTurn.{InRest}
+use Rattle.schedule.specs.Live.{replay_in}
 use Rattle.schedule.specs.Playing.{HasPlayed}
 use Rattle.schedule.specs.Replaying.{AreIdle, HaveBegun}
 use Rattle.schedule.proofs.replay.take_rest.Given as goal
@@ -8,10 +9,10 @@ abbrev pub invariant-loop-next : goal.invariant-loop-next
 invariant-loop-next g l = record {
   script : l.calls.script ≡ l.script;
   few : l.calls.given ≤ length l.script.calls;
-  played : HasPlayed l.script (replay_by l.fn.core (g.B.Bank.disk l.fn.bank) l.fn.journal l.fn.progress (InRest 0))
-      (replay_by l.core (g.B.Bank.disk l.bank) l.journal l.progress (InRest l.calls.given)) l.journal.room;
-  idle : AreIdle l.progress.clients.items;
-  begun : HaveBegun l.script l.calls.given l.progress.clients.items;
+  played : HasPlayed l.script (replay_in g.B.Bank.disk l.fn.live (InRest 0))
+      (replay_in g.B.Bank.disk l.live (InRest l.calls.given)) l.live.journal.room;
+  idle : AreIdle l.live.progress.clients.items;
+  begun : HaveBegun l.script l.calls.given l.live.progress.clients.items;
 }
 
 abbrev pub decreases-loop-next : goal.decreases-loop-next

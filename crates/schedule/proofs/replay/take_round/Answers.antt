@@ -1,13 +1,14 @@
-use Rattle.schedule.specs.InTurn.{InRound, replay_by}
+use Rattle.schedule.specs.InTurn.{InRound}
+use Rattle.schedule.specs.Live.{replay_in}
 use Rattle.schedule.proofs.Playing.{at_err, played_none, played_then, stopped_then}
 use Rattle.schedule.proofs.RoundTaken.{round_none}
 use Rattle.schedule.proofs.replay.take_round.Goals as goal
 
 pub loop-actor-init : goal.loop-actor-init
 loop-actor-init g c = record {
-  played = played_none (replay_by c.args.core.now (g.B.Bank.disk c.args.bank.now) c.args.journal.now c.args.progress.now
+  played = played_none (replay_in g.B.Bank.disk c.args.live.now
       (InRound 0)) c.requires.ready;
-  round = round_none c.args.progress.now.clients.items c.args.progress.now.turns;
+  round = round_none c.args.live.now.progress.clients.items c.args.live.now.progress.turns;
 }
 
 pub take_if_busy-requires-clause-ready : goal.take_if_busy-requires-clause-ready
@@ -16,7 +17,7 @@ take_if_busy-requires-clause-ready g c = c.loop-actor.invariant.played.ready
 pub loop-actor-preserved : goal.loop-actor-preserved
 loop-actor-preserved g c = record {
   played = played_then c.loop-actor.invariant.played c.in_ok-take_if_busy.ensures.played;
-  round = c.in_ok-take_if_busy.ensures.round c.args.progress.now.clients.items c.args.progress.now.turns
+  round = c.in_ok-take_if_busy.ensures.round c.args.live.now.progress.clients.items c.args.live.now.progress.turns
       c.loop-actor.invariant.round;
 }
 

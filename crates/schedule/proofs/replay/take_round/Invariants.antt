@@ -1,11 +1,12 @@
-use Rattle.schedule.specs.InTurn.{InRound, replay_by}
+use Rattle.schedule.specs.InTurn.{InRound}
+use Rattle.schedule.specs.Live.{replay_in}
 use Rattle.schedule.specs.Playing.{HasPlayed}
 use Rattle.schedule.specs.Replaying.{HasComeRound}
 use Rattle.schedule.proofs.replay.take_round.Given as goal
 
 abbrev pub invariant-loop-actor : goal.invariant-loop-actor
 invariant-loop-actor g l = record {
-  played : HasPlayed l.script (replay_by l.fn.core (g.B.Bank.disk l.fn.bank) l.fn.journal l.fn.progress (InRound 0))
-      (replay_by l.core (g.B.Bank.disk l.bank) l.journal l.progress (InRound l.actor)) l.journal.room;
-  round : HasComeRound l.actor l.fn.progress.clients.items l.fn.progress.turns l.progress.clients.items l.progress.turns;
+  played : HasPlayed l.script (replay_in g.B.Bank.disk l.fn.live (InRound 0))
+      (replay_in g.B.Bank.disk l.live (InRound l.actor)) l.live.journal.room;
+  round : HasComeRound l.actor l.fn.live.progress.clients.items l.fn.live.progress.turns l.live.progress.clients.items l.live.progress.turns;
 }

@@ -5,7 +5,7 @@ use Rattle.schedule.proofs.RoundTaken.{none_busy_idle, round_further}
 use Rattle.schedule.proofs.replay.take_rounds.Goals as goal
 
 pub rounds-init : goal.rounds-init
-rounds-init g c = order_over c.args.progress.now.turns c.requires.ready
+rounds-init g c = order_over c.args.live.now.progress.turns c.requires.ready
 
 pub take_round-requires-clause-ready : goal.take_round-requires-clause-ready
 take_round-requires-clause-ready g c = c.rounds.invariant.ready
@@ -24,14 +24,14 @@ rounds-preserved g c = round_over c.rounds.invariant (sym c.is_any_busy.ensures 
 pub returns-in_err-take_round-clause-stopped : goal.returns-in_err-take_round-clause-stopped
 returns-in_err-take_round-clause-stopped g c = at_err _ c.from_residual.result
     (stopped_then
-    (played_at (round_next c.rounds.progress.clients.items (sym c.is_any_busy.ensures ∙ c.rounds-test.true))
+    (played_at (round_next c.rounds.live.progress.clients.items (sym c.is_any_busy.ensures ∙ c.rounds-test.true))
     c.rounds.invariant)
     c.in_err-take_round.ensures.stopped)
 
 pub returns-clause-played : goal.returns-clause-played
 returns-clause-played g c = played_at
-    (rest_next c.rounds.progress.clients.items (sym c.is_any_busy.ensures ∙ c.rounds-test.false)) c.rounds.invariant
+    (rest_next c.rounds.live.progress.clients.items (sym c.is_any_busy.ensures ∙ c.rounds-test.false)) c.rounds.invariant
 
 pub returns-clause-idle : goal.returns-clause-idle
 returns-clause-idle g c =
-    none_busy_idle c.rounds.progress.clients.items (sym c.is_any_busy.ensures ∙ c.rounds-test.false)
+    none_busy_idle c.rounds.live.progress.clients.items (sym c.is_any_busy.ensures ∙ c.rounds-test.false)

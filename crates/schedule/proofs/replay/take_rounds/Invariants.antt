@@ -1,12 +1,13 @@
 use Rattle.std.proofs.Common.{◌-◌, []}
-use Rattle.schedule.specs.InTurn.{InOrder, after_round, replay_by}
+use Rattle.schedule.specs.InTurn.{InOrder, after_round}
+use Rattle.schedule.specs.Live.{replay_in}
 use Rattle.schedule.specs.Playing.{HasPlayed}
 use Rattle.schedule.specs.Turns.{most_turns}
 use Rattle.schedule.proofs.replay.take_rounds.Given as goal
 
 abbrev pub invariant-rounds : goal.invariant-rounds
-invariant-rounds g l = HasPlayed l.script (replay_by l.fn.core (g.B.Bank.disk l.fn.bank) l.fn.journal l.fn.progress (InOrder []))
-    (replay_by l.core (g.B.Bank.disk l.bank) l.journal l.progress (after_round l.progress.clients.items)) l.journal.room
+invariant-rounds g l = HasPlayed l.script (replay_in g.B.Bank.disk l.fn.live (InOrder []))
+    (replay_in g.B.Bank.disk l.live (after_round l.live.progress.clients.items)) l.live.journal.room
 
 abbrev pub decreases-rounds : goal.decreases-rounds
-decreases-rounds g l = most_turns - l.progress.turns
+decreases-rounds g l = most_turns - l.live.progress.turns

@@ -3,7 +3,7 @@ use Rattle.std.specs.Prelude.{slice_get}
 use Rattle.client_script.specs.declared.call.ScriptCall.{ScriptCall as CallOf}
 use Rattle.client_script.specs.Script.{calls_of}
 use Rattle.schedule.specs.Comes.{TakesTurn}
-use Rattle.schedule.specs.InTurn.{turns_by}
+use Rattle.schedule.specs.Live.{turns_in}
 use Rattle.schedule.specs.Playing.{calls_by, owed}
 use Rattle.schedule.specs.Turned.{Turned, station_of}
 use Rattle.schedule.proofs.TurnTaken.{allowed_of, client_there, going_may, turn_few, turn_none, takes_turn, turn_ready, turn_taken}
@@ -16,55 +16,55 @@ take_turn-requires-clause-allowed g c = λ number call is. allowed_of c.args.scr
 
 pub take_turn-requires-clause-room : goal.take_turn-requires-clause-room
 take_turn-requires-clause-room g c =
-    subst (λ (calls : List CallOf). owed (length calls) c.index_mut-client.result.now ≤ c.args.journal.now.room)
+    subst (λ (calls : List CallOf). owed (length calls) c.index_mut-client.result.now ≤ c.args.live.now.journal.room)
     (sym c.calls.ensures)
-    (room_left c.args.script.now c.args.actor c.args.journal.now.room c.args.progress.now.clients.items
+    (room_left c.args.script.now c.args.actor c.args.live.now.journal.room c.args.live.now.progress.clients.items
     c.index_mut-client.result.now c.requires.ready.enough
-    (client_there c.args.progress.now.clients.items c.from-place.result c.args.actor c.index_mut-client.result.now
-    c.from-place.ensures (omega (arith, c.if-place-len.true, c.len.ensures, c.args.progress.now.clients.ok))
+    (client_there c.args.live.now.progress.clients.items c.from-place.result c.args.actor c.index_mut-client.result.now
+    c.from-place.ensures (omega (arith, c.if-place-len.true, c.len.ensures, c.args.live.now.progress.clients.ok))
     c.index_mut-client.ensures.value))
 
 pub take_turn-requires-clause-few : goal.take_turn-requires-clause-few
 take_turn-requires-clause-few g c =
     subst (λ (calls : List CallOf). c.index_mut-client.result.now.begun ≤ length calls) (sym c.calls.ensures)
     (c.requires.ready.schedule.answered.few c.args.actor c.index_mut-client.result.now
-    (client_there c.args.progress.now.clients.items c.from-place.result c.args.actor c.index_mut-client.result.now
-    c.from-place.ensures (omega (arith, c.if-place-len.true, c.len.ensures, c.args.progress.now.clients.ok)) c.index_mut-client.ensures.value))
+    (client_there c.args.live.now.progress.clients.items c.from-place.result c.args.actor c.index_mut-client.result.now
+    c.from-place.ensures (omega (arith, c.if-place-len.true, c.len.ensures, c.args.live.now.progress.clients.ok)) c.index_mut-client.ensures.value))
 
 pub take_turn-requires-clause-begun : goal.take_turn-requires-clause-begun
 take_turn-requires-clause-begun g c = λ under going. c.requires.ready.schedule.answered.some c.args.actor
     c.index_mut-client.result.now under
-    (client_there c.args.progress.now.clients.items c.from-place.result c.args.actor c.index_mut-client.result.now
-    c.from-place.ensures (omega (arith, c.if-place-len.true, c.len.ensures, c.args.progress.now.clients.ok)) c.index_mut-client.ensures.value)
+    (client_there c.args.live.now.progress.clients.items c.from-place.result c.args.actor c.index_mut-client.result.now
+    c.from-place.ensures (omega (arith, c.if-place-len.true, c.len.ensures, c.args.live.now.progress.clients.ok)) c.index_mut-client.ensures.value)
     going
 
 pub take_turn-requires-clause-may : goal.take_turn-requires-clause-may
 take_turn-requires-clause-may g c = λ under call going is.
     let client = c.index_mut-client.result.now in
-    going_may c.args.script.now c.args.core.now c.args.progress.now.clients.items c.args.actor client under call
+    going_may c.args.script.now c.args.live.now.core c.args.live.now.progress.clients.items c.args.actor client under call
     c.requires.ready.schedule.going
     (record {
-      there = (client_there c.args.progress.now.clients.items c.from-place.result c.args.actor c.index_mut-client.result.now
-          c.from-place.ensures (omega (arith, c.if-place-len.true, c.len.ensures, c.args.progress.now.clients.ok)) c.index_mut-client.ensures.value);
+      there = (client_there c.args.live.now.progress.clients.items c.from-place.result c.args.actor c.index_mut-client.result.now
+          c.from-place.ensures (omega (arith, c.if-place-len.true, c.len.ensures, c.args.live.now.progress.clients.ok)) c.index_mut-client.ensures.value);
       under_way = going;
     })
     (subst (λ (calls : List CallOf). slice_get calls (client.begun - 1) ≡ Some call) c.calls.ensures is)
 
 pub take_turn-requires-clause-there : goal.take_turn-requires-clause-there
 take_turn-requires-clause-there g c = c.requires.ready.schedule.there c.args.actor c.index_mut-client.result.now
-    (client_there c.args.progress.now.clients.items c.from-place.result c.args.actor c.index_mut-client.result.now
-    c.from-place.ensures (omega (arith, c.if-place-len.true, c.len.ensures, c.args.progress.now.clients.ok))
+    (client_there c.args.live.now.progress.clients.items c.from-place.result c.args.actor c.index_mut-client.result.now
+    c.from-place.ensures (omega (arith, c.if-place-len.true, c.len.ensures, c.args.live.now.progress.clients.ok))
     c.index_mut-client.ensures.value)
 
 pub returns-then-place-len-clause-turn : goal.returns-then-place-len-clause-turn
 returns-then-place-len-clause-turn g c =
-    let clients = c.args.progress.now.clients.items in
+    let clients = c.args.live.now.progress.clients.items in
     let client = c.index_mut-client.result.now in
     let news = slice_set clients c.from-place.result c.take_turn.new.client in
-    let before = station_of c.args.core.now (g.B.Bank.disk c.args.bank.now) c.args.journal.now.items c.index_mut-client.result.now in
+    let before = station_of c.args.live.now.core (g.B.Bank.disk c.args.live.now.bank) c.args.live.now.journal.items c.index_mut-client.result.now in
     let after = station_of c.take_turn.new.core (g.B.Bank.disk c.take_turn.new.bank) c.take_turn.new.journal.items c.take_turn.new.client in
     let low : c.from-place.result < length clients =
-    omega (arith, c.if-place-len.true, c.len.ensures, c.args.progress.now.clients.ok) in
+    omega (arith, c.if-place-len.true, c.len.ensures, c.args.live.now.progress.clients.ok) in
     let there : slice_get clients c.args.actor ≡ Some client =
     client_there clients c.from-place.result c.args.actor client c.from-place.ensures low c.index_mut-client.ensures.value in
     let turned : Turned (calls_of c.args.script.now c.args.actor) c.args.actor before after =
@@ -77,13 +77,13 @@ returns-then-place-len-clause-turn g c =
 
 pub returns-then-place-len-clause-ready : goal.returns-then-place-len-clause-ready
 returns-then-place-len-clause-ready g c =
-    let clients = c.args.progress.now.clients.items in
+    let clients = c.args.live.now.progress.clients.items in
     let client = c.index_mut-client.result.now in
     let news = slice_set clients c.from-place.result c.take_turn.new.client in
-    let before = station_of c.args.core.now (g.B.Bank.disk c.args.bank.now) c.args.journal.now.items c.index_mut-client.result.now in
+    let before = station_of c.args.live.now.core (g.B.Bank.disk c.args.live.now.bank) c.args.live.now.journal.items c.index_mut-client.result.now in
     let after = station_of c.take_turn.new.core (g.B.Bank.disk c.take_turn.new.bank) c.take_turn.new.journal.items c.take_turn.new.client in
     let low : c.from-place.result < length clients =
-    omega (arith, c.if-place-len.true, c.len.ensures, c.args.progress.now.clients.ok) in
+    omega (arith, c.if-place-len.true, c.len.ensures, c.args.live.now.progress.clients.ok) in
     let there : slice_get clients c.args.actor ≡ Some client =
     client_there clients c.from-place.result c.args.actor client c.from-place.ensures low c.index_mut-client.ensures.value in
     let turned : Turned (calls_of c.args.script.now c.args.actor) c.args.actor before after =
@@ -94,7 +94,7 @@ returns-then-place-len-clause-ready g c =
     turn_ready c.args.script.now c.args.actor before after clients news takes c.requires.allowed
     c.requires.ready.copying c.requires.ready.sharing turned
     c.take_turn.new.journal.room c.requires.ready.counted (length-set clients c.from-place.result c.take_turn.new.client)
-    (room_after c.args.script.now c.from-place.result c.args.actor c.args.journal.now.room c.take_turn.new.journal.room
+    (room_after c.args.script.now c.from-place.result c.args.actor c.args.live.now.journal.room c.take_turn.new.journal.room
     clients client c.take_turn.new.client c.from-place.ensures c.requires.ready.enough there
     (taken_few (calls_by c.args.script.now c.args.actor) client
     (c.requires.ready.schedule.answered.few c.args.actor client there)
@@ -105,5 +105,5 @@ returns-then-place-len-clause-ready g c =
 
 pub returns-else-place-len-clause-turn : goal.returns-else-place-len-clause-turn
 returns-else-place-len-clause-turn g c = turn_none c.args.script.now c.args.actor
-    (turns_by c.args.core.now (g.B.Bank.disk c.args.bank.now) c.args.journal.now c.args.progress.now)
-    (omega (arith, c.if-place-len.false, c.from-place.ensures, c.len.ensures, c.args.progress.now.clients.ok))
+    (turns_in g.B.Bank.disk c.args.live.now)
+    (omega (arith, c.if-place-len.false, c.from-place.ensures, c.len.ensures, c.args.live.now.progress.clients.ok))

@@ -2,7 +2,7 @@ use Rattle.std.proofs.Common.{◌≤◌, ◌+◌, ◌-◌, ℕ, None, Option, le
 use Rattle.std.proofs.lemmas.Option.{slice_get_read}
 use Rattle.core_turns.specs.Core.{at_disk}
 use Rattle.schedule.specs.Playing.{taken_for}
-use Rattle.schedule.specs.Turned.{HasDeviceUnder, station_of}
+use Rattle.schedule.specs.Turned.{HasDeviceUnder}
 use Rattle.schedule.specs.Works.{commit_in, made_by}
 use Rattle.schedule.proofs.Rooms.{ended_uses, going_uses, listed_room, room_to_begin, room_to_end, room_to_go}
 use Rattle.schedule.proofs.Stations.{went_more, went_done}

@@ -11,6 +11,6 @@ returns c =
     record {
       before = take c.position-at.result c.args.entries.now.items;
       after = drop (suc c.position-at.result) c.args.entries.now.items;
-      was = split_at c.args.entries.now.items c.args.entry.now c.position-at.result here;
-      is = c.remove.ensures.items;
+      is = split_at c.args.entries.now.items c.args.entry.now c.position-at.result here;
+      was = c.remove.ensures.items;
     }

@@ -1,5 +1,7 @@
-use Rattle.std.proofs.Common.{sym, ◌∙◌, subst, None}
+use Rattle.std.proofs.Common.{arith, ◌+◌, ◌-◌, ◌<◌, sym, ◌∙◌, subst, None}
 use Rattle.std.proofs.lemmas.Bool.{true≢false}
+use Rattle.std.proofs.lemmas.Grind.{common_steps}
+use Rattle.row_layout.specs.Layout.{allocated_of}
 use Rattle.core_turns.specs.declared.putting.PutRun.{PutRun}
 use Rattle.core_turns.specs.declared.turn.Turn.TheVariants.{More}
 use Rattle.core_turns.specs.Core.{Core}
@@ -8,6 +10,16 @@ use Rattle.core_turns.specs.Putting.{BeginsPutTurn, LeavesBlocks}
 use Rattle.core_turns.proofs.Cores.{core_with}
 use Rattle.core_turns.proofs.PutTurns.{put_begins, put_begins_core, put_dropped, put_refused}
 use Rattle.core_turns.proofs.open_core.Core.put_begin.Goals as goal
+
+pub hold_range-requires-clause-end : goal.hold_range-requires-clause-end
+hold_range-requires-clause-end c =
+    let begins = c.in-Ok.ensures.begins in
+    let small = c.begin_put.ensures.stays.small in
+    let run = c.in-Ok.range.layout.start in
+    let len = allocated_of c.in-Ok.range.layout in
+    let some : 0 < len = grind (arith, common_steps) in
+    let last = begins.first.free (run + (len - 1)) (omega (arith), omega (arith, some)) in
+    omega (arith, last.below, begins.taken.capacity, small, some)
 
 pub returns-in-Err : goal.returns-in-Err
 returns-in-Err c =
