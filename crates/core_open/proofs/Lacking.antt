@@ -1,20 +1,21 @@
 -- Which devices lack an index page, device by device.
-use Rattle.std.proofs.Common.{◌≡◌, ◌≢◌, ⊎_elim, ℕ, ◌+◌, ◌^◌, ◌<◌, ◌≤◌, List, true, false, refl, sym, ◌∙◌, subst, arith}
+use Rattle.std.proofs.Common.{◌≡◌, ⊎_elim, ℕ, ◌+◌, ◌^◌, ◌<◌, ◌≤◌, List, true, false, refl, sym, ◌∙◌, subst, arith}
 use Rattle.std.proofs.lemmas.Bool.{cases_Bool, cases_eq, cases_lt, false≢true, true≢false}
-use Rattle.std.specs.Prelude.{Bool, IsTrue, ◌↔◌}
+use Rattle.std.specs.Prelude.{Bool, min}
+use Rattle.sha2.specs.Sha256.{sha256}
 use Rattle.bank_trait.specs.Causes.{FaultCounted}
 use Rattle.bank_trait.specs.Disk.{Disk, Unchanged}
 use Rattle.block_record.specs.declared.entry.IndexEntry.{IndexEntry}
 use Rattle.uberblock_ring.specs.Devices.{has_device, with_device, IsWithin}
 use Rattle.uberblock_ring.specs.Uberblock.{Uber}
 use Rattle.uberblock_ring.proofs.DeviceSets.{has_with, none_in, others_with, with_below, within_with}
-use Rattle.core_state.specs.Shown.{Shape, Gives, read_devices}
+use Rattle.core_state.specs.Shown.{Shape, Gives, page_on, read_devices}
 use Rattle.core_open.specs.Failing.{HaveFailedSince}
 use Rattle.core_open.specs.Holds.{shape_of}
 use Rattle.core_open.specs.Lacking.{AreLacking, GivesOrLacks, HasAllBut, LacksPage}
-use Rattle.core_open.specs.Pages.{IsGivenPage, IsNotGiven}
-use Rattle.core_open.proofs.Asking.{given_once}
+use Rattle.core_open.specs.Pages.{IsComparedPage, IsGivenPage}
 use Rattle.core_open.proofs.Failures.{since_none, since_on, since_with}
+use Rattle.core_open.proofs.PageReading.{page_given}
 use Rattle.core_open.proofs.Unchanged.{holds_then, shape_then, unchanged_none, unchanged_then}
 
 -- What a device gives after some reads it gave before them,
@@ -39,28 +40,21 @@ lacked_before old mid uber device entries same lacks = record {
       gives);
 }
 
--- A device that gives no page lacks this one,
-pub none_lacks : (disk : Disk) (uber : Uber) (device : ℕ) (entries : List IndexEntry)
-    → IsNotGiven disk uber device → LacksPage disk uber device entries
-none_lacks disk uber device entries nothing =
-    record { none = λ image holds gives. nothing.none image entries holds gives }
-
--- and so does one that gives another.
-pub other_lacks : (disk : Disk) (uber : Uber) (device : ℕ) (listed entries : List IndexEntry)
-    → IsGivenPage disk uber device listed → listed ≢ entries → LacksPage disk uber device entries
-other_lacks disk uber device listed entries given apart = record {
-  none = λ image holds gives. apart
-      (given_once (shape_of disk) image uber device listed entries (given.each image holds) gives);
+-- Where one device gives the page of these entries, a comparison of what another has with that page tells
+-- whether it gives it: equal bytes have the recorded digest, and others are no page of them.
+pub compared_gives : (disk : Disk) (uber : Uber) (giver device : ℕ) (entries : List IndexEntry)
+    (same : Bool) → IsGivenPage disk uber giver entries → device < min disk.devices 16
+    → IsComparedPage disk uber device entries same → GivesOrLacks disk uber device entries same
+unfolding page_on
+compared_gives disk uber giver device entries true given below compared =
+    let is = compared.is.0 refl in
+    page_given uber disk device compared.bytes entries below compared.are
+    (λ image holds. let gives = given.each image holds in
+    subst (λ (page : List ℕ). sha256 page ≡ uber.digest) (gives.page.page ∙ sym is) gives.digest)
+    (record { index = given.index; counted = given.counted; page = is })
+compared_gives disk uber giver device entries false given below compared = record {
+  none = λ image holds gives. false≢true (compared.is.1 (compared.are.each image holds ∙ gives.page.page));
 }
-
--- A comparison of what it gives tells which of the two.
-pub given_same : (disk : Disk) (uber : Uber) (device : ℕ) (listed entries : List IndexEntry)
-    (same : Bool) → (IsTrue same ↔ (listed ≡ entries)) → IsGivenPage disk uber device listed
-    → GivesOrLacks disk uber device entries same
-given_same disk uber device listed entries true tells given =
-    subst (IsGivenPage disk uber device) (tells.0 refl) given
-given_same disk uber device listed entries false tells given =
-    other_lacks disk uber device listed entries given (λ is. false≢true (tells.1 is))
 
 -- At first none lacks it.
 pub lacking_none : (disk : Disk) (uber : Uber) (entries : List IndexEntry) (out : ℕ)

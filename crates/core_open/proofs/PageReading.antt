@@ -1,16 +1,20 @@
 -- How an index page is read, sector by sector, and what it shows then.
-use Rattle.std.proofs.Common.{◌≡◌, ℕ, zero, suc, ◌+◌, ◌<◌, List, ◌++◌, length, Option, None, Some, sym, ◌∙◌, ap, subst, arith, append_assoc, length-append, length-drop, add-one, ⊎_elim, ◌*◌, ◌≤◌, take, drop}
-use Rattle.std.specs.Prelude.{min, IfNone}
+use Rattle.std.proofs.Common.{◌≡◌, ℕ, zero, suc, ◌+◌, ◌<◌, List, [], ◌++◌, length, Option, None, Some, true, refl, sym, ◌∙◌, ap, subst, arith, append_assoc, length-append, length-drop, add-one, ⊎_elim, ◌*◌, ◌≤◌, take, drop}
+use Rattle.std.specs.Prelude.{Bool, IsTrue, ◌↔◌, min, IfNone}
 use Rattle.std.proofs.lemmas.Bool.{cases_lt}
-use Rattle.std.proofs.lemmas.List.{append-nil, drop-append-le, drop_at, take-append-le, take_all}
+use Rattle.std.proofs.lemmas.List.{append-nil, drop-append-le, drop_at, length-take-le, take-append-le, take_all}
 use Rattle.sha2.specs.Sha256.{sha256}
 use Rattle.bank_trait.specs.Disk.{Image, Disk, Unchanged}
 use Rattle.block_record.specs.declared.entry.IndexEntry.{IndexEntry}
-use Rattle.block_record.specs.Page.{IsPageOf, page_sectors}
+use Rattle.block_record.specs.Page.{index_page, page_sectors, IsIndex, IsPageOf}
+use Rattle.block_record.proofs.Reading.{front_more}
+use Rattle.block_record.proofs.Sectors.{length-index_page}
+use Rattle.block_record.proofs.Spelling.{split_front}
 use Rattle.uberblock_ring.specs.Uberblock.{Uber, area_sector}
 use Rattle.core_state.specs.Shown.{page_on, sectors_from}
-use Rattle.core_open.specs.Pages.{page_piece, AreDeviceSectors, IsGivenPage, IsNotGiven, IsRecordedPage}
-use Rattle.core_open.proofs.Unchanged.{unchanged_then}
+use Rattle.core_open.specs.Pages.{page_piece, AreDeviceSectors, IsComparedPage, IsGivenPage, IsNotGiven, IsRecordedPage}
+use Rattle.core_open.specs.Holds.{HoldsImage}
+use Rattle.core_open.proofs.Unchanged.{unchanged_none, unchanged_then}
 
 -- One sector more stands at the end.
 sectors_and_next : (image : Image) (device first count : ℕ)
@@ -92,20 +96,20 @@ page_sectors_are uber disk device first count read bytes area long is are =
 pub page_given : (uber : Uber) (disk : Disk) (device : ℕ) (bytes : List ℕ)
     (entries : List IndexEntry) → device < min disk.devices 16
     → AreDeviceSectors disk device (area_sector uber.area) (page_sectors uber.count) bytes
-    → IsRecordedPage uber bytes entries
+    → ((image : Image) → HoldsImage disk image → sha256 bytes ≡ uber.digest)
+    → IsPageOf bytes uber.count entries
     → IsGivenPage disk uber device entries
 unfolding page_on
-page_given uber disk device bytes entries below are recorded = record {
-  index = recorded.page.index;
-  counted = recorded.page.counted;
+page_given uber disk device bytes entries below are digest page = record {
+  index = page.index;
+  counted = page.counted;
   parts = λ part told low is. are.told part told low is
-      ∙ ap (λ (page : List ℕ). page_piece page part) recorded.page.page;
+      ∙ ap (λ (page : List ℕ). page_piece page part) page.page;
   each = λ image holds. record {
     device_in = below;
     digest = subst (λ (page : List ℕ). sha256 page ≡ uber.digest) (are.each image holds)
-        recorded.digest;
-    page = subst (λ (page : List ℕ). IsPageOf page uber.count entries) (are.each image holds)
-        recorded.page;
+        (digest image holds);
+    page = subst (λ (page : List ℕ). IsPageOf page uber.count entries) (are.each image holds) page;
   };
 }
 
@@ -126,3 +130,74 @@ page_not_given uber disk device bytes are nothing = record {
 pub none_then : {X P Q : Type 0} (given : Option X) → IfNone given P → (P → Q) → IfNone given Q
 none_then None nothing follows = follows nothing
 none_then (Some value) nothing follows = nothing
+
+-- So many sectors were read, and compared with the first of a page.
+pub record IsComparedTo (old : Disk) (device first count : ℕ) (new : Disk) (page : List ℕ)
+    (same : Bool) : Type 0 where
+  pub bytes : List ℕ
+  pub read : IsReadTo old device first count new bytes
+  pub is : IsTrue same ↔ (bytes ≡ take (512 * count) page)
+
+pub compared_none : (disk : Disk) (device first : ℕ) (page : List ℕ)
+    → IsComparedTo disk device first 0 disk page true
+compared_none disk device first page = record {
+  bytes = [];
+  read = record {
+    same = unchanged_none disk;
+    are = record {
+      wide = refl;
+      told = λ part sector low. absurd (omega (arith, low));
+      each = λ image holds. refl;
+    };
+  };
+  is = (λ yes. refl, λ none. refl);
+}
+
+-- The front of a page and the next sector are a longer front.
+front_and_next : (page : List ℕ) (count : ℕ)
+    → take (512 * (count + 1)) page ≡ take (512 * count) page ++ page_piece page count
+front_and_next page count =
+    let more : 512 * (count + 1) ≡ 512 * count + 512 = omega arith in
+    ap (λ (n : ℕ). take n page) more ∙ front_more (512 * count) 512 page
+
+pub compared_more : (old mid new : Disk) (device first count : ℕ) (page sector : List ℕ)
+    (before now : Bool) → device < old.devices → first + count < old.sectors
+    → IsComparedTo old device first count mid page before → Unchanged mid new
+    → length sector ≡ 512
+    → ((told : List ℕ) → mid.reads device (first + count) ≡ Some told → sector ≡ told)
+    → 512 * count ≤ length page
+    → (IsTrue now ↔ (IsTrue before × (sector ≡ page_piece page count)))
+    → IsComparedTo old device first (count + 1) new page now
+compared_more old mid new device first count page sector before now in_bank on_device so_far same
+    wide told long tells = record {
+      bytes = so_far.bytes ++ sector;
+      read = read_more old mid new device first count so_far.bytes sector in_bank on_device so_far.read
+          same wide told;
+      is = (
+        λ yes. let both = tells.0 yes in
+            ap (λ (front : List ℕ). front ++ sector) (so_far.is.0 both.0)
+            ∙ ap (λ (last : List ℕ). take (512 * count) page ++ last) both.1
+            ∙ sym (front_and_next page count),
+        λ all. let both = split_front so_far.bytes (take (512 * count) page) sector (page_piece page count)
+            (all ∙ front_and_next page count)
+            (so_far.read.are.wide ∙ sym (length-take-le (512 * count) page long)) in
+            tells.1 (so_far.is.1 both.0, both.1),
+      );
+    }
+
+-- All of its sectors were.
+pub compared_all : (uber : Uber) (disk new : Disk) (device first count : ℕ)
+    (entries : List IndexEntry) (same : Bool) → IsIndex entries → length entries ≡ uber.count
+    → first ≡ area_sector uber.area → count ≡ page_sectors (length entries)
+    → IsComparedTo disk device first count new (index_page entries) same
+    → IsComparedPage disk uber device entries same
+compared_all uber disk new device first count entries same index counted area long compared = record {
+  bytes = compared.bytes;
+  are = page_sectors_are uber disk device first count compared.bytes compared.bytes area
+      (long ∙ ap page_sectors counted) refl compared.read.are;
+  is = (λ yes. compared.is.0 yes ∙ whole, λ all. compared.is.1 (all ∙ sym whole));
+}
+  where
+    whole : take (512 * count) (index_page entries) ≡ index_page entries
+    whole = take_all (512 * count) (index_page entries)
+        (omega (arith, length-index_page entries index.each, long))

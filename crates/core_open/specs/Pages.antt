@@ -1,5 +1,5 @@
 -- An uberblock's index page, as a device of a bank gives it.
-use Rattle.std.specs.Prelude.{◌≡◌, ℕ, ◌+◌, ◌*◌, ◌<◌, List, length, Some, take, drop}
+use Rattle.std.specs.Prelude.{◌≡◌, ◌↔◌, ℕ, ◌+◌, ◌*◌, ◌<◌, List, Bool, length, Some, take, drop, IsTrue}
 use Rattle.sha2.specs.Sha256.{sha256}
 use Rattle.bank_trait.specs.Disk.{Image, Disk}
 use Rattle.block_record.specs.declared.entry.IndexEntry.{IndexEntry}
@@ -43,3 +43,10 @@ pub record IsGivenPage (disk : Disk) (uber : Uber) (device : ℕ) (entries : Lis
 pub record IsNotGiven (disk : Disk) (uber : Uber) (device : ℕ) : Type 0 where
   pub none : (image : Image) (entries : List IndexEntry) → HoldsImage disk image
       → Gives (shape_of disk) image uber entries device → ⊥
+
+-- What stands where a device has the uberblock's page is the page of these entries, or isn't.
+pub record IsComparedPage (disk : Disk) (uber : Uber) (device : ℕ) (entries : List IndexEntry)
+    (same : Bool) : Type 0 where
+  pub bytes : List ℕ
+  pub are : AreDeviceSectors disk device (area_sector uber.area) (page_sectors uber.count) bytes
+  pub is : IsTrue same ↔ (bytes ≡ index_page entries)

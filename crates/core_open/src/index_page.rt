@@ -1,15 +1,15 @@
 // An uberblock's index page, read from a device.
-ghost use Rattle.std.specs.Prelude.{◌≡◌, ◌+◌, ◌*◌, ◌<◌, ◌≤◌, ℕ, List, length, min, IfOk, IfNone, IfSome, IsErrOf};
+ghost use Rattle.std.specs.Prelude.{◌≡◌, ◌↔◌, ◌+◌, ◌*◌, ◌<◌, ◌≤◌, ℕ, List, length, min, IfOk, IfNone, IfSome, IsErrOf, IsTrue, OnErr};
 ghost use Rattle.bank_trait.specs.Causes.{FaultCounted};
 ghost use Rattle.bank_trait.specs.Disk.{Unchanged};
 ghost use Rattle.block_record.specs.declared.entry.IndexEntry.{IndexEntry as EntryOf};
-ghost use Rattle.block_record.specs.Page.{page_sectors as sectors_of_page};
+ghost use Rattle.block_record.specs.Page.{index_page, page_sectors as sectors_of_page, IsIndex};
 ghost use Rattle.uberblock_ring.specs.Valid.{IsRightUber};
 ghost use Rattle.core_open.specs.declared.index_page.PageFault.TheVariants as fault;
-ghost use Rattle.core_open.specs.Pages.{AreDeviceSectors, IsGivenPage, IsNotGiven, IsRecordedPage};
+ghost use Rattle.core_open.specs.Pages.{page_piece, AreDeviceSectors, IsComparedPage, IsGivenPage, IsNotGiven, IsRecordedPage};
 
 use bank_trait::{Bank, Failed};
-use block_record::{IndexEntry, IndexRefused, page_sectors, read_index};
+use block_record::{IndexEntry, IndexRefused, index_sector, page_sectors, read_index};
 use sha2::{Digest, Sha256};
 use std::alloc::{AllocError, Global};
 use uberblock_ring::{Uber, area_sector};
@@ -112,4 +112,47 @@ fn recorded_entries(
         Err(IndexRefused::BadIndex { .. }) => Ok(None),
         Err(IndexRefused::NoMemory) => Err(AllocError),
     }
+}
+
+/// Whether the sectors of an uberblock's index page on a device are the page of these entries.
+///
+/// Each sector is read once, up to the first that fails, and compared with that sector of the entries'
+/// page. Entries have one page, so no digest is computed: where some device gives these entries, their
+/// page has the recorded digest, and other bytes are no page of them whatever their digest is.
+pub(crate) fn holds_page<B: Bank>(
+    bank: &mut B,
+    uber: &Uber,
+    entries: &[IndexEntry],
+    device: u32,
+) -> Result<bool, Failed>
+    requires right { IsRightUber uber.now }
+    requires index { IsIndex entries.now }
+    requires counted { length entries.now ≡ uber.now.count }
+    requires device { device < (B.disk bank.old).devices }
+    requires sectors { 192 ≤ (B.disk bank.old).sectors }
+    ensures compared { IfOk result
+        (IsComparedPage (B.disk bank.old) uber.now device entries.now) }
+    ensures failed { OnErr result
+        (FaultCounted ((B.disk bank.old).faults device) ((B.disk bank.new).faults device)) }
+    ensures unchanged { Unchanged (B.disk bank.old) (B.disk bank.new) }
+{
+    let first = area_sector(uber.area());
+    let mut same = true;
+    let mut sector = [0; 512];
+    for part in 0..page_sectors(entries.len()) {
+        bank.read(device, first + part, &mut sector)?;
+        same = stays_same(same, &sector, entries, part);
+    }
+    Ok(same)
+}
+
+/// Whether a sector is this one of the entries' page, counted from 0, where those before it were the same.
+fn stays_same(so_far: bool, sector: &[u8; 512], entries: &[IndexEntry], part: u64) -> bool
+    requires index { IsIndex entries.now }
+    requires few { length entries.now ≤ 512 }
+    requires part { part < sectors_of_page (length entries.now) }
+    ensures { IsTrue result
+        ↔ (IsTrue so_far × (sector.now ≡ page_piece (index_page entries.now) part)) }
+{
+    so_far && *sector == index_sector(entries, part)
 }

@@ -72,7 +72,7 @@ fn renew<B: Bank>(
 }
 
 /// Opens a pool with what was found.
-fn open_found<B: Bank>(alloc: Global, bank: &mut B, found: Found) -> Result<Opened, OpenWhy>
+fn open_found<B: Bank>(bank: &mut B, found: Found) -> Result<Opened, OpenWhy>
     requires right { IsRightUber found.uber }
     requires index { IsIndexFor found.uber found.entries.items }
     requires fits { FitsOpening (B.disk bank.old) found }
@@ -87,14 +87,7 @@ fn open_found<B: Bank>(alloc: Global, bank: &mut B, found: Found) -> Result<Open
         return Err(OpenWhy::TooManyFailed { out: found.out });
     }
     let mut out = found.out;
-    let lack_page = devices_without_page(
-        alloc,
-        bank,
-        &found.uber,
-        &found.entries,
-        found.giver,
-        &mut out,
-    )?;
+    let lack_page = devices_without_page(bank, &found.uber, &found.entries, found.giver, &mut out);
     let uber = renew(
         bank,
         &found.uber,
@@ -152,5 +145,5 @@ pub fn open<B: Bank>(alloc: Global, bank: &mut B) -> Result<Opened, OpenWhy>
     ensures others { LeavesOthers (B.disk bank.old) (B.disk bank.new) }
 {
     let found = find(alloc, bank)?;
-    open_found(alloc, bank, found)
+    open_found(bank, found)
 }

@@ -17,7 +17,8 @@ returns-clause-some g c =
     c.in_ok-page.ensures.ok in
     IfSome_then c.in_ok-entries.entries c.in_ok-entries.ensures.some
     (λ entries recorded.
-    page_given uber disk device bytes entries.items c.requires.device are recorded)
+    page_given uber disk device bytes entries.items c.requires.device are (λ image holds. recorded.digest)
+    recorded.page)
 
 pub returns-clause-none : goal.returns-clause-none
 returns-clause-none g c =

@@ -1,10 +1,10 @@
-use Rattle.std.proofs.Common.{Err, sym, ◌∙◌, ap, subst, arith}
+use Rattle.std.proofs.Common.{sym, ◌∙◌, ap, subst, arith}
 use Rattle.reflow_mark.specs.declared.reflow.Reflow.{Reflow}
 use Rattle.core_open.specs.Lacking.{GivesOrLacks}
 use Rattle.core_open.proofs.Givers.{asked_first, giver_after}
 use Rattle.core_open.proofs.Lacking.{asked_at, asked_failed, asked_given, asked_lacked, asked_past, not_within}
 use Rattle.core_open.proofs.page_lack.devices_without_page.Goals as goal
-use Rattle.core_open.proofs.page_lack.devices_without_page.Goals.{in-Ok-true, in-Ok-false, in-Err-Failed}
+use Rattle.core_open.proofs.page_lack.devices_without_page.Goals.{in-Ok-true, in-Ok-false, in-Err}
 
 pub loop-device-preserved-then-has : goal.loop-device-preserved-then-has
 loop-device-preserved-then-has g c =
@@ -13,7 +13,13 @@ loop-device-preserved-then-has g c =
     c.loop-device.lacking c.loop-device.invariant (sym c.if-has.ensures.value)
 
 pub gives_page-requires-clause-given : goal.gives_page-requires-clause-given
-gives_page-requires-clause-given g c low =
+gives_page-requires-clause-given g c =
+    (giver_after (g.B.Bank.disk c.args.bank.now) (g.B.Bank.disk c.loop-device.bank) c.args.out.now
+    c.args.uber.now c.args.entries.now c.args.giver c.loop-device.invariant.unchanged
+    c.requires.given).gives
+
+pub gives_page-requires-clause-before : goal.gives_page-requires-clause-before
+gives_page-requires-clause-before g c low =
     let old = g.B.Bank.disk c.args.bank.now in
     let mid = g.B.Bank.disk c.loop-device.bank in
     let so_far = c.loop-device.invariant in
@@ -44,10 +50,10 @@ loop-device-preserved g c =
           (asked_lacked old mid uber entries before device out lacking so_far new same
           (sym c.if-has.ensures.value)
           (subst (GivesOrLacks mid uber device entries) w.in-Ok-false.field-0-test w.in-Ok-false.ensures.gives))
-      | in-Err-Failed w ↦ asked_at c.match-gives_page.out c.match-gives_page.lacking
-          (w.out-is ∙ w.insert-in-Err-Failed.ensures.value) w.lacking-is
+      | in-Err w ↦ asked_at c.match-gives_page.out c.match-gives_page.lacking
+          (w.out-is ∙ w.insert-in-Err.ensures.value) w.lacking-is
           (asked_failed old mid uber entries before device out lacking so_far new same
           c.requires.devices c.requires.right.widths.1 (sym c.if-has.ensures.value)
           (omega (arith, c.loop-device-test.true, ap (λ (r : Reflow). r.to) c.reflow-device-end.ensures.value))
-          (w.in-Err-Failed.ensures.failed (ap Err w.in-Err-Failed.field-0-is)))
+          w.in-Err.ensures.failed)
     ]

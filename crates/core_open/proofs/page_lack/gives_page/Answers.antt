@@ -1,18 +1,23 @@
-use Rattle.std.proofs.Common.{Option, sym, subst}
-use Rattle.std.specs.Prelude.{IfSome, Vec}
-use Rattle.std.specs.declared.alloc.Global.{Global}
-use Rattle.block_record.specs.declared.entry.IndexEntry.{IndexEntry}
-use Rattle.core_open.specs.Pages.{IsGivenPage}
-use Rattle.core_open.proofs.Lacking.{given_same}
+use Rattle.std.proofs.lemmas.Result.{IfOk-weaker}
+use Rattle.core_open.specs.Lacking.{GivesOrLacks}
+use Rattle.core_open.specs.Pages.{IsComparedPage}
+use Rattle.core_open.proofs.Lacking.{compared_gives}
 use Rattle.core_open.proofs.page_lack.gives_page.Goals as goal
 
-pub returns-in-Some-clause-gives : goal.returns-in-Some-clause-gives
-returns-in-Some-clause-gives g c =
+pub holds_page-requires-clause-index : goal.holds_page-requires-clause-index
+holds_page-requires-clause-index g c = c.requires.given.index
+
+pub holds_page-requires-clause-counted : goal.holds_page-requires-clause-counted
+holds_page-requires-clause-counted g c = c.requires.given.counted
+
+pub returns-clause-gives : goal.returns-clause-gives
+returns-clause-gives g c =
     let disk = g.B.Bank.disk c.args.bank.now in
     let uber = c.args.uber.now in
     let device = c.args.device in
-    let given : IsGivenPage disk uber device c.in-Some.listed.items =
-    subst (λ (page : Option (Vec IndexEntry Global)). IfSome page (λ e. IsGivenPage disk uber device e.items))
-    c.in-Some.is c.in_ok-listed.ensures.some in
-    given_same disk uber device c.deref.result.now c.args.entries.now c.are_same.result c.are_same.ensures
-    (subst (IsGivenPage disk uber device) (sym c.deref.ensures.value) given)
+    let entries = c.args.entries.now in
+    IfOk-weaker c.holds_page.result (IsComparedPage disk uber device entries)
+    (GivesOrLacks disk uber device entries)
+    (λ same compared. compared_gives disk uber c.args.giver device entries same c.requires.given
+    c.requires.device compared)
+    c.holds_page.ensures.compared
