@@ -11,7 +11,7 @@ use Rattle.range_locks.proofs.Searching.{busy_by_first}
 use Rattle.space_alloc.specs.declared.entry.Entry.{Entry}
 use Rattle.space_alloc.specs.declared.held.HeldEntry.{HeldEntry}
 use Rattle.space_alloc.specs.Space.{IsIn, IsFree, IsFreeRun, IsFirstFit, HasNoFreeRun, IsBusySpace}
-use Rattle.space_alloc.specs.Entries.{space_of, entry_end, in_use, IsEntry, AreApart, Meets}
+use Rattle.space_alloc.specs.Entries.{space_of, entry_end, in_use, IsEntry, AreEntriesApart, Meets}
 use Rattle.space_alloc.specs.Edges.{AreEdgesOf, IsUnused}
 use Rattle.space_alloc.specs.Fit.{IsHinderedBy, IsLowest, IsRoom, Spares}
 use Rattle.space_alloc.proofs.InUse.{taken_covers, held_covers, covered_in_use}
@@ -32,7 +32,7 @@ free_within taken held holds capacity len start long free =
     omega (arith, last.below)
 
 -- No run in use meets it.
-pub free_apart : (taken : List Entry) (held : List HeldEntry) (holds : List Hold) (capacity len start : ℕ) → 0 < len → AreApart (in_use taken held)
+pub free_apart : (taken : List Entry) (held : List HeldEntry) (holds : List Hold) (capacity len start : ℕ) → 0 < len → AreEntriesApart (in_use taken held)
     → IsFreeRun (space_of capacity taken held) holds start len → (entry : Entry) → Contains (in_use taken held) entry → Meets entry start (start + len) → ⊥
 free_apart taken held holds capacity len start long are free entry listed meets =
     let is : IsEntry entry = All-contains IsEntry (in_use taken held) entry are.each listed in
@@ -45,7 +45,7 @@ pub free_unused : (taken : List Entry) (held : List HeldEntry) (edges : List ℕ
 free_unused taken held edges holds capacity sector of free = uncovered_unused (in_use taken held) edges sector of
     (λ covers. ⊎_elim free.untaken free.not_held (covered_in_use capacity taken held sector covers.entry covers.listed covers.inside))
 
-pub unused_free : (taken : List Entry) (held : List HeldEntry) (edges : List ℕ) (holds : List Hold) (capacity sector : ℕ) → AreApart (in_use taken held) → AreEdgesOf (in_use taken held) edges
+pub unused_free : (taken : List Entry) (held : List HeldEntry) (edges : List ℕ) (holds : List Hold) (capacity sector : ℕ) → AreEntriesApart (in_use taken held) → AreEdgesOf (in_use taken held) edges
     → sector < capacity → IsUnused edges sector → ((hold : Hold) → Contains holds hold → hold.kind ≡ Shared → Overlaps hold sector (sector + 1) → ⊥)
     → IsFree (space_of capacity taken held) holds sector
 unused_free taken held edges holds capacity sector are of below unused spares = record {
@@ -61,7 +61,7 @@ apart hold shared exclusive = different (sym shared ∙ exclusive)
     different : Shared ≡ Exclusive → ⊥
     different same = cc
 
-module _ (taken : List Entry) (held : List HeldEntry) (edges : List ℕ) (shared exclusive : List Hold) (capacity len : ℕ) (long : 0 < len) (are : AreApart (in_use taken held))
+module _ (taken : List Entry) (held : List HeldEntry) (edges : List ℕ) (shared exclusive : List Hold) (capacity len : ℕ) (long : 0 < len) (are : AreEntriesApart (in_use taken held))
     (of : AreEdgesOf (in_use taken held) edges) (some : All HasSectors (shared ++ exclusive)) (are_shared : All (λ hold. hold.kind ≡ Shared) shared)
     (are_exclusive : All (λ hold. hold.kind ≡ Exclusive) exclusive) where
   room_is_free : (start : ℕ) → IsRoom edges shared capacity len start → IsFreeRun (space_of capacity taken held) (shared ++ exclusive) start len

@@ -1,13 +1,13 @@
 -- Which sectors are taken or held back.
-use Rattle.std.proofs.Common.{◌≡◌, ◌⊎◌, ℕ, List, [], ◌∷◌, ◌++◌, Bool, true, false, map, take, drop, refl, sym, ◌∙◌, ap, subst, inl, inr, ⊎_elim, append_assoc}
+use Rattle.std.proofs.Common.{◌≡◌, ◌⊎◌, ℕ, List, [], ◌∷◌, ◌++◌, Bool, true, false, map, refl, sym, ◌∙◌, ap, subst, inl, inr, ⊎_elim, append_assoc}
 use Rattle.std.specs.Prelude.{Contains, cond, filter, nat_lt}
-use Rattle.std.proofs.lemmas.List.{append-nil, map-append, take-append-drop}
+use Rattle.std.proofs.lemmas.List.{append-nil, map-append}
 use Rattle.std.proofs.lemmas.List.Elements.{Contains-append_cases, Contains-append_left, Contains-append_right}
 use Rattle.range_locks.proofs.Lists.{first_listed, listed_cases, none_listed, rest_listed}
 use Rattle.space_alloc.specs.declared.entry.Entry.{Entry}
 use Rattle.space_alloc.specs.declared.held.HeldEntry.{HeldEntry}
 use Rattle.space_alloc.specs.Space.{Gains, HeldRun, IsHeldBack, IsIn, IsTaken, after_group}
-use Rattle.space_alloc.specs.Entries.{entries_held, held_run_of, in_use, is_left, run_of, space_of, IsInserted}
+use Rattle.space_alloc.specs.Entries.{entries_held, held_run_of, in_use, is_left, run_of_entry, space_of}
 
 -- What a list of images has is one of them.
 pub image_listed : {X Y : Type 0} (f : X → Y) (xs : List X) (y : Y) → Contains (map f xs) y → (x : X) × Contains xs x × (f x ≡ y)
@@ -31,14 +31,6 @@ gains_image f old new x gains = record {
   after = map f gains.after;
   was = ap (map f) gains.was ∙ map-append f gains.before gains.after;
   is = ap (map f) gains.is ∙ map-append f gains.before (x ∷ gains.after);
-}
-
-pub inserted_gains : (old new : List Entry) (entry : Entry) → IsInserted old new entry → Gains old new entry
-inserted_gains old new entry inserted = record {
-  before = take inserted.at old;
-  after = drop inserted.at old;
-  was = sym (take-append-drop inserted.at old);
-  is = inserted.is;
 }
 
 pub pushed_gains : {X : Type 0} (old new : List X) (x : X) → new ≡ old ++ x ∷ [] → Gains old new x
@@ -74,7 +66,7 @@ pub record Covers (entries : List Entry) (sector : ℕ) : Type 0 where
 module _ (capacity : ℕ) (taken : List Entry) (held : List HeldEntry) (sector : ℕ) where
   pub taken_covers : IsTaken (space_of capacity taken held) sector → Covers (in_use taken held) sector
   taken_covers (run, listed, inside) =
-      let found = image_listed run_of taken run listed in
+      let found = image_listed run_of_entry taken run listed in
       record {
         entry = found.0;
         listed = Contains-append_left taken (entries_held held) found.0 found.1;
@@ -94,7 +86,7 @@ module _ (capacity : ℕ) (taken : List Entry) (held : List HeldEntry) (sector :
   pub covered_in_use : (entry : Entry) → Contains (in_use taken held) entry → IsIn entry.start entry.len sector
       → IsTaken (space_of capacity taken held) sector ⊎ IsHeldBack (space_of capacity taken held) sector
   covered_in_use entry listed inside =
-      ⊎_elim (λ left. inl (run_of entry, listed_image run_of taken entry left, inside))
+      ⊎_elim (λ left. inl (run_of_entry entry, listed_image run_of_entry taken entry left, inside))
       (λ right. let found = image_listed (λ (r : HeldEntry). r.entry) held entry right in
       inr (held_run_of found.0, listed_image held_run_of held found.0 found.1, subst (λ (e : Entry). IsIn e.start e.len sector) (sym found.2) inside))
       (Contains-append_cases taken (entries_held held) entry listed)
@@ -115,4 +107,4 @@ held_of-filter group (run ∷ held) = by_test (nat_lt group run.until) (held_of-
 pub space_after : (capacity group : ℕ) (taken : List Entry) (held : List HeldEntry)
     → space_of capacity taken (filter (is_left group) held) ≡ after_group (space_of capacity taken held) group
 space_after capacity group taken held =
-    λ i. record { capacity = capacity; taken = map run_of taken; held = held_of-filter group held i }
+    λ i. record { capacity = capacity; taken = map run_of_entry taken; held = held_of-filter group held i }

@@ -6,6 +6,7 @@ pub mod Releasing
 pub mod Unused
 pub mod Free
 pub mod Places
+pub mod Live
 pub mod Kept
 pub mod Walking
 pub mod Steps

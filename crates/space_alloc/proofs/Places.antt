@@ -1,78 +1,117 @@
--- The place of a run among the runs in use, found by halving.
-use Rattle.std.proofs.Common.{◌≡◌, ℕ, ◌+◌, ◌-◌, ◌<◌, ◌≤◌, List, length, get_or, take, ◌∙◌, ap, arith, ⊎_elim, length-take}
-use Rattle.std.specs.Prelude.{Some, AllPairs, Contains, slice_get}
-use Rattle.std.proofs.lemmas.Bool.{cases_lt}
-use Rattle.std.proofs.lemmas.List.{get_or_default, get_or-take}
-use Rattle.std.proofs.lemmas.Option.{slice_get-get_or, slice_get_within, get_or_from_slice_get}
+-- Places among entries that begin one after another.
+use Rattle.std.proofs.Common.{◌≡◌, ℕ, ◌+◌, ◌-◌, ◌<◌, ◌≤◌, List, ◌∷◌, ◌++◌, length, get_or, set, take, drop, ◌∙◌, ap, sym, subst, arith, ⊎_elim, length-drop, length-take}
+use Rattle.std.specs.Prelude.{Some, Contains, slice_get}
+use Rattle.std.proofs.lemmas.Bool.{cases_eq, cases_lt}
+use Rattle.std.proofs.lemmas.Grind.{get_or-set_at}
+use Rattle.std.proofs.lemmas.List.{get_or_default, get_or-drop, get_or-set_other, get_or-take, length-set}
+use Rattle.std.proofs.lemmas.Option.{slice_get-get_or}
+use Rattle.range_locks.proofs.Pairs.{all_pairs_insert}
 use Rattle.space_alloc.specs.declared.entry.Entry.{Entry}
-use Rattle.space_alloc.specs.Entries.{AreEntries, IsBefore, IsEntry, IsPlaceBehind, IsPlaceBetween}
+use Rattle.space_alloc.specs.Entries.{BeginInOrder, IsBetween}
 
--- Of runs in order none begins before an earlier one.
-begins_rise : (entries : List Entry) (i j : ℕ) (default other : Entry) → AllPairs IsBefore entries → i ≤ j → j < length entries
+-- None begins before an earlier one.
+begins_rise : (entries : List Entry) (i j : ℕ) (default other : Entry) → BeginInOrder entries → i ≤ j → j < length entries
     → (get_or entries i default).start ≤ (get_or entries j other).start
-begins_rise entries i j default other apart order within = ⊎_elim
-    (λ before. let ends : IsBefore (get_or entries i default) (get_or entries j default) = apart i j default before within in
-    let same = ap (λ (e : Entry). e.start) (get_or_default entries j default other within) in omega (arith, ends, same))
-    (λ from. let here : get_or entries i default ≡ get_or entries j other =
-    ap (λ (n : ℕ). get_or entries n default) (omega (arith, order, from)) ∙ get_or_default entries j default other within in
-    omega (arith, ap (λ (e : Entry). e.start) here))
-    (cases_lt i j)
+begins_rise entries i j default other rise order within =
+    let same = ap (λ (e : Entry). e.start) (get_or_default entries j default other within) in
+    ⊎_elim (λ before. omega (arith, rise i j default before within, same))
+    (λ from. let one : i ≡ j = omega (arith, order, from) in
+    let here = ap (λ (n : ℕ). (get_or entries n default).start) one in omega (arith, here, same)) (cases_lt i j)
 
-pub place_up : (entries : List Entry) (start low high middle : ℕ) (here : Entry) → AllPairs IsBefore entries → IsPlaceBetween entries start low high
-    → low ≤ middle → middle < high → (get_or entries middle here).start ≤ start → IsPlaceBetween entries start (middle + 1) high
-place_up entries start low high middle here apart is above below passed = record {
-  order = omega (arith, below);
-  within = is.within;
-  before = λ k default less.
-      let rise = begins_rise entries k middle default here apart (omega (arith, less)) (let within = is.within in omega (arith, within, below)) in
-      omega (arith, rise, passed);
-  behind = is.behind;
-}
+module _ (entries : List Entry) (order : BeginInOrder entries) where
+  pub place_up : (start low high middle : ℕ) (here : Entry) → IsBetween entries start start low high → low ≤ middle → middle < high
+      → (get_or entries middle here).start < start → IsBetween entries start start (middle + 1) high
+  place_up start low high middle here is above below passed = record {
+    order = omega (arith, below);
+    within = is.within;
+    before = λ k default less.
+        let rise = begins_rise entries k middle default here order (omega (arith, less)) (let within = is.within in omega (arith, within, below)) in
+        omega (arith, rise, passed);
+    behind = is.behind;
+  }
 
-pub place_down : (entries : List Entry) (start low high middle : ℕ) (here : Entry) → AllPairs IsBefore entries → IsPlaceBetween entries start low high
-    → low ≤ middle → middle < high → start < (get_or entries middle here).start → IsPlaceBetween entries start low middle
-place_down entries start low high middle here apart is above below behind = record {
-  order = above;
-  within = (let within = is.within in omega (arith, within, below));
-  before = is.before;
-  behind = λ k default from inside.
-      let rise = begins_rise entries middle k here default apart from inside in omega (arith, rise, behind);
-}
+  pub place_down : (start low high middle : ℕ) (here : Entry) → IsBetween entries start start low high → low ≤ middle → middle < high
+      → start ≤ (get_or entries middle here).start → IsBetween entries start start low middle
+  place_down start low high middle here is above below behind = record {
+    order = above;
+    within = (let within = is.within in omega (arith, within, below));
+    before = is.before;
+    behind = λ k default from inside.
+        let rise = begins_rise entries middle k here default order from inside in omega (arith, rise, behind);
+  }
 
-pub place_found : (entries : List Entry) (start low high : ℕ) → IsPlaceBetween entries start low high → high ≤ low → IsPlaceBehind entries start low
-place_found entries start low high is met = record {
-  within = (let within = is.within in let order = is.order in omega (arith, within, met));
-  before = λ k default inside. let short : k < low = search (arith, length-take, inside) in
-      let least : (get_or entries k default).start ≤ start = is.before k default short in
-      let same = ap (λ (e : Entry). e.start) (get_or-take low entries k default short) in omega (arith, least, same);
-  behind = λ entry here.
-      let inside : low < length entries = slice_get_within entries low entry here in
-      let high : start < (get_or entries low entry).start = is.behind low entry met inside in
-      let same = ap (λ (e : Entry). e.start) (get_or_from_slice_get entries low entry entry here) in omega (arith, high, same);
-}
+  pub place_found : (start low high : ℕ) → IsBetween entries start start low high → high ≤ low → IsBetween entries start start low low
+  place_found start low high is met = record {
+    order = omega arith;
+    within = (let within = is.within in let order = is.order in omega (arith, within, met));
+    before = is.before;
+    behind = λ k default from inside. is.behind k default (omega (arith, met, from)) inside;
+  }
 
--- A run that is listed stands right before the first that begins behind it.
-pub position_before : (entries : List Entry) (entry : Entry) (at : ℕ) → AreEntries entries → Contains entries entry → IsPlaceBehind entries entry.start at
-    → (0 < at) × (slice_get entries (at - 1) ≡ Some entry)
-position_before entries entry at are (k, inside, is) place =
-    let start_is = ap (λ (e : Entry). e.start) is in
-    let below : k < at = ⊎_elim (λ less. less)
-    (λ from. let here : at < length entries = omega (arith, from, inside) in
-    let high : entry.start < (get_or entries at entry).start = place.behind (get_or entries at entry) (slice_get-get_or entries at entry here) in
-    let rise = begins_rise entries at k entry entry are.apart from inside in absurd (omega (arith, high, rise, start_is))) (cases_lt k at) in
-    let last : k + 1 ≡ at = ⊎_elim
-    (λ more. let short : k + 1 < length (take at entries) = next_within k more in
-    let low : (get_or (take at entries) (k + 1) entry).start ≤ entry.start = place.before (k + 1) entry short in
-    let same = ap (λ (e : Entry). e.start) (get_or-take at entries (k + 1) entry more) in
-    let ends : IsBefore (get_or entries k entry) (get_or entries (k + 1) entry) = are.apart k (k + 1) entry (omega arith)
-    (let within = place.within in omega (arith, within, more)) in
-    let some : IsEntry (get_or entries k entry) = are.each k entry inside in
-    absurd (omega (arith, low, same, ends, some.some, start_is)))
-    (λ none. omega (arith, none, below)) (cases_lt (k + 1) at) in (
-      omega (arith, below),
-      ap (λ (n : ℕ). slice_get entries n) (omega (arith, last)) ∙ slice_get-get_or entries k entry inside
-          ∙ ap (λ (e : Entry). Some e) is,
-    )
-  where
-    next_within : (k : ℕ) → k + 1 < at → k + 1 < length (take at entries)
-    next_within k more = let within = place.within in search (arith, length-take, more, within)
+  -- An entry that is listed stands where the first stands that does not begin before it.
+  pub place_of : (entry : Entry) (at : ℕ) → Contains entries entry → IsBetween entries entry.start entry.start at at → slice_get entries at ≡ Some entry
+  place_of entry at (k, inside, is) place =
+      let start_is = ap (λ (e : Entry). e.start) is in
+      let from : at ≤ k = ⊎_elim (λ less. absurd (let low = place.before k entry less in omega (arith, low, start_is))) (λ most. most) (cases_lt k at) in
+      let to : k ≤ at = ⊎_elim
+      (λ less. absurd (let high = place.behind at entry (omega arith) (omega (arith, less, inside)) in let rise = order at k entry less inside in
+      omega (arith, high, rise, start_is))) (λ most. most) (cases_lt at k) in
+      ap (λ (n : ℕ). slice_get entries n) (omega (arith, from, to)) ∙ slice_get-get_or entries k entry inside ∙ ap (λ (e : Entry). Some e) is
+
+  -- Another entry may stand in the place of this one,
+  pub gap_here : (start at : ℕ) → IsBetween entries start start at at → at < length entries → IsBetween entries start (start + 1) at (at + 1)
+  gap_here start at place within = record {
+    order = omega arith;
+    within = omega (arith, within);
+    before = place.before;
+    behind = λ k default from inside.
+        let high = place.behind at default (omega arith) within in let rise = order at k default (omega (arith, from)) inside in
+        omega (arith, high, rise);
+  }
+
+  -- or before it, where it begins elsewhere,
+  pub gap_before : (start at : ℕ) → IsBetween entries start start at at
+      → ((default : Entry) → at < length entries → (get_or entries at default).start ≡ start → ⊥) → IsBetween entries start (start + 1) at at
+  gap_before start at place elsewhere = record {
+    order = omega arith;
+    within = place.within;
+    before = place.before;
+    behind = λ k default from inside. ⊎_elim (λ below. omega (arith, below))
+        (λ most. let rise = begins_rise entries at k default default order from inside in
+        let high = place.behind at default (omega arith) (omega (arith, from, inside)) in
+        absurd (elsewhere default (omega (arith, from, inside)) (omega (arith, most, rise, high)))) (cases_lt start (get_or entries k default).start);
+  }
+
+  -- or in the place of the one before.
+  pub gap_last : (start at : ℕ) → IsBetween entries start (start + 1) at at → 0 < at → IsBetween entries start (start + 1) (at - 1) (at - 1 + 1)
+  gap_last start at gap some = record {
+    order = omega arith;
+    within = (let within = gap.within in omega (arith, within, some));
+    before = λ k default less. gap.before k default (omega (arith, less));
+    behind = λ k default from inside. gap.behind k default (omega (arith, from, some)) inside;
+  }
+
+  pub order_set : (entry : Entry) (at : ℕ) → IsBetween entries entry.start (entry.start + 1) at (at + 1) → BeginInOrder (set entries at entry)
+  order_set entry at gap i j default less within =
+      let inside : j < length entries = subst (λ (n : ℕ). j < n) (length-set entries at entry) within in
+      let here : at < length entries = (let most = gap.within in omega (arith, most)) in
+      let changed : (k : ℕ) → k ≡ at → (get_or (set entries at entry) k default).start ≡ entry.start =
+      λ k same. ap (λ (e : Entry). e.start) (get_or-set_at entries at k entry default same here) in
+      let stays : (k : ℕ) → (k ≡ at → ⊥) → (get_or (set entries at entry) k default).start ≡ (get_or entries k default).start =
+      λ k other. ap (λ (e : Entry). e.start) (get_or-set_other entries at k entry default other) in
+      ⊎_elim
+      (λ first. let high = gap.behind j default (omega (arith, first, less)) inside in
+      omega (arith, changed i first, stays j (λ same. omega (arith, same, first, less)), high))
+      (λ not_first. ⊎_elim
+      (λ second. let low = gap.before i default (omega (arith, second, less)) in omega (arith, stays i not_first, changed j second, low))
+      (λ not_second. omega (arith, stays i not_first, stays j not_second, order i j default less inside))
+      (cases_eq j at)) (cases_eq i at)
+
+  pub order_insert : (entry : Entry) (at : ℕ) → IsBetween entries entry.start (entry.start + 1) at at
+      → BeginInOrder (take at entries ++ entry ∷ drop at entries)
+  order_insert entry at gap = all_pairs_insert (λ (e later : Entry). e.start < later.start) entries at entry order
+      (λ k default within. let short : k < at = search (arith, length-take, within) in
+      subst (λ (e : Entry). e.start < entry.start) (sym (get_or-take at entries k default short)) (gap.before k default short))
+      (λ k default within. let inside : at + k < length entries = search (arith, length-drop, within) in
+      subst (λ (e : Entry). entry.start < e.start) (sym (get_or-drop at entries k default))
+      (let high = gap.behind (at + k) default (omega arith) inside in omega (arith, high)))

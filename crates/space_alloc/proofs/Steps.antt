@@ -5,9 +5,9 @@ use Rattle.range_locks.specs.declared.hold.Hold.{Hold}
 use Rattle.range_locks.proofs.Lists.{none_listed}
 use Rattle.space_alloc.specs.declared.entry.Entry.{Entry}
 use Rattle.space_alloc.specs.declared.held.HeldEntry.{HeldEntry}
-use Rattle.space_alloc.specs.Space.{Run, Space, IsFreeRun, IsTaking, after_group}
-use Rattle.space_alloc.specs.Entries.{in_use, is_left, run_of, space_of, AreApart, IsEntry, IsInserted}
-use Rattle.space_alloc.proofs.InUse.{gains_image, image_listed, inserted_gains, space_after}
+use Rattle.space_alloc.specs.Space.{Gains, Run, Space, IsFreeRun, IsTaking, after_group}
+use Rattle.space_alloc.specs.Entries.{in_use, is_left, run_of_entry, space_of, AreEntriesApart, IsEntry}
+use Rattle.space_alloc.proofs.InUse.{gains_image, image_listed, space_after}
 use Rattle.space_alloc.proofs.Free.{free_within, free_apart}
 use Rattle.space_alloc.proofs.Kept.{IsApart}
 
@@ -17,7 +17,7 @@ pub is_listed : (space : Space) (capacity : ℕ) (taken : List Entry) (held : Li
     → (let entry : Entry = record { start = start; len = len } in Contains taken entry)
 is_listed space capacity taken held start len view listed =
     let run : Run = record { start = start; len = len } in
-    let found = image_listed run_of taken run (subst (λ (s : Space). Contains s.taken run) (sym view) listed) in
+    let found = image_listed run_of_entry taken run (subst (λ (s : Space). Contains s.taken run) (sym view) listed) in
     let same : found.0 ≡ record { start = start; len = len } = ap (λ (r : Run). entry_of r) found.2 in
     subst (λ (e : Entry). Contains taken e) same found.1
   where
@@ -26,7 +26,7 @@ is_listed space capacity taken held start len view listed =
 
 -- A free run has sectors, and no run in use meets it.
 pub is_apart : (space : Space) (capacity : ℕ) (taken : List Entry) (held : List HeldEntry) (holds : List Hold) (start len : ℕ)
-    → space_of capacity taken held ≡ space → capacity < 2 ^ 64 → 0 < len → AreApart (in_use taken held) → IsFreeRun space holds start len
+    → space_of capacity taken held ≡ space → capacity < 2 ^ 64 → 0 < len → AreEntriesApart (in_use taken held) → IsFreeRun space holds start len
     → (let entry : Entry = record { start = start; len = len } in IsEntry entry × IsApart (in_use taken held) entry)
 is_apart space capacity taken held holds start len view small long are free =
     let here : IsFreeRun (space_of capacity taken held) holds start len = subst (λ (s : Space). IsFreeRun s holds start len) (sym view) free in (
@@ -35,11 +35,11 @@ is_apart space capacity taken held holds start len view small long are free =
     )
 
 pub takes : (space : Space) (capacity : ℕ) (old new : List Entry) (held : List HeldEntry) (start len : ℕ) → space_of capacity old held ≡ space
-    → IsInserted old new (record { start = start; len = len }) → IsTaking space (space_of capacity new held) start len
-takes space capacity old new held start len view inserted =
+    → Gains old new (record { start = start; len = len }) → IsTaking space (space_of capacity new held) start len
+takes space capacity old new held start len view gains =
     subst (λ (s : Space). IsTaking s (space_of capacity new held) start len) view (record {
       capacity = refl;
-      taken = gains_image run_of old new _ (inserted_gains old new _ inserted);
+      taken = gains_image run_of_entry old new _ gains;
       held = refl;
     })
 

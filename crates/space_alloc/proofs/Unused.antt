@@ -7,7 +7,7 @@ use Rattle.std.proofs.lemmas.List.Elements.{All-contains}
 use Rattle.range_locks.proofs.Lists.{first_listed, listed_cases, rest_listed}
 use Rattle.space_alloc.specs.declared.entry.Entry.{Entry}
 use Rattle.space_alloc.specs.Space.{Gains, IsIn}
-use Rattle.space_alloc.specs.Entries.{entry_end, AreApart, IsBeside}
+use Rattle.space_alloc.specs.Entries.{entry_end, AreEntriesApart, IsApartFrom}
 use Rattle.space_alloc.specs.Edges.{edges_to, ends_of, AreEdgesOf, IsFlipped, IsUnused, IsRising}
 use Rattle.space_alloc.proofs.Flipping.{edges_append, edges_cons, step_of}
 use Rattle.space_alloc.proofs.InUse.{Covers}
@@ -43,17 +43,17 @@ uncovered_even (entry ∷ entries) sector none =
     (cases_lt sector entry.start)
 
 -- Where one covers it, that one alone has an end on each side.
-pub covered_odd : (entries : List Entry) (sector : ℕ) → AllPairs IsBeside entries → Covers entries sector → edges_to (ends_of entries) sector % 2 ≡ 1
+pub covered_odd : (entries : List Entry) (sector : ℕ) → AllPairs IsApartFrom entries → Covers entries sector → edges_to (ends_of entries) sector % 2 ≡ 1
 covered_odd [] sector apart covers = absurd (omega (arith, covers.listed.1))
 covered_odd (entry ∷ entries) sector apart covers =
     let both = both_ends entry entries sector in
-    let later : All (IsBeside entry) entries = λ k default within. apart 0 (suc k) default (omega arith) (omega (arith, within)) in
-    let rest_apart : AllPairs IsBeside entries = λ i j default order within. apart (suc i) (suc j) default (omega (arith, order)) (omega (arith, within)) in
+    let later : All (IsApartFrom entry) entries = λ k default within. apart 0 (suc k) default (omega arith) (omega (arith, within)) in
+    let rest_apart : AllPairs IsApartFrom entries = λ i j default order within. apart (suc i) (suc j) default (omega (arith, order)) (omega (arith, within)) in
     ⊎_elim
     (λ same. let inside : IsIn entry.start entry.len sector = subst (λ (e : Entry). IsIn e.start e.len sector) (sym same) covers.inside in
     let none : edges_to (ends_of entries) sector % 2 ≡ 0 = uncovered_even entries sector
     (λ others. ⊎_elim (λ behind. omega (arith, behind, inside, others.inside)) (λ before. omega (arith, before, inside, others.inside))
-    (All-contains (IsBeside entry) entries others.entry later others.listed)) in
+    (All-contains (IsApartFrom entry) entries others.entry later others.listed)) in
     let one = step_one sector entry.start inside.0 in
     let other = step_none sector (entry_end entry) inside.1 in
     omega (arith, both, one, other, none))
@@ -66,10 +66,10 @@ covered_odd (entry ∷ entries) sector apart covers =
     (λ before. let one = step_none sector entry.start (omega (arith, before, covers.inside)) in
     let other = step_none sector (entry_end entry) (omega (arith, before, covers.inside)) in
     omega (arith, both, one, other, odd))
-    (All-contains (IsBeside entry) entries covers.entry later listed))
+    (All-contains (IsApartFrom entry) entries covers.entry later listed))
     (listed_cases entry covers.entry entries covers.listed)
 
-pub covered_inside : (entries : List Entry) (edges : List ℕ) (sector : ℕ) → AreApart entries → AreEdgesOf entries edges → Covers entries sector
+pub covered_inside : (entries : List Entry) (edges : List ℕ) (sector : ℕ) → AreEntriesApart entries → AreEdgesOf entries edges → Covers entries sector
     → IsUnused edges sector → ⊥
 covered_inside entries edges sector are kept covers unused =
     let odd = covered_odd entries sector are.apart covers in

@@ -4,7 +4,7 @@ use Rattle.std.specs.Vec.{vec_capacity}
 use Rattle.std.specs.declared.alloc.Global.{Global}
 use Rattle.space_alloc.specs.declared.entry.Entry.{Entry}
 use Rattle.space_alloc.specs.declared.held.HeldEntry.{HeldEntry}
-use Rattle.space_alloc.specs.Entries.{entry_end, in_use, AreEntries, AreApart}
+use Rattle.space_alloc.specs.Entries.{entry_end, in_use, AreEntriesApart}
 
 -- how many of them stand at or below a sector
 abbrev pub edges_to : List ℕ → ℕ → ℕ
@@ -40,11 +40,10 @@ pub record HasReleased (held left : List HeldEntry) (old new : Vec ℕ Global) :
   pub room : vec_len new + 2 * length left ≤ vec_len old + 2 * length held
   pub capacity : vec_capacity new ≡ vec_capacity old
 
--- how a space keeps its runs: those that are taken are in order, no two in use meet, and their edges stand beside
--- them. There is room for the edges of each run that is given back, and for each taken run among those held back.
-pub record AreKept (taken : Vec Entry Global) (held : Vec HeldEntry Global) (edges : Vec ℕ Global) : Type 0 where
-  pub in_order : AreEntries taken.items
-  pub apart : AreApart (in_use taken.items held.items)
-  pub edges_of : AreEdgesOf (in_use taken.items held.items) edges.items
-  pub room : vec_len edges + 2 * (vec_len taken + vec_len held) ≤ vec_capacity edges
-  pub held_room : vec_len taken + vec_len held ≤ vec_capacity held
+-- how a space keeps its runs: no two in use meet, and their edges stand beside them. There is room for the edges of
+-- each run that is given back, and for each taken run among those held back.
+pub record AreKept (taken : List Entry) (held : Vec HeldEntry Global) (edges : Vec ℕ Global) : Type 0 where
+  pub apart : AreEntriesApart (in_use taken held.items)
+  pub edges_of : AreEdgesOf (in_use taken held.items) edges.items
+  pub room : vec_len edges + 2 * (length taken + vec_len held) ≤ vec_capacity edges
+  pub held_room : length taken + vec_len held ≤ vec_capacity held

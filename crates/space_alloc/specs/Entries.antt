@@ -1,11 +1,13 @@
--- The runs in use: those that are taken, in the order of their sectors, and those that are held back.
-use Rattle.std.specs.Prelude.{◌≡◌, ◌⊎◌, ◌^◌, ℕ, ◌+◌, ◌<◌, ◌≤◌, List, ◌∷◌, ◌++◌, All, AllPairs, Bool, nat_lt, get_or, length, map, take, drop, slice_get, Some}
+-- The runs in use: those that are taken, by their start and with dead entries between, and those that are held back.
+use Rattle.std.specs.Prelude.{◌≡◌, ◌⊎◌, ◌^◌, ℕ, ◌+◌, ◌<◌, ◌≤◌, List, ◌++◌, All, AllPairs, Bool, nat_lt, filter, get_or, length, map}
 use Rattle.space_alloc.specs.declared.entry.Entry.{Entry}
+use Rattle.space_alloc.specs.declared.gap.Gap.{Gap}
+use Rattle.space_alloc.specs.declared.gap.Gap.TheVariants.{Dead, Between}
 use Rattle.space_alloc.specs.declared.held.HeldEntry.{HeldEntry}
 use Rattle.space_alloc.specs.Space.{Run, HeldRun, Space}
 
-abbrev pub run_of : Entry → Run
-run_of entry = record { start = entry.start; len = entry.len }
+abbrev pub run_of_entry : Entry → Run
+run_of_entry entry = record { start = entry.start; len = entry.len }
 
 abbrev pub held_run_of : HeldEntry → HeldRun
 held_run_of run = record { start = run.entry.start; len = run.entry.len; group = run.until }
@@ -13,7 +15,7 @@ held_run_of run = record { start = run.entry.start; len = run.entry.len; group =
 -- a space with these runs in use
 abbrev pub space_of : ℕ → List Entry → List HeldEntry → Space
 space_of capacity taken held =
-    record { capacity = capacity; taken = map run_of taken; held = map held_run_of held }
+    record { capacity = capacity; taken = map run_of_entry taken; held = map held_run_of held }
 
 -- the sectors of the runs that are held back
 abbrev pub entries_held : List HeldEntry → List Entry
@@ -41,39 +43,49 @@ pub record IsEntry (entry : Entry) : Type 0 where
 abbrev pub IsBefore : Entry → Entry → Type 0
 IsBefore entry later = entry_end entry ≤ later.start
 
--- The runs are in order, and no two have a sector in common.
-pub record AreEntries (entries : List Entry) : Type 0 where
-  pub each : All IsEntry entries
-  pub apart : AllPairs IsBefore entries
-
 -- One run ends before the other begins.
-abbrev pub IsBeside : Entry → Entry → Type 0
-IsBeside entry other = IsBefore entry other ⊎ IsBefore other entry
+abbrev pub IsApartFrom : Entry → Entry → Type 0
+IsApartFrom entry other = IsBefore entry other ⊎ IsBefore other entry
 
 -- No two of the runs have a sector in common, in whatever order they are.
-pub record AreApart (entries : List Entry) : Type 0 where
+pub record AreEntriesApart (entries : List Entry) : Type 0 where
   pub each : All IsEntry entries
-  pub apart : AllPairs IsBeside entries
+  pub apart : AllPairs IsApartFrom entries
 
 -- whether a run is still in use when a group is answered
 abbrev pub is_left : ℕ → HeldEntry → Bool
 is_left group run = nat_lt group run.until
 
--- the place of the first run that begins behind a sector
-pub record IsPlaceBehind (entries : List Entry) (start at : ℕ) : Type 0 where
-  pub within : at ≤ length entries
-  pub before : All (λ entry. entry.start ≤ start) (take at entries)
-  pub behind : (entry : Entry) → slice_get entries at ≡ Some entry → start < entry.start
+-- An entry without sectors is dead: its run was given back, and another may be put in its place.
+abbrev pub is_live : Entry → Bool
+is_live entry = nat_lt 0 entry.len
 
--- how far a search by halving for it has come: the place is between these two
-pub record IsPlaceBetween (entries : List Entry) (start low high : ℕ) : Type 0 where
+-- the runs of a list in which there are dead entries too
+abbrev pub live_of : List Entry → List Entry
+live_of entries = filter is_live entries
+
+-- Each entry begins before all later ones.
+abbrev pub BeginInOrder : List Entry → Type 0
+BeginInOrder entries = AllPairs (λ entry later. entry.start < later.start) entries
+
+-- how a list of runs is kept: in order, and with a count of the dead entries
+pub record AreRuns (entries : List Entry) (dead : ℕ) : Type 0 where
+  pub in_order : BeginInOrder entries
+  pub count : dead + length (live_of entries) ≡ length entries
+
+-- The entries below the place `low` begin before one sector, and those from `high` on at another or behind it.
+pub record IsBetween (entries : List Entry) (start from low high : ℕ) : Type 0 where
   pub order : low ≤ high
   pub within : high ≤ length entries
-  pub before : (k : ℕ) (default : Entry) → k < low → (get_or entries k default).start ≤ start
-  pub behind : (k : ℕ) (default : Entry) → high ≤ k → k < length entries → start < (get_or entries k default).start
+  pub before : (k : ℕ) (default : Entry) → k < low → (get_or entries k default).start < start
+  pub behind : (k : ℕ) (default : Entry) → high ≤ k → k < length entries → from ≤ (get_or entries k default).start
 
--- A run is put before the first that begins behind it.
-pub record IsInserted (old new : List Entry) (entry : Entry) : Type 0 where
-  pub at : ℕ
-  pub place : IsPlaceBehind old entry.start at
-  pub is : new ≡ take at old ++ entry ∷ drop at old
+-- A dead entry stands here.
+pub record IsDeadAt (entries : List Entry) (at : ℕ) : Type 0 where
+  pub within : at < length entries
+  pub dead : (default : Entry) → (get_or entries at default).len ≡ 0
+
+-- Where a run is put: those before it begin before it, and those behind it behind it.
+abbrev pub IsGap : List Entry → ℕ → Gap → Type 0
+IsGap entries start (Dead at) = IsDeadAt entries at × IsBetween entries start (start + 1) at (at + 1)
+IsGap entries start (Between at) = IsBetween entries start (start + 1) at at

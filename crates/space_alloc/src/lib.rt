@@ -11,6 +11,7 @@
 mod edges;
 mod entry;
 mod fit;
+mod gap;
 mod held;
 mod refused;
 mod runs;

@@ -1,55 +1,92 @@
 // The list of taken runs, by their start.
-ghost use Rattle.std.specs.Prelude.{◌≡◌, AllPairs, Some, Contains, OnOk, OnErr, slice_get};
+ghost use Rattle.std.specs.Prelude.{◌≡◌, ◌≢◌, ◌<◌, ◌≤◌, ◌^◌, [], All, Contains, OnOk, OnErr, length};
 ghost use Rattle.space_alloc.specs.Space.{Gains};
-ghost use Rattle.space_alloc.specs.Entries.{AreEntries, IsBefore, IsInserted, IsPlaceBehind};
 
 use crate::entry::Entry;
-use std::alloc::AllocError;
+use crate::gap::{self, Gap};
+use std::alloc::{AllocError, Global};
+use std::marker::Model;
 
-/// Puts a run before the first that begins behind it.
-pub fn insert(entries: &mut Vec<Entry>, entry: Entry) -> Result<(), AllocError>
-    requires { AreEntries entries.old.items }
-    ensures ok { OnOk result (IsInserted entries.old.items entries.new.items entry) }
-    ensures err { OnErr result (entries.new.items ≡ entries.old.items) }
-{
-    let at = place(entries, entry.start);
-    entries.insert(at, entry)?;
-    Ok(())
+/// So many dead entries are not worth a pass over all.
+const FEW: usize = 64;
+
+/// The runs that are taken, by their start.
+///
+/// An entry that is removed stays in its place as a dead one, so that those behind it are not shifted. A run that
+/// is put beside it takes its place.
+#[derive(Drop, Debug)]
+pub struct Runs {
+    entries: Vec<Entry>,
+    dead: usize,
 }
 
-/// The place of the first run that begins behind this sector, found by halving.
-fn place(entries: &[Entry], start: u64) -> usize
-    requires { AllPairs IsBefore entries.now }
-    ensures { IsPlaceBehind entries.now start result }
-{
-    let mut low = 0;
-    let mut high = entries.len();
-    while low < high {
-        let middle = low + (high - low) / 2;
-        if entries[middle].start <= start {
-            low = middle + 1;
-        } else {
-            high = middle;
+impl Model for Runs {
+    ghost use Rattle.std.specs.Prelude.{List};
+    ghost use Rattle.space_alloc.specs.declared.entry.Entry.{Entry};
+    ghost use Rattle.space_alloc.specs.Entries.{live_of, AreRuns};
+
+    ghost Value = { List Entry };
+
+    ghost view = { λ runs. live_of runs.entries.items };
+
+    ghost invariant = { λ runs. AreRuns runs.entries.items runs.dead };
+}
+
+impl Runs {
+    pub fn new(alloc: Global) -> Runs
+        ensures value { result ≡ [] }
+    {
+        Runs {
+            entries: Vec::new(alloc),
+            dead: 0,
         }
     }
-    low
-}
 
-/// Takes away a run that is listed.
-pub fn remove(entries: &mut Vec<Entry>, entry: &Entry)
-    requires listed { Contains entries.old.items entry.now }
-    requires entries { AreEntries entries.old.items }
-    ensures { Gains entries.new.items entries.old.items entry.now }
-{
-    let at = position(entries, entry);
-    entries.remove(at);
-}
+    /// How many entries there are, the dead ones too.
+    pub fn places(&self) -> usize
+        ensures enough { length self.now ≤ result }
+        ensures few { result < 2 ^ 62 }
+    {
+        self.entries.as_slice().len()
+    }
 
-/// The place of a run that is listed: the last that does not begin behind it.
-fn position(entries: &[Entry], entry: &Entry) -> usize
-    requires listed { Contains entries.now entry.now }
-    requires entries { AreEntries entries.now }
-    ensures { slice_get entries.now result ≡ Some entry.now }
-{
-    place(entries, entry.start) - 1
+    /// Puts a run among the others. Those behind it are shifted only where no dead entry stands beside it.
+    pub fn insert(&mut self, entry: Entry) -> Result<(), AllocError>
+        requires some { 0 < entry.len }
+        requires elsewhere { All (λ other. other.start ≢ entry.start) self.old }
+        ensures ok { OnOk result (Gains self.old self.new entry) }
+        ensures err { OnErr result (self.new ≡ self.old) }
+    {
+        match gap::find(&self.entries, entry.start) {
+            Gap::Dead(at) => {
+                self.entries[at] = entry;
+                self.dead -= 1;
+            }
+            Gap::Between(at) => self.entries.insert(at, entry)?,
+        }
+        Ok(())
+    }
+
+    /// Takes away a run that is listed.
+    pub fn remove(&mut self, entry: &Entry)
+        requires listed { Contains self.old entry.now }
+        ensures { Gains self.new self.old entry.now }
+    {
+        let at = gap::place(&self.entries, entry.start);
+        self.entries[at] = Entry {
+            start: entry.start,
+            len: 0,
+        };
+        self.dead += 1;
+    }
+
+    /// Takes the dead entries away, in one pass, where they are more than the live ones.
+    pub fn compact(&mut self)
+        ensures { self.new ≡ self.old }
+    {
+        if self.dead > FEW && self.dead > self.entries.len() / 2 {
+            self.entries.retain(|entry| entry.is_live());
+            self.dead = 0;
+        }
+    }
 }

@@ -5,7 +5,8 @@ ghost use Rattle.space_alloc.specs.Space.{IsFreeRun, IsFirstFit, IsTaking, IsDro
 
 use crate::entry::Entry;
 use crate::held::{self, HeldEntry};
-use crate::{TakeRefused, edges, fit, runs};
+use crate::runs::Runs;
+use crate::{TakeRefused, edges, fit};
 use range_locks::{Hold, Locks, Steps};
 use std::alloc::{AllocError, Global};
 use std::marker::Model;
@@ -14,12 +15,12 @@ use std::sync::ledger::Ledger;
 /// The runs of sectors that are taken, by their start, those that are held back, in the order in which they were
 /// given back, and beside both the edges between what is free and what is in use.
 ///
-/// A run that is taken, or given back, shifts the taken ones behind it, so an entry there is two numbers and no
-/// more. There is always room to hold back all that are taken.
+/// A taken run that is given back leaves a dead entry in its place, which the next run that is taken beside it gets.
+/// There is always room to hold back all that are taken.
 #[derive(Drop, Debug)]
 pub struct Space {
     capacity: u64,
-    taken: Vec<Entry>,
+    taken: Runs,
     held: Vec<HeldEntry>,
     edges: Vec<u64>,
 }
@@ -31,7 +32,7 @@ impl Model for Space {
 
     ghost Value = { Space };
 
-    ghost view = { λ space. space_of space.capacity space.taken.items space.held.items };
+    ghost view = { λ space. space_of space.capacity space.taken space.held.items };
 
     ghost invariant = { λ space. AreKept space.taken space.held space.edges };
 }
@@ -43,7 +44,7 @@ impl Space {
     {
         Space {
             capacity,
-            taken: Vec::new(alloc),
+            taken: Runs::new(alloc),
             held: Vec::new(alloc),
             edges: Vec::new(alloc),
         }
@@ -88,10 +89,10 @@ impl Space {
             Contains self.new.taken (record { start = start; len = len })) }
         ensures err { OnErr result (self.new ≡ self.old) }
     {
-        self.held.reserve(self.taken.len() + 1)?;
+        self.held.reserve(self.taken.places() + 1)?;
         self.edges
-            .reserve(2 * (self.taken.len() + self.held.len()) + 4)?;
-        runs::insert(&mut self.taken, Entry { start, len })?;
+            .reserve(2 * (self.taken.places() + self.held.len()) + 4)?;
+        self.taken.insert(Entry { start, len })?;
         edges::flip_run(&mut self.edges, start, start + len);
         Ok(())
     }
@@ -102,7 +103,7 @@ impl Space {
         ensures value { IsDropping self.old self.new start len }
     {
         let entry = Entry { start, len };
-        runs::remove(&mut self.taken, &entry);
+        self.taken.remove(&entry);
         edges::flip_run(&mut self.edges, start, entry.end());
     }
 
@@ -112,7 +113,7 @@ impl Space {
         ensures value { IsHolding self.old self.new start len group }
     {
         let entry = Entry { start, len };
-        runs::remove(&mut self.taken, &entry);
+        self.taken.remove(&entry);
         self.held.push_reserved(HeldEntry {
             entry,
             until: group,
@@ -125,6 +126,7 @@ impl Space {
     {
         edges::flip_until(&mut self.edges, &self.held, group);
         held::remove_until(&mut self.held, group);
+        self.taken.compact();
     }
 
     /// The pool has so many sectors from now on.

@@ -1,10 +1,17 @@
 use Rattle.std.proofs.Common.{◌<◌, ◌^◌, List, [], rules, ap, sym, ◌∙◌, subst, arith}
+use Rattle.range_locks.proofs.Lists.{gains_item}
 use Rattle.space_alloc.specs.declared.held.HeldEntry.{HeldEntry}
 use Rattle.space_alloc.specs.Entries.{in_use, space_of}
 use Rattle.space_alloc.proofs.Beside.{kept_put, kept_room}
-use Rattle.space_alloc.proofs.Kept.{IsApart}
+use Rattle.space_alloc.proofs.Kept.{begins_elsewhere, IsApart}
 use Rattle.space_alloc.proofs.Steps.{is_apart, takes}
 use Rattle.space_alloc.proofs.space.Space.claim.Goals as goal
+
+pub insert-requires-clause-elsewhere : goal.insert-requires-clause-elsewhere
+insert-requires-clause-elsewhere c =
+    let small : c.self.inside.capacity < 2 ^ 64 = search rules in
+    let new = is_apart _ _ _ _ [] _ _ c.self.view_is small c.requires.len c.self.invariant.apart c.requires.free in
+    begins_elsewhere _ _ _ c.self.invariant.apart new.0 new.1
 
 pub invariant_of-self-2 : goal.invariant_of-self-2
 invariant_of-self-2 c =
@@ -14,12 +21,15 @@ invariant_of-self-2 c =
     let new = is_apart _ _ _ _ [] _ _ c.self.view_is small c.requires.len c.self.invariant.apart c.requires.free in
     kept_put _ _ _ _ _ _ kept c.flip_run.ensures.rising c.flip_run.ensures.flipped c.flip_run.ensures.len c.flip_run.ensures.capacity
     c.in_ok-insert.ensures.ok new.0
-    (subst (λ (l : List HeldEntry). IsApart (in_use c.self.inside.taken.items l) (record { start = c.args.start; len = c.args.len }))
+    (subst (λ (l : List HeldEntry). IsApart (in_use c.self.inside.taken l) (record { start = c.args.start; len = c.args.len }))
     (sym c.reserve.ensures.items) new.1)
-    (omega (arith, c.in_ok-reserve-2.ensures.ok, c.len-2.ensures, c.len-3.ensures))
-    (omega (arith, c.in_ok-reserve.ensures.ok, c.len.ensures))
+    (omega (arith, c.in_ok-reserve-2.ensures.ok, c.places-2.ensures.enough, c.len.ensures))
+    (omega (arith, c.in_ok-reserve.ensures.ok, c.places.ensures.enough))
 
 pub returns-clause-ok : goal.returns-clause-ok
 returns-clause-ok c = takes _ _ _ _ _ _ _
-    (ap (λ (l : List HeldEntry). space_of c.self.inside.capacity c.self.inside.taken.items l) c.reserve.ensures.items ∙ c.self.view_is)
+    (ap (λ (l : List HeldEntry). space_of c.self.inside.capacity c.self.inside.taken l) c.reserve.ensures.items ∙ c.self.view_is)
     c.in_ok-insert.ensures.ok
+
+pub returns-clause-listed : goal.returns-clause-listed
+returns-clause-listed c = gains_item _ _ _ (returns-clause-ok c).taken

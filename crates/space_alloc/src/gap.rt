@@ -1,0 +1,58 @@
+// Places among entries by their start.
+ghost use Rattle.std.specs.Prelude.{◌≡◌, ◌≢◌, ◌<◌, ◌+◌, All, get_or, length, true, false};
+ghost use Rattle.space_alloc.specs.declared.entry.Entry.{Entry};
+ghost use Rattle.space_alloc.specs.Entries.{live_of, BeginInOrder, IsBetween, IsDeadAt, IsGap};
+
+use crate::entry::Entry;
+
+/// Where a run is put.
+#[derive(Clone, Copy, Debug)]
+pub enum Gap {
+    /// In the place of the dead entry that stands here.
+    Dead(usize),
+    /// Before the entry that stands here.
+    Between(usize),
+}
+
+/// Where a run that begins at a sector is put. A dead entry on either side serves.
+pub fn find(entries: &[Entry], start: u64) -> Gap
+    requires order { BeginInOrder entries.now }
+    requires elsewhere { All (λ entry. entry.start ≢ start) (live_of entries.now) }
+    ensures { IsGap entries.now start result }
+{
+    let at = place(entries, start);
+    if is_dead(entries, at) {
+        return Gap::Dead(at);
+    }
+    if 0 < at && is_dead(entries, at - 1) {
+        return Gap::Dead(at - 1);
+    }
+    Gap::Between(at)
+}
+
+/// The place of the first entry that does not begin before this sector, found by halving.
+pub fn place(entries: &[Entry], start: u64) -> usize
+    requires { BeginInOrder entries.now }
+    ensures { IsBetween entries.now start start result result }
+{
+    let mut low = 0;
+    let mut high = entries.len();
+    while low < high {
+        let middle = low + (high - low) / 2;
+        if entries[middle].start < start {
+            low = middle + 1;
+        } else {
+            high = middle;
+        }
+    }
+    low
+}
+
+/// Whether a dead entry stands here.
+fn is_dead(entries: &[Entry], at: usize) -> bool
+    ensures dead { result ≡ true → IsDeadAt entries.now at }
+    ensures live { result ≡ false → (default : Entry) → at < length entries.now
+        → 0 < (get_or entries.now at default).len }
+{
+    at < entries.len() && !entries[at].is_live()
+}
