@@ -1,12 +1,12 @@
 -- What spells a number.
-use Rattle.std.proofs.Common.{◌≡◌, ℕ, ◌+◌, ◌-◌, ◌*◌, ◌<◌, ◌≤◌, List, [], ◌∷◌, length, get_or, refl, sym, ◌∙◌, subst, arith, Bool, true, false, decimal, Result, Ok}
-use Rattle.std.specs.Prelude.{All, ◌≢◌, ◌&&◌, min, IsUtf8, IsAscii}
+use Rattle.std.proofs.Common.{◌≡◌, ℕ, zero, suc, ◌+◌, ◌-◌, ◌*◌, ◌^◌, ◌<◌, ◌≤◌, List, [], ◌∷◌, length, get_or, take, refl, sym, ap, ◌∙◌, subst, arith, Bool, true, false, decimal}
+use Rattle.std.specs.Prelude.{All, ◌≢◌, ◌&&◌, min}
 use Rattle.std.specs.List.{list_all}
 use Rattle.std.specs.Char.{is_ascii_digit, digit_value}
-use Rattle.std.specs.Str.Parse.{AllDigits, digits_value, digits_value_after, ParsesUnsigned}
-use Rattle.std.proofs.lemmas.Fmt.{decimal_is_IsNumeral, decimal_injective, parse-decimal, IsAscii-decimal}
-use Rattle.std.proofs.lemmas.Str.{IsUtf8-from_ascii}
-use Rattle.std.proofs.lemmas.Str.Parse.{digit_at, digit_from_value}
+use Rattle.std.specs.Str.Parse.{AllDigits, digits_value, digits_value_after}
+use Rattle.std.proofs.lemmas.Fmt.{decimal_is_IsNumeral, decimal_injective, decimal_digit, decimal_nonempty, first_decimal, decimal-digits_value}
+use Rattle.std.proofs.lemmas.Int.Digits.{digits_value_more}
+use Rattle.std.proofs.lemmas.Str.Parse.{digit_at, digit_from_value, digits_value-take-le, numerals_by_value, tells_digits}
 use Rattle.std.proofs.lemmas.List.{get_or_default}
 use Rattle.std.proofs.lemmas.Bool.Decides.{nat_tests}
 use Rattle.client_script.specs.Words.{IsCut, IsNumber, IsLedByNumber, IsCount}
@@ -34,13 +34,6 @@ one_leading text number other rest more a b =
 
 pub one_number : (text : List ℕ) (number other : ℕ) → IsNumber text number → IsNumber text other → number ≡ other
 one_number text number other a b = decimal_injective number other a.fits b.fits (sym a.spelled ∙ b.spelled)
-
--- A number is text, and is read as itself.
-pub number_is_utf8 : (word : List ℕ) (number : ℕ) → IsNumber word number → IsUtf8 word
-number_is_utf8 word number is = IsUtf8-from_ascii word (subst (λ (l : List ℕ). IsAscii l) (sym is.spelled) (IsAscii-decimal number is.fits))
-
-pub number_is_read : {E : Type 0} (word : List ℕ) (number : ℕ) (r : Result ℕ E) → IsNumber word number → ParsesUnsigned 64 10 word r → r ≡ Ok number
-number_is_read word number r is parsed = parse-decimal 64 number word r is.fits is.fits is.spelled parsed
 
 -- A digit passes the test, and nothing else does.
 digit_passes : (byte : ℕ) → 48 ≤ byte → byte ≤ 57 → is_ascii_digit byte ≡ true
@@ -71,6 +64,62 @@ digits_tested (byte ∷ word) passed =
     let here = passed_digit byte both.0 in
     let value : digit_value byte ≡ byte - 48 = value_of_digit byte here.0 here.1 in
     (omega (arith, value, here), digits_tested word both.1)
+
+-- The digits of a number have its value.
+pub digits_of_number : (word : List ℕ) (number : ℕ) → IsNumber word number
+    → AllDigits 10 word × (digits_value 10 word ≡ number)
+digits_of_number word number is =
+    let known = decimal_is_IsNumeral number is.fits in
+    let all = subst (λ (l : List ℕ). AllDigits 10 l) (sym is.spelled) known.0.1 in
+    (all, ap (digits_value 10) is.spelled ∙ known.1)
+
+-- Digits with no zero too many in front are a number.
+pub number_of_digits : (word rest : List ℕ) (first : ℕ) → word ≡ first ∷ rest → (first ≡ 48 → length rest ≡ 0)
+    → AllDigits 10 word → digits_value 10 word < 2 ^ 64 → IsNumber word (digits_value 10 word)
+number_of_digits word rest first is lead all fits =
+    let starts : get_or word 0 0 ≡ first = ap (λ (l : List ℕ). get_or l 0 0) is in
+    let long : length word ≡ length rest + 1 = omega (arith, ap length is) in
+    let alone : get_or word 0 0 ≡ 48 → length word ≡ 1 = λ e. omega (arith, long, lead (sym starts ∙ e)) in
+    let own = numerals_by_value _ tells_digits in
+    record {
+      spelled = sym (decimal-digits_value own word all (omega (arith, long)) alone fits);
+      fits = fits;
+    }
+
+-- Nothing is behind a zero in front of a number.
+pub zero_stands_alone : (word rest : List ℕ) (number : ℕ) → word ≡ 48 ∷ rest → 0 < length rest
+    → IsNumber word number → ⊥
+zero_stands_alone word rest zero is more number =
+    let same : 48 ∷ rest ≡ (48 + 0) ∷ [] = sym is ∙ number.spelled ∙ decimal_digit 0 (omega arith) in
+    omega (arith, more, ap length same)
+zero_stands_alone word rest (suc n) is more number =
+    let starts : get_or (decimal (suc n)) 0 0 ≡ 48 = ap (λ (l : List ℕ). get_or l 0 0) (sym number.spelled ∙ is) in
+    omega (arith, starts, first_decimal (suc n) (omega arith) number.fits)
+
+-- A number has a digit.
+pub number_is_some : (word : List ℕ) (number : ℕ) → IsNumber word number → 0 < length word
+number_is_some word number is = omega (arith, decimal_nonempty number is.fits, ap length is.spelled)
+
+-- The value of one digit more.
+pub value_of_more : (word : List ℕ) (i value : ℕ) → i < length word → digits_value 10 (take i word) ≡ value
+    → digits_value 10 (take (i + 1) word) ≡ value * 10 + digit_value (get_or word i 0)
+value_of_more word i value within so_far =
+    digits_value_more 10 word i within ∙ ap (λ v. v * 10 + digit_value (get_or word i 0)) so_far
+
+-- A digit is below ten.
+digit_is_below : (word : List ℕ) (i : ℕ) → AllDigits 10 word → i < length word → digit_value (get_or word i 0) < 10
+digit_is_below word i all within =
+    let here = digit_at word i all within in
+    omega (arith, value_of_digit (get_or word i 0) here.0 here.1, here)
+
+-- Digits that are too great so far stay so.
+pub stays_too_great : (word : List ℕ) (i value : ℕ) → i < length word → digits_value 10 (take i word) ≡ value
+    → (digit_value (get_or word i 0) < 10 → 2 ^ 64 ≤ value * 10 + digit_value (get_or word i 0))
+    → AllDigits 10 word → 2 ^ 64 ≤ digits_value 10 word
+stays_too_great word i value within so_far great all =
+    let above = great (digit_is_below word i all within) in
+    let next = value_of_more word i value within so_far in
+    omega (arith, above, next, digits_value-take-le 10 word (i + 1) (omega arith))
 
 -- What follows only adds to a number.
 after_is_greater : (number : ℕ) (digits : List ℕ) → number ≤ digits_value_after 10 number digits

@@ -16,5 +16,9 @@ pub fn after<'a>(text: &'a [u8], front: &[u8]) -> Option<&'a [u8]>
     ensures { MatchOption result ((rest : List ℕ) → text.now ≢ front.now ++ rest)
         (λ rest. text.now ≡ front.now ++ rest.now) }
 {
-    text.strip_prefix(front)
+    match (text, front) {
+        // Most texts differ in their first byte.
+        ([first, ..], [other, ..]) if first != other => None,
+        _ => text.strip_prefix(front),
+    }
 }
