@@ -11,7 +11,7 @@ use Rattle.core_state.specs.Committing.{Point}
 use Rattle.core_client.specs.declared.columns_read.ColumnsRead.{ColumnsRead}
 use Rattle.core_client.specs.Reading.{spot_of}
 use Rattle.core_client.specs.Writing.{bytes_of, IsPlanOf}
-use Rattle.core_client.specs.Got.{got_of, has_lost, HasRead, IsShapedAs}
+use Rattle.core_client.specs.Got.{got_of, has_lost, HasReadColumn, IsShapedAs}
 
 -- ---- writes
 
@@ -72,7 +72,7 @@ pub record GoesOneOn (before after : BlockRead) : Type 0 where
 -- The next column was read where its row stands, or passed over, and what that gave is put in its place.
 pub record ReadsColumn (reflow : Reflow) (before : BlockRead) (here : Point) (after : BlockRead)
     (there : Point) : Type 0 where
-  pub column : HasRead (spot_of before.layout reflow before.row before.column) before.row before.column before.read here
+  pub column : HasReadColumn (spot_of before.layout reflow before.row before.column) before.row before.column before.read here
       after.read there
   pub on : GoesOneOn before after
 

@@ -3,7 +3,7 @@ ghost use Rattle.std.specs.Prelude.{◌≡◌, ℕ, ◌<◌, ◌≤◌, ◌^◌,
 ghost use Rattle.bank_trait.specs.Disk.{Unchanged};
 ghost use Rattle.row_layout.specs.Layout.{IsColumn};
 ghost use Rattle.core_state.specs.Committing.{point_of};
-ghost use Rattle.core_client.specs.Got.{HasRead, has_lost};
+ghost use Rattle.core_client.specs.Got.{HasReadColumn, has_lost};
 ghost use Rattle.core_client.specs.Outs.{OnlyFailedGoOut};
 ghost use Rattle.core_client.specs.Pool.{HasPool, IsInPool};
 ghost use Rattle.core_client.specs.Reading.{spot_of};
@@ -54,7 +54,7 @@ impl Columns {
         requires bank { HasPool reflow.now out.old (B.disk bank.old) }
         requires there { IsColumn layout.now row column }
         ensures own { IsOwn self.new }
-        ensures step { HasRead (spot_of layout.now reflow.now row column) row column (columns_had self.old)
+        ensures step { HasReadColumn (spot_of layout.now reflow.now row column) row column (columns_had self.old)
             (point_of out.old (B.disk bank.old)) (columns_had self.new) (point_of out.new (B.disk bank.new)) }
         ensures unchanged { Unchanged (B.disk bank.old) (B.disk bank.new) }
         ensures out { OnlyFailedGoOut (point_of out.old (B.disk bank.old))

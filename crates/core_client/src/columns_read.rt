@@ -5,7 +5,7 @@ ghost use Rattle.reconstruct.specs.Columns.{zero_sector};
 ghost use Rattle.row_layout.specs.Layout.{IsColumn, columns_of, rows_of};
 ghost use Rattle.uberblock_ring.specs.Devices.{with_device};
 ghost use Rattle.core_state.specs.Committing.{point_of};
-ghost use Rattle.core_client.specs.Got.{got_of, has_lost, HasRead, IsShapedAs};
+ghost use Rattle.core_client.specs.Got.{got_of, has_lost, HasReadColumn, IsShapedAs};
 ghost use Rattle.core_client.specs.Outs.{OnlyFailedGoOut};
 ghost use Rattle.core_client.specs.Pool.{HasPool, IsInPool};
 ghost use Rattle.core_client.specs.Reading.{spot_of};
@@ -15,15 +15,16 @@ use bank_trait::Bank;
 use reconstruct::Rows;
 use reflow_mark::Reflow;
 use row_layout::Layout;
+use smallvec::SmallVec;
 use std::alloc::{AllocError, Global};
 use uberblock_ring::DeviceSet;
 
-/// A block's columns as far as they are there, and a mask for each row of those that are lost. What
-/// stands in a lost column means nothing.
+/// A block's columns as far as they are there, and a mask for each row of those that are lost; the masks of
+/// blocks of few rows take no memory of their own. What stands in a lost column means nothing.
 #[derive(Drop)]
 pub struct ColumnsRead {
     pub rows: Rows,
-    pub lost: Vec<u64>,
+    pub lost: SmallVec<u64, 4>,
 }
 
 impl ColumnsRead {
@@ -31,7 +32,7 @@ impl ColumnsRead {
     pub(crate) fn none(alloc: Global) -> ColumnsRead {
         ColumnsRead {
             rows: Rows::none(alloc),
-            lost: Vec::new(alloc),
+            lost: SmallVec::new(alloc),
         }
     }
 
@@ -42,7 +43,7 @@ impl ColumnsRead {
             → column < columns_of layout.now → got_of read row column ≡ Some zero_sector) }
     {
         let rows = Rows::blank(alloc, layout)?;
-        let lost = vec![in alloc; 0; layout.rows() as usize]?;
+        let lost = SmallVec::from_elem(alloc, 0, layout.rows() as usize)?;
         Ok(ColumnsRead { rows, lost })
     }
 
@@ -65,7 +66,7 @@ impl ColumnsRead {
         requires pool { IsInPool layout.now reflow.now }
         requires bank { HasPool reflow.now out.old (B.disk bank.old) }
         requires there { IsColumn layout.now row column }
-        ensures step { HasRead (spot_of layout.now reflow.now row column) row column
+        ensures step { HasReadColumn (spot_of layout.now reflow.now row column) row column
             self.old (point_of out.old (B.disk bank.old)) self.new (point_of out.new (B.disk bank.new)) }
         ensures unchanged { Unchanged (B.disk bank.old) (B.disk bank.new) }
         ensures out { OnlyFailedGoOut (point_of out.old (B.disk bank.old))

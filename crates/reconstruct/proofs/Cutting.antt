@@ -1,5 +1,5 @@
 -- Sectors of bytes, cut out and filled up.
-use Rattle.std.proofs.Common.{◌≡◌, ℕ, ◌+◌, ◌-◌, ◌*◌, List, ◌++◌, length, sym, ◌∙◌, ap, arith, ⊎_elim}
+use Rattle.std.proofs.Common.{◌≡◌, ℕ, ◌+◌, ◌-◌, ◌*◌, ◌<◌, List, ◌++◌, length, refl, sym, ◌∙◌, ap, arith, ⊎_elim}
 use Rattle.std.specs.Prelude.{take, drop, replicate, min}
 use Rattle.std.proofs.lemmas.Bool.{cases_lt}
 use Rattle.std.proofs.lemmas.List.{take-append-le, take-replicate, drop-replicate, take_all, drop_all, length-drop, length-take, length-append, append-nil, length-replicate}
@@ -47,3 +47,17 @@ sector_is bytes front old number start end start_is end_is blank front_is =
         ⊎_elim (λ past. let at_end : start ≡ length bytes = omega (arith, past, start_is) in
         drop_all start bytes (omega (arith, at_end)) ∙ sym (drop_all (512 * number) bytes (omega (arith, past))))
         (λ inside. let same : start ≡ 512 * number = omega (arith, inside, start_is) in ap (λ (k : ℕ). drop k bytes) same) (cases_lt (length bytes) (512 * number))
+
+-- So they are where another sector stood, if it was one of zeros wherever they end in it.
+pub sector_put : (bytes front old : List ℕ) (number start end : ℕ) → start ≡ min (512 * number) (length bytes) → end ≡ min (start + 512) (length bytes)
+    → length (front ++ drop (length front) old) ≡ 512 → (length front < 512 → old ≡ zero_sector) → front ≡ take (end - start) (drop start bytes)
+    → front ++ drop (length front) old ≡ content_sector bytes number
+sector_put bytes front old number start end start_is end_is whole blank front_is =
+    ap (λ (k : List ℕ). front ++ k) same_end ∙ sector_is bytes front zero_sector number start end start_is end_is refl front_is
+  where
+    same_end : drop (length front) old ≡ drop (length front) zero_sector
+    same_end =
+        ⊎_elim (λ short. ap (drop (length front)) (blank short))
+        (λ full. let all = length-append front (drop (length front) old) in let past = length-drop (length front) old in
+        drop_all (length front) old (omega (arith, whole, full, all, past))
+        ∙ sym (drop_all (length front) zero_sector (omega (arith, length-zero_sector, full)))) (cases_lt (length front) 512)

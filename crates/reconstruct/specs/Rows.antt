@@ -25,7 +25,7 @@ with_column rows row column bytes =
     record { rows = rows.rows; cols = rows.cols; columns = slice_set rows.columns (row * rows.cols + column) bytes }
 
 -- One column holds these bytes then, and each other what it held.
-pub record IsWritten (row column : ℕ) (bytes : List ℕ) (old new : Rows) : Type 0 where
+pub record IsColumnWritten (row column : ℕ) (bytes : List ℕ) (old new : Rows) : Type 0 where
   pub rows : new.rows ≡ old.rows
   pub cols : new.cols ≡ old.cols
   pub here : column_at new row column ≡ bytes

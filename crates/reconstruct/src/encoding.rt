@@ -7,7 +7,7 @@ ghost use Rattle.reconstruct.specs.Columns.{content_bytes, row_contents, column_
 ghost use Rattle.reconstruct.specs.Rows.{IsEncoded, sectors_for};
 
 use crate::Rows;
-use crate::sectors::{sector, zero_columns, zero_sector};
+use crate::sectors::{put_sector, zero_columns, zero_sector};
 use gf_parity::parity;
 use row_layout::{Layout, Part};
 use std::alloc::{AllocError, Global};
@@ -67,18 +67,24 @@ fn fill_content(layout: &Layout, bytes: &[u8], row: u32, content: &mut [[u8; 512
 {
     let parity = layout.parity();
     for column in parity..layout.cols() {
-        content[(column - parity) as usize] = content_column(layout, bytes, row, column);
+        put_content(
+            layout,
+            bytes,
+            row,
+            column,
+            &mut content[(column - parity) as usize],
+        );
     }
 }
 
-fn content_column(layout: &Layout, bytes: &[u8], row: u32, column: u32) -> [u8; 512]
+fn put_content(layout: &Layout, bytes: &[u8], row: u32, column: u32, out: &mut [u8; 512])
     requires row { row < rows_of layout.now }
     requires column { column < columns_of layout.now }
-    ensures { result ≡ content_bytes bytes.now (part_of layout.now row column) }
+    ensures { out.new ≡ content_bytes bytes.now (part_of layout.now row column) }
 {
     match layout.column(row, column).part {
-        Part::Content(number) => sector(bytes, number),
-        Part::Parity(_) | Part::Missing => zero_sector(),
+        Part::Content(number) => put_sector(bytes, number, out),
+        Part::Parity(_) | Part::Missing => *out = zero_sector(),
     }
 }
 

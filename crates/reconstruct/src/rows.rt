@@ -3,7 +3,7 @@
 ghost use Rattle.std.specs.Prelude.{◌≡◌, ℕ, List, ◌+◌, ◌*◌, ◌<◌, [], length, slice_index_or, IfOk};
 ghost use Rattle.row_layout.specs.Layout.{rows_of, columns_of};
 ghost use Rattle.reconstruct.specs.Columns.{zero_sector};
-ghost use Rattle.reconstruct.specs.Rows.{column_at, with_column, AreWide, IsShaped, IsWritten};
+ghost use Rattle.reconstruct.specs.Rows.{column_at, with_column, AreWide, IsShaped, IsColumnWritten};
 
 use crate::sectors::zero_columns;
 use row_layout::Layout;
@@ -91,7 +91,8 @@ impl Rows {
         requires row { row < self.old.rows }
         requires column { column < self.old.cols }
         ensures* lends { sem 𝓛 (LendsColumn self.entry row column result) }
-        ensures written { (bytes : List ℕ) → IsWritten row column bytes self.old (with_column self.old row column bytes) }
+        ensures value { result.now ≡ column_at self.old row column }
+        ensures written { (bytes : List ℕ) → IsColumnWritten row column bytes self.old (with_column self.old row column bytes) }
     {
         &mut self.columns[row as usize * self.cols + column as usize]
     }

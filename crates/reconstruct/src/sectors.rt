@@ -19,20 +19,22 @@ pub fn zero_columns(alloc: Global, count: usize) -> Result<Vec<[u8; 512]>, Alloc
 {
     let mut columns = Vec::with_capacity(alloc, count)?;
     for _column in 0..count {
-        columns.push(zero_sector())?;
+        columns.push_reserved(zero_sector());
     }
     Ok(columns)
 }
 
-/// The sector of this number, filled up with zeros where the bytes end in it.
-pub fn sector(bytes: &[u8], number: u32) -> [u8; 512]
-    ensures { result ≡ content_sector bytes.now number }
+/// Puts the sector of this number, filled up with zeros where the bytes end in it.
+pub fn put_sector(bytes: &[u8], number: u32, out: &mut [u8; 512])
+    ensures { out.new ≡ content_sector bytes.now number }
 {
-    let mut out = zero_sector();
     let start = (512 * number as usize).min(bytes.len());
     let end = (start + 512).min(bytes.len());
-    copy_to_front(&mut out, &bytes[start..end]);
-    out
+    let front = &bytes[start..end];
+    if front.len() < 512 {
+        *out = zero_sector();
+    }
+    copy_to_front(out, front);
 }
 
 fn copy_to_front(out: &mut [u8; 512], front: &[u8])

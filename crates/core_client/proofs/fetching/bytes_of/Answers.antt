@@ -14,7 +14,7 @@ pub returns-in-Err-TooFew-clause-cause_damaged : goal.returns-in-Err-TooFew-clau
 returns-in-Err-TooFew-clause-cause_damaged c = λ is few.
     let row : ℕ = c.in-Err-TooFew.field-0-0 in
     let first = (c.decode.ensures.cause_too_few row).0 (c.in-Err-TooFew.is ∙ ap Err c.in-Err-TooFew.field-0-is) in
-    few.each row first.row_in (subst (λ (lost : List ℕ). HasTooFew c.args.layout.now lost row) c.deref.ensures.value first.here)
+    few.each row first.row_in (subst (λ (lost : List ℕ). HasTooFew c.args.layout.now lost row) c.deref.ensures first.here)
 
 pub returns-then-has_all_content-clause-too_few : goal.returns-then-has_all_content-clause-too_few
 returns-then-has_all_content-clause-too_few c = λ row first.

@@ -1,7 +1,9 @@
 use Rattle.std.proofs.Common.{◌≡◌, ◌≢◌, ◌⊎◌, ⊎_elim, ℕ, ◌<◌, List, length, true, sym, ◌∙◌, ap, get_or-set_same, get_or-set_other}
 use Rattle.std.specs.Prelude.{slice_index, slice_set}
 use Rattle.std.proofs.lemmas.Bool.{cases_eq}
-use Rattle.std.proofs.lemmas.Grind.{get_or_default_zero}
+use Rattle.std.proofs.lemmas.List.{length-set}
+use Rattle.smallvec.specs.SmallVec.{SmallVec, with_items}
+use Rattle.smallvec.proofs.SmallVecLemmas.{items-with_items}
 use Rattle.gf_solve.specs.Row.{is_masked}
 use Rattle.uberblock_ring.specs.Devices.{with_device}
 use Rattle.uberblock_ring.proofs.DeviceSets.{has_with, others_with}
@@ -27,12 +29,23 @@ others_stay masks row column mask below is other_row other apart = ⊎_elim
     ap (λ (m : ℕ). is_masked m other) (get_or-set_other masks row other_row mask 0 differs))
     (cases_eq other_row row)
 
+-- What is written through the masks is what they are then.
+written : (masks : SmallVec ℕ) (shown : List ℕ) (row mask : ℕ) → shown ≡ masks.items
+    → (with_items masks (slice_set shown row mask)).items ≡ slice_set masks.items row mask
+written masks shown row mask same =
+    items-with_items masks (slice_set shown row mask) (length-set shown row mask ∙ ap length same)
+    ∙ ap (λ (l : List ℕ). slice_set l row mask) same
+
 pub returns-clause-here : goal.returns-clause-here
 returns-clause-here c =
-    lost_here c.args.self.now.lost.items c.args.row c.args.column c.with_column.result c.requires.row
-    (c.with_column.ensures ∙ ap (λ (m : ℕ). with_device m c.args.column) (c.index.ensures ∙ get_or_default_zero c.args.self.now.lost.items c.args.row c.index.result.now c.requires.row))
+    let masks = c.args.self.now.lost in
+    ap (λ (l : List ℕ). is_masked (slice_index l c.args.row) c.args.column) (written masks c.deref_mut.result.now c.args.row c.with_column.result c.deref_mut.ensures.value)
+    ∙ lost_here masks.items c.args.row c.args.column c.with_column.result c.requires.row
+    (c.with_column.ensures ∙ ap (λ (l : List ℕ). with_device (slice_index l c.args.row) c.args.column) c.deref.ensures)
 
 pub returns-clause-others : goal.returns-clause-others
-returns-clause-others c =
-    others_stay c.args.self.now.lost.items c.args.row c.args.column c.with_column.result c.requires.row
-    (c.with_column.ensures ∙ ap (λ (m : ℕ). with_device m c.args.column) (c.index.ensures ∙ get_or_default_zero c.args.self.now.lost.items c.args.row c.index.result.now c.requires.row))
+returns-clause-others c = λ other_row other apart.
+    let masks = c.args.self.now.lost in
+    ap (λ (l : List ℕ). is_masked (slice_index l other_row) other) (written masks c.deref_mut.result.now c.args.row c.with_column.result c.deref_mut.ensures.value)
+    ∙ others_stay masks.items c.args.row c.args.column c.with_column.result c.requires.row
+    (c.with_column.ensures ∙ ap (λ (l : List ℕ). with_device (slice_index l c.args.row) c.args.column) c.deref.ensures) other_row other apart
