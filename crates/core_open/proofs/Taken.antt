@@ -12,14 +12,14 @@ use Rattle.attach_ring.specs.declared.taken.SlotCopy.{SlotCopy}
 use Rattle.attach_ring.specs.Ring.{IsTakenSlot}
 use Rattle.core_state.specs.Shown.{Shape, read_devices}
 use Rattle.core_state.specs.Choosing.{IsTakenDevice}
-use Rattle.core_open.specs.Copies.{AreTaken, HasCopy, IsListedFor, ShowsIn}
+use Rattle.core_open.specs.Copies.{AreTaken, HasSlotCopy, IsListedFor, ShowsIn}
 use Rattle.core_open.specs.declared.uber_copy.UberCopy.{UberCopy}
 use Rattle.core_open.specs.Holds.{HoldsImage, shape_of}
 use Rattle.core_open.proofs.ReadTo.{IsReading, reading_more, reading_past}
 use Rattle.core_open.proofs.Unchanged.{holds_then, shape_then}
 
 -- A slot that has no copy shows no uberblock of the device.
-pub shows_nothing : (shape : Shape) (image : Image) (device slot : ℕ) → HasCopy image device slot None
+pub shows_nothing : (shape : Shape) (image : Image) (device slot : ℕ) → HasSlotCopy image device slot None
     → ShowsIn shape image device slot None
 shows_nothing shape image device slot free uber shows same =
     let low : device < 16 = omega (arith, shows.device_in) in
@@ -31,7 +31,7 @@ shows_nothing shape image device slot free uber shows same =
     })
 
 module _ (shape : Shape) (image : Image) (device slot : ℕ) (device_in : device < read_devices shape)
-    (sector_in : slot < shape.sectors) (copy : SlotCopy) (has : HasCopy image device slot (Some copy)) where
+    (sector_in : slot < shape.sectors) (copy : SlotCopy) (has : HasSlotCopy image device slot (Some copy)) where
   -- A copy for the device itself is one that it shows,
   pub shows_own : copy.number ≡ device → ShowsIn shape image device slot (Some copy.uber)
   shows_own own =
@@ -91,7 +91,7 @@ module _ (shape : Shape) (silent : ℕ) (image : Image) (device : ℕ) where
 
   -- a slot that shows none,
   pub taken_past : (slot taken : ℕ) → IsTakenTo shape silent image device slot taken
-      → HasCopy image device slot None
+      → HasSlotCopy image device slot None
       → IsTakenTo shape silent image device (slot + 1) taken
   taken_past slot taken so_far free = record {
     each = so_far.each;
@@ -170,7 +170,7 @@ taken_within shape before after image devices fewer taken within less shown = re
 module _ (device slot silent : ℕ) (old mid new : Disk) (before copies : List UberCopy)
     (so_far : IsReading device slot silent old mid before copies) (same : Unchanged mid new)
     (device_in : device < read_devices (shape_of mid)) (sector_in : slot < mid.sectors) (copy : SlotCopy)
-    (has : (image : Image) → HoldsImage mid image → HasCopy image device slot (Some copy)) where
+    (has : (image : Image) → HoldsImage mid image → HasSlotCopy image device slot (Some copy)) where
   -- It is listed where it is for the device itself,
   pub reading_noted : IsRightUber copy.uber → (after : List UberCopy) → IsListedFor device copy copies after
       → IsReading device (slot + 1) silent old new before after

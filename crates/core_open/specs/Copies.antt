@@ -18,10 +18,10 @@ ShowsIn shape image device slot None =
     (uber : Uber) → Shows shape image device uber → slot_of uber.group ≢ slot
 
 -- The slot of the device has this copy, for whichever device, or none.
-abbrev pub HasCopy : Image → ℕ → ℕ → Option SlotCopy → Type 0
-HasCopy image device slot (Some copy) = (copy.number < 2 ^ 32)
+abbrev pub HasSlotCopy : Image → ℕ → ℕ → Option SlotCopy → Type 0
+HasSlotCopy image device slot (Some copy) = (copy.number < 2 ^ 32)
     × IsValidIn copy.uber copy.number slot (image device slot)
-HasCopy image device slot None = IsTakenSlot slot (image device slot) → ⊥
+HasSlotCopy image device slot None = IsTakenSlot slot (image device slot) → ⊥
 
 -- A copy that is for the device itself was listed, at the end; one for another was not.
 abbrev pub IsListedFor : ℕ → SlotCopy → List UberCopy → List UberCopy → Type 0

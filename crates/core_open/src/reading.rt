@@ -6,7 +6,7 @@ ghost use Rattle.bank_trait.specs.Disk.{Image, Unchanged};
 ghost use Rattle.uberblock_ring.specs.Devices.{with_device};
 ghost use Rattle.uberblock_ring.specs.Valid.{IsRightUber};
 ghost use Rattle.core_state.specs.Shown.{read_devices};
-ghost use Rattle.core_open.specs.Copies.{AreByDevice, AreByGroup, AreRight, AreShown, AreTaken, HasCopy, IsListedFor};
+ghost use Rattle.core_open.specs.Copies.{AreByDevice, AreByGroup, AreRight, AreShown, AreTaken, HasSlotCopy, IsListedFor};
 ghost use Rattle.core_open.specs.Failing.{HaveFailed, MayLose};
 ghost use Rattle.core_open.specs.Holds.{HoldsImage, shape_of};
 
@@ -126,7 +126,7 @@ fn read_slot<B: Bank>(bank: &mut B, device: u32, slot: u32) -> Result<Option<Slo
         (FaultCounted ((B.disk bank.old).faults device) ((B.disk bank.new).faults device)) }
     ensures right { IfOk result (λ found. IfSome found (λ copy. IsRightUber copy.uber)) }
     ensures has { IfOk result (λ found. (image : Image) → HoldsImage (B.disk bank.old) image
-        → HasCopy image device slot found) }
+        → HasSlotCopy image device slot found) }
 {
     let mut sector = [0; 512];
     bank.read(device, u64::from(slot), &mut sector)?;

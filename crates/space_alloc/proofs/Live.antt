@@ -10,7 +10,7 @@ use Rattle.std.proofs.lemmas.Option.{slice_get-get_or, slice_get_within}
 use Rattle.range_locks.proofs.Lists.{filter_listed, filter_was}
 use Rattle.space_alloc.specs.declared.entry.Entry.{Entry}
 use Rattle.space_alloc.specs.Space.{Gains}
-use Rattle.space_alloc.specs.Entries.{is_live, live_of, AreRuns, BeginInOrder, IsBetween, IsDeadAt}
+use Rattle.space_alloc.specs.Entries.{is_live, live_of, AreRuns, BeginInOrder, IsPartitionedAt, IsDeadAt}
 use Rattle.space_alloc.proofs.Lists.{split_at}
 use Rattle.space_alloc.proofs.Places.{gap_before, gap_here, order_insert, order_set, place_of}
 use Rattle.space_alloc.proofs.Releasing.{gained_length}
@@ -29,8 +29,8 @@ live_listed entries entry listed =
 
 -- Where no dead one stands, a run that begins elsewhere than the live ones may stand before.
 pub gap_beside : (entries : List Entry) (start at : ℕ) → BeginInOrder entries → All (λ (e : Entry). e.start ≢ start) (live_of entries)
-    → ((default : Entry) → at < length entries → 0 < (get_or entries at default).len) → IsBetween entries start start at at
-    → IsBetween entries start (start + 1) at at
+    → ((default : Entry) → at < length entries → 0 < (get_or entries at default).len) → IsPartitionedAt entries start start at at
+    → IsPartitionedAt entries start (start + 1) at at
 gap_beside entries start at order elsewhere live place = gap_before entries order start at place
     (λ default within. All-contains (λ (e : Entry). e.start ≢ start) (live_of entries) (get_or entries at default) elsewhere
     (filter_listed is_live entries (get_or entries at default) (live_is (get_or entries at default) (live default within))
@@ -76,7 +76,7 @@ module _ (entries : List Entry) (dead at : ℕ) (runs : AreRuns entries dead) wh
       some_dead = let few = live_few (set entries at entry) in let count = set_count in let same = length-set entries at entry in
           omega (arith, few, count, same)
 
-      pub set_runs : (less : ℕ) → less + 1 ≡ dead → IsBetween entries entry.start (entry.start + 1) at (at + 1) → AreRuns (set entries at entry) less
+      pub set_runs : (less : ℕ) → less + 1 ≡ dead → IsPartitionedAt entries entry.start (entry.start + 1) at (at + 1) → AreRuns (set entries at entry) less
       set_runs less is gap = record {
         in_order = order_set entries runs.in_order entry at gap;
         count = (let count = set_count in let same = length-set entries at entry in omega (arith, count, same, is));
@@ -87,7 +87,7 @@ module _ (entries : List Entry) (dead at : ℕ) (runs : AreRuns entries dead) wh
     insert_gains = live_gains entries _ (take at entries) (drop at entries) entry
         (ap live_of (sym (take-append-drop at entries)) ∙ filter-append is_live (take at entries) (drop at entries)) refl some
 
-    pub insert_runs : IsBetween entries entry.start (entry.start + 1) at at → AreRuns (take at entries ++ entry ∷ drop at entries) dead
+    pub insert_runs : IsPartitionedAt entries entry.start (entry.start + 1) at at → AreRuns (take at entries ++ entry ∷ drop at entries) dead
     insert_runs gap = record {
       in_order = order_insert entries runs.in_order entry at gap;
       count = (let count = runs.count in let more = gained_length _ _ entry insert_gains in
@@ -98,7 +98,7 @@ module _ (entries : List Entry) (dead at : ℕ) (runs : AreRuns entries dead) wh
     }
 
   -- and one that is listed leaves a dead entry.
-  module _ (entry gone : Entry) (listed : Contains (live_of entries) entry) (place : IsBetween entries entry.start entry.start at at) where
+  module _ (entry gone : Entry) (listed : Contains (live_of entries) entry) (place : IsPartitionedAt entries entry.start entry.start at at) where
     pub stands_here : slice_get entries at ≡ Some entry
     stands_here = place_of entries runs.in_order entry at (live_listed entries entry listed).0 place
 
@@ -110,7 +110,7 @@ module _ (entries : List Entry) (dead at : ℕ) (runs : AreRuns entries dead) wh
 
     pub remove_runs : gone.len ≡ 0 → gone.start ≡ entry.start → AreRuns (set entries at gone) (dead + 1)
     remove_runs none same_start = record {
-      in_order = order_set entries runs.in_order gone at (subst (λ (n : ℕ). IsBetween entries n (n + 1) at (at + 1)) (sym same_start)
+      in_order = order_set entries runs.in_order gone at (subst (λ (n : ℕ). IsPartitionedAt entries n (n + 1) at (at + 1)) (sym same_start)
           (gap_here entries runs.in_order entry.start at place (slice_get_within entries at entry stands_here)));
       count = (let count = runs.count in let fewer = gained_length _ _ entry (remove_gains none) in let same = length-set entries at gone in
           omega (arith, count, fewer, same));

@@ -7,7 +7,7 @@ use Rattle.std.proofs.lemmas.List.{get_or_default, get_or-drop, get_or-set_other
 use Rattle.std.proofs.lemmas.Option.{slice_get-get_or}
 use Rattle.range_locks.proofs.Pairs.{all_pairs_insert}
 use Rattle.space_alloc.specs.declared.entry.Entry.{Entry}
-use Rattle.space_alloc.specs.Entries.{BeginInOrder, IsBetween}
+use Rattle.space_alloc.specs.Entries.{BeginInOrder, IsPartitionedAt}
 
 -- None begins before an earlier one.
 begins_rise : (entries : List Entry) (i j : ℕ) (default other : Entry) → BeginInOrder entries → i ≤ j → j < length entries
@@ -19,8 +19,8 @@ begins_rise entries i j default other rise order within =
     let here = ap (λ (n : ℕ). (get_or entries n default).start) one in omega (arith, here, same)) (cases_lt i j)
 
 module _ (entries : List Entry) (order : BeginInOrder entries) where
-  pub place_up : (start low high middle : ℕ) (here : Entry) → IsBetween entries start start low high → low ≤ middle → middle < high
-      → (get_or entries middle here).start < start → IsBetween entries start start (middle + 1) high
+  pub place_up : (start low high middle : ℕ) (here : Entry) → IsPartitionedAt entries start start low high → low ≤ middle → middle < high
+      → (get_or entries middle here).start < start → IsPartitionedAt entries start start (middle + 1) high
   place_up start low high middle here is above below passed = record {
     order = omega (arith, below);
     within = is.within;
@@ -30,8 +30,8 @@ module _ (entries : List Entry) (order : BeginInOrder entries) where
     behind = is.behind;
   }
 
-  pub place_down : (start low high middle : ℕ) (here : Entry) → IsBetween entries start start low high → low ≤ middle → middle < high
-      → start ≤ (get_or entries middle here).start → IsBetween entries start start low middle
+  pub place_down : (start low high middle : ℕ) (here : Entry) → IsPartitionedAt entries start start low high → low ≤ middle → middle < high
+      → start ≤ (get_or entries middle here).start → IsPartitionedAt entries start start low middle
   place_down start low high middle here is above below behind = record {
     order = above;
     within = (let within = is.within in omega (arith, within, below));
@@ -40,7 +40,7 @@ module _ (entries : List Entry) (order : BeginInOrder entries) where
         let rise = begins_rise entries middle k here default order from inside in omega (arith, rise, behind);
   }
 
-  pub place_found : (start low high : ℕ) → IsBetween entries start start low high → high ≤ low → IsBetween entries start start low low
+  pub place_found : (start low high : ℕ) → IsPartitionedAt entries start start low high → high ≤ low → IsPartitionedAt entries start start low low
   place_found start low high is met = record {
     order = omega arith;
     within = (let within = is.within in let order = is.order in omega (arith, within, met));
@@ -49,7 +49,7 @@ module _ (entries : List Entry) (order : BeginInOrder entries) where
   }
 
   -- An entry that is listed stands where the first stands that does not begin before it.
-  pub place_of : (entry : Entry) (at : ℕ) → Contains entries entry → IsBetween entries entry.start entry.start at at → slice_get entries at ≡ Some entry
+  pub place_of : (entry : Entry) (at : ℕ) → Contains entries entry → IsPartitionedAt entries entry.start entry.start at at → slice_get entries at ≡ Some entry
   place_of entry at (k, inside, is) place =
       let start_is = ap (λ (e : Entry). e.start) is in
       let from : at ≤ k = ⊎_elim (λ less. absurd (let low = place.before k entry less in omega (arith, low, start_is))) (λ most. most) (cases_lt k at) in
@@ -59,7 +59,7 @@ module _ (entries : List Entry) (order : BeginInOrder entries) where
       ap (λ (n : ℕ). slice_get entries n) (omega (arith, from, to)) ∙ slice_get-get_or entries k entry inside ∙ ap (λ (e : Entry). Some e) is
 
   -- Another entry may stand in the place of this one,
-  pub gap_here : (start at : ℕ) → IsBetween entries start start at at → at < length entries → IsBetween entries start (start + 1) at (at + 1)
+  pub gap_here : (start at : ℕ) → IsPartitionedAt entries start start at at → at < length entries → IsPartitionedAt entries start (start + 1) at (at + 1)
   gap_here start at place within = record {
     order = omega arith;
     within = omega (arith, within);
@@ -70,8 +70,8 @@ module _ (entries : List Entry) (order : BeginInOrder entries) where
   }
 
   -- or before it, where it begins elsewhere,
-  pub gap_before : (start at : ℕ) → IsBetween entries start start at at
-      → ((default : Entry) → at < length entries → (get_or entries at default).start ≡ start → ⊥) → IsBetween entries start (start + 1) at at
+  pub gap_before : (start at : ℕ) → IsPartitionedAt entries start start at at
+      → ((default : Entry) → at < length entries → (get_or entries at default).start ≡ start → ⊥) → IsPartitionedAt entries start (start + 1) at at
   gap_before start at place elsewhere = record {
     order = omega arith;
     within = place.within;
@@ -83,7 +83,7 @@ module _ (entries : List Entry) (order : BeginInOrder entries) where
   }
 
   -- or in the place of the one before.
-  pub gap_last : (start at : ℕ) → IsBetween entries start (start + 1) at at → 0 < at → IsBetween entries start (start + 1) (at - 1) (at - 1 + 1)
+  pub gap_last : (start at : ℕ) → IsPartitionedAt entries start (start + 1) at at → 0 < at → IsPartitionedAt entries start (start + 1) (at - 1) (at - 1 + 1)
   gap_last start at gap some = record {
     order = omega arith;
     within = (let within = gap.within in omega (arith, within, some));
@@ -91,7 +91,7 @@ module _ (entries : List Entry) (order : BeginInOrder entries) where
     behind = λ k default from inside. gap.behind k default (omega (arith, from, some)) inside;
   }
 
-  pub order_set : (entry : Entry) (at : ℕ) → IsBetween entries entry.start (entry.start + 1) at (at + 1) → BeginInOrder (set entries at entry)
+  pub order_set : (entry : Entry) (at : ℕ) → IsPartitionedAt entries entry.start (entry.start + 1) at (at + 1) → BeginInOrder (set entries at entry)
   order_set entry at gap i j default less within =
       let inside : j < length entries = subst (λ (n : ℕ). j < n) (length-set entries at entry) within in
       let here : at < length entries = (let most = gap.within in omega (arith, most)) in
@@ -107,7 +107,7 @@ module _ (entries : List Entry) (order : BeginInOrder entries) where
       (λ not_second. omega (arith, stays i not_first, stays j not_second, order i j default less inside))
       (cases_eq j at)) (cases_eq i at)
 
-  pub order_insert : (entry : Entry) (at : ℕ) → IsBetween entries entry.start (entry.start + 1) at at
+  pub order_insert : (entry : Entry) (at : ℕ) → IsPartitionedAt entries entry.start (entry.start + 1) at at
       → BeginInOrder (take at entries ++ entry ∷ drop at entries)
   order_insert entry at gap = all_pairs_insert (λ (e later : Entry). e.start < later.start) entries at entry order
       (λ k default within. let short : k < at = search (arith, length-take, within) in

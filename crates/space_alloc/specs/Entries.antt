@@ -74,7 +74,7 @@ pub record AreRuns (entries : List Entry) (dead : ℕ) : Type 0 where
   pub count : dead + length (live_of entries) ≡ length entries
 
 -- The entries below the place `low` begin before one sector, and those from `high` on at another or behind it.
-pub record IsBetween (entries : List Entry) (start from low high : ℕ) : Type 0 where
+pub record IsPartitionedAt (entries : List Entry) (start from low high : ℕ) : Type 0 where
   pub order : low ≤ high
   pub within : high ≤ length entries
   pub before : (k : ℕ) (default : Entry) → k < low → (get_or entries k default).start < start
@@ -86,6 +86,6 @@ pub record IsDeadAt (entries : List Entry) (at : ℕ) : Type 0 where
   pub dead : (default : Entry) → (get_or entries at default).len ≡ 0
 
 -- Where a run is put: those before it begin before it, and those behind it behind it.
-abbrev pub IsGap : List Entry → ℕ → Gap → Type 0
-IsGap entries start (Dead at) = IsDeadAt entries at × IsBetween entries start (start + 1) at (at + 1)
-IsGap entries start (Between at) = IsBetween entries start (start + 1) at at
+abbrev pub IsGapFor : List Entry → ℕ → Gap → Type 0
+IsGapFor entries start (Dead at) = IsDeadAt entries at × IsPartitionedAt entries start (start + 1) at (at + 1)
+IsGapFor entries start (Between at) = IsPartitionedAt entries start (start + 1) at at

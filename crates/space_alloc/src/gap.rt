@@ -1,7 +1,7 @@
 // Places among entries by their start.
 ghost use Rattle.std.specs.Prelude.{◌≡◌, ◌≢◌, ◌<◌, ◌+◌, All, get_or, length, true, false};
 ghost use Rattle.space_alloc.specs.declared.entry.Entry.{Entry};
-ghost use Rattle.space_alloc.specs.Entries.{live_of, BeginInOrder, IsBetween, IsDeadAt, IsGap};
+ghost use Rattle.space_alloc.specs.Entries.{live_of, BeginInOrder, IsPartitionedAt, IsDeadAt, IsGapFor};
 
 use crate::entry::Entry;
 
@@ -18,7 +18,7 @@ pub enum Gap {
 pub fn find(entries: &[Entry], start: u64) -> Gap
     requires order { BeginInOrder entries.now }
     requires elsewhere { All (λ entry. entry.start ≢ start) (live_of entries.now) }
-    ensures { IsGap entries.now start result }
+    ensures { IsGapFor entries.now start result }
 {
     let at = place(entries, start);
     if is_dead(entries, at) {
@@ -33,7 +33,7 @@ pub fn find(entries: &[Entry], start: u64) -> Gap
 /// The place of the first entry that does not begin before this sector, found by halving.
 pub fn place(entries: &[Entry], start: u64) -> usize
     requires { BeginInOrder entries.now }
-    ensures { IsBetween entries.now start start result result }
+    ensures { IsPartitionedAt entries.now start start result result }
 {
     let mut low = 0;
     let mut high = entries.len();

@@ -7,7 +7,7 @@ use Rattle.attach_ring.specs.declared.taken.SlotCopy.{SlotCopy}
 use Rattle.core_state.specs.Shown.{Shape, read_devices}
 use Rattle.core_open.specs.declared.reading.Rings.{Rings}
 use Rattle.core_open.specs.declared.uber_copy.UberCopy.{UberCopy}
-use Rattle.core_open.specs.Copies.{AreShown, AreTaken, HasCopy}
+use Rattle.core_open.specs.Copies.{AreShown, AreTaken, HasSlotCopy}
 use Rattle.core_open.specs.Holds.{HoldsImage, shape_of}
 use Rattle.core_open.proofs.ReadTo.{IsReading, read_fails, reading_past}
 use Rattle.core_open.proofs.Taken.{IsTakenTo, reading_noted, shows_nothing, taken_ends, taken_fails, taken_past, taking_noted}
@@ -54,8 +54,8 @@ loop-slot-preserved g c =
           subst (λ (s : Shape). device < read_devices s) (sym shape_is) c.requires.device in
           let slot_in : slot < 32 = omega arith in
           let sector_in : slot < mid.sectors = omega (arith, so_far.reading.unchanged.goes_on.later.sectors) in
-          let has : (image : Image) → HoldsImage mid image → HasCopy image device slot (Some w.in-Some.copy) =
-          subst (λ (found : Option SlotCopy). (image : Image) → HoldsImage mid image → HasCopy image device slot found)
+          let has : (image : Image) → HoldsImage mid image → HasSlotCopy image device slot (Some w.in-Some.copy) =
+          subst (λ (found : Option SlotCopy). (image : Image) → HoldsImage mid image → HasSlotCopy image device slot found)
           w.in-Some.is c.in-Ok.ensures.has in
           record {
             reading =
@@ -71,8 +71,8 @@ loop-slot-preserved g c =
             same = ap (λ (r : Rings). r.silent) w.rings-is ∙ w.in_ok-note.ensures.silent ∙ so_far.same;
           }
       | in_default-found w ↦
-          let free : (image : Image) → HoldsImage mid image → HasCopy image device slot None =
-          subst (λ (found : Option SlotCopy). (image : Image) → HoldsImage mid image → HasCopy image device slot found)
+          let free : (image : Image) → HoldsImage mid image → HasSlotCopy image device slot None =
+          subst (λ (found : Option SlotCopy). (image : Image) → HoldsImage mid image → HasSlotCopy image device slot found)
           w.in_default-found.is c.in-Ok.ensures.has in
           record {
             reading =
