@@ -1,8 +1,10 @@
 -- Each call leaves a table: entries in order, and few enough ids.
-use Rattle.std.proofs.Common.{◌≡◌, ◌≢◌, ℕ, ◌≤◌, Bool, true, false, List, [], ◌∷◌, ◌++◌, length, refl, sym, ◌∙◌, subst, arith, None, Some}
+use Rattle.std.proofs.Common.{◌≡◌, ◌≢◌, ℕ, ◌+◌, ◌<◌, ◌≤◌, Bool, true, false, List, [], ◌∷◌, ◌++◌, length, refl, sym, ◌∙◌, subst, arith, None, Some, length-append}
 use Rattle.std.specs.Prelude.{IsTrue, nat_eq}
 use Rattle.std.specs.Set.{distinct_count, is_member}
 use Rattle.std.proofs.lemmas.Bool.{eqb-true, eq-eqb}
+use Rattle.std.proofs.lemmas.List.{length-map}
+use Rattle.std.proofs.lemmas.Map.Made.{distinct_count-le}
 use Rattle.block_record.specs.declared.entry.IndexEntry.{IndexEntry}
 use Rattle.block_record.specs.Page.{IsIndex}
 use Rattle.block_table.specs.Table.{ChangesOnly, ids_in_use, ids_of, IsFull, IsTable, without_one}
@@ -66,6 +68,17 @@ reserve_table entries new reserved more id is room same pushed =
     few false is_known =
         let not_all : distinct_count nat_eq (reserved ++ ids_of entries) ≢ 512 = λ all. room (record { others = is_known; all_used = all }) in
         omega (arith, is.few, not_all, reserve_few entries reserved id false is_known)
+
+-- Where all of them together are fewer there is room.
+pub few_not_full : (entries : List IndexEntry) (reserved : List ℕ) (id : ℕ) → length entries + length reserved < 512
+    → IsFull (record { entries = entries; reserved = reserved }) id → ⊥
+unfolding ids_in_use
+few_not_full entries reserved id few full =
+    let most = distinct_count-le nat_eq (reserved ++ ids_of entries) in
+    let all = length-append reserved (ids_of entries) in
+    let same = length-map entries (λ e. e.id) in
+    let used = full.all_used in
+    omega (arith, few, most, all, same, used)
 
 -- What is asked before a reservation.
 pub full_is : (entries : List IndexEntry) (reserved : List ℕ) (id used : ℕ) → used ≡ distinct_count nat_eq (reserved ++ ids_of entries)

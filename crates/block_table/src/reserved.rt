@@ -37,13 +37,17 @@ pub fn in_use(entries: &[IndexEntry], reserved: &[u64]) -> usize
     count
 }
 
-/// Whether there is no room for an id: as many others are reserved or held as may be.
+/// Whether there is no room for an id: as many others are reserved or held as may be. Looks at no id where all of them
+/// together are fewer.
 pub fn is_full(entries: &[IndexEntry], reserved: &[u64], id: u64) -> bool
     requires index { IsIndex entries.now }
     requires fits { length entries.now + length reserved.now < 2 ^ 64 }
     ensures value { IsTrue result
         ↔ IsFull (record { entries = entries.now; reserved = reserved.now }) id }
 {
+    if entries.len() + reserved.len() < MAX_IDS {
+        return false;
+    }
     if is_known(entries, reserved, id) {
         return false;
     }

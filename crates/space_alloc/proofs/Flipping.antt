@@ -1,13 +1,14 @@
 -- Edges, one put in or taken out.
-use Rattle.std.proofs.Common.{◌≡◌, ℕ, suc, ◌+◌, ◌<◌, ◌≤◌, List, [], ◌∷◌, ◌++◌, length, take, drop, get_or, ◌∙◌, ap, subst, arith, ⊎_elim, length-take, length-drop}
-use Rattle.std.specs.Prelude.{cond, nat_le, insert, remove, Err}
+use Rattle.std.proofs.Common.{◌≡◌, ◌≢◌, ℕ, suc, ◌+◌, ◌<◌, ◌≤◌, List, [], ◌∷◌, ◌++◌, length, take, drop, get_or, ◌∙◌, ap, subst, arith, ⊎_elim, length-take, length-drop}
+use Rattle.std.specs.Prelude.{cond, nat_le, insert, remove, set, slice_get, Err, Ok, Some}
 use Rattle.std.specs.Ordering.{nat_cmp}
 use Rattle.std.specs.List.Sorted.{IsBinarySearchResult}
-use Rattle.std.proofs.lemmas.Bool.{cases_lt}
-use Rattle.std.proofs.lemmas.List.{get_or_default, get_or-take, get_or-drop}
-use Rattle.std.proofs.lemmas.Option.{slice_get-get_or}
+use Rattle.std.proofs.lemmas.Bool.{cases_eq, cases_lt}
+use Rattle.std.proofs.lemmas.List.{get_or_default, get_or-drop, get_or-set_other, get_or-take, length-set}
+use Rattle.std.proofs.lemmas.Grind.{get_or-set_at}
+use Rattle.std.proofs.lemmas.Option.{get_or_from_slice_get, slice_get-get_or, slice_get_within}
 use Rattle.std.proofs.lemmas.List.Sorted.{searched}
-use Rattle.std.proofs.lemmas.List.Sums.{sum_by-append, sum_by-cons, sum_by-insert, sum_by-remove}
+use Rattle.std.proofs.lemmas.List.Sums.{sum_by-append, sum_by-cons, sum_by-insert, sum_by-remove, sum_by-set}
 use Rattle.range_locks.proofs.Pairs.{all_pairs_insert, all_pairs_leave}
 use Rattle.space_alloc.proofs.Lists.{split_at}
 use Rattle.space_alloc.specs.Edges.{edges_to, IsFlipped, IsRising}
@@ -71,3 +72,65 @@ inserted_rises edges at edge found rising =
     let high : edge < get_or edges (at + k) 0 = place.2 (at + k) (omega arith) inside in
     let same : get_or (drop at edges) k default ≡ get_or edges (at + k) 0 = get_or-drop at edges k default ∙ get_or_default edges (at + k) default 0 inside in
     omega (arith, same, high))
+
+-- An edge that moves is taken out and put in again.
+pub set_flips : (edges : List ℕ) (at from to : ℕ) → at < length edges → get_or edges at 0 ≡ from → IsFlipped edges (set edges at to) (from ∷ to ∷ [])
+set_flips edges at from to within here sector =
+    let moved : edges_to (set edges at to) sector + step_of sector (get_or edges at 0) ≡ edges_to edges sector + step_of sector to =
+    sum_by-set (step_of sector) edges at to 0 within in
+    let same = ap (step_of sector) here in
+    let both = edges_cons from (to ∷ []) sector in
+    let one = edges_cons to [] sector in
+    omega (arith, moved, same, both, one)
+
+-- They rise still where it stays above those before it and below those behind it.
+pub set_rises : (edges : List ℕ) (at to : ℕ) → at < length edges → IsRising edges
+    → ((k : ℕ) → k < at → get_or edges k 0 < to) → ((k : ℕ) → at < k → k < length edges → to < get_or edges k 0)
+    → IsRising (set edges at to)
+set_rises edges at to within rising low high i j default before inside =
+    let len : length (set edges at to) ≡ length edges = length-set edges at to in
+    let j_in : j < length edges = omega (arith, inside, len) in
+    let other : (k : ℕ) → k ≢ at → k < length edges → get_or (set edges at to) k default ≡ get_or edges k 0 =
+    λ k apart k_in. get_or-set_other edges at k to default apart ∙ get_or_default edges k default 0 k_in in
+    let here : (k : ℕ) → k ≡ at → get_or (set edges at to) k default ≡ to = λ k same. get_or-set_at edges at k to default same within in
+    ⊎_elim
+    (λ (first : i ≡ at). let a = here i first in let b = other j (λ same. omega (arith, same, first, before)) j_in in
+    let above : to < get_or edges j 0 = high j (omega (arith, first, before)) j_in in omega (arith, a, b, above))
+    (λ (apart : i ≢ at). let i_in : i < length edges = omega (arith, before, j_in) in let a = other i apart i_in in ⊎_elim
+    (λ (second : j ≡ at). let b = here j second in let below : get_or edges i 0 < to = low i (omega (arith, second, before)) in omega (arith, a, b, below))
+    (λ (far : j ≢ at). let b = other j far j_in in let less : get_or edges i 0 < get_or edges j 0 = rising i j 0 before j_in in omega (arith, a, b, less))
+    (cases_eq j at))
+    (cases_eq i at)
+
+-- An edge moves up to a sector below the next one,
+pub moved_up_rises : (edges : List ℕ) (at start end : ℕ) → IsBinarySearchResult (λ y. nat_cmp y start) edges (Ok at) → start < end
+    → (at + 1 < length edges → end < get_or edges (at + 1) 0) → IsRising edges → IsRising (set edges at end)
+moved_up_rises edges at start end found order next rising =
+    let place = searched edges start (Ok at) found (rising_weakly edges rising) in
+    set_rises edges at end place.0 rising
+    (λ k before. let less : get_or edges k 0 < get_or edges at 0 = rising k at 0 before place.0 in omega (arith, less, place.1, order))
+    (λ k behind k_in. let above : end < get_or edges (at + 1) 0 = next (omega (arith, behind, k_in)) in
+    let weak : get_or edges (at + 1) 0 ≤ get_or edges k 0 = rising_weakly edges rising (at + 1) k (omega (arith, behind)) k_in in
+    omega (arith, above, weak))
+
+-- or down to one between it and the edge before.
+module _ (edges : List ℕ) (at start end : ℕ) (here : slice_get edges at ≡ Some end) where
+  within : at < length edges
+  within = slice_get_within edges at end here
+
+  read : get_or edges at 0 ≡ end
+  read = get_or_from_slice_get edges at end 0 here
+
+  pub moved_down_rises : IsBinarySearchResult (λ y. nat_cmp y start) edges (Err at) → IsRising edges → IsRising (set edges at start)
+  moved_down_rises found rising =
+      let place = searched edges start (Err at) found (rising_weakly edges rising) in
+      set_rises edges at start within rising place.1
+      (λ k behind k_in. let first : start < get_or edges at 0 = place.2 at (omega arith) within in
+      let less : get_or edges at 0 < get_or edges k 0 = rising at k 0 behind k_in in omega (arith, first, less))
+
+  pub moved_down_flips : IsFlipped edges (set edges at start) (start ∷ end ∷ [])
+  moved_down_flips sector =
+      let flips = set_flips edges at end start within read sector in
+      let one = edges_append (start ∷ []) (end ∷ []) sector in
+      let other = edges_append (end ∷ []) (start ∷ []) sector in
+      omega (arith, flips, one, other)

@@ -2,14 +2,15 @@
 //
 // The free runs lie between them: from 0 to the first, from the second to the third, and so on, the last
 // without an end. Where two runs in use meet there is no edge, so neighbouring runs are one.
-ghost use Rattle.std.specs.Prelude.{◌≡◌, ◌+◌, ◌*◌, ◌<◌, ◌≤◌, [], ◌∷◌, All, filter, length, vec_len};
+ghost use Rattle.std.specs.Prelude.{◌≡◌, ◌+◌, ◌*◌, ◌<◌, ◌≤◌, [], ◌∷◌, All, Some, filter, get_or, length, slice_get, true, vec_len};
 ghost use Rattle.std.specs.Vec.{vec_capacity};
 ghost use Rattle.space_alloc.specs.Edges.{HasReleased, IsFlipped, IsRising};
 ghost use Rattle.space_alloc.specs.Entries.{IsEntry, is_left};
 
 use crate::held::HeldEntry;
 
-/// What lies between the two sectors was free and is in use from now on, or the other way round.
+/// What lies between the two sectors was free and is in use from now on, or the other way round. Where a run grows or
+/// shrinks at one of its ends, the edge that stands there moves, and no other is shifted.
 pub fn flip_run(edges: &mut Vec<u64>, start: u64, end: u64)
     requires rising { IsRising edges.old.items }
     requires room { vec_len edges.old + 2 ≤ vec_capacity edges.old }
@@ -18,8 +19,42 @@ pub fn flip_run(edges: &mut Vec<u64>, start: u64, end: u64)
     ensures len { vec_len edges.new ≤ vec_len edges.old + 2 }
     ensures capacity { vec_capacity edges.new ≡ vec_capacity edges.old }
 {
+    match edges.binary_search(&start) {
+        Ok(at) => {
+            if start < end && is_below_edge(edges, at + 1, end) {
+                edges[at] = end;
+                return;
+            }
+        }
+        Err(at) => {
+            if is_edge(edges, at, end) {
+                edges[at] = start;
+                return;
+            }
+        }
+    }
     flip(edges, start);
     flip(edges, end);
+}
+
+/// Whether the edge of this place stands above a sector, if there is one.
+fn is_below_edge(edges: &[u64], at: usize, sector: u64) -> bool
+    ensures { result ≡ true → at < length edges.now → sector < get_or edges.now at 0 }
+{
+    match edges.get(at) {
+        Some(edge) => sector < *edge,
+        None => true,
+    }
+}
+
+/// Whether the edge of this place stands at a sector.
+fn is_edge(edges: &[u64], at: usize, sector: u64) -> bool
+    ensures { result ≡ true → slice_get edges.now at ≡ Some sector }
+{
+    match edges.get(at) {
+        Some(edge) => *edge == sector,
+        None => false,
+    }
 }
 
 /// The runs that are held until this group or an earlier one are free from now on.
