@@ -10,6 +10,7 @@ use bank_trait::Bank;
 use core_state::{Answer, Item, Journal};
 use raidzx_top::{Outcome, Status};
 use std::alloc::Global;
+use std::mem::ManuallyDrop;
 
 /// The width that the words of a `create` name.
 fn width_of(command: &[String]) -> Option<usize> {
@@ -130,7 +131,8 @@ fn tell_of_run<R: Eprint, B: Bank>(
     }
 }
 
-/// Tells of each image whose calls failed, and what else a user has to know after this ending of a command.
+/// Tells of each image whose calls failed, and what else a user has to know after this ending of a command. Its journal
+/// is not given back answer by answer: the process, which ends, gives all memory back at once.
 pub fn tell_files<R: Eprint>(
     rt: &R,
     alloc: Global,
@@ -151,4 +153,5 @@ pub fn tell_files<R: Eprint>(
             &mut bank,
         ),
     }
+    let _kept = ManuallyDrop::new(outcome.journal);
 }

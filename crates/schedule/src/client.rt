@@ -133,6 +133,13 @@ impl Client {
         }
     }
 
+    /// Its call under way has ended.
+    pub fn end_call(&mut self)
+        ensures { self.new ≡ record self.old { under_way = None } }
+    {
+        self.under_way = None;
+    }
+
     /// What the next turn of its call under way asks to be computed, if it has one, of a client with these calls.
     /// What a read got is shared for that.
     pub fn ahead(&mut self, alloc: Global, calls: &[ScriptCall]) -> Ahead

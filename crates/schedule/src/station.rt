@@ -236,7 +236,7 @@ pub fn take_turn<B: Bank>(
                     let at = under_way.at;
                     let entry = entry_for(call, actor, client.begun, at, answer);
                     list_answer(journal, &widths, at, made, entry);
-                    client.under_way = None;
+                    client.end_call();
                 }
             }
         }

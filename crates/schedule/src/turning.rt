@@ -261,8 +261,8 @@ fn go_on_reading<B: Bank>(
     Some(core.get_end(run))
 }
 
-/// The next turn of a call of the whole pool.
-fn go_on_with_pool<B: Bank>(
+/// The next turn of a call of the whole pool, with its work by value.
+fn turn_with_pool<B: Bank>(
     alloc: Global,
     bank: &mut B,
     core: &mut Core,
@@ -288,6 +288,37 @@ fn go_on_with_pool<B: Bank>(
     }
 }
 
+/// The next turn of a call of the whole pool. Apart from `go_on`, so that what it takes on the stack is not cleared
+/// in the turns of puts and reads.
+fn go_on_with_pool<B: Bank>(
+    alloc: Global,
+    bank: &mut B,
+    core: &mut Core,
+    call: &ScriptCall,
+    work: &mut Work,
+) -> Option<Answer>
+    requires may { MayGoOn core.old call.now work.old }
+    requires pool { IsOfPool work.old }
+    requires there { HasDeviceFor (B.disk bank.old) work.old }
+    requires bank { HasBankOf core.old (B.disk bank.old) }
+    ensures goes { GoesOnBy (at_disk core.old (B.disk bank.old)) (at_disk core.new (B.disk bank.new))
+        call.now work.old (turn_with work.new result) }
+    ensures goes_on { WorkGoesOn work.old (at_disk core.old (B.disk bank.old))
+        (at_disk core.new (B.disk bank.new)) }
+    ensures there { HasDeviceForTurn (B.disk bank.new) (turn_with work.new result) }
+    ensures bank { HasBankOf core.new (B.disk bank.new) }
+{
+    let was = replace(work, Work::resting());
+    match turn_with_pool(alloc, bank, core, call, was) {
+        Turn::More(next) => {
+            *work = next;
+            None
+        }
+        Turn::Busy { by: _ } => unreachable!(),
+        Turn::Done(answer) => Some(answer),
+    }
+}
+
 /// The next turn of a call that is under way: it goes on, or is answered.
 pub fn go_on<B: Bank>(
     alloc: Global,
@@ -309,21 +340,8 @@ pub fn go_on<B: Bank>(
     ensures bank { HasBankOf core.new (B.disk bank.new) }
 {
     match work {
-        Work::Put(run) => {
-            return go_on_putting(alloc, bank, core, call, run, ready.into_block());
-        }
-        Work::Read(run) => {
-            return go_on_reading(alloc, bank, core, run, ready.into_solved());
-        }
-        _ => {}
-    }
-    let was = replace(work, Work::resting());
-    match go_on_with_pool(alloc, bank, core, call, was) {
-        Turn::More(next) => {
-            *work = next;
-            None
-        }
-        Turn::Busy { by: _ } => unreachable!(),
-        Turn::Done(answer) => Some(answer),
+        Work::Put(run) => go_on_putting(alloc, bank, core, call, run, ready.into_block()),
+        Work::Read(run) => go_on_reading(alloc, bank, core, run, ready.into_solved()),
+        _ => go_on_with_pool(alloc, bank, core, call, work),
     }
 }

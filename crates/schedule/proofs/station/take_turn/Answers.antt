@@ -1,8 +1,9 @@
 use Rattle.std.proofs.Common.{◌≤◌, ◌+◌, ◌-◌, ℕ, None, Option, length, refl, sym, subst, arith}
 use Rattle.std.proofs.lemmas.Option.{slice_get_read}
 use Rattle.core_turns.specs.Core.{at_disk}
-use Rattle.schedule.specs.Playing.{taken_for}
-use Rattle.schedule.specs.Turned.{HasDeviceUnder}
+use Rattle.schedule.specs.declared.client.Client.{Client}
+use Rattle.schedule.specs.Playing.{UsesRoom, taken_for}
+use Rattle.schedule.specs.Turned.{HasDeviceUnder, Turned, station_of}
 use Rattle.schedule.specs.Works.{commit_in, made_by}
 use Rattle.schedule.proofs.Rooms.{ended_uses, going_uses, listed_room, room_to_begin, room_to_end, room_to_go}
 use Rattle.schedule.proofs.Stations.{went_more, went_done}
@@ -32,7 +33,11 @@ returns-in-Some-given-clause-turned g c =
     let going = c.in-Some.is in
     let begun : 1 ≤ c.args.client.now.begun = c.requires.begun c.in-Some.under_way going in
     let few = c.requires.few in
-    went_done c.args.calls.now c.args.actor (at_disk c.args.core.now (g.B.Bank.disk c.args.bank.now))
+    subst (λ (client : Client). Turned c.args.calls.now c.args.actor
+    (station_of c.args.core.now (g.B.Bank.disk c.args.bank.now) c.args.journal.now.items c.args.client.now)
+    (station_of c.go_further-given.new.core (g.B.Bank.disk c.go_further-given.new.bank) c.list_answer.new.journal.items client))
+    (sym c.end_call.ensures)
+    (went_done c.args.calls.now c.args.actor (at_disk c.args.core.now (g.B.Bank.disk c.args.bank.now))
     (at_disk c.go_further-given.new.core (g.B.Bank.disk c.go_further-given.new.bank)) c.args.journal.now.items
     c.go_further-given.new.journal.items c.args.client.now c.in-Some.under_way c.index-calls-number.result going
     (slice_get_read c.args.calls.now (length c.args.calls.now) (c.args.client.now.begun - 1) c.index-calls-number.result refl
@@ -41,7 +46,7 @@ returns-in-Some-given-clause-turned g c =
     c.reflow-widths.result c.entry_for-entry.result c.list_answer.new.journal.items c.group-made.result
     None c.in-Some-given.ensures.goes c.reflow-widths.ensures.value c.entry_for-entry.ensures
     c.list_answer.ensures.items c.group-made.ensures
-    refl
+    refl)
 
 pub go_further-given-requires-clause-may : goal.go_further-given-requires-clause-may
 go_further-given-requires-clause-may g c =
@@ -93,13 +98,14 @@ returns-in-None-given-clause-room g c =
 pub returns-in-Some-given-clause-room : goal.returns-in-Some-given-clause-room
 returns-in-Some-given-clause-room g c =
     let going = c.in-Some.is in
-    ended_uses (length c.args.calls.now) c.args.journal.now.room c.go_further-given.new.journal.room c.args.client.now
+    subst (UsesRoom c.args.journal.now.room c.list_answer.new.journal.room c.args.client.now) (sym c.end_call.ensures)
+    (ended_uses (length c.args.calls.now) c.args.journal.now.room c.go_further-given.new.journal.room c.args.client.now
     c.in-Some.under_way going (c.requires.begun c.in-Some.under_way going) c.list_answer.new.journal.room
     c.in-Some-given.answer None refl c.in-Some-given.ensures.room
     (subst (λ (n : ℕ). c.go_further-given.new.journal.room ≤ c.list_answer.new.journal.room + (n + 1))
     (listed_room c.index-calls-number.result c.args.actor c.args.client.now.begun c.in-Some.under_way.at
     c.entry_for-entry.result c.group-made.result c.in-Some-given.answer (made_by c.in-Some.under_way.work)
-    c.entry_for-entry.ensures c.group-made.ensures) c.list_answer.ensures.room)
+    c.entry_for-entry.ensures c.group-made.ensures) c.list_answer.ensures.room))
 
 pub go_further-given-requires-clause-ready : goal.go_further-given-requires-clause-ready
 go_further-given-requires-clause-ready g c =

@@ -4,7 +4,7 @@ use Rattle.schedule.specs.declared.client.Work.{Work as WorkOf}
 use Rattle.schedule.specs.declared.client.Work.TheVariants as work
 use Rattle.schedule.specs.Turned.{GoesOnBy}
 use Rattle.schedule.proofs.CallTurns.{attach_by, copy_by}
-use Rattle.schedule.proofs.turning.go_on_with_pool.Goals as goal
+use Rattle.schedule.proofs.turning.turn_with_pool.Goals as goal
 
 pub returns-in-Attach-clause-goes : goal.returns-in-Attach-clause-goes
 returns-in-Attach-clause-goes g c =
