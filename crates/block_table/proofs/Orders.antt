@@ -158,6 +158,20 @@ narrowed_down entries id low high middle d index is from to not_less = record {
       (cases_lt middle k);
 }
 
+-- A place is known by its neighbours, too.
+pub narrowed_here : (entries : List IndexEntry) (id place : ℕ) (d : IndexEntry) → IsIndex entries → place ≤ length entries
+    → (0 < place → (get_or entries (place - 1) d).id < id) → (place < length entries → id ≤ (get_or entries place d).id)
+    → IsNarrowed entries id place place
+narrowed_here entries id place d index within last first = record {
+  order = (omega arith, within);
+  below = λ k e low.
+      (narrowed_up entries id 0 (length entries) (place - 1) d index (narrowed_first entries id) (omega arith) (omega (arith, low, within))
+      (last (omega (arith, low)))).below k e (omega (arith, low));
+  above = λ k e from inside.
+      (narrowed_down entries id 0 (length entries) place d index (narrowed_first entries id) (omega arith) (omega (arith, from, inside))
+      (first (omega (arith, from, inside)))).above k e from inside;
+}
+
 -- Where both meet, the place is found.
 pub place_found : (entries : List IndexEntry) (id low high : ℕ) → IsNarrowed entries id low high → high ≤ low
     → IsPlaceOfId entries (take low entries) (drop low entries) id

@@ -1,5 +1,5 @@
 // Entries in the order of their ids.
-ghost use Rattle.std.specs.Prelude.{◌≡◌, ◌<◌, ◌≤◌, ◌+◌, drop, IfErr, IfOk, is_some, length, None, Some, take, vec_len};
+ghost use Rattle.std.specs.Prelude.{◌≡◌, ◌<◌, ◌≤◌, ◌+◌, drop, IfErr, IfOk, is_some, length, None, Some, take, true, vec_len};
 ghost use Rattle.std.specs.Option.{option_copied};
 ghost use Rattle.std.specs.Vec.{vec_capacity};
 ghost use Rattle.block_record.specs.Page.{IsIndex, IsRightEntry};
@@ -7,12 +7,17 @@ ghost use Rattle.block_table.specs.Table.{ChangesOnly, entry_of, IsFound, IsMiss
 
 use block_record::IndexEntry;
 
-/// The place of the first entry whose id is this or a greater one.
+/// The place of the first entry whose id is this or a greater one. Where no lower id is missing it is the id itself,
+/// which is tried before the entries are halved.
 pub fn place_of(entries: &[IndexEntry], id: u64) -> usize
     requires index { IsIndex entries.now }
     ensures inside { result ≤ length entries.now }
     ensures place { IsPlaceOfId entries.now (take result entries.now) (drop result entries.now) id }
 {
+    let dense = id as usize;
+    if is_place(entries, dense, id) {
+        return dense;
+    }
     let mut low = 0;
     let mut high = entries.len();
     while low < high {
@@ -24,6 +29,19 @@ pub fn place_of(entries: &[IndexEntry], id: u64) -> usize
         }
     }
     low
+}
+
+/// Whether this is the place of the first entry whose id is this or a greater one.
+fn is_place(entries: &[IndexEntry], place: usize, id: u64) -> bool
+    requires index { IsIndex entries.now }
+    ensures inside { result ≡ true → place ≤ length entries.now }
+    ensures place { result ≡ true
+        → IsPlaceOfId entries.now (take place entries.now) (drop place entries.now) id }
+{
+    if place > entries.len() || (place > 0 && entries[place - 1].id >= id) {
+        return false;
+    }
+    place == entries.len() || entries[place].id >= id
 }
 
 /// The place of the entry with this id, or the place where it would go.

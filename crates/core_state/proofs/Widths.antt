@@ -1,5 +1,5 @@
 -- The widths of the groups of a row: each group has one that the pool may have.
-use Rattle.std.proofs.Common.{◌≡◌, inl, inr, ⊎_elim, ℕ, suc, ◌+◌, ◌++◌, ◌<◌, List, [], ◌∷◌, sym, ◌∙◌, ap, subst, arith, All}
+use Rattle.std.proofs.Common.{◌≡◌, inl, inr, ⊎_elim, ℕ, suc, ◌++◌, ◌<◌, List, [], ◌∷◌, sym, ◌∙◌, ap, subst, arith, All}
 use Rattle.std.specs.Prelude.{AllPairs, Contains}
 use Rattle.std.proofs.lemmas.List.Elements.{All-contains, All-cons, All-nil}
 use Rattle.uberblock_ring.specs.Uberblock.{Uber}

@@ -48,6 +48,20 @@ module _ (entries : List Entry) (order : BeginInOrder entries) where
     behind = λ k default from inside. is.behind k default (omega (arith, met, from)) inside;
   }
 
+  -- A place is found by its neighbours, too.
+  pub place_here : (start at : ℕ) (last first : Entry) → at ≤ length entries → (0 < at → (get_or entries (at - 1) last).start < start)
+      → (at < length entries → start ≤ (get_or entries at first).start) → IsPartitionedAt entries start start at at
+  place_here start at last first within passed met = record {
+    order = omega arith;
+    within = within;
+    before = λ k default less.
+        let rise = begins_rise entries k (at - 1) default last order (omega (arith, less)) (omega (arith, less, within)) in
+        let low = passed (omega (arith, less)) in omega (arith, rise, low);
+    behind = λ k default from inside.
+        let rise = begins_rise entries at k first default order from inside in
+        let high = met (omega (arith, from, inside)) in omega (arith, rise, high);
+  }
+
   -- An entry that is listed stands where the first stands that does not begin before it.
   pub place_of : (entry : Entry) (at : ℕ) → Contains entries entry → IsPartitionedAt entries entry.start entry.start at at → slice_get entries at ≡ Some entry
   place_of entry at (k, inside, is) place =

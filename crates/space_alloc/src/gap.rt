@@ -14,13 +14,13 @@ pub enum Gap {
     Between(usize),
 }
 
-/// Where a run that begins at a sector is put. A dead entry on either side serves.
-pub fn find(entries: &[Entry], start: u64) -> Gap
+/// Where a run that begins at a sector is put, perhaps at this place. A dead entry on either side serves.
+pub fn find(entries: &[Entry], start: u64, near: usize) -> Gap
     requires order { BeginInOrder entries.now }
     requires elsewhere { All (λ entry. entry.start ≢ start) (live_of entries.now) }
     ensures { IsGapFor entries.now start result }
 {
-    let at = place(entries, start);
+    let at = place(entries, start, near);
     if is_dead(entries, at) {
         return Gap::Dead(at);
     }
@@ -30,11 +30,15 @@ pub fn find(entries: &[Entry], start: u64) -> Gap
     Gap::Between(at)
 }
 
-/// The place of the first entry that does not begin before this sector, found by halving.
-pub fn place(entries: &[Entry], start: u64) -> usize
+/// The place of the first entry that does not begin before this sector. The one that is given is tried before the
+/// entries are halved.
+pub fn place(entries: &[Entry], start: u64, near: usize) -> usize
     requires { BeginInOrder entries.now }
     ensures { IsPartitionedAt entries.now start start result result }
 {
+    if is_place(entries, near, start) {
+        return near;
+    }
     let mut low = 0;
     let mut high = entries.len();
     while low < high {
@@ -46,6 +50,17 @@ pub fn place(entries: &[Entry], start: u64) -> usize
         }
     }
     low
+}
+
+/// Whether this is the place of the first entry that does not begin before this sector.
+fn is_place(entries: &[Entry], at: usize, start: u64) -> bool
+    requires { BeginInOrder entries.now }
+    ensures { result ≡ true → IsPartitionedAt entries.now start start at at }
+{
+    if at > entries.len() || (at > 0 && entries[at - 1].start >= start) {
+        return false;
+    }
+    at == entries.len() || entries[at].start >= start
 }
 
 /// Whether a dead entry stands here.

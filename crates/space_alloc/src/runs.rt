@@ -18,6 +18,10 @@ const FEW: usize = 64;
 pub struct Runs {
     entries: Vec<Entry>,
     dead: usize,
+    // The places behind the last run that was put and behind the last that was removed: where blocks are written over
+    // in order, the next ones stand there.
+    behind_put: usize,
+    behind_removed: usize,
 }
 
 impl Model for Runs {
@@ -39,6 +43,8 @@ impl Runs {
         Runs {
             entries: Vec::new(alloc),
             dead: 0,
+            behind_put: 0,
+            behind_removed: 0,
         }
     }
 
@@ -57,12 +63,16 @@ impl Runs {
         ensures ok { OnOk result (Gains self.old self.new entry) }
         ensures err { OnErr result (self.new ≡ self.old) }
     {
-        match gap::find(&self.entries, entry.start) {
+        match gap::find(&self.entries, entry.start, self.behind_put) {
             Gap::Dead(at) => {
                 self.entries[at] = entry;
                 self.dead -= 1;
+                self.behind_put = at + 1;
             }
-            Gap::Between(at) => self.entries.insert(at, entry)?,
+            Gap::Between(at) => {
+                self.entries.insert(at, entry)?;
+                self.behind_put = at + 1;
+            }
         }
         Ok(())
     }
@@ -72,12 +82,13 @@ impl Runs {
         requires listed { Contains self.old entry.now }
         ensures { Gains self.new self.old entry.now }
     {
-        let at = gap::place(&self.entries, entry.start);
+        let at = gap::place(&self.entries, entry.start, self.behind_removed);
         self.entries[at] = Entry {
             start: entry.start,
             len: 0,
         };
         self.dead += 1;
+        self.behind_removed = at + 1;
     }
 
     /// Takes the dead entries away, in one pass, where they are more than the live ones.

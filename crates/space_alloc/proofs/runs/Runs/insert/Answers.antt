@@ -20,8 +20,8 @@ invariant_of-self c =
     set_runs c.self.inside.entries.items c.self.inside.dead c.in-Dead.at c.self.invariant c.args.entry c.requires.some gap.0 (c.self.inside.dead - 1)
     (omega (arith, some)) gap.1
 
-pub invariant_of-self-in-Continue-1 : goal.invariant_of-self-in-Continue-1
-invariant_of-self-in-Continue-1 c =
+pub invariant_of-self-in-Between : goal.invariant_of-self-in-Between
+invariant_of-self-in-Between c =
     let gap : IsGapFor c.self.inside.entries.items c.args.entry.start (Between c.in-Between.at) =
     subst (λ (l : List Entry). IsGapFor l c.args.entry.start (Between c.in-Between.at)) c.deref.ensures.value c.in-Between.ensures in
     subst (λ (l : List Entry). AreRuns l c.self.inside.dead) (sym c.in_ok-insert-in-Between.ensures.items)
