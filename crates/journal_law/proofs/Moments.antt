@@ -1,5 +1,5 @@
 -- A run that keeps no older group than the last one listed goes on by an item.
-use Rattle.std.proofs.Common.{[], ◌≡◌, inl, inr, List, ◌∷◌, ◌++◌, sym, ◌∙◌, subst, append_assoc}
+use Rattle.std.proofs.Common.{[], ◌≡◌, inl, inr, List, ◌∷◌, sym, subst}
 use Rattle.std.specs.Prelude.{Contains}
 use Rattle.bank_trait.specs.Disk.{Disk}
 use Rattle.core_state.specs.declared.item.Item.{Item}
