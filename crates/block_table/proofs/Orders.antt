@@ -1,7 +1,8 @@
 -- Entries in the order of their ids, in two parts.
-use Rattle.std.proofs.Common.{◌≡◌, ℕ, suc, ◌+◌, ◌-◌, ◌<◌, ◌≤◌, List, [], ◌∷◌, ◌++◌, length, take, drop, get_or, refl, sym, ◌∙◌, ap, subst, arith, ⊎_elim, length-append}
+use Rattle.std.proofs.Common.{◌≡◌, ℕ, suc, ◌+◌, ◌-◌, ◌<◌, ◌≤◌, true, false, ltb, List, [], ◌∷◌, ◌++◌, length, take, drop, get_or, refl, sym, ap, subst, arith, ⊎_elim, length-append}
 use Rattle.std.specs.Prelude.{All}
-use Rattle.std.proofs.lemmas.Bool.{cases_lt}
+use Rattle.std.specs.List.Sorted.{IsNonDecreasingBy, IsPartitionPoint}
+use Rattle.std.proofs.lemmas.Bool.{cases_lt, ltb-false, ltb-true}
 use Rattle.std.proofs.lemmas.List.{get_or_append_left, get_or-append-add, get_or-append_right, get_or_default, get_or-drop, get_or-take, length-drop, length-take-le, take-append-drop}
 use Rattle.std.proofs.lemmas.List.Elements.{All-append, All-cons, All-nil}
 use Rattle.block_record.specs.declared.entry.IndexEntry.{IndexEntry}
@@ -107,84 +108,60 @@ head_below entry behind index k d low =
     let same : get_or (entry ∷ behind) (k + 1) d ≡ get_or behind k d = ap (λ (n : ℕ). get_or (entry ∷ behind) n d) next in
     omega (arith, up, ap (λ (e : IndexEntry). e.id) same)
 
--- What a search knows of a place: all before `low` are below the id, and none from `high` on is.
-pub record IsNarrowed (entries : List IndexEntry) (id low high : ℕ) : Type 0 where
-  pub order : (low ≤ high) × (high ≤ length entries)
-  pub below : (k : ℕ) (d : IndexEntry) → k < low → (get_or entries k d).id < id
-  pub above : (k : ℕ) (d : IndexEntry) → high ≤ k → k < length entries → id ≤ (get_or entries k d).id
+-- No entry is below an earlier one.
+pub index_rises : (entries : List IndexEntry) → IsIndex entries → IsNonDecreasingBy (λ (e : IndexEntry). e.id) entries
+index_rises entries index i j d order inside = ⊎_elim
+    (λ (before : i < j). let up : (get_or entries i d).id < (get_or entries j d).id = index.ascending i j d before inside in omega (arith, up))
+    (λ (from : j ≤ i). let one : i ≡ j = omega (arith, order, from) in
+    let same = ap (λ (n : ℕ). (get_or entries n d).id) one in omega (arith, same))
+    (cases_lt i j)
 
-pub narrowed_first : (entries : List IndexEntry) (id : ℕ) → IsNarrowed entries id 0 (length entries)
-narrowed_first entries id = record {
-  order = (omega arith, omega arith);
-  below = λ k d low. absurd (omega (arith, low));
-  above = λ k d high low. absurd (omega (arith, high, low));
+-- All entries before a place are below the id, and none from there on is.
+pub record ArePartedAt (entries : List IndexEntry) (id place : ℕ) : Type 0 where
+  pub inside : place ≤ length entries
+  pub below : (k : ℕ) (d : IndexEntry) → k < place → (get_or entries k d).id < id
+  pub above : (k : ℕ) (d : IndexEntry) → place ≤ k → k < length entries → id ≤ (get_or entries k d).id
+
+-- So says a search by halves,
+pub parted_halved : (entries : List IndexEntry) (id place : ℕ) → place ≤ length entries
+    → IsPartitionPoint (λ (e : IndexEntry). ltb e.id id ≡ true) (λ (e : IndexEntry). ltb e.id id ≡ false) entries place
+    → ArePartedAt entries id place
+parted_halved entries id place inside point = record {
+  inside = inside;
+  below = λ k d low. ltb-true _ _ (point.0 k d (omega arith) low);
+  above = λ k d from within. ltb-false _ _ (point.1 k d from within);
 }
 
--- The middle one is below the id, so all up to it are;
-pub narrowed_up : (entries : List IndexEntry) (id low high middle : ℕ) (d : IndexEntry) → IsIndex entries → IsNarrowed entries id low high
-    → low ≤ middle → middle < high → (get_or entries middle d).id < id → IsNarrowed entries id (middle + 1) high
-narrowed_up entries id low high middle d index is from to less = record {
-  order = (omega (arith, to), is.order.1);
-  below = λ k e inside. ⊎_elim
-      (λ (before : k < middle).
-      let up : (get_or entries k e).id < (get_or entries middle e).id = index.ascending k middle e before (omega (arith, to, is.order)) in
-      let same : get_or entries middle e ≡ get_or entries middle d = get_or_default entries middle e d (omega (arith, to, is.order)) in
-      omega (arith, up, less, ap (λ (x : IndexEntry). x.id) same))
-      (λ (at_or_behind : middle ≤ k).
-      let k_is : k ≡ middle = omega (arith, at_or_behind, inside) in
-      let same : get_or entries k e ≡ get_or entries middle d = ap (λ (n : ℕ). get_or entries n e) k_is
-      ∙ get_or_default entries middle e d (omega (arith, to, is.order)) in
-      omega (arith, less, ap (λ (x : IndexEntry). x.id) same))
-      (cases_lt k middle);
-  above = is.above;
+-- and so do the two entries beside the place.
+pub parted_here : (entries : List IndexEntry) (id place : ℕ) (none : IndexEntry) → IsIndex entries → place ≤ length entries
+    → (0 < place → (get_or entries (place - 1) none).id < id) → (place < length entries → id ≤ (get_or entries place none).id)
+    → ArePartedAt entries id place
+parted_here entries id place none index inside last first = record {
+  inside = inside;
+  below = λ k d low.
+      let up = index_rises entries index k (place - 1) none (omega (arith, low)) (omega (arith, low, inside)) in
+      let less = last (omega (arith, low)) in
+      let same = ap (λ (e : IndexEntry). e.id) (get_or_default entries k d none (omega (arith, low, inside))) in
+      omega (arith, up, less, same);
+  above = λ k d from within.
+      let up = index_rises entries index place k none from within in
+      let least = first (omega (arith, from, within)) in
+      let same = ap (λ (e : IndexEntry). e.id) (get_or_default entries k d none within) in
+      omega (arith, up, least, same);
 }
 
--- or it is not, and none behind it is.
-pub narrowed_down : (entries : List IndexEntry) (id low high middle : ℕ) (d : IndexEntry) → IsIndex entries → IsNarrowed entries id low high
-    → low ≤ middle → middle < high → id ≤ (get_or entries middle d).id → IsNarrowed entries id low middle
-narrowed_down entries id low high middle d index is from to not_less = record {
-  order = (from, omega (arith, to, is.order));
-  below = is.below;
-  above = λ k e over inside. ⊎_elim
-      (λ (behind : middle < k).
-      let up : (get_or entries middle e).id < (get_or entries k e).id = index.ascending middle k e behind inside in
-      let same : get_or entries middle e ≡ get_or entries middle d = get_or_default entries middle e d (omega (arith, to, is.order)) in
-      omega (arith, up, not_less, ap (λ (x : IndexEntry). x.id) same))
-      (λ (not_behind : k ≤ middle).
-      let k_is : k ≡ middle = omega (arith, not_behind, over) in
-      let same : get_or entries k e ≡ get_or entries middle d = ap (λ (n : ℕ). get_or entries n e) k_is
-      ∙ get_or_default entries middle e d (omega (arith, to, is.order)) in
-      omega (arith, not_less, ap (λ (x : IndexEntry). x.id) same))
-      (cases_lt middle k);
-}
-
--- A place is known by its neighbours, too.
-pub narrowed_here : (entries : List IndexEntry) (id place : ℕ) (d : IndexEntry) → IsIndex entries → place ≤ length entries
-    → (0 < place → (get_or entries (place - 1) d).id < id) → (place < length entries → id ≤ (get_or entries place d).id)
-    → IsNarrowed entries id place place
-narrowed_here entries id place d index within last first = record {
-  order = (omega arith, within);
-  below = λ k e low.
-      (narrowed_up entries id 0 (length entries) (place - 1) d index (narrowed_first entries id) (omega arith) (omega (arith, low, within))
-      (last (omega (arith, low)))).below k e (omega (arith, low));
-  above = λ k e from inside.
-      (narrowed_down entries id 0 (length entries) place d index (narrowed_first entries id) (omega arith) (omega (arith, from, inside))
-      (first (omega (arith, from, inside)))).above k e from inside;
-}
-
--- Where both meet, the place is found.
-pub place_found : (entries : List IndexEntry) (id low high : ℕ) → IsNarrowed entries id low high → high ≤ low
-    → IsPlaceOfId entries (take low entries) (drop low entries) id
-place_found entries id low high is met = record {
-  whole = sym (take-append-drop low entries);
+pub place_found : (entries : List IndexEntry) (id place : ℕ) → ArePartedAt entries id place
+    → IsPlaceOfId entries (take place entries) (drop place entries) id
+place_found entries id place is = record {
+  whole = sym (take-append-drop place entries);
   below = λ k d inside.
-      let counted : length (take low entries) ≡ low = length-take-le low entries (omega (arith, is.order)) in
-      let same : get_or (take low entries) k d ≡ get_or entries k d = get_or-take low entries k d (omega (arith, inside, counted)) in
+      let counted : length (take place entries) ≡ place = length-take-le place entries is.inside in
+      let same : get_or (take place entries) k d ≡ get_or entries k d = get_or-take place entries k d (omega (arith, inside, counted)) in
       let less : (get_or entries k d).id < id = is.below k d (omega (arith, inside, counted)) in
       omega (arith, less, ap (λ (e : IndexEntry). e.id) same);
   above = λ k d inside.
-      let counted : length (drop low entries) ≡ length entries - low = length-drop low entries in
-      let same : get_or (drop low entries) k d ≡ get_or entries (low + k) d = get_or-drop low entries k d in
-      let more : id ≤ (get_or entries (low + k) d).id = is.above (low + k) d (omega (arith, met)) (omega (arith, inside, counted)) in
+      let counted : length (drop place entries) ≡ length entries - place = length-drop place entries in
+      let same : get_or (drop place entries) k d ≡ get_or entries (place + k) d = get_or-drop place entries k d in
+      let more : id ≤ (get_or entries (place + k) d).id = is.above (place + k) d (omega arith) (omega (arith, inside, counted)) in
       omega (arith, more, ap (λ (e : IndexEntry). e.id) same);
 }

@@ -8,7 +8,7 @@ ghost use Rattle.block_table.specs.Table.{ChangesOnly, entry_of, IsFound, IsMiss
 use block_record::IndexEntry;
 
 /// The place of the first entry whose id is this or a greater one. Where no lower id is missing it is the id itself,
-/// which is tried before the entries are halved.
+/// which is tried before a search by halves.
 pub fn place_of(entries: &[IndexEntry], id: u64) -> usize
     requires index { IsIndex entries.now }
     ensures inside { result ≤ length entries.now }
@@ -18,17 +18,7 @@ pub fn place_of(entries: &[IndexEntry], id: u64) -> usize
     if is_place(entries, dense, id) {
         return dense;
     }
-    let mut low = 0;
-    let mut high = entries.len();
-    while low < high {
-        let middle = low + (high - low) / 2;
-        if entries[middle].id < id {
-            low = middle + 1;
-        } else {
-            high = middle;
-        }
-    }
-    low
+    entries.partition_point(|entry| entry.id < id)
 }
 
 /// Whether this is the place of the first entry whose id is this or a greater one.

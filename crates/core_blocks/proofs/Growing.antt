@@ -1,19 +1,19 @@
 -- A pool that has one device more keeps each block where it is.
-use Rattle.std.proofs.Common.{◌≡◌, inl, inr, ⊎_elim, ℕ, ◌+◌, ◌<◌, ◌≤◌, List, [], ◌∷◌, ◌++◌, length, sym, ◌∙◌, ap, subst, arith, if◌then◌else◌}
+use Rattle.std.proofs.Common.{◌≡◌, inl, inr, ⊎_elim, ℕ, ◌+◌, ◌<◌, ◌≤◌, List, [], ◌∷◌, ◌++◌, sym, ◌∙◌, ap, subst, arith, if◌then◌else◌}
 use Rattle.std.specs.Prelude.{Contains, nat_le, ◌^◌}
 use Rattle.std.proofs.lemmas.Bool.{cases_lt}
 use Rattle.std.proofs.lemmas.Bool.Decides.{nat_tests}
 use Rattle.width_map.specs.declared.birth.Birth.{Birth}
-use Rattle.width_map.specs.Births.{births_after, last_width, width_from, width_of_birth}
+use Rattle.width_map.specs.Births.{births_after, last_width, width_from}
 use Rattle.width_map.proofs.Growing.{older_keep}
 use Rattle.space_alloc.specs.Space.{IsIn, Run}
 use Rattle.block_record.specs.declared.entry.IndexEntry.{IndexEntry}
 use Rattle.reconstruct.specs.Rows.{sectors_for}
 use Rattle.core_blocks.specs.declared.range.PutRange.{PutRange}
-use Rattle.core_blocks.specs.Blocks.{AreInStep, AreUnderWay, Blocks, HasLayouts, IsListed, IsOfBlock, layout_run, run_of}
+use Rattle.core_blocks.specs.Blocks.{AreInStep, AreUnderWay, Blocks, HasLayouts, IsListed, layout_run, run_of}
 use Rattle.core_blocks.specs.Growing.{grown_by}
 use Rattle.core_blocks.specs.Kept.{NoneFree}
-use Rattle.core_blocks.specs.Puts.{IsRangeFor, layout_at}
+use Rattle.core_blocks.specs.Puts.{IsRangeFor}
 use Rattle.core_blocks.specs.Runs.{AreClear}
 
 -- The last entry has its width from its group on.

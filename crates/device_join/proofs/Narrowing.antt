@@ -1,11 +1,10 @@
 -- A pool that reaches no further than its groups do is known as well where it was said to reach further.
-use Rattle.std.proofs.Common.{◌≡◌, ⊎_elim, ℕ, ◌+◌, ◌<◌, ◌≤◌, List, ◌∷◌, sym, ◌∙◌, subst, arith, All}
+use Rattle.std.proofs.Common.{◌≡◌, ⊎_elim, ℕ, ◌<◌, ◌≤◌, List, ◌∷◌, sym, ◌∙◌, arith, All}
 use Rattle.std.proofs.lemmas.Bool.{cases_lt}
 use Rattle.bank_trait.specs.Disk.{Image, Disk}
-use Rattle.uberblock_ring.specs.Uberblock.{Uber}
 use Rattle.core_state.specs.Keeps.{Kept, NamesOther, Setting}
 use Rattle.core_state.specs.Collision.{MightStand}
-use Rattle.core_state.specs.Certain.{IsAble, Knows}
+use Rattle.core_state.specs.Certain.{Knows}
 
 -- What a device shows that the pool reached to is the pool's own, so no other pool gets a vote more.
 pub reach_less : (setting : Setting) (first : Kept) (later : List Kept) (disk : Disk) (reach : ℕ)

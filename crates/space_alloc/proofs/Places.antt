@@ -1,7 +1,8 @@
 -- Places among entries that begin one after another.
-use Rattle.std.proofs.Common.{◌≡◌, ℕ, ◌+◌, ◌-◌, ◌<◌, ◌≤◌, List, ◌∷◌, ◌++◌, length, get_or, set, take, drop, ◌∙◌, ap, sym, subst, arith, ⊎_elim, length-drop, length-take}
+use Rattle.std.proofs.Common.{◌≡◌, ℕ, ◌+◌, ◌-◌, ◌<◌, ◌≤◌, true, false, ltb, List, ◌∷◌, ◌++◌, length, get_or, set, take, drop, ◌∙◌, ap, sym, subst, arith, ⊎_elim, length-drop, length-take}
 use Rattle.std.specs.Prelude.{Some, Contains, slice_get}
-use Rattle.std.proofs.lemmas.Bool.{cases_eq, cases_lt}
+use Rattle.std.specs.List.Sorted.{IsPartitionPoint}
+use Rattle.std.proofs.lemmas.Bool.{cases_eq, cases_lt, ltb-false, ltb-true}
 use Rattle.std.proofs.lemmas.Grind.{get_or-set_at}
 use Rattle.std.proofs.lemmas.List.{get_or_default, get_or-drop, get_or-set_other, get_or-take, length-set}
 use Rattle.std.proofs.lemmas.Option.{slice_get-get_or}
@@ -10,7 +11,7 @@ use Rattle.space_alloc.specs.declared.entry.Entry.{Entry}
 use Rattle.space_alloc.specs.Entries.{BeginInOrder, IsPartitionedAt}
 
 -- None begins before an earlier one.
-begins_rise : (entries : List Entry) (i j : ℕ) (default other : Entry) → BeginInOrder entries → i ≤ j → j < length entries
+pub begins_rise : (entries : List Entry) (i j : ℕ) (default other : Entry) → BeginInOrder entries → i ≤ j → j < length entries
     → (get_or entries i default).start ≤ (get_or entries j other).start
 begins_rise entries i j default other rise order within =
     let same = ap (λ (e : Entry). e.start) (get_or_default entries j default other within) in
@@ -18,37 +19,19 @@ begins_rise entries i j default other rise order within =
     (λ from. let one : i ≡ j = omega (arith, order, from) in
     let here = ap (λ (n : ℕ). (get_or entries n default).start) one in omega (arith, here, same)) (cases_lt i j)
 
+-- A search by halves finds a place,
+pub place_halved : (entries : List Entry) (start at : ℕ) → at ≤ length entries
+    → IsPartitionPoint (λ (e : Entry). ltb e.start start ≡ true) (λ (e : Entry). ltb e.start start ≡ false) entries at
+    → IsPartitionedAt entries start start at at
+place_halved entries start at within point = record {
+  order = omega arith;
+  within = within;
+  before = λ k default less. ltb-true _ _ (point.0 k default (omega arith) less);
+  behind = λ k default from inside. ltb-false _ _ (point.1 k default from inside);
+}
+
 module _ (entries : List Entry) (order : BeginInOrder entries) where
-  pub place_up : (start low high middle : ℕ) (here : Entry) → IsPartitionedAt entries start start low high → low ≤ middle → middle < high
-      → (get_or entries middle here).start < start → IsPartitionedAt entries start start (middle + 1) high
-  place_up start low high middle here is above below passed = record {
-    order = omega (arith, below);
-    within = is.within;
-    before = λ k default less.
-        let rise = begins_rise entries k middle default here order (omega (arith, less)) (let within = is.within in omega (arith, within, below)) in
-        omega (arith, rise, passed);
-    behind = is.behind;
-  }
-
-  pub place_down : (start low high middle : ℕ) (here : Entry) → IsPartitionedAt entries start start low high → low ≤ middle → middle < high
-      → start ≤ (get_or entries middle here).start → IsPartitionedAt entries start start low middle
-  place_down start low high middle here is above below behind = record {
-    order = above;
-    within = (let within = is.within in omega (arith, within, below));
-    before = is.before;
-    behind = λ k default from inside.
-        let rise = begins_rise entries middle k here default order from inside in omega (arith, rise, behind);
-  }
-
-  pub place_found : (start low high : ℕ) → IsPartitionedAt entries start start low high → high ≤ low → IsPartitionedAt entries start start low low
-  place_found start low high is met = record {
-    order = omega arith;
-    within = (let within = is.within in let order = is.order in omega (arith, within, met));
-    before = is.before;
-    behind = λ k default from inside. is.behind k default (omega (arith, met, from)) inside;
-  }
-
-  -- A place is found by its neighbours, too.
+  -- and so do the two entries beside it.
   pub place_here : (start at : ℕ) (last first : Entry) → at ≤ length entries → (0 < at → (get_or entries (at - 1) last).start < start)
       → (at < length entries → start ≤ (get_or entries at first).start) → IsPartitionedAt entries start start at at
   place_here start at last first within passed met = record {

@@ -30,8 +30,8 @@ pub fn find(entries: &[Entry], start: u64, near: usize) -> Gap
     Gap::Between(at)
 }
 
-/// The place of the first entry that does not begin before this sector. The one that is given is tried before the
-/// entries are halved.
+/// The place of the first entry that does not begin before this sector. The one that is given is tried before a search
+/// by halves.
 pub fn place(entries: &[Entry], start: u64, near: usize) -> usize
     requires { BeginInOrder entries.now }
     ensures { IsPartitionedAt entries.now start start result result }
@@ -39,17 +39,7 @@ pub fn place(entries: &[Entry], start: u64, near: usize) -> usize
     if is_place(entries, near, start) {
         return near;
     }
-    let mut low = 0;
-    let mut high = entries.len();
-    while low < high {
-        let middle = low + (high - low) / 2;
-        if entries[middle].start < start {
-            low = middle + 1;
-        } else {
-            high = middle;
-        }
-    }
-    low
+    entries.partition_point(|entry| entry.start < start)
 }
 
 /// Whether this is the place of the first entry that does not begin before this sector.

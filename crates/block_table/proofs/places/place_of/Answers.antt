@@ -1,13 +1,12 @@
-use Rattle.std.proofs.Common.{arith}
-use Rattle.block_table.proofs.Orders.{narrowed_down, narrowed_up}
+use Rattle.std.proofs.Common.{ltb, rules}
+use Rattle.std.proofs.lemmas.List.Sorted.{IsPartitionPoint-from_clause, IsPartitionedBy-ltb}
+use Rattle.block_record.specs.declared.entry.IndexEntry.{IndexEntry}
+use Rattle.block_table.proofs.Orders.{index_rises, parted_halved, place_found}
 use Rattle.block_table.proofs.places.place_of.Goals as goal
 
-pub loop-low-preserved-then-entries-middle : goal.loop-low-preserved-then-entries-middle
-loop-low-preserved-then-entries-middle c =
-    narrowed_up c.args.entries.now c.args.id c.loop-low.low c.loop-low.high _ _ c.requires.index c.loop-low.invariant
-    (omega arith) (omega arith) c.if-entries-middle.true
-
-pub loop-low-preserved : goal.loop-low-preserved
-loop-low-preserved c =
-    narrowed_down c.args.entries.now c.args.id c.loop-low.low c.loop-low.high _ _ c.requires.index c.loop-low.invariant
-    (omega arith) (omega arith) c.if-entries-middle.false
+pub returns-clause-place : goal.returns-clause-place
+returns-clause-place c =
+    let parted = IsPartitionedBy-ltb (λ (e : IndexEntry). e.id) _ c.args.id (index_rises c.args.entries.now c.requires.index) in
+    place_found c.args.entries.now c.args.id _ (parted_halved c.args.entries.now c.args.id _ c.partition_point.ensures.bound
+    (IsPartitionPoint-from_clause (λ (e : IndexEntry). ltb e.id c.args.id) _ _ c.partition_point.ensures.partitioned parted
+    (λ a r q k. search rules)))

@@ -1,14 +1,13 @@
-use Rattle.std.proofs.Common.{arith}
-use Rattle.space_alloc.proofs.Places.{place_down, place_found, place_up}
+use Rattle.std.proofs.Common.{ltb, rules}
+use Rattle.std.proofs.lemmas.List.Sorted.{IsPartitionPoint-from_clause, IsPartitionedBy-ltb}
+use Rattle.space_alloc.specs.declared.entry.Entry.{Entry}
+use Rattle.space_alloc.proofs.Places.{begins_rise, place_halved}
 use Rattle.space_alloc.proofs.gap.place.Goals as goal
 
-pub loop-low-preserved-then-entries-middle : goal.loop-low-preserved-then-entries-middle
-loop-low-preserved-then-entries-middle c =
-    place_up _ c.requires _ _ _ _ _ c.loop-low.invariant (omega arith) (omega (arith, c.loop-low-test.true)) c.if-entries-middle.true
-
-pub loop-low-preserved : goal.loop-low-preserved
-loop-low-preserved c =
-    place_down _ c.requires _ _ _ _ _ c.loop-low.invariant (omega arith) (omega (arith, c.loop-low-test.true)) c.if-entries-middle.false
-
 pub returns : goal.returns
-returns c = place_found _ c.requires _ _ _ c.loop-low.invariant c.loop-low-test.false
+returns c =
+    let parted = IsPartitionedBy-ltb (λ (e : Entry). e.start) _ c.args.start
+    (λ i j default order within. begins_rise c.args.entries.now i j default default c.requires order within) in
+    place_halved c.args.entries.now c.args.start _ c.partition_point.ensures.bound
+    (IsPartitionPoint-from_clause (λ (e : Entry). ltb e.start c.args.start) _ _ c.partition_point.ensures.partitioned parted
+    (λ a r q k. search rules))

@@ -1,4 +1,4 @@
-use Rattle.std.proofs.Common.{ℕ, ◌+◌, ◌<◌, ◌≤◌, List, sym, subst}
+use Rattle.std.proofs.Common.{◌+◌, ◌<◌, ◌≤◌, List, sym, subst}
 use Rattle.width_map.specs.Births.{last_width}
 use Rattle.width_map.specs.declared.birth.Birth.{Birth}
 use Rattle.space_alloc.specs.Space.{Space}
