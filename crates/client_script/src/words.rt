@@ -76,7 +76,7 @@ fn hex_call(alloc: Global, line: u64, rest: &[u8]) -> Result<Option<ScriptCall>,
         line,
         kind: Kind::Put,
         id: Some(id),
-        fill: Fill::Hex(Bytes::new(bytes)),
+        fill: Fill::Hex(Bytes::new(alloc, bytes)?),
     }))
 }
 

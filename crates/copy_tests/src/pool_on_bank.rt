@@ -54,11 +54,11 @@ pub enum Round {
 }
 
 /// The bytes that a get is answered by.
-fn bytes_read(answer: Answer) -> Result<Vec<u8>, Fail> {
+fn bytes_read(alloc: Global, answer: Answer) -> Result<Vec<u8>, Fail> {
     let Answer::Read { bytes } = answer else {
         return Err("a block is not read".into());
     };
-    Ok(bytes.into_vec())
+    Ok(Vec::from_slice(alloc, bytes.as_slice())?)
 }
 
 impl PoolOnBank {
@@ -138,7 +138,7 @@ impl PoolOnBank {
         for _ in 0..MOST_TURNS {
             if run.is_read() {
                 run.solve(alloc)?;
-                return bytes_read(self.core.get_end(&mut run));
+                return bytes_read(alloc, self.core.get_end(&mut run));
             }
             match self.core.get_read(&mut self.bank, &mut run) {
                 None => {}

@@ -1,27 +1,31 @@
 // Lists that contracts see as lists.
-ghost use Rattle.std.specs.Prelude.{◌≡◌, length};
+ghost use Rattle.std.specs.Prelude.{◌≡◌, length, IfOk};
 
+use std::alloc::{AllocError, Global};
 use std::marker::Model;
+use std::sync::Arc;
 
-/// The bytes of a block.
+/// The bytes of a block, which several may have.
 #[derive(Drop)]
 pub struct Bytes {
-    items: Vec<u8>,
+    items: Arc<Vec<u8>>,
 }
 
 impl Model for Bytes {
     ghost use Rattle.std.specs.Prelude.{ℕ, List};
+    ghost use Rattle.std.specs.Arc.{arc_value};
 
     ghost Value = { List ℕ };
 
-    ghost view = { λ b. b.items.items };
+    ghost view = { λ b. (arc_value b.items).items };
 }
 
 impl Bytes {
-    pub fn new(items: Vec<u8>) -> Bytes
-        ensures { result ≡ items.items }
+    pub fn new(alloc: Global, items: Vec<u8>) -> Result<Bytes, AllocError>
+        ensures { IfOk result (λ bytes. bytes ≡ items.items) }
     {
-        Bytes { items }
+        let items = Arc::new(alloc, items)?;
+        Ok(Bytes { items })
     }
 
     pub fn as_slice(&self) -> &[u8]
@@ -30,11 +34,16 @@ impl Bytes {
         self.items.as_slice()
     }
 
-    pub fn into_vec(self) -> Vec<u8>
-        ensures { result.items ≡ self }
+    /// Has those of another, where they are the same, so that they are kept once.
+    pub fn share(&mut self, other: &Bytes)
+        ensures { self.new ≡ self.old }
     {
-        let Bytes { items } = self;
-        items
+        if self.as_slice() != other.as_slice() {
+            return;
+        }
+        if let Ok(items) = Arc::try_clone(&other.items) {
+            self.items = items;
+        }
     }
 }
 

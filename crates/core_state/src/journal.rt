@@ -1,16 +1,25 @@
 // The journal of a run.
 ghost use Rattle.std.specs.Prelude.{◌≡◌, ◌==◌, ◌++◌, ◌+◌, ◌<◌, ◌≤◌, [], ◌∷◌, length, OnOk, OnErr};
 
-use crate::item::Item;
+use crate::answer::Answer;
+use crate::bytes::Bytes;
+use crate::item::{Entry, Item};
 use std::alloc::{AllocError, Global};
 use std::marker::Model;
 
+/// So many gets are found again, by their blocks' ids modulo this.
+const GETS: usize = 512;
+
 /// What a run answered, in order: its groups and its calls. Contracts see, beside the items, for how
 /// many more of them there is room.
+///
+/// A get that read what the last one of its block had read shares its bytes, so that they are kept once.
 #[derive(Drop)]
 pub struct Journal {
     items: Vec<Item>,
     room: usize,
+    // Where the last get of a block is listed, or any other item.
+    gets: Vec<usize>,
 }
 
 impl Model for Journal {
@@ -35,6 +44,7 @@ impl Journal {
         Journal {
             items: Vec::new(alloc),
             room: 0,
+            gets: Vec::new(alloc),
         }
     }
 
@@ -62,6 +72,7 @@ impl Journal {
         ensures room { OnOk result (items ≤ self.new.room) }
     {
         self.items.reserve(items)?;
+        self.gets.resize(GETS, 0)?;
         if self.room < items {
             self.room = items;
         }
@@ -88,9 +99,45 @@ impl Journal {
         ensures items { self.new.items ≡ self.old.items ++ item ∷ [] }
         ensures room { self.old.room ≤ self.new.room + 1 }
     {
+        let mut item = item;
+        if let Item::Call(entry) = &mut item {
+            self.share(entry);
+        }
         if self.items.push(item).is_err() {
             unreachable!()
         }
         self.room -= 1;
+    }
+
+    /// Where an entry that comes next answers a get, it has the bytes of the last one of its block, if they are the same.
+    fn share(&mut self, entry: &mut Entry)
+        ensures entry { entry.new ≡ entry.old }
+        ensures journal { self.new ≡ self.old }
+    {
+        let Some(id) = entry.id else {
+            return;
+        };
+        let slot = (id % GETS as u64) as usize;
+        if slot >= self.gets.len() {
+            return;
+        }
+        let next = self.len();
+        if let Answer::Read { bytes } = &mut entry.answer {
+            if let Some(before) = bytes_at(&self.items, self.gets[slot]) {
+                bytes.share(before);
+            }
+            self.gets[slot] = next;
+        }
+    }
+}
+
+/// The bytes that a get was answered by which is listed here.
+fn bytes_at(items: &[Item], at: usize) -> Option<&Bytes> {
+    match items.get(at) {
+        Some(Item::Call(entry)) => match &entry.answer {
+            Answer::Read { bytes } => Some(bytes),
+            _ => None,
+        },
+        _ => None,
     }
 }

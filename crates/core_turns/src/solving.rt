@@ -87,7 +87,10 @@ pub(crate) fn solve_columns(
     ensures { IfOk result (IsSolved (record { layout = layout.now; read = read.now; len = len; digest = digest.now })) }
 {
     match checked_bytes(alloc, layout, read, len as usize, digest) {
-        Ok(bytes) => Ok(Solved::Bytes(Bytes::new(bytes))),
+        Ok(bytes) => match Bytes::new(alloc, bytes) {
+            Ok(bytes) => Ok(Solved::Bytes(bytes)),
+            Err(_) => Err(OutOfMemory),
+        },
         Err(FetchRefused::NoMemory) => Err(OutOfMemory),
         Err(_) => Ok(Solved::Damaged),
     }

@@ -56,7 +56,7 @@ fn add(journal: &mut Journal, item: Item) -> Result<(), AllocError> {
 }
 
 fn each_answer(alloc: Global) -> Result<Journal, AllocError> {
-    let bytes = Bytes::new(Vec::from_slice(alloc, b"abc\xff")?);
+    let bytes = Bytes::new(alloc, Vec::from_slice(alloc, b"abc\xff")?)?;
     let two = Ids::new(Vec::from_slice(alloc, &[3, 18_446_744_073_709_551_615])?);
     let none = Ids::new(Vec::new(alloc));
     let sha = [0xa0; 32];
