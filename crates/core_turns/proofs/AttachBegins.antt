@@ -1,28 +1,5 @@
 -- The commit of an attach begins: its group may be made with the new device, which is free.
-use Rattle.std.proofs.Common.{◌≡◌, ℕ, ◌<◌, ◌≤◌, List, [], ◌∷◌, All, Some, None, refl, sym, ◌∙◌, ap, subst, arith}
-use Rattle.std.proofs.lemmas.List.Elements.{All-cons, All-nil}
-use Rattle.bank_trait.specs.Disk.{Disk, Lawful}
-use Rattle.reflow_mark.specs.declared.reflow.Reflow.{Reflow}
-use Rattle.uberblock_ring.specs.Uberblock.{Uber}
-use Rattle.attach_ring.specs.Ring.{HasReadRing, RingRead}
-use Rattle.core_state.specs.Map.{Map}
-use Rattle.core_state.specs.Shown.{Shape, read_devices}
-use Rattle.core_state.specs.Keeps.{Kept, Setting}
-use Rattle.core_state.proofs.Joining.{ReadsNoUber}
-use Rattle.core_commit.specs.CommitTurns.{CommitRun}
-use Rattle.core_commit.specs.Widening.{IsWidenable}
-use Rattle.core_open.specs.Holds.{shape_of}
-use Rattle.device_join.proofs.Narrowing.{reach_less}
-use Rattle.join_commit.specs.declared.guest.Guest.TheVariants.{Laid}
-use Rattle.join_commit.specs.JoinRun.{JoinRun}
-use Rattle.join_commit.specs.Joining.{GuestSoFar}
-use Rattle.join_commit.proofs.Spares.{free_is_blank}
-use Rattle.mark_choice.specs.CommitChoice.{Chooses, MayRecord}
-use Rattle.mark_advance.specs.Behind.{KeepsOrEnds}
-use Rattle.core_turns.specs.declared.attaching.AttachRun.TheVariants.{Checked, Joins}
-use Rattle.core_turns.specs.Core.{Core, CoreState, IsCore, at_disk}
-use Rattle.core_turns.specs.Attaching.{BeginsJoining, HasNewDevice, HoldsAttach, IsAttachRunOf}
-use Rattle.core_turns.specs.UnderWay.{HoldingCall, AreCallsOf, Stands}
+use Rattle.core_turns.proofs.Words.{◌≡◌, ℕ, ◌<◌, ◌≤◌, List, [], ◌∷◌, All, Some, None, sym, ◌∙◌, ap, subst, arith, All-cons, All-nil, Disk, Lawful, Reflow, Uber, HasReadRing, RingRead, Map, read_devices, Kept, Setting, ReadsNoUber, IsWidenable, shape_of, reach_less, Laid, JoinRun, GuestSoFar, free_is_blank, Chooses, MayRecord, KeepsOrEnds, Checked, Joins, Core, CoreState, IsCore, at_disk, BeginsJoining, HasNewDevice, HoldsAttach, IsAttachRunOf, HoldingCall, AreCallsOf, Stands}
 use Rattle.core_turns.proofs.AttachTurns.{rest_records}
 use Rattle.core_turns.proofs.Commits.{few_out, rests}
 use Rattle.core_turns.proofs.CommitStands.{commit_begins_stands}
@@ -38,10 +15,7 @@ pub narrow_stands : {setting : Setting} {last : Kept} {map : Map} {contents : �
     {state : CoreState} → Stands setting last [] map contents calls None state
     → Stands (reaching_to setting state.core.pool.uber.reflow.to) last [] map contents calls None state
 narrow_stands {setting} {last} {state = state} stands = record {
-  groups = record {
-    knows = reach_less setting last [] state.disk width (omega (arith, most, width_is)) alone stands.groups.knows;
-    whole = stands.groups.whole;
-  };
+  groups = search (reach_less, width, most, width_is, alone);
   alike = stands.alike;
   kept = stands.kept;
   spared = stands.spared;
@@ -81,9 +55,7 @@ module _ {setting : Setting} {last : Kept} {begun : List Kept} {map : Map} {cont
   narrow = reaching_to setting width
 
   alone : Stands narrow last [] map contents calls None before
-  alone = narrow_stands
-      (subst (λ (l : List Kept). Stands setting last l map contents calls None before)
-      (stands.groups.whole (few_out before.core joins.begins.few)).0 stands)
+  alone = narrow_stands (rw (stands.groups.whole (few_out before.core joins.begins.few)).0 at stands)
 
   begins : (next : Kept) × (next.map ≡ map) × (next.uber.group ≡ after.core.begun)
       × KeepsOrEnds before.core.pool.uber.reflow next.uber.reflow × (next.uber.parity ≡ before.core.pool.uber.parity)
@@ -94,7 +66,7 @@ module _ {setting : Setting} {last : Kept} {begun : List Kept} {map : Map} {cont
   kept : begins.0.uber.reflow ≡ before.core.pool.uber.reflow
   kept =
       let was = begins.5.groups in
-      let same : was.next ≡ begins.0 = one (sym was.begun_is) in
+      let same : was.next ≡ begins.0 = one (cc) in
       ap (λ (k : Kept). k.uber.reflow) (sym same) ∙ ap (λ (u : Uber). u.reflow) (sym was.come.alike)
       ∙ rest_records before.core join.run.uber.reflow is of.0.may
       (ap (λ (c : Core). c.reach) (sym joins.begins.rest) ∙ was.of.reach) records
@@ -107,34 +79,30 @@ module _ {setting : Setting} {last : Kept} {begun : List Kept} {map : Map} {cont
 
   widenable : IsWidenable narrow last begins.0
   widenable = record {
-    rest = ap (λ (r : Reflow). r.to) kept ∙ of.0.may.rest ∙ ap (λ (r : Reflow). r.from) (sym kept);
+    rest = search kept;
     width = ap (λ (r : Reflow). r.to) kept;
-    first_width = ap (λ (u : Uber). u.reflow.to) (sym alone.alike);
+    first_width = search arith;
     follows =
-        let number = begins.2 in
-        let later = ap (λ (c : Core). c.begun) joins.begins.rest in
-        let same = rests before.core is joins.begins.none in
-        let group = ap (λ (u : Uber). u.group) alone.alike in
-        omega (arith, number, later, same, group);
-    there = subst (λ (s : Shape). width < read_devices s) (sym alone.shape) read_there;
+        omega (
+          arith,
+          begins.2,
+          ap (λ (c : Core). c.begun) joins.begins.rest,
+          rests before.core is joins.begins.none,
+          ap
+              (λ (u : Uber). u.group) alone.alike,
+        );
+    there = rw alone.shape read_there;
   }
     where
       read_there : width < read_devices (shape_of before.disk)
-      read_there = let room = of.0.may.room in let behind = of.0.behind in omega (arith, room, behind, there)
+      read_there = search arith
 
   -- The device shows no uberblock, and nothing is laid on it yet.
   free : ReadsNoUber before.disk width
-  free = subst (ReadsNoUber before.disk) of.0.behind
-      (free_is_blank before.disk ring read of.1 of.2 (let room = of.0.may.room in let behind = of.0.behind in
-      omega (arith, room, behind)))
+  free = search (free_is_blank, arith)
 
   guest : GuestSoFar before.disk begins.0 width (Laid 0)
-  guest = record {
-    blank = free;
-    told = λ device_sector low. alone.tells width device_sector (let behind = of.0.behind in omega (arith, behind, there))
-        (let room = alone.bank.room in omega (arith, room, low));
-    page = λ part below low. absurd (omega (arith, below));
-  }
+  guest = search (free, width, arith)
 
   -- What stands goes on standing with the commit, in a pool that reaches as far as its last group does.
   pub attach_joins_stands : (next : Kept) × (next.map ≡ map) × (next.uber.group ≡ after.core.begun)
@@ -149,12 +117,5 @@ module _ {setting : Setting} {last : Kept} {begun : List Kept} {map : Map} {cont
     begins.4,
     subst (λ (d : Disk). Stands narrow last (begins.0 ∷ []) map contents calls (Some join.run) (at_disk after.core d))
         (sym joins.disk) begins.5,
-    (
-      begins.0,
-      refl,
-      widenable,
-      ap (λ (r : CommitRun). r.stage) joins.begins.run_is,
-      subst (λ (d : Disk). GuestSoFar d begins.0 width join.guest) (sym joins.disk)
-          (subst (GuestSoFar before.disk begins.0 width) (sym joins.guest) guest),
-    ),
+    search (widenable, width, guest, arith),
   )

@@ -1,31 +1,7 @@
 -- An attach's commit from its first turn to its last one: what stands stands, with the device where it joins.
-use Rattle.std.proofs.Common.{◌≡◌, inl, inr, ℕ, ◌+◌, List, [], ◌∷◌, Option, Some, None, sym, subst}
-use Rattle.bank_trait.specs.Disk.{Continues, Lawful}
-use Rattle.uberblock_ring.specs.Devices.{IsWithin}
-use Rattle.core_state.specs.declared.answer.Answer.{Answer}
-use Rattle.core_state.specs.Map.{Map}
-use Rattle.core_state.specs.Keeps.{Kept, Setting}
-use Rattle.core_state.specs.Certain.{Knows}
-use Rattle.core_state.specs.Committing.{Point, point_of}
-use Rattle.core_state.specs.Moment.{IsRowOf, KeepsSince}
-use Rattle.core_state.proofs.Since.{since_more}
-use Rattle.core_commit.specs.declared.commit_run.Stage.{Stage}
-use Rattle.core_commit.specs.declared.commit_run.Stage.TheVariants.{Lays, Signs as Signing}
-use Rattle.core_commit.specs.CommitTurns.{CommitRun, shown_at}
-use Rattle.core_commit.specs.Widening.{MayWiden, widened_kept, widened_run}
-use Rattle.core_commit.proofs.Beside.{committing_knows}
-use Rattle.core_commit.proofs.Halves.{goes_on}
+use Rattle.core_turns.proofs.Words.{◌≡◌, inl, inr, ℕ, ◌+◌, List, [], ◌∷◌, Option, Some, None, sym, subst, Continues, Lawful, IsWithin, Answer, Map, Kept, Setting, Knows, Point, point_of, IsRowOf, KeepsSince, since_more, Stage, Lays, CommitRun, shown_at, MayWiden, widened_kept, widened_run, committing_knows, goes_on, WhyDropped, JoinRun, JoinSteps, IsJoining, joining_goes_on, Joins, Core, CoreState, HasBankOf, IsCore, at_disk, EndsAttach, GoOutAndReach, HoldsAttach, MayReachOn, OnlyGoOut, StepsJoin, IsCommitOf, HoldingCall, AreCallsOf, Stands, shown_in, shown_of}
+use Rattle.core_commit.specs.declared.commit_run.Stage.TheVariants.{Signs as Signing}
 use Rattle.join_commit.specs.declared.join_run.JoinStep.TheVariants as step
-use Rattle.join_commit.specs.declared.join_run.WhyDropped.{WhyDropped}
-use Rattle.join_commit.specs.JoinRun.{JoinRun}
-use Rattle.join_commit.specs.JoinTurns.{JoinSteps}
-use Rattle.join_commit.specs.Joining.{GuestSoFar, IsJoining}
-use Rattle.join_commit.proofs.Joins.{joining_goes_on}
-use Rattle.core_turns.specs.declared.attaching.AttachRun.TheVariants.{Joins}
-use Rattle.core_turns.specs.Core.{Core, CoreState, HasBankOf, IsCore, at_disk}
-use Rattle.core_turns.specs.Attaching.{EndsAttach, GoOutAndReach, HoldsAttach, MayReachOn, OnlyGoOut, StepsJoin}
-use Rattle.core_turns.specs.Committing.{IsCommitOf}
-use Rattle.core_turns.specs.UnderWay.{HoldingCall, AreCallsOf, Stands, shown_in, shown_of}
 use Rattle.core_turns.proofs.AttachStands.{attaching_stands, is_joining}
 use Rattle.core_turns.proofs.AttachTurns.{join_drops_commit, join_joins_commit, reaching_on}
 use Rattle.core_turns.proofs.CommitEnds.{commit_ends_stands}
@@ -37,8 +13,7 @@ use Rattle.core_turns.proofs.Joining.{joined_core, joined_stands}
 -- A call of the first half goes on from one disk to the next.
 join_continues : (old next : JoinRun) (before after : Point) → JoinSteps old before (step.GoesOn next) after
     → Continues before.disk after.disk
-join_continues old next before after (inl pool) =
-    goes_on pool.called.ready.uber pool.called.ready.entries pool.called.call before after pool.called.made
+join_continues old next before after (inl pool) = search goes_on
 join_continues old next before after (inr (inl laid)) = laid.wrote.goes_on
 join_continues old next before after (inr (inr synced)) = synced.synced.goes_on
 
@@ -58,20 +33,20 @@ module _ {setting : Setting} {last : Kept} {begun : List Kept} {map : Map} {cont
   its = is_joining join is are may stands holds
 
   -- Images show the last group alone.
-  pub join_goes_since : (next : JoinRun) (groups : List Kept) (time : ℕ) → StepsJoin before join after (step.GoesOn next)
+  pub join_goes_since : (next : JoinRun) (groups : List Kept) (time : ℕ)
+      → StepsJoin before join after (step.GoesOn next)
       → IsWithin before.core.pool.out setting.failed → Lawful after.disk
       → IsRowOf groups last (shown_of begun (Some next.run))
       → KeepsSince setting groups time before.disk → KeepsSince setting groups time after.disk
   join_goes_since next groups time did within lawful row =
       let goes : IsJoining setting last stands.groups.next next new =
-      joining_goes_on setting last stands.groups.next join old new its next within lawful did.steps in
+      search (joining_goes_on, its) in
       since_more setting groups time last [] before.disk after.disk (row_alone next.run.stage goes.lays row)
-      (join_continues join next old new did.steps)
-      (knows_alone next.run.stage goes.lays (committing_knows setting last stands.groups.next next.run new goes.commits))
+      (join_continues join next old new did.steps) (search (knows_alone, committing_knows))
     where
       row_alone : (stage : Stage) → stage ≡ Lays → IsRowOf groups last (shown_in begun stage) → IsRowOf groups last []
       row_alone Lays lays row = row
-      row_alone Signing lays row = absurd (signing lays)
+      row_alone Signing lays row = cc
         where
           signing : Signing ≡ Lays → ⊥
           signing same = cc
@@ -87,22 +62,20 @@ module _ {setting : Setting} {last : Kept} {begun : List Kept} {map : Map} {cont
   -- ---- the decision
 
   -- It does not join: the commit goes on as it was begun.
-  pub join_drops_stands : (run : CommitRun) (because : WhyDropped) → StepsJoin before join after (step.Dropped run because)
+  pub join_drops_stands : (run : CommitRun) (because : WhyDropped)
+      → StepsJoin before join after (step.Dropped run because)
       → OnlyGoOut before after → IsWithin before.core.pool.out setting.failed
       → Stands setting last begun map contents calls (Some run) after
-  join_drops_stands run because did core within = commit_moves_stands is within stands after run did.steps.result did.steps.steps core
-      (subst (λ (c : Core). IsCommitOf c run) (sym core)
-      (join_drops_commit before.core join after.core.pool.out before.disk after.disk is stands.groups.of may run because
-      did.steps))
+  join_drops_stands run because did core within = commit_moves_stands is within stands after run did.steps.result
+      did.steps.steps core (subst (λ (c : Core). IsCommitOf c run) (sym core) (search join_drops_commit))
 
-  pub join_drops_since : (run : CommitRun) (because : WhyDropped) → StepsJoin before join after (step.Dropped run because)
+  pub join_drops_since : (run : CommitRun) (because : WhyDropped)
+      → StepsJoin before join after (step.Dropped run because)
       → OnlyGoOut before after → IsWithin before.core.pool.out setting.failed → (groups : List Kept) (time : ℕ)
       → IsRowOf groups last (shown_of begun (Some run))
       → KeepsSince setting groups time before.disk → KeepsSince setting groups time after.disk
-  join_drops_since run because did core within = commit_moves_since is within stands after run did.steps.result did.steps.steps core
-      (subst (λ (c : Core). IsCommitOf c run) (sym core)
-      (join_drops_commit before.core join after.core.pool.out before.disk after.disk is stands.groups.of may run because
-      did.steps))
+  join_drops_since run because did core within = commit_moves_since is within stands after run did.steps.result
+      did.steps.steps core (subst (λ (c : Core). IsCommitOf c run) (sym core) (search join_drops_commit))
 
   -- It joins: the group has one device more, and the pool reaches to it.
   module _ (run : CommitRun) (did : StepsJoin before join after (step.Joined run)) (core : GoOutAndReach before after)
@@ -117,30 +90,29 @@ module _ {setting : Setting} {last : Kept} {begun : List Kept} {map : Map} {cont
     widens = record {
       whole = did.steps.whole;
       pool = its.pool;
-      joins = subst (GuestSoFar before.disk stands.groups.next setting.reach) did.steps.synced its.guest;
+      joins = rw did.steps.synced at its.guest;
     }
 
-    stood : Stands wider last (widened_kept stands.groups.next ∷ []) map contents calls (Some (widened_run join.run)) reached
-    stood = joined_stands before.core join.run before.disk is may.rest (its.lays, did.steps.turn.1) widens bank
-        (subst (λ (l : List Kept). Stands setting last l map contents calls (Some join.run) before) stands.groups.begun_is
-        stands)
+    stood : Stands wider last (widened_kept stands.groups.next ∷ []) map contents calls
+        (Some (widened_run join.run)) reached
+    stood = search (joined_stands, widens)
 
     its_core : IsCore (reaching_on before.core)
-    its_core = joined_core before.core join.run is stands.groups.of may.rest may.reach may.room
+    its_core = search joined_core
 
     of : IsCommitOf after.core run
-    of = subst (λ (c : Core). IsCommitOf c run) (sym core)
-        (join_joins_commit before.core join after.core.pool.out before.disk after.disk is stands.groups.of may run
-        did.steps)
+    of = subst (λ (c : Core). IsCommitOf c run) (sym core) (search join_joins_commit)
 
     pub join_joins_stands : IsWithin before.core.pool.out setting.failed
         → Stands wider last (widened_kept stands.groups.next ∷ []) map contents calls (Some run) after
-    join_joins_stands within = commit_moves_stands its_core within stood after run did.steps.result did.steps.steps core of
+    join_joins_stands within = commit_moves_stands its_core within stood after run did.steps.result did.steps.steps core
+        of
 
     pub join_joins_since : IsWithin before.core.pool.out setting.failed → (groups : List Kept) (time : ℕ)
         → IsRowOf groups last (shown_of (widened_kept stands.groups.next ∷ []) (Some run))
         → KeepsSince wider groups time before.disk → KeepsSince wider groups time after.disk
-    join_joins_since within = commit_moves_since its_core within stood after run did.steps.result did.steps.steps core of
+    join_joins_since within = commit_moves_since its_core within stood after run did.steps.result did.steps.steps core
+        of
 
 -- ---- its end
 
@@ -152,9 +124,9 @@ pub attach_ends_stands : {setting : Setting} {last next : Kept} {map : Map} {con
     → IsWithin before.core.pool.out setting.failed
     → Stands setting last (next ∷ []) map contents calls (Some run) before
     → Stands setting next [] map contents calls None after
-attach_ends_stands {setting} {last} {next} {map} {contents} {calls} {before} {after} {run} is now of ends are within stands =
-    subst (λ (s : CoreState). Stands setting next [] map contents calls None s) (sym same)
-    (attaching_stands ends.answered.core None ends.answered.disk was
+attach_ends_stands {setting} {last} {next} {map} {contents} {calls} {before} {after} {run} is now of ends are within
+    stands =
+    rw (← same) at (attaching_stands ends.answered.core None ends.answered.disk was
     (commit_ends_stands is of ends.answers are within stands))
   where
     same : after ≡ at_disk (record ends.answered.core { attaching = None }) ends.answered.disk
@@ -165,14 +137,4 @@ attach_ends_stands {setting} {last} {next} {map} {contents} {calls} {before} {af
     was = by ends.answered.core (subst IsCore ends.core now)
       where
         by : (core : Core) → IsCore (record core { attaching = None }) → IsCore core
-        by core is = record {
-          is = is.is;
-          reach = is.reach;
-          rests = is.rests;
-          below = is.below;
-          begun = is.begun;
-          few = is.few;
-          step = is.step;
-          shared = is.shared;
-          copies = is.copies;
-        }
+        by core is = search

@@ -1,22 +1,10 @@
 -- Calls under way that come, go on and end.
-use Rattle.std.proofs.Common.{◌≡◌, ⊎_elim, List, [], ◌∷◌, sym, ◌∙◌, ap, subst}
-use Rattle.std.specs.Prelude.{Contains}
-use Rattle.std.proofs.lemmas.List.Elements.{filter_map-append}
-use Rattle.range_locks.specs.declared.hold.Hold.{Hold}
-use Rattle.range_locks.specs.Holds.{EndsHold, Overlaps}
-use Rattle.space_alloc.specs.Space.{Gains}
-use Rattle.core_state.proofs.Listed.{contains_head, contains_tail, contains_cases, contains_none}
-use Rattle.core_blocks.specs.Blocks.{AreUnderWay}
-use Rattle.core_blocks.proofs.Lists.{gains_old, gains_cases, pairs_gain, pairs_lose, pairs_beside}
-use Rattle.core_turns.specs.declared.getting.GetRun.{GetRun}
-use Rattle.core_turns.specs.declared.putting.PutRun.{PutRun}
-use Rattle.core_turns.specs.Core.{Core}
-use Rattle.core_turns.specs.UnderWay.{HoldingCall, Putting, Reading, Copying, hold_of_call, range_in, ranges_of, IsCallOfCore, HaveNoneInCommon, AreBeside, AreCallsOf}
+use Rattle.core_turns.proofs.Words.{◌≡◌, ⊎_elim, List, [], ◌∷◌, sym, ◌∙◌, ap, Contains, filter_map-append, Hold, EndsHold, Overlaps, Gains, contains_head, contains_tail, contains_cases, contains_none, AreUnderWay, gains_old, gains_cases, pairs_gain, pairs_lose, pairs_beside, GetRun, PutRun, Core, HoldingCall, Putting, Reading, Copying, hold_of_call, range_in, ranges_of, IsCallOfCore, HaveNoneInCommon, AreBeside, AreCallsOf}
 use Rattle.core_turns.proofs.Frames.{KeepsCalls, call_of_stays, hold_listed, ends_other}
 
 -- A hold that overlaps another is overlapped by it.
 turned : (one other : Hold) → Overlaps one other.lo other.hi → Overlaps other one.lo one.hi
-turned one other overlaps = record { begins = overlaps.ends; ends = overlaps.begins }
+turned one other overlaps = search
 
 -- Beside each other are calls in either order.
 none_in_common_turn : (one other : HoldingCall) → HaveNoneInCommon one other → HaveNoneInCommon other one
@@ -25,14 +13,14 @@ none_in_common_turn (Putting run) (Reading other) clear = λ sector there here. 
 none_in_common_turn (Reading run) (Putting other) clear = λ sector there here. clear sector here there
 none_in_common_turn (Reading run) (Reading other) clear = clear
 none_in_common_turn (Copying run) (Copying other) clear = clear
-none_in_common_turn (Copying run) (Putting other) clear = λ overlaps. clear (turned other.hold run.hold overlaps)
+none_in_common_turn (Copying run) (Putting other) clear = search turned
 none_in_common_turn (Copying run) (Reading other) clear = λ overlaps. clear (turned other.hold run.hold overlaps)
 none_in_common_turn (Putting run) (Copying other) clear = λ overlaps. clear (turned other.hold run.hold overlaps)
 none_in_common_turn (Reading run) (Copying other) clear = λ overlaps. clear (turned other.hold run.hold overlaps)
 
 pub beside_turn : (one other : HoldingCall) → AreBeside one other → AreBeside other one
 beside_turn one other beside = record {
-  actors = λ same. beside.actors (sym same);
+  actors = λ same. beside.actors (cc);
   apart = none_in_common_turn one other beside.apart;
 }
 
@@ -41,13 +29,11 @@ pub range_listed : (calls : List HoldingCall) (run : PutRun) → Contains calls 
     → Contains (ranges_of calls) run.range
 range_listed [] run listed = absurd (contains_none (Putting run) listed)
 range_listed (call ∷ calls) run listed = ⊎_elim
-    (λ (same : Putting run ≡ call). subst (λ (c : HoldingCall). Contains (ranges_of (c ∷ calls)) run.range) same
-    (contains_head run.range (ranges_of calls)))
-    (λ rest. behind call (range_listed calls run rest))
-    (contains_cases call calls (Putting run) listed)
+    (λ (same : Putting run ≡ call). rw (← same) (contains_head run.range (ranges_of calls)))
+    (λ rest. behind call (range_listed calls run rest)) (contains_cases call calls (Putting run) listed)
   where
     behind : (call : HoldingCall) → Contains (ranges_of calls) run.range → Contains (ranges_of (call ∷ calls)) run.range
-    behind (Putting other) there = contains_tail other.range (ranges_of calls) run.range there
+    behind (Putting other) there = search contains_tail
     behind (Reading other) there = there
     behind (Copying other) there = there
 
@@ -59,32 +45,31 @@ ranges_read left calls run gains = ap ranges_of gains.is
     ∙ sym (filter_map-append range_in gains.before gains.after) ∙ ap ranges_of (sym gains.was)
 
 -- A call comes.
-pub calls_gain : (old new : Core) (left calls : List HoldingCall) (call : HoldingCall) → Gains left calls call → KeepsCalls old new
-    → ((hold : Hold) → Contains old.holds hold → Contains new.holds hold)
+pub calls_gain : (old new : Core) (left calls : List HoldingCall) (call : HoldingCall) → Gains left calls call
+    → KeepsCalls old new → ((hold : Hold) → Contains old.holds hold → Contains new.holds hold)
     → AreUnderWay new.pool.blocks (ranges_of calls) → IsCallOfCore new call
     → ((other : HoldingCall) → Contains left other → AreBeside call other) → AreCallsOf old left → AreCallsOf new calls
 calls_gain old new left calls call gains keeps kept under of beside are = record {
   each = λ other listed. ⊎_elim
-      (λ (same : call ≡ other). subst (IsCallOfCore new) same of)
+      (λ (same : call ≡ other). rw same at of)
       (λ was. let old_of = are.each other was in
-      call_of_stays old new other keeps (kept (hold_of_call other) (hold_listed old other old_of)) old_of)
-      (gains_cases left calls call other gains listed);
+      search (call_of_stays, hold_listed)) (gains_cases left calls call other gains listed);
   under = under;
-  beside = pairs_gain AreBeside beside_turn left calls call gains beside are.beside;
+  beside = search (pairs_gain, beside_turn);
 }
 
 -- A call ends, and its hold with it.
-pub calls_lose : (old new : Core) (left calls : List HoldingCall) (call : HoldingCall) → Gains left calls call → KeepsCalls old new
+pub calls_lose : (old new : Core) (left calls : List HoldingCall) (call : HoldingCall) → Gains left calls call
+    → KeepsCalls old new
     → EndsHold old.holds new.holds (hold_of_call call) → AreUnderWay new.pool.blocks (ranges_of left)
     → AreCallsOf old calls → AreCallsOf new left
 calls_lose old new left calls call gains keeps ends under are = record {
   each = λ other listed. let of = are.each other (gains_old left calls call other gains listed) in
       call_of_stays old new other keeps
       (ends_other old.holds new.holds (hold_of_call call) (hold_of_call other) ends (hold_listed old other of)
-      (λ same. (pairs_beside AreBeside beside_turn calls left call other gains are.beside listed).actors (sym same)))
-      of;
+      (λ same. (pairs_beside AreBeside beside_turn calls left call other gains are.beside listed).actors (cc))) of;
   under = under;
-  beside = pairs_lose AreBeside beside_turn calls left call gains are.beside;
+  beside = search (pairs_lose, beside_turn);
 }
 
 -- A call goes on: another stands in its place, of the same hold and apart from whatever it was apart from.
@@ -94,7 +79,7 @@ pub calls_swap : (core : Core) (left calls nexts : List HoldingCall) (call next 
     → AreUnderWay core.pool.blocks (ranges_of nexts) → AreCallsOf core calls → AreCallsOf core nexts
 calls_swap core left calls nexts call next gains again hold apart of under are = record {
   each = λ other listed. ⊎_elim
-      (λ (same : next ≡ other). subst (IsCallOfCore core) same of)
+      (λ (same : next ≡ other). rw same at of)
       (λ was. are.each other (gains_old left calls call other gains was))
       (gains_cases left nexts next other again listed);
   under = under;
@@ -102,8 +87,7 @@ calls_swap core left calls nexts call next gains again hold apart of under are =
       (λ other listed.
       let was = pairs_beside AreBeside beside_turn calls left call other gains are.beside listed in
       record {
-        actors = λ same. was.actors (ap (λ (h : Hold). h.actor) (sym hold) ∙ same);
+        actors = λ same. was.actors (cc);
         apart = apart other was.apart;
-      })
-      (pairs_lose AreBeside beside_turn calls left call gains are.beside);
+      }) (search (pairs_lose, beside_turn));
 }

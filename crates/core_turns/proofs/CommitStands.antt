@@ -1,48 +1,7 @@
 -- A commit beside the calls that are under way: how it begins, goes on, and is cut short.
-use Rattle.std.specs.Prelude.{Contains}
-use Rattle.std.proofs.Common.{◌≡◌, ℕ, ◌+◌, List, [], ◌∷◌, Some, None, refl, sym, ◌∙◌, ap, subst, arith}
-use Rattle.bank_trait.specs.Disk.{Disk, Lawful}
-use Rattle.range_locks.specs.declared.hold.Hold.{Hold}
-use Rattle.reflow_mark.specs.declared.reflow.Reflow.{Reflow}
-use Rattle.block_record.specs.declared.entry.IndexEntry.{IndexEntry}
-use Rattle.block_record.specs.Page.{IsIndex}
-use Rattle.block_table.specs.Table.{IsTable}
-use Rattle.uberblock_ring.specs.Devices.{IsWithin}
-use Rattle.core_state.specs.Map.{Map}
-use Rattle.core_state.specs.Index.{layout_of}
-use Rattle.core_state.specs.Keeps.{Kept, Setting}
-use Rattle.core_state.specs.Certain.{Knows}
-use Rattle.core_state.specs.Committing.{Point, point_of}
-use Rattle.core_state.specs.Moment.{IsRowOf, KeepsSince}
-use Rattle.core_state.proofs.Frames.{Nowhere}
-use Rattle.core_state.proofs.Since.{since_more}
-use Rattle.mark_choice.specs.CommitChoice.{MayRecord, Chooses}
-use Rattle.mark_advance.specs.Behind.{FollowsOn, KeepsOrEnds}
-use Rattle.core_blocks.specs.Blocks.{IsListed, put_run}
-use Rattle.core_blocks.specs.Kept.{NoneFree, SparesAll}
-use Rattle.core_blocks.proofs.Keeping.{blocks_kept}
-use Rattle.core_blocks.proofs.Listed.{among_listed}
-use Rattle.core_commit.specs.declared.commit_run.CommitStep.{CommitStep}
-use Rattle.core_commit.specs.declared.commit_run.CommitStep.TheVariants.{Called, Ended}
-use Rattle.core_commit.specs.CommitTurns.{CommitRun, CommitSteps, IsCommitting, shown_by}
-use Rattle.core_commit.proofs.CommitTurns.{committing_begins, committing_steps}
-use Rattle.core_commit.proofs.Beside.{committing_cut, committing_knows}
-use Rattle.core_commit.proofs.Halves.{goes_on}
-use Rattle.core_commit.proofs.Stepping.{steps_went}
-use Rattle.open_pool.specs.HoldsGroup.{HoldsGroup}
-use Rattle.open_pool.specs.NextGroup.{uber_for}
-use Rattle.open_pool.proofs.Committing.{may_commit}
-use Rattle.open_pool.proofs.Holding.{listed_in_pool}
-use Rattle.open_pool.proofs.NextGroup.{IsReady}
-use Rattle.core_turns.specs.declared.putting.PutRun.{PutRun}
-use Rattle.core_turns.specs.declared.turn.Turn.TheVariants.{More}
-use Rattle.core_turns.specs.Core.{Core, IsCore, CoreState, as_begun, at_disk, pool_at}
-use Rattle.core_turns.specs.Getting.{HasTooManyOut}
-use Rattle.core_turns.specs.Committing.{BeginsCommit, BeginsCommitSo, IsCommitOf, StepsCommit, commit_of, hold_for}
-use Rattle.core_turns.specs.UnderWay.{HoldingCall, Putting, LiesInPool, actor_of, Stands, AreCallsOf, shown_in, shown_of}
+use Rattle.core_turns.proofs.Words.{Contains, ◌≡◌, ℕ, ◌+◌, List, [], ◌∷◌, Some, None, refl, sym, subst, arith, Disk, Lawful, Hold, Reflow, IndexEntry, IsIndex, IsTable, IsWithin, Map, Kept, Setting, Point, point_of, IsRowOf, KeepsSince, Nowhere, since_more, MayRecord, Chooses, FollowsOn, KeepsOrEnds, IsListed, put_run, SparesAll, blocks_kept, among_listed, CommitStep, Called, Ended, CommitRun, CommitSteps, IsCommitting, shown_by, committing_begins, committing_steps, committing_cut, committing_knows, goes_on, steps_went, HoldsGroup, uber_for, may_commit, listed_in_pool, IsReady, PutRun, More, Core, IsCore, CoreState, as_begun, at_disk, pool_at, HasTooManyOut, BeginsCommit, BeginsCommitSo, IsCommitOf, StepsCommit, commit_of, HoldingCall, Putting, actor_of, Stands, AreCallsOf, shown_of, choice_widths}
 use Rattle.core_turns.proofs.Calls.{range_listed}
 use Rattle.core_turns.proofs.Cores.{bank_within}
-use Rattle.mark_advance.proofs.Follows.{choice_widths}
 use Rattle.core_turns.proofs.Commits.{begins_ready, begun_commit, core_follows, few_out, rests, rests_pool}
 use Rattle.core_turns.proofs.Frames.{OnlyOut, call_off_nowhere, off_nowhere, leaves_spared, call_stays, calls_beside, calls_stay}
 use Rattle.core_turns.proofs.StandFrames.{stands_frame}
@@ -54,8 +13,7 @@ spare_table : (core : Core) (calls : List HoldingCall) (run : PutRun) → AreCal
     → IsIndex core.pool.blocks.table.entries → Contains calls (Putting run)
     → SparesAll core.pool.blocks.parity core.pool.blocks.births core.pool.blocks.table.entries (put_run run.range)
 spare_table core calls run are index has entry listed =
-    (are.under.each run.range (range_listed calls run has)).clear entry
-    (among_listed core.pool.blocks.table.entries entry index listed)
+    (are.under.each run.range (range_listed calls run has)).clear entry (search (among_listed, listed))
 
 -- ---- a commit begins
 
@@ -65,11 +23,13 @@ begun_by core holds actor = record core { holds = holds; begun = core.begun + 1;
 
 pub commit_begins_calls : (old new : Core) (calls : List HoldingCall) (actor : ℕ) (run : CommitRun)
     → BeginsCommit old new actor (More run) → AreCallsOf old calls → AreCallsOf new calls
-commit_begins_calls old new calls actor run begins are = subst (λ (core : Core). AreCallsOf core calls) (sym begins.rest)
+commit_begins_calls old new calls actor run begins are = subst (λ (core : Core). AreCallsOf core calls)
+    (sym begins.rest)
     (calls_beside old new.holds (old.begun + 1) old.reach (Some actor) old.attaching calls (omega arith)
-    (λ hold has. taken_has old.holds new.holds (hold_for old.pool.uber.reflow run.uber.reflow actor) hold begins.holds has) are)
+    (search taken_has) are)
 
-module _ (setting : Setting) (last : Kept) (map : Map) (contents : ℕ → List ℕ) (calls : List HoldingCall) (old new : Core)
+module _ (setting : Setting) (last : Kept) (map : Map) (contents : ℕ → List ℕ) (calls : List HoldingCall)
+    (old new : Core)
     (disk : Disk) (actor : ℕ) (run : CommitRun) (lawful : Lawful disk) (is : IsCore old)
     (table : IsTable old.pool.blocks.table) (begins : BeginsCommitSo old new actor run) (are : AreCallsOf old calls)
     (stands : Stands setting last [] map contents calls None (at_disk old disk)) where
@@ -84,14 +44,7 @@ module _ (setting : Setting) (last : Kept) (map : Map) (contents : ℕ → List 
   begun_group = record { uber = uber_for old.pool chosen; entries = entries; map = map }
 
   held : HoldsGroup setting last (pool_at (at_disk old disk))
-  held = record {
-    knows = stands.groups.knows;
-    alike = stands.alike;
-    kept = stands.kept;
-    excepted = stands.excepted;
-    shape = stands.shape;
-    tells = stands.tells;
-  }
+  held = search
 
   may : MayRecord old.pool.uber.reflow old.pool.done chosen
   may = Chooses old.holds begins.choice
@@ -100,15 +53,15 @@ module _ (setting : Setting) (last : Kept) (map : Map) (contents : ℕ → List 
   on = core_follows old chosen is may
 
   widths : KeepsOrEnds old.pool.uber.reflow chosen
-  widths = choice_widths (as_begun old).uber old.pool.done old.holds chosen is.is.right begins.choice
+  widths = search (choice_widths, arith)
 
   is_ready : IsReady old.pool chosen
-  is_ready = begins_ready old chosen is table begins.none begins.few (let low = begins.limit in omega (arith, low)) may widths
+  is_ready = begins_ready old chosen is table begins.none begins.few (omega (arith, begins.limit)) may widths
 
   come : IsCommitting setting last begun_group (commit_of old.pool chosen) (point_of old.pool.out disk)
   come = committing_begins setting [] last begun_group (point_of old.pool.out disk) is_ready.right lawful
-      (may_commit setting last map (pool_at (at_disk old disk)) (rests_pool old is begins.none) (bank_within old disk is stands.bank) held stands.holds
-      chosen on widths is.step is_ready [])
+      (may_commit setting last map (pool_at (at_disk old disk)) (rests_pool old is begins.none)
+      (bank_within old disk is stands.bank) held stands.holds chosen on widths is.step is_ready [])
 
   -- Its blocks are those of the table.
   listed : (entry : IndexEntry) → Contains entries entry → IsListed entries entry
@@ -121,14 +74,14 @@ module _ (setting : Setting) (last : Kept) (map : Map) (contents : ℕ → List 
     groups = record {
       next = begun_group;
       begun_is = refl;
-      of = begun_commit old new.holds actor chosen is begins.none is_ready begins.choice begins.holds;
+      of = search (begun_commit, is_ready);
       come = come;
       lies = record {
-        born = λ entry has. is.is.born entry (listed entry has);
+        born = search (listed, arith);
         inside = λ entry has. listed_in_pool (as_begun old) entry is.is is.step (listed entry has);
       };
-      kept = blocks_kept old.pool.blocks (old.begun + 1) is.step table.index;
-      spared = λ put has. spare_table old calls put are table.index has;
+      kept = search blocks_kept;
+      spared = search spare_table;
     };
     alike = stands.alike;
     kept = stands.kept;
@@ -139,15 +92,7 @@ module _ (setting : Setting) (last : Kept) (map : Map) (contents : ℕ → List 
     bank = stands.bank;
     holds = stands.holds;
     each = λ call has. call_stays Nowhere (contents (actor_of call)) (at_disk old disk)
-        (at_disk (begun_by old new.holds actor) disk) call (record {
-          parity = refl;
-          births = refl;
-          reflow = refl;
-          done = refl;
-          front = is.is.front;
-          within = λ device out. out;
-          reads = λ device device_sector used in_data away. refl;
-        }) (call_off_nowhere old.pool.uber.reflow old.pool.done call) (stands.each call has);
+        (at_disk (begun_by old new.holds actor) disk) call (search) (search call_off_nowhere) (stands.each call has);
   }
 
 -- A commit begins: it makes the group of the map as it is.
@@ -158,20 +103,18 @@ pub commit_begins_stands : {setting : Setting} {last : Kept} {begun : List Kept}
     → (next : Kept) × (next.map ≡ map) × (next.uber.group ≡ new.begun)
     × KeepsOrEnds old.pool.uber.reflow next.uber.reflow × (next.uber.parity ≡ old.pool.uber.parity)
     × Stands setting last (next ∷ []) map contents calls (Some run) (at_disk new disk)
-commit_begins_stands {setting} {last} {begun} {map} {contents} {calls} {old} {new} {disk} {actor} {run} lawful is table begins
+commit_begins_stands {setting} {last} {begun} {map} {contents} {calls} {old} {new} {disk} {actor} {run} lawful is table
+    begins
     are stands = (
       next,
       refl,
-      (let same = rests old is begins.none in
-          let later = ap (λ (core : Core). core.begun) begins.rest in
-          omega (arith, same, later)),
-      widths setting last map contents calls old new disk actor run lawful is table begins are alone,
+      search (rests, arith),
+      search (widths, alone),
       refl,
       subst (λ (core : Core). Stands setting last (next ∷ []) map contents calls (Some run) (at_disk core disk))
           (sym begins.rest)
-          (subst (λ (r : CommitRun). Stands setting last (next ∷ []) map contents calls (Some r)
-          (at_disk (begun_by old new.holds actor) disk)) (sym begins.run_is)
-          (begun_stands setting last map contents calls old new disk actor run lawful is table begins are alone)),
+          (rw begins.run_is (begun_stands setting last map contents calls old new disk actor run lawful is table begins
+          are alone)),
     )
   where
     next : Kept
@@ -182,8 +125,7 @@ commit_begins_stands {setting} {last} {begun} {map} {contents} {calls} {old} {ne
     }
 
     alone : Stands setting last [] map contents calls None (at_disk old disk)
-    alone = subst (λ (l : List Kept). Stands setting last l map contents calls None (at_disk old disk))
-        (stands.groups.whole (few_out old begins.few)).0 stands
+    alone = search (few_out, arith)
 
 -- ---- a step of it
 
@@ -215,23 +157,16 @@ module _ {setting : Setting} {last : Kept} {begun : List Kept} {map : Map} {cont
     commit_moves_stands =
         let was = stands.groups in
         let went = steps_went result run next old new steps in
-        stands_frame Nowhere before after (leaves_spared before after is.is.front core went.stay went.spares)
-        (λ call listed. call_off_nowhere before.core.pool.uber.reflow before.core.pool.done call)
-        (λ entry listed. off_nowhere before.core.pool.uber.reflow before.core.pool.done
-        (layout_of before.core.pool.uber.parity before.core.pool.uber.births entry))
-        core went.spares.later
-        (record {
+        stands_frame Nowhere before after (search leaves_spared) (search call_off_nowhere) (search off_nowhere)
+        core went.spares.later (record {
           next = was.next;
           begun_is = was.begun_is;
           of = of;
           come = come_on;
-          lies = subst (λ (core : Core). LiesInPool core was.next) (sym core)
-              (record { born = was.lies.born; inside = was.lies.inside });
-          kept = subst (λ (core : Core). NoneFree core.pool.blocks core.begun was.next.entries) (sym core) was.kept;
-          spared = λ put has. subst (λ (core : Core). SparesAll core.pool.blocks.parity core.pool.blocks.births
-              was.next.entries (put_run put.range)) (sym core) (was.spared put has);
-        })
-        stands
+          lies = rw core (record { born = was.lies.born; inside = was.lies.inside });
+          kept = search arith;
+          spared = λ put has. rw core (was.spared put has);
+        }) stands
 
     -- What images keep since a moment they keep over a step: beside the last group they can show what the commit has come
     -- to.
@@ -240,15 +175,12 @@ module _ {setting : Setting} {last : Kept} {begun : List Kept} {map : Map} {cont
     commit_moves_since groups time row = moved result steps
       where
         shown : IsRowOf groups last (shown_by stands.groups.next next)
-        shown = subst (IsRowOf groups last)
-            (ap (λ (l : List Kept). shown_in l next.stage) stands.groups.begun_is ∙ shown_one stands.groups.next next.stage)
-            row
+        shown = search (shown_one, arith)
 
         moved : (result : CommitStep) → CommitSteps run old next new result → KeepsSince setting groups time before.disk
             → KeepsSince setting groups time after.disk
         moved Called steps kept = since_more setting groups time last (shown_by stands.groups.next next) before.disk
-            after.disk shown (goes_on steps.ready.uber steps.ready.entries steps.call old new steps.made)
-            (committing_knows setting last stands.groups.next next new come_on) kept
+            after.disk shown (search goes_on) (committing_knows setting last stands.groups.next next new come_on) kept
         moved Ended steps kept = subst (λ (p : Point). KeepsSince setting groups time p.disk) (sym steps.same) kept
 
 -- A call of it in a turn of its own.
@@ -270,20 +202,4 @@ pub commit_is_cut : {setting : Setting} {last : Kept} {begun : List Kept} {map :
     {calls : List HoldingCall} {state : CoreState} {run : CommitRun} → HasTooManyOut state.core
     → Stands setting last begun map contents calls (Some run) state
     → Stands setting last begun map contents calls None state
-commit_is_cut {setting} {last} {state = state} {run} many stands = record {
-  groups = record {
-    knows = subst (λ (l : List Kept). Knows setting last l state.disk) (sym stands.groups.begun_is)
-        (committing_cut setting last stands.groups.next run (point_of state.core.pool.out state.disk)
-        stands.groups.come);
-    whole = λ few. absurd (omega (arith, many, few));
-  };
-  alike = stands.alike;
-  kept = stands.kept;
-  spared = stands.spared;
-  excepted = stands.excepted;
-  shape = stands.shape;
-  tells = stands.tells;
-  bank = stands.bank;
-  holds = stands.holds;
-  each = stands.each;
-}
+commit_is_cut many stands = search (committing_cut, arith)

@@ -1,14 +1,6 @@
 -- What each turn of a copy does to the bank and the devices.
-use Rattle.std.proofs.Common.{◌≡◌, ⊎_elim, ℕ, sym, ap, subst}
-use Rattle.bank_trait.specs.Disk.{Lawful}
+use Rattle.core_turns.proofs.Words.{◌≡◌, ⊎_elim, ℕ, sym, ap, subst, Lawful, CopyRound, Rests, Copies, Commits, Turn, More, Busy, Done, Core, CoreState, IsCore, BeginsRound, IsRoundOf, StepsCopy, TurnGoesOn}
 use Rattle.core_state.specs.declared.answer.Answer.TheVariants as answer
-use Rattle.core_turns.specs.declared.rounds.CopyRound.{CopyRound}
-use Rattle.core_turns.specs.declared.rounds.CopyRound.TheVariants.{Rests, Copies, Commits}
-use Rattle.core_turns.specs.declared.turn.Turn.{Turn}
-use Rattle.core_turns.specs.declared.turn.Turn.TheVariants.{More, Busy, Done}
-use Rattle.core_turns.specs.Core.{Core, CoreState, IsCore}
-use Rattle.core_turns.specs.Rounds.{BeginsRound, IsRoundOf, StepsCopy}
-use Rattle.core_turns.specs.UnderWay.{TurnGoesOn}
 use Rattle.core_turns.proofs.CommitGoes.{commit_goes, turn_nowhere, turn_still}
 use Rattle.core_turns.proofs.JobTurns.{job_turn}
 
@@ -23,39 +15,27 @@ module _ (before after : CoreState) where
   round_goes : (actor : ℕ) (turn : Turn CopyRound) → BeginsRound old new actor turn → after.disk ≡ before.disk
       → TurnGoesOn before after
   round_goes actor (More (Rests whose made)) begins disk = absurd begins
-  round_goes actor (More (Copies run)) begins disk = turn_still before after
-      (ap (λ (c : Core). c.pool.uber) begins.rest) (ap (λ (c : Core). c.reach) begins.rest)
-      (ap (λ (c : Core). c.pool.out) begins.rest) disk
-  round_goes actor (More (Commits run)) begins disk = turn_still before after
-      (ap (λ (c : Core). c.pool.uber) begins.2.rest) (ap (λ (c : Core). c.reach) begins.2.rest)
-      (ap (λ (c : Core). c.pool.out) begins.2.rest) disk
-  round_goes actor (Busy by) begins disk = turn_still before after (ap (λ (c : Core). c.pool.uber) begins.1)
-      (ap (λ (c : Core). c.reach) begins.1) (ap (λ (c : Core). c.pool.out) begins.1) disk
+  round_goes actor (More (Copies run)) begins disk = turn_still before after (cc) (cc) (cc) disk
+  round_goes actor (More (Commits run)) begins disk = turn_still before after (cc) (cc) (cc) disk
+  round_goes actor (Busy by) begins disk = turn_still before after (cc) (cc) (cc) disk
   round_goes actor (Done given) begins disk = turn_still before after (ap (λ (c : Core). c.pool.uber) begins.1)
       (ap (λ (c : Core). c.reach) begins.1) (ap (λ (c : Core). c.pool.out) begins.1) disk
 
   -- So does each turn of a copy what each turn does.
   pub copy_goes : (round : CopyRound) (turn : Turn CopyRound) → IsCore old → Lawful before.disk
       → IsRoundOf old round → StepsCopy before round after turn → TurnGoesOn before after
-  copy_goes (Rests was made) (More (Rests actor next)) is lawful of steps =
-      subst (TurnGoesOn before) (sym steps.2) (turn_nowhere before)
+  copy_goes (Rests was made) (More (Rests actor next)) is lawful of steps = rw steps.2 (turn_nowhere before)
   copy_goes (Rests actor made) (More (Copies run)) is lawful of steps =
       round_goes actor (More (Copies run)) steps.0 steps.1
   copy_goes (Rests actor made) (More (Commits run)) is lawful of steps =
       round_goes actor (More (Commits run)) steps.0 steps.1
-  copy_goes (Rests actor made) (Done given) is lawful of steps =
-      subst (TurnGoesOn before) (sym steps.1) (turn_nowhere before)
-  copy_goes (Copies run) (More (Copies next)) is lawful of steps =
-      job_turn before after run next is of steps.0 steps.1
+  copy_goes (Rests actor made) (Done given) is lawful of steps = rw steps.1 (turn_nowhere before)
+  copy_goes (Copies run) (More (Copies next)) is lawful of steps = search job_turn
   copy_goes (Copies run) (More (Rests actor next)) is lawful of steps = ⊎_elim
       (λ ended. turn_still before after (ap (λ (c : Core). c.pool.uber) ended.2.rest)
-      (ap (λ (c : Core). c.reach) ended.2.rest) (ap (λ (c : Core). c.pool.out) ended.2.rest) steps.1)
-      (λ dropped. turn_still before after (ap (λ (c : Core). c.pool.uber) dropped.1.rest)
-      (ap (λ (c : Core). c.reach) dropped.1.rest) (ap (λ (c : Core). c.pool.out) dropped.1.rest) steps.1)
-      steps.2
-  copy_goes (Copies run) (Done given) is lawful of steps = turn_still before after
-      (ap (λ (c : Core). c.pool.uber) steps.1.rest) (ap (λ (c : Core). c.reach) steps.1.rest)
-      (ap (λ (c : Core). c.pool.out) steps.1.rest) steps.0
+      (cc) (ap (λ (c : Core). c.pool.out) ended.2.rest) steps.1)
+      (λ dropped. turn_still before after (cc) (cc) (cc) steps.1) steps.2
+  copy_goes (Copies run) (Done given) is lawful of steps = turn_still before after (cc) (cc) (cc) steps.0
   copy_goes (Commits run) (More (Commits next)) is lawful of steps =
       commit_goes before after run (More next) is lawful of steps
   copy_goes (Commits run) (More (Rests actor made)) is lawful of steps =

@@ -1,28 +1,5 @@
 -- Which calls are under way over each turn of a read.
-use Rattle.std.proofs.Common.{◌≡◌, ◌≢◌, inl, true, ℕ, List, refl, sym, ◌∙◌, ap, subst, arith}
-use Rattle.std.specs.Prelude.{Contains}
-use Rattle.range_locks.specs.declared.hold.Hold.{Hold}
-use Rattle.reflow_mark.specs.declared.reflow.Reflow.{Reflow}
-use Rattle.range_locks.specs.Holds.{EndsHold, Overlaps}
-use Rattle.row_layout.specs.Layout.{Layout}
-use Rattle.space_alloc.specs.Space.{Gains}
-use Rattle.uberblock_ring.specs.Devices.{has_device, IsWithin}
-use Rattle.core_state.specs.declared.answer.Kind.{Kind}
-use Rattle.core_state.specs.Index.{layout_of}
-use Rattle.core_blocks.specs.declared.range.PutRange.{PutRange}
-use Rattle.core_blocks.specs.Blocks.{Blocks, AreUnderWay, layout_run, put_run}
-use Rattle.core_blocks.specs.Runs.{AreClear}
-use Rattle.core_blocks.proofs.Listed.{found_listed}
-use Rattle.core_blocks.proofs.Lists.{gains_item}
-use Rattle.core_state.specs.Committing.{Point}
-use Rattle.core_client.specs.BlockTurns.{BlockRead, ReadsColumn}
-use Rattle.core_client.specs.Reading.{spot_of}
-use Rattle.core_client.proofs.Gotten.{outs_by_step}
-use Rattle.core_turns.specs.declared.getting.GetRun.{GetRun}
-use Rattle.core_turns.specs.declared.turn.Turn.TheVariants.{More}
-use Rattle.core_turns.specs.Core.{Core, IsCore, CoreState}
-use Rattle.core_turns.specs.Getting.{IsReadKind, IsGetOf, BeginsGet, ReadsTurn, SolvesGet}
-use Rattle.core_turns.specs.UnderWay.{HoldingCall, Putting, Reading, Copying, actor_of, ranges_of, HaveNoneInCommon, AreCallsOf}
+use Rattle.core_turns.proofs.Words.{◌≡◌, ◌≢◌, inl, ℕ, List, refl, sym, ap, subst, arith, Contains, Hold, Reflow, EndsHold, Gains, IsWithin, Kind, layout_of, AreUnderWay, found_listed, gains_item, Point, BlockRead, ReadsColumn, outs_by_step, GetRun, More, Core, IsCore, CoreState, IsReadKind, IsGetOf, BeginsGet, ReadsTurn, SolvesGet, HoldingCall, Putting, Reading, Copying, actor_of, ranges_of, HaveNoneInCommon, AreCallsOf}
 use Rattle.core_turns.proofs.Calls.{range_listed, ranges_read, calls_gain, calls_lose, calls_swap}
 use Rattle.core_turns.proofs.Frames.{KeepsCalls, calls_stay}
 use Rattle.core_turns.proofs.GetTurns.{get_of_more, begins_holds, solved_of}
@@ -32,19 +9,7 @@ abbrev pub OnlyHolds : Core → Core → Type 0
 OnlyHolds old new = new ≡ record old { holds = new.holds }
 
 calls_held : (old new : Core) → OnlyHolds old new → KeepsCalls old new
-calls_held old new core = record {
-  widths = record {
-    parity = ap (λ (c : Core). c.pool.uber.parity) core;
-    births = ap (λ (c : Core). c.pool.uber.births) core;
-    reflow = ap (λ (c : Core). c.pool.uber.reflow) core;
-    done = ap (λ (c : Core). c.pool.done) core;
-    block_parity = ap (λ (c : Core). c.pool.blocks.parity) core;
-    block_births = ap (λ (c : Core). c.pool.blocks.births) core;
-    begun = (let begun : new.begun ≡ old.begun = ap (λ (c : Core). c.begun) core in omega (arith, begun));
-  };
-  copying = ap (λ (c : Core). c.copying) core;
-  within = λ device has. subst (λ (c : Core). has_device c.pool.out device ≡ true) (sym core) has;
-}
+calls_held old new core = search arith
 
 -- The ranges of the puts beside a read are those of all.
 under_read : {left calls : List HoldingCall} {run : GetRun} (old new : Core) → new.pool.blocks ≡ old.pool.blocks
@@ -52,12 +17,7 @@ under_read : {left calls : List HoldingCall} {run : GetRun} (old new : Core) →
     → (AreUnderWay old.pool.blocks (ranges_of left) → AreUnderWay new.pool.blocks (ranges_of calls))
     × (AreUnderWay old.pool.blocks (ranges_of calls) → AreUnderWay new.pool.blocks (ranges_of left))
 under_read {left} {calls} {run} old new blocks gains =
-    let same = ranges_read left calls run gains in (
-      (λ under. subst (λ (b : Blocks). AreUnderWay b (ranges_of calls)) (sym blocks)
-          (subst (λ (l : List PutRange). AreUnderWay old.pool.blocks l) (sym same) under)),
-      (λ under. subst (λ (b : Blocks). AreUnderWay b (ranges_of left)) (sym blocks)
-          (subst (λ (l : List PutRange). AreUnderWay old.pool.blocks l) same under)),
-    )
+    let same = ranges_read left calls run gains in search arith
 
 -- A read begins: no put has a sector of its block, which stands in the table.
 pub get_begins_calls : {old new : Core} {run : GetRun} {left calls : List HoldingCall} (actor id : ℕ) (asked : Kind)
@@ -67,51 +27,42 @@ pub get_begins_calls : {old new : Core} {run : GetRun} {left calls : List Holdin
 get_begins_calls {old} {new} {run} {left} {calls} actor id asked reads is begins apart gains are =
     calls_gain old new left calls (Reading run) gains (calls_held old new begins.6)
     (λ hold listed. begins_holds old new actor id asked (More run) hold begins listed)
-    ((under_read old new (ap (λ (c : Core). c.pool.blocks) begins.6) gains).0 are.under)
-    (subst IsReadKind (sym begins.2) reads, begins.7)
-    (λ other listed. record {
-      actors = λ same. apart other listed (sym same ∙ ap (λ (h : Hold). h.actor) begins.4);
-      apart = none_in_common other listed;
-    })
-    are
+    ((under_read old new (cc) gains).0 are.under) (subst IsReadKind (sym begins.2) reads, begins.7)
+    (search (none_in_common, arith)) are
   where
     its_layout : layout_of old.pool.blocks.parity old.pool.blocks.births run.entry ≡ run.read.layout
-    its_layout = (λ i. layout_of (is.is.parity i) (is.is.births i) run.entry) ∙ sym begins.5.layout_is
+    its_layout = cc
 
     none_in_common : (other : HoldingCall) → Contains left other → HaveNoneInCommon (Reading run) other
     none_in_common (Reading other) listed = tt
-    none_in_common (Copying other) listed = λ overlaps. begins.8 other.hold (are.each (Copying other) listed).holds (record {
-      overlaps = record { begins = overlaps.ends; ends = overlaps.begins };
-      exclusive = inl (ap (λ (h : Hold). h.kind) (are.each (Copying other) listed).hold_is);
-    })
+    none_in_common (Copying other) listed = λ overlaps. begins.8 other.hold (are.each (Copying other) listed).holds
+        (record {
+          overlaps = search;
+          exclusive = inl (ap (λ (h : Hold). h.kind) (are.each (Copying other) listed).hold_is);
+        })
     none_in_common (Putting put) listed =
-        subst (λ (l : Layout). AreClear (layout_run l) (put_run put.range)) its_layout
-        (λ sector here there. (are.under.each put.range (range_listed left put listed)).clear run.entry
-        (found_listed old.pool.blocks.table.entries id run.entry begins.1) sector there here)
+        rw (← its_layout) (λ sector here there. (are.under.each put.range (range_listed left put listed)).clear
+        run.entry (found_listed old.pool.blocks.table.entries id run.entry begins.1) sector there here)
 
 -- One that goes on with its block has no more in common with others than before.
 read_apart : (run next : GetRun) (other : HoldingCall) → next.read.layout ≡ run.read.layout → next.hold ≡ run.hold
     → HaveNoneInCommon (Reading run) other → HaveNoneInCommon (Reading next) other
 read_apart run next (Reading other) same hold apart = tt
-read_apart run next (Copying other) same hold apart =
-    λ overlaps. apart (subst (λ (h : Hold). Overlaps h other.hold.lo other.hold.hi) hold overlaps)
-read_apart run next (Putting put) same hold apart =
-    subst (λ (l : Layout). AreClear (layout_run l) (layout_run put.range.layout)) (sym same) apart
+read_apart run next (Copying other) same hold apart = search arith
+read_apart run next (Putting put) same hold apart = rw same apart
 
 -- Its hold is the one that it had,
 read_swaps : {core : Core} {run next : GetRun} {left calls nexts : List HoldingCall} → next.hold ≡ run.hold
     → next.read.layout ≡ run.read.layout → IsReadKind next.kind × IsGetOf core next → Gains left calls (Reading run)
     → Gains left nexts (Reading next) → AreCallsOf core calls → AreCallsOf core nexts
 read_swaps {core} {run} {next} {left} {calls} {nexts} hold layout of gains again are =
-    calls_swap core left calls nexts (Reading run) (Reading next) gains again hold
-    (λ other apart. read_apart run next other layout hold apart) of
+    calls_swap core left calls nexts (Reading run) (Reading next) gains again hold (search read_apart) of
     ((under_read core core refl again).0 ((under_read core core refl gains).1 are.under)) are
 
 -- Devices that are out stay out over a column,
 column_outs : {reflow : Reflow} {old new : BlockRead} {here there : Point} → ReadsColumn reflow old here new there
     → IsWithin here.out there.out
-column_outs {reflow} {old} {new} {here} {there} reads =
-    (outs_by_step (spot_of old.layout reflow old.row old.column) reads.column.given here there reads.column.read).still
+column_outs reads = search (outs_by_step, arith)
 
 -- when one more is read,
 pub get_reads_calls : {before after : CoreState} {run next : GetRun} {left calls nexts : List HoldingCall}
@@ -119,8 +70,7 @@ pub get_reads_calls : {before after : CoreState} {run next : GetRun} {left calls
     → AreCallsOf before.core calls → AreCallsOf after.core nexts
 get_reads_calls {before} {after} {run} {next} {left} {calls} reads gains again are =
     let of = are.each (Reading run) (gains_item left calls (Reading run) gains) in
-    read_swaps (ap (λ (r : GetRun). r.hold) reads.1) reads.3.on.layout_is
-    (subst IsReadKind (sym (ap (λ (r : GetRun). r.kind) reads.1)) of.0, get_of_more before after run (More next) of.1 reads)
+    read_swaps (cc) reads.3.on.layout_is (search arith, search (get_of_more, arith))
     gains again (calls_stay before.core after.core calls reads.2 (column_outs reads.3) are)
 
 -- and when the block is solved.
@@ -128,13 +78,12 @@ pub get_solves_calls : {core : Core} {run next : GetRun} {left calls nexts : Lis
     → Gains left calls (Reading run) → Gains left nexts (Reading next) → AreCallsOf core calls → AreCallsOf core nexts
 get_solves_calls {core} {run} {next} {left} {calls} solves gains again are =
     let of = are.each (Reading run) (gains_item left calls (Reading run) gains) in
-    read_swaps (ap (λ (r : GetRun). r.hold) solves.rest) (ap (λ (r : GetRun). r.read.layout) solves.rest)
-    (subst IsReadKind (sym (ap (λ (r : GetRun). r.kind) solves.rest)) of.0, solved_of core run next solves of.1)
-    gains again are
+    read_swaps (cc) (cc) (search arith, solved_of core run next solves of.1) gains again are
 
 -- A read's hold ends, and the read with it.
 pub get_ends_calls : {old new : Core} {run : GetRun} {left calls : List HoldingCall} → OnlyHolds old new
-    → EndsHold old.holds new.holds run.hold → Gains left calls (Reading run) → AreCallsOf old calls → AreCallsOf new left
+    → EndsHold old.holds new.holds run.hold → Gains left calls (Reading run) → AreCallsOf old calls
+    → AreCallsOf new left
 get_ends_calls {old} {new} {run} {left} {calls} core ends gains are =
     calls_lose old new left calls (Reading run) gains (calls_held old new core) ends
-    ((under_read old new (ap (λ (c : Core). c.pool.blocks) core) gains).1 are.under) are
+    ((under_read old new (cc) gains).1 are.under) are

@@ -1,21 +1,7 @@
 -- The holds of a core, of which those held alone below the front are at most one, that of its commit, and those from it
 -- on at most one, that of its job.
-use Rattle.std.proofs.Common.{◌≡◌, inl, inr, ⊎_elim, ℕ, ◌+◌, ◌<◌, ◌≤◌, Bool, true, false, List, [], ◌∷◌, ◌++◌, refl, sym, ◌∙◌, ap, subst, arith}
-use Rattle.std.specs.Prelude.{Contains, cond, count_by, nat_lt, ◌&&◌}
-use Rattle.std.proofs.lemmas.Bool.{cases_lt}
-use Rattle.std.proofs.lemmas.Bool.Decides.{nat_tests}
-use Rattle.std.proofs.lemmas.List.Sums.{sum_by-append, sum_by-cons}
-use Rattle.range_locks.specs.declared.hold.Hold.{Hold}
-use Rattle.range_locks.specs.declared.hold.HoldKind.{HoldKind}
-use Rattle.range_locks.specs.declared.hold.HoldKind.TheVariants.{Exclusive, Shared}
+use Rattle.core_turns.proofs.Words.{◌≡◌, inl, inr, ⊎_elim, ℕ, ◌+◌, ◌<◌, ◌≤◌, Bool, true, false, List, [], ◌∷◌, ◌++◌, refl, sym, ◌∙◌, ap, arith, Contains, cond, count_by, nat_lt, cases_lt, nat_tests, sum_by-append, sum_by-cons, Hold, HoldKind, Exclusive, Shared, EndsHold, HasSectors, IsClear, exclusive_count, is_exclusive, contains_cases, contains_none, gains_cases, gains_item, gains_old, HasNoShared, alone_below, is_alone_below, DropsHold, IsHeldAlone, TakesHold}
 use Rattle.range_locks.specs.Gaining.{Gains}
-use Rattle.range_locks.specs.Holds.{EndsHold, HasSectors, IsClear}
-use Rattle.range_locks.specs.Order.{exclusive_count, is_exclusive}
-use Rattle.core_state.proofs.Listed.{contains_cases, contains_none}
-use Rattle.core_blocks.proofs.Lists.{gains_cases, gains_item, gains_old}
-use Rattle.mark_choice.specs.Clear.{HasNoShared}
-use Rattle.core_turns.specs.Core.{alone_below, is_alone_below}
-use Rattle.core_turns.specs.Committing.{DropsHold, IsHeldAlone, TakesHold}
 
 -- ---- how many pass a test
 
@@ -34,19 +20,15 @@ count_both test one two = sum_by-append (one_if test) one two
 -- One hold more,
 pub count_gained : (test : Hold → Bool) (old new : List Hold) (hold : Hold) → Gains old new hold
     → count_by test new ≡ count_by test old + one_if test hold
-count_gained test old new hold gains =
-    let was = ap (count_by test) gains.was ∙ count_both test gains.before gains.after in
-    let is = ap (count_by test) gains.is ∙ count_both test gains.before (hold ∷ gains.after) in
-    let more = count_more test hold gains.after in
-    omega (arith, was, is, more)
+count_gained test old new hold gains = search (count_both, count_more, arith)
 
 -- or one less.
 gains_ended : (old new : List Hold) (hold : Hold) → EndsHold old new hold → Gains new old hold
-gains_ended old new hold ends = record { before = ends.before; after = ends.after; was = ends.is; is = ends.was }
+gains_ended old new hold ends = search
 
 pub count_ended : (test : Hold → Bool) (old new : List Hold) (hold : Hold) → EndsHold old new hold
     → count_by test old ≡ count_by test new + one_if test hold
-count_ended test old new hold ends = count_gained test new old hold (gains_ended old new hold ends)
+count_ended test old new hold ends = search (count_gained, gains_ended)
 
 -- ---- how many are held alone
 
@@ -55,14 +37,13 @@ abbrev alone : Hold → Bool
 alone hold = is_exclusive hold.kind
 
 adds_none : (hold : Hold) → hold.kind ≡ Shared → one_if alone hold ≡ 0
-adds_none hold shared = ap (λ (kind : HoldKind). cond (is_exclusive kind) 1 0) shared
+adds_none hold shared = cc
 
 adds_none_below : (front : ℕ) (hold : Hold) → hold.kind ≡ Shared → one_if (is_alone_below front) hold ≡ 0
-adds_none_below front hold shared =
-    ap (λ (kind : HoldKind). cond (is_exclusive kind && nat_lt hold.lo front) 1 0) shared
+adds_none_below front hold shared = cc
 
 adds_one : (hold : Hold) → hold.kind ≡ Exclusive → one_if alone hold ≡ 1
-adds_one hold exclusive = ap (λ (kind : HoldKind). cond (is_exclusive kind) 1 0) exclusive
+adds_one hold exclusive = cc
 
 below_is : (front lo : ℕ) → lo < front → nat_lt lo front ≡ true
 below_is front lo low = grind (arith, nat_tests, low)
@@ -72,15 +53,11 @@ above_is front lo high = grind (arith, nat_tests, high)
 
 adds_one_below : (front : ℕ) (hold : Hold) → hold.kind ≡ Exclusive → hold.lo < front
     → one_if (is_alone_below front) hold ≡ 1
-adds_one_below front hold exclusive low =
-    ap (λ (kind : HoldKind). cond (is_exclusive kind && nat_lt hold.lo front) 1 0) exclusive
-    ∙ ap (λ (b : Bool). cond b 1 0) (below_is front hold.lo low)
+adds_one_below front hold exclusive low = search (below_is, arith)
 
 adds_none_above : (front : ℕ) (hold : Hold) → hold.kind ≡ Exclusive → front ≤ hold.lo
     → one_if (is_alone_below front) hold ≡ 0
-adds_none_above front hold exclusive high =
-    ap (λ (kind : HoldKind). cond (is_exclusive kind && nat_lt hold.lo front) 1 0) exclusive
-    ∙ ap (λ (b : Bool). cond b 1 0) (above_is front hold.lo high)
+adds_none_above front hold exclusive high = search (above_is, high, arith)
 
 -- As many are held alone as before, below whatever front.
 pub record SameAlone (old new : List Hold) : Type 0 where
@@ -90,20 +67,16 @@ pub record SameAlone (old new : List Hold) : Type 0 where
 -- So it is where a shared hold comes,
 pub shared_gained : (old new : List Hold) (hold : Hold) → hold.kind ≡ Shared → Gains old new hold → SameAlone old new
 shared_gained old new hold shared gains = record {
-  all = (let more = count_gained alone old new hold gains in
-      let none = adds_none hold shared in
-      omega (arith, more, none));
+  all = (omega (arith, count_gained alone old new hold gains, adds_none hold shared));
   below = λ front.
-      let more = count_gained (is_alone_below front) old new hold gains in
-      let none = adds_none_below front hold shared in
-      omega (arith, more, none);
+      omega (arith, count_gained (is_alone_below front) old new hold gains, adds_none_below front hold shared);
 }
 
 -- or ends.
 pub shared_ended : (old new : List Hold) (hold : Hold) → hold.kind ≡ Shared → EndsHold old new hold → SameAlone old new
 shared_ended old new hold shared ends =
     let was = shared_gained new old hold shared (gains_ended old new hold ends) in
-    record { all = sym was.all; below = λ front. sym (was.below front) }
+    record { all = cc; below = λ front. sym (was.below front) }
 
 -- Where none is counted each hold that is alone begins at the front or above it.
 pub none_below : (front : ℕ) (holds : List Hold) → alone_below front holds ≡ 0 → (hold : Hold) → Contains holds hold
@@ -112,64 +85,55 @@ none_below front [] none hold listed exclusive = absurd (contains_none hold list
 none_below front (first ∷ holds) none hold listed exclusive =
     let more = count_more (is_alone_below front) first holds in
     ⊎_elim
-    (λ (same : hold ≡ first). high (nat_lt hold.lo front) refl
-    (let first_none : one_if (is_alone_below front) first ≡ 0 = omega (arith, more, none) in
-    ap (one_if (is_alone_below front)) same ∙ first_none))
+    (λ (same : hold ≡ first). search (high, same, arith))
     (λ there. none_below front holds (omega (arith, more, none)) hold there exclusive)
     (contains_cases first holds hold listed)
   where
     high : (test : Bool) → nat_lt hold.lo front ≡ test → one_if (is_alone_below front) hold ≡ 0 → front ≤ hold.lo
-    high true is counted =
-        let low : hold.lo < front = grind (arith, nat_tests, is) in
-        let one = adds_one_below front hold exclusive low in
-        omega (arith, one, counted)
+    high true is counted = search (nat_tests, adds_one_below, arith)
     high false is counted = grind (arith, nat_tests, is)
 
 -- Fewer begin below a lower front, and never more than are alone.
-one_lower : (low front : ℕ) (hold : Hold) → low ≤ front → one_if (is_alone_below low) hold ≤ one_if (is_alone_below front) hold
+one_lower : (low front : ℕ) (hold : Hold) → low ≤ front → one_if (is_alone_below low) hold ≤ one_if
+    (is_alone_below front) hold
 one_lower low front hold within = by hold.kind refl
   where
     by : (kind : HoldKind) → hold.kind ≡ kind → one_if (is_alone_below low) hold ≤ one_if (is_alone_below front) hold
-    by Shared is =
-        let one = adds_none_below low hold is in omega (arith, one)
+    by Shared is = search (adds_none_below, arith)
     by Exclusive is = ⊎_elim
         (λ (below : hold.lo < low).
-        let one = adds_one_below low hold is below in
-        let other = adds_one_below front hold is (omega (arith, below, within)) in
-        omega (arith, one, other))
-        (λ above. let one = adds_none_above low hold is above in omega (arith, one))
-        (cases_lt hold.lo low)
+        search (adds_one_below, below, arith)) (search (adds_none_above, arith)) (cases_lt hold.lo low)
 
 one_all : (front : ℕ) (hold : Hold) → one_if (is_alone_below front) hold ≤ one_if alone hold
 one_all front hold = by hold.kind refl
   where
     by : (kind : HoldKind) → hold.kind ≡ kind → one_if (is_alone_below front) hold ≤ one_if alone hold
-    by Shared is = let one = adds_none_below front hold is in omega (arith, one)
+    by Shared is = search (adds_none_below, arith)
     by Exclusive is = ⊎_elim
         (λ (below : hold.lo < front).
-        let one = adds_one_below front hold is below in
-        let other = adds_one hold is in
-        omega (arith, one, other))
-        (λ above. let one = adds_none_above front hold is above in omega (arith, one))
-        (cases_lt hold.lo front)
+        search (adds_one_below, below, adds_one, arith)) (search (adds_none_above, arith)) (cases_lt hold.lo front)
 
 pub below_lower : (low front : ℕ) (holds : List Hold) → low ≤ front → alone_below low holds ≤ alone_below front holds
 below_lower low front [] within = omega arith
 below_lower low front (hold ∷ holds) within =
-    let one = one_lower low front hold within in
-    let rest = below_lower low front holds within in
-    let more = count_more (is_alone_below low) hold holds in
-    let other = count_more (is_alone_below front) hold holds in
-    omega (arith, one, rest, more, other)
+    omega (
+      arith,
+      one_lower low front hold within,
+      below_lower low front holds within,
+      count_more (is_alone_below low) hold holds,
+      count_more (is_alone_below front) hold holds,
+    )
 
 pub below_all : (front : ℕ) (holds : List Hold) → alone_below front holds ≤ exclusive_count holds
 below_all front [] = omega arith
 below_all front (hold ∷ holds) =
-    let one = one_all front hold in
-    let rest = below_all front holds in
-    let more = count_more (is_alone_below front) hold holds in
-    let other = count_more alone hold holds in
-    omega (arith, one, rest, more, other)
+    omega (
+      arith,
+      one_all front hold,
+      below_all front holds,
+      count_more (is_alone_below front) hold holds,
+      count_more alone hold holds,
+    )
 
 -- ---- the hold of a commit
 
@@ -186,20 +150,18 @@ alone_begins front old new hold exclusive low none clear (inl taken) = record {
   held = inl (
     taken.0,
     gains_item old new hold taken.1,
-    (let more = count_gained (is_alone_below front) old new hold taken.1 in
-        let one = adds_one_below front hold exclusive (low taken.0) in
-        omega (arith, more, none, one)),
+    (omega (
+      arith,
+      count_gained (is_alone_below front) old new hold taken.1,
+      none,
+      adds_one_below front hold exclusive (low taken.0),
+    )),
   );
   clear = λ other listed shared some overlaps. ⊎_elim
-      (λ (same : hold ≡ other). absurd (differ (sym shared ∙ sym (ap (λ (h : Hold). h.kind) same) ∙ exclusive)))
-      (λ was. clear other was shared some overlaps)
-      (gains_cases old new hold other taken.1 listed);
+      (λ (same : hold ≡ other). cc)
+      (λ was. clear other was shared some overlaps) (gains_cases old new hold other taken.1 listed);
 }
-alone_begins front old new hold exclusive low none clear (inr empty) = record {
-  low = low;
-  held = inr (empty.0, ap (alone_below front) empty.1 ∙ none);
-  clear = subst (λ (l : List Hold). HasNoShared l (hold.lo, hold.hi)) (sym empty.1) clear;
-}
+alone_begins front old new hold exclusive low none clear (inr empty) = search arith
 
 -- It is held still when another hold comes, which is shared and clear of it,
 pub alone_gains : (front : ℕ) (old new : List Hold) (item hold : Hold) → hold.kind ≡ Exclusive → item.kind ≡ Shared
@@ -208,21 +170,10 @@ alone_gains front old new item hold exclusive shared gains clear holds = record 
   low = holds.low;
   held = ⊎_elim
       (λ held. inl (held.0, gains_old old new item hold gains held.1, same ∙ held.2))
-      (λ none. inr (none.0, same ∙ none.1))
-      holds.held;
+      (λ none. inr (none.0, same ∙ none.1)) holds.held;
   clear = λ other listed kind some overlaps. ⊎_elim
-      (λ (is : item ≡ other). ⊎_elim
-      (λ held. clear hold held.1 (record {
-        overlaps = record {
-          begins = subst (λ (h : Hold). hold.lo < h.hi) (sym is) overlaps.ends;
-          ends = subst (λ (h : Hold). h.lo < hold.hi) (sym is) overlaps.begins;
-        };
-        exclusive = inl exclusive;
-      }))
-      (λ none. none.0 some)
-      holds.held)
-      (λ was. holds.clear other was kind some overlaps)
-      (gains_cases old new item other gains listed);
+      (search arith)
+      (λ was. holds.clear other was kind some overlaps) (gains_cases old new item other gains listed);
 }
   where
     same : alone_below front new ≡ alone_below front old
@@ -236,14 +187,12 @@ alone_stays front old new gone hold exclusive shared ends holds = record {
   held = ⊎_elim
       (λ held. inl (
         held.0,
-        ⊎_elim (λ (is : gone ≡ hold). absurd (differ (sym shared ∙ ap (λ (h : Hold). h.kind) is ∙ exclusive)))
-            (λ there. there)
-            (gains_cases new old gone hold (gains_ended old new gone ends) held.1),
+        ⊎_elim (search (differ, arith))
+            (λ there. there) (gains_cases new old gone hold (gains_ended old new gone ends) held.1),
         same ∙ held.2,
       ))
-      (λ none. inr (none.0, same ∙ none.1))
-      holds.held;
-  clear = λ other listed. holds.clear other (gains_old new old gone other (gains_ended old new gone ends) listed);
+      (λ none. inr (none.0, same ∙ none.1)) holds.held;
+  clear = λ other listed. holds.clear other (search (gains_old, gains_ended));
 }
   where
     same : alone_below front new ≡ alone_below front old
@@ -256,40 +205,30 @@ alone_beside front old new item hold exclusive alone high gains holds = record {
   low = holds.low;
   held = ⊎_elim
       (λ held. inl (held.0, gains_old old new item hold gains held.1, same ∙ held.2))
-      (λ none. inr (none.0, same ∙ none.1))
-      holds.held;
+      (λ none. inr (none.0, same ∙ none.1)) holds.held;
   clear = λ other listed kind some overlaps. ⊎_elim
-      (λ (is : item ≡ other). absurd (differ (sym kind ∙ sym (ap (λ (h : Hold). h.kind) is) ∙ alone)))
-      (λ was. holds.clear other was kind some overlaps)
-      (gains_cases old new item other gains listed);
+      (search (differ, arith))
+      (λ was. holds.clear other was kind some overlaps) (gains_cases old new item other gains listed);
 }
   where
     same : alone_below front new ≡ alone_below front old
-    same =
-        let more = count_gained (is_alone_below front) old new item gains in
-        let none = adds_none_above front item alone high in
-        omega (arith, more, none)
+    same = omega (arith, count_gained (is_alone_below front) old new item gains, adds_none_above front item alone high)
 
 -- and so does a front that goes on past the only such hold as it ends.
 pub alone_passes : (front next : ℕ) (old new : List Hold) (gone hold : Hold) → hold.kind ≡ Exclusive
     → gone.kind ≡ Exclusive → front ≤ gone.lo → front ≤ next → alone_below next new ≡ alone_below front old
     → EndsHold old new gone → IsHeldAlone front old hold → IsHeldAlone next new hold
 alone_passes front next old new gone hold exclusive alone high on same ends holds = record {
-  low = λ some. let low = holds.low some in omega (arith, low, on);
+  low = search arith;
   held = ⊎_elim
       (λ held. inl (
         held.0,
-        ⊎_elim (λ (is : gone ≡ hold).
-            let its = holds.low held.0 in
-            let begins : front ≤ hold.lo = subst (λ (h : Hold). front ≤ h.lo) is high in
-            absurd (omega (arith, its, begins)))
-            (λ there. there)
-            (gains_cases new old gone hold (gains_ended old new gone ends) held.1),
-        same ∙ held.2,
+        ⊎_elim (search (high, arith))
+            (λ there. there) (gains_cases new old gone hold (gains_ended old new gone ends) held.1),
+        cc,
       ))
-      (λ none. inr (none.0, same ∙ none.1))
-      holds.held;
-  clear = λ other listed. holds.clear other (gains_old new old gone other (gains_ended old new gone ends) listed);
+      (λ none. inr (none.0, cc)) holds.held;
+  clear = λ other listed. holds.clear other (search (gains_old, gains_ended));
 }
 
 -- Once it has ended nobody holds sectors below the front alone,
@@ -298,14 +237,7 @@ pub alone_ends : (front : ℕ) (old new : List Hold) (hold : Hold) → hold.kind
 alone_ends front old new hold exclusive holds drops = ⊎_elim
     (λ dropped.
     let less = count_ended (is_alone_below front) old new hold dropped.1 in
-    let one = adds_one_below front hold exclusive (holds.low dropped.0) in
-    ⊎_elim
-    (λ held. let is = held.2 in omega (arith, less, one, is))
-    (λ none. absurd (none.0 dropped.0))
-    holds.held)
-    (λ empty. ap (alone_below front) empty.1
-    ∙ ⊎_elim (λ held. absurd (empty.0 held.0)) (λ none. none.1) holds.held)
-    drops
+    search arith) (search arith) drops
 
 -- as many hold sectors from it on,
 pub others_end : (front jobs : ℕ) (old new : List Hold) (hold : Hold) → hold.kind ≡ Exclusive
@@ -314,15 +246,10 @@ pub others_end : (front jobs : ℕ) (old new : List Hold) (hold : Hold) → hold
 others_end front jobs old new hold exclusive holds drops counted = ⊎_elim
     (λ dropped.
     let less = count_ended alone old new hold dropped.1 in
-    let one = adds_one hold exclusive in
-    ⊎_elim
-    (λ held. let is = held.2 in omega (arith, less, one, is, counted))
-    (λ none. absurd (none.0 dropped.0))
-    holds.held)
+    search arith)
     (λ empty.
     let same = ap exclusive_count empty.1 in
-    ⊎_elim (λ held. absurd (empty.0 held.0)) (λ none. let is = none.1 in omega (arith, same, is, counted)) holds.held)
-    drops
+    search (same, arith)) drops
 
 -- and the shared ones are there, and those from the front on.
 pub others_stay : (old new : List Hold) (hold other : Hold) → DropsHold old new hold → (hold ≡ other → ⊥)
@@ -330,22 +257,18 @@ pub others_stay : (old new : List Hold) (hold other : Hold) → DropsHold old ne
 others_stay old new hold other drops apart listed = ⊎_elim
     (λ dropped. ⊎_elim
     (λ (is : hold ≡ other). absurd (apart is))
-    (λ there. there)
-    (gains_cases new old hold other (gains_ended old new hold dropped.1) listed))
-    (λ empty. subst (λ (l : List Hold). Contains l other) (sym empty.1) listed)
-    drops
+    (λ there. there) (gains_cases new old hold other (gains_ended old new hold dropped.1) listed)) (search arith) drops
 
 pub shared_stay : (old new : List Hold) (hold other : Hold) → hold.kind ≡ Exclusive → DropsHold old new hold
     → other.kind ≡ Shared → Contains old other → Contains new other
 shared_stay old new hold other exclusive drops shared = others_stay old new hold other drops
-    (λ is. differ (sym shared ∙ sym (ap (λ (h : Hold). h.kind) is) ∙ exclusive))
+    (λ is. differ (cc))
 
 -- All are there when it is taken.
-pub taken_has : (old new : List Hold) (hold other : Hold) → TakesHold old new hold → Contains old other → Contains new other
+pub taken_has : (old new : List Hold) (hold other : Hold) → TakesHold old new hold → Contains old other
+    → Contains new other
 taken_has old new hold other takes listed = ⊎_elim
-    (λ taken. gains_old old new hold other taken.1 listed)
-    (λ empty. subst (λ (l : List Hold). Contains l other) (sym empty.1) listed)
-    takes
+    (λ taken. gains_old old new hold other taken.1 listed) (search arith) takes
 
 -- How many are alone when it is taken.
 pub taken_count : (front jobs : ℕ) (old new : List Hold) (hold : Hold) → hold.kind ≡ Exclusive
@@ -353,13 +276,14 @@ pub taken_count : (front jobs : ℕ) (old new : List Hold) (hold : Hold) → hol
     → exclusive_count old ≡ alone_below front old + jobs → exclusive_count new ≡ alone_below front new + jobs
 taken_count front jobs old new hold exclusive low takes counted = ⊎_elim
     (λ taken.
-    let all = count_gained alone old new hold taken.1 in
-    let below = count_gained (is_alone_below front) old new hold taken.1 in
-    let one = adds_one hold exclusive in
-    let other = adds_one_below front hold exclusive (low taken.0) in
-    omega (arith, all, below, one, other, counted))
-    (λ empty. subst (λ (l : List Hold). exclusive_count l ≡ alone_below front l + jobs) (sym empty.1) counted)
-    takes
+    omega (
+      arith,
+      count_gained alone old new hold taken.1,
+      count_gained (is_alone_below front) old new hold taken.1,
+      adds_one hold exclusive,
+      adds_one_below front hold exclusive (low taken.0),
+      counted,
+    )) (search arith) takes
 
 -- ---- the hold of a job
 
@@ -368,42 +292,36 @@ pub job_gained : (front : ℕ) (old new : List Hold) (hold : Hold) → hold.kind
     → Gains old new hold
     → (exclusive_count new ≡ exclusive_count old + 1) × (alone_below front new ≡ alone_below front old)
 job_gained front old new hold exclusive high gains = (
-  (let more = count_gained alone old new hold gains in
-      let one = adds_one hold exclusive in
-      omega (arith, more, one)),
-  (let more = count_gained (is_alone_below front) old new hold gains in
-      let none = adds_none_above front hold exclusive high in
-      omega (arith, more, none)),
+  (omega (arith, count_gained alone old new hold gains, adds_one hold exclusive)),
+  (omega (arith, count_gained (is_alone_below front) old new hold gains, adds_none_above front hold exclusive high)),
 )
 
 -- and one less when it ends.
 pub job_ended : (front : ℕ) (old new : List Hold) (hold : Hold) → hold.kind ≡ Exclusive → front ≤ hold.lo
     → EndsHold old new hold
     → (exclusive_count old ≡ exclusive_count new + 1) × (alone_below front old ≡ alone_below front new)
-job_ended front old new hold exclusive high ends = job_gained front new old hold exclusive high (gains_ended old new hold ends)
+job_ended front old new hold exclusive high ends = job_gained front new old hold exclusive high
+    (gains_ended old new hold ends)
 
 -- Where it was the only one from the front on, as many are alone below one behind it.
 pub front_passes : (front next : ℕ) (new : List Hold) → front ≤ next → exclusive_count new ≡ alone_below front new
     → alone_below next new ≡ alone_below front new
-front_passes front next new on all =
-    let low = below_lower front next new on in
-    let high = below_all next new in
-    omega (arith, all, low, high)
+front_passes front next new on all = omega (arith, all, below_lower front next new on, below_all next new)
 
 -- ---- what a turn leaves of it
 
 -- What is held alone below the front is held so still.
 abbrev pub KeepsAlone : ℕ → List Hold → List Hold → Type 0
-KeepsAlone front old new = (hold : Hold) → hold.kind ≡ Exclusive → IsHeldAlone front old hold → IsHeldAlone front new hold
+KeepsAlone front old new = (hold : Hold) → hold.kind ≡ Exclusive → IsHeldAlone front old hold
+    → IsHeldAlone front new hold
 
 pub keeps_same : (front : ℕ) (old new : List Hold) → new ≡ old → KeepsAlone front old new
-keeps_same front old new same hold exclusive holds = subst (λ (l : List Hold). IsHeldAlone front l hold) (sym same) holds
+keeps_same front old new same hold exclusive holds = search same
 
-pub keeps_gained : (front : ℕ) (old new : List Hold) (item : Hold) → item.kind ≡ Shared → IsClear old item.lo item.hi Shared
-    → Gains old new item → KeepsAlone front old new
-keeps_gained front old new item shared clear gains hold exclusive =
-    alone_gains front old new item hold exclusive shared gains clear
+pub keeps_gained : (front : ℕ) (old new : List Hold) (item : Hold) → item.kind ≡ Shared
+    → IsClear old item.lo item.hi Shared → Gains old new item → KeepsAlone front old new
+keeps_gained front old new item shared clear gains hold exclusive = search alone_gains
 
 pub keeps_ended : (front : ℕ) (old new : List Hold) (gone : Hold) → gone.kind ≡ Shared → EndsHold old new gone
     → KeepsAlone front old new
-keeps_ended front old new gone shared ends hold exclusive = alone_stays front old new gone hold exclusive shared ends
+keeps_ended front old new gone shared ends hold exclusive = search alone_stays

@@ -1,41 +1,5 @@
 -- The end of a job beside the calls that are under way: the front is behind it, and each call goes on where it was.
-use Rattle.std.proofs.Common.{◌≡◌, ℕ, List, [], None, Option, Some, refl, sym, ◌∙◌, ap, subst, arith}
-use Rattle.std.specs.Prelude.{Contains}
-use Rattle.bank_trait.specs.Disk.{Disk}
-use Rattle.range_locks.specs.declared.hold.Hold.{Hold}
-use Rattle.range_locks.specs.Holds.{EndsHold}
-use Rattle.reflow_mark.specs.declared.reflow.Reflow.{Reflow}
-use Rattle.row_layout.specs.Layout.{Layout, end_of, sector_of}
-use Rattle.space_alloc.specs.Space.{Gains}
-use Rattle.reflow_copier.specs.Jobs.{job_begin, job_end}
-use Rattle.core_state.specs.Map.{Map}
-use Rattle.core_state.specs.Index.{layout_of}
-use Rattle.core_state.specs.Keeps.{Kept, Setting}
-use Rattle.core_state.specs.Committing.{point_of}
-use Rattle.mark_advance.specs.Behind.{IsOutside}
-use Rattle.reflow_band.specs.Band.{IsFrontOf}
-use Rattle.job_copy.specs.Progress.{call_count}
-use Rattle.job_copy.proofs.Close.{cell_below, cell_close}
-use Rattle.job_copy.proofs.Fronts.{job_at_front, job_front, job_some}
-use Rattle.job_copy.proofs.Places.{rows_same}
-use Rattle.core_blocks.specs.declared.range.PutRange.{PutRange}
-use Rattle.core_blocks.specs.Blocks.{AreUnderWay}
-use Rattle.core_blocks.proofs.Lists.{gains_item, gains_old, pairs_beside, pairs_lose}
-use Rattle.core_client.specs.Pool.{IsInPool}
-use Rattle.core_commit.specs.CommitTurns.{CommitRun}
-use Rattle.core_copy.proofs.Choosing.{run_leaves_choice}
-use Rattle.core_copy.proofs.Holding.{run_ends}
-use Rattle.open_pool.specs.Pool.{HoldsMap}
-use Rattle.open_pool.proofs.Holding.{listed_in_pool}
-use Rattle.core_turns.specs.declared.copying.CopyRun.{CopyRun}
-use Rattle.core_turns.specs.declared.getting.GetRun.{GetRun}
-use Rattle.core_turns.specs.declared.putting.PutRun.{PutRun}
-use Rattle.core_turns.specs.Core.{Core, IsCore, as_begun, at_disk, pool_at}
-use Rattle.core_turns.specs.Committing.{IsCommitOf, hold_for}
-use Rattle.core_turns.specs.Copying.{CopiesCells, EndsJob, IsJobOf}
-use Rattle.core_turns.specs.Getting.{IsGetOf}
-use Rattle.core_turns.specs.Putting.{AsksAlike, IsPutOf}
-use Rattle.core_turns.specs.UnderWay.{HoldingCall, Putting, Reading, Copying, AreBeside, AreCallsOf, GroupsStand, HaveNoneInCommon, HoldsCall, IsCallOfCore, ShareNoSector, Stands, actor_of, hold_of_call}
+use Rattle.core_turns.proofs.Words.{◌≡◌, ℕ, List, [], None, Option, Some, refl, sym, subst, arith, Contains, Disk, Hold, EndsHold, Reflow, Layout, end_of, sector_of, Gains, job_begin, job_end, Map, layout_of, Kept, Setting, point_of, IsFrontOf, call_count, cell_below, cell_close, job_at_front, job_front, job_some, rows_same, gains_item, gains_old, pairs_beside, pairs_lose, IsInPool, CommitRun, run_leaves_choice, run_ends, HoldsMap, listed_in_pool, CopyRun, GetRun, PutRun, Core, IsCore, as_begun, at_disk, pool_at, IsCommitOf, hold_for, CopiesCells, EndsJob, IsJobOf, IsGetOf, AsksAlike, IsPutOf, HoldingCall, Putting, Reading, Copying, AreBeside, AreCallsOf, GroupsStand, HaveNoneInCommon, HoldsCall, IsCallOfCore, ShareNoSector, Stands, actor_of, hold_of_call}
 use Rattle.core_turns.proofs.Calls.{beside_turn}
 use Rattle.core_turns.proofs.Frames.{ends_other, hold_listed}
 use Rattle.core_turns.proofs.Holds.{alone_passes}
@@ -53,30 +17,24 @@ module _ (core : Core) (run : CopyRun) (is : IsCore core) (of : IsJobOf core run
   behind = job_end core.pool.uber.reflow run.job.job
 
   front : IsFrontOf reflow behind
-  front = job_front reflow core.pool.done run.job.job of.goes.widening of.goes.front of.goes.may_run
+  front = search job_front
 
   -- A block outside the job's sectors is asked for where it was,
   block_same : (layout : Layout) → IsInPool layout reflow → IsBlockOutside (job_begin run.job.job) behind layout
       → AsksAlike layout reflow core.pool.done reflow behind
   block_same layout pool outside row column there =
       rows_same reflow core.pool.done run.job.job layout.start (end_of layout row) (sector_of layout row column)
-      of.goes.may_run (omega arith) (let low = there.column_in in omega (arith, low))
-      (row_outside (job_begin run.job.job) behind layout row column pool.within.is there outside)
+      of.goes.may_run (omega arith) (search arith) (search row_outside)
 
   -- so is that of a put,
   put_same : (put : PutRun) → IsPutOf core put → ShareNoSector run.hold put.hold
       → AsksAlike put.range.layout reflow core.pool.done reflow behind
-  put_same put its apart = block_same put.range.layout its.pool
-      (subst (λ (h : Hold). IsOutside (job_begin run.job.job) behind h.lo h.hi) its.hold_is
-      (apart_outside core run of put.hold apart))
+  put_same put its apart = block_same put.range.layout its.pool (search (apart_outside, of, arith))
 
   -- and that of a read.
   get_same : (get : GetRun) → IsGetOf core get → ShareNoSector run.hold get.hold
       → AsksAlike get.read.layout reflow core.pool.done reflow behind
-  get_same get its apart = block_same get.read.layout its.pool
-      (subst (IsBlockOutside (job_begin run.job.job) behind) (sym its.layout_is)
-      (subst (λ (h : Hold). IsOutside (job_begin run.job.job) behind h.lo h.hi) its.hold_is
-      (apart_outside core run of get.hold apart)))
+  get_same get its apart = block_same get.read.layout its.pool (search (apart_outside, of, arith))
 
   module _ (holds : List Hold) (ends : EndsHold core.holds holds run.hold) where
     -- the core that the end leaves
@@ -87,35 +45,16 @@ module _ (core : Core) (run : CopyRun) (is : IsCore core) (of : IsJobOf core run
 
     call_ended : (call : HoldingCall) → HaveNoneInCommon (Copying run) call → Contains holds (hold_of_call call)
         → IsCallOfCore core call → IsCallOfCore ended call
-    call_ended (Putting put) apart held its = put_moves core ended put its (put_same put its apart) its.pool front its.range
-        its.born.1 held
-    call_ended (Reading get) apart held its = (
-      its.0,
-      record {
-        layout_is = its.1.layout_is;
-        pool = its.1.pool;
-        born = its.1.born;
-        holds = held;
-        actor = its.1.actor;
-        hold_is = its.1.hold_is;
-      },
-    )
+    call_ended (Putting put) apart held its = search (put_moves, put_same, front)
+    call_ended (Reading get) apart held its = search
     call_ended (Copying other) apart held its = absurd apart
 
     -- What a call has written or read is its block's still.
     call_holds : (disk : Disk) (content : List ℕ) (call : HoldingCall) → HaveNoneInCommon (Copying run) call
-        → IsCallOfCore core call → HoldsCall (at_disk core disk) content call → HoldsCall (at_disk ended disk) content call
-    call_holds disk content (Putting put) apart its held =
-        put_holds_moves core ended put its (put_same put its apart) its.pool front disk content refl held
-    call_holds disk content (Reading get) apart its held = record {
-      right = block_moves get.read.layout reflow core.pool.done reflow behind content disk core.pool.out
-          (get_same get its.1 apart) held.right;
-      len_is = held.len_is;
-      are_bytes = held.are_bytes;
-      digest_is = held.digest_is;
-      so_far = held.so_far;
-      solved = held.solved;
-    }
+        → IsCallOfCore core call → HoldsCall (at_disk core disk) content call
+        → HoldsCall (at_disk ended disk) content call
+    call_holds disk content (Putting put) apart its held = search (put_holds_moves, put_same, front)
+    call_holds disk content (Reading get) apart its held = search (block_moves, get_same)
     call_holds disk content (Copying other) apart its held = absurd apart
 
     -- ---- a commit
@@ -126,23 +65,10 @@ module _ (core : Core) (run : CopyRun) (is : IsCore core) (of : IsJobOf core run
       actor = its.actor;
       under_way = its.under_way;
       number = its.number;
-      next = record {
-        right = its.next.right;
-        number = its.next.number;
-        pool_is = its.next.pool_is;
-        parity = its.next.parity;
-        choice = run_leaves_choice reflow core.pool.done run.job.job commit.uber.reflow of.goes.widening of.goes.front
-            of.goes.may_run its.next.choice;
-        births = its.next.births;
-      };
-      holds = alone_passes core.pool.done behind core.holds holds run.hold (hold_for reflow commit.uber.reflow its.actor) refl
-          (ap (λ (h : Hold). h.kind) of.hold_is)
-          (let begins : run.hold.lo ≡ core.pool.done = ap (λ (h : Hold). h.lo) of.hold_is
-          ∙ job_at_front reflow core.pool.done run.job.job of.goes.may_run in
-          omega (arith, begins))
-          (let some = job_some reflow core.pool.done run.job.job of.goes.widening of.goes.may_run in
-          let begins = job_at_front reflow core.pool.done run.job.job of.goes.may_run in
-          omega (arith, some, begins))
+      next = search run_leaves_choice;
+      holds = alone_passes core.pool.done behind core.holds holds run.hold
+          (hold_for reflow commit.uber.reflow its.actor) refl
+          (cc) (search (job_at_front, arith)) (search (job_some, job_at_front, arith))
           (below_behind core run holds is of ends).1 ends its.holds;
       lists = its.lists;
       reach = its.reach;
@@ -153,14 +79,13 @@ module _ (core : Core) (run : CopyRun) (is : IsCore core) (of : IsJobOf core run
         → ((put : PutRun) → Contains left (Putting put) → Contains calls (Putting put))
         → GroupsStand setting last begun calls commit (at_disk core disk)
         → GroupsStand setting last begun left commit (at_disk ended disk)
-    groups_ended setting last begun calls left None disk fewer groups =
-        record { knows = groups.knows; whole = groups.whole }
+    groups_ended setting last begun calls left None disk fewer groups = search
     groups_ended setting last begun calls left (Some commit) disk fewer groups = record {
       next = groups.next;
       begun_is = groups.begun_is;
       of = commit_on commit groups.of;
       come = groups.come;
-      lies = record { born = groups.lies.born; inside = groups.lies.inside };
+      lies = search;
       kept = groups.kept;
       spared = λ put listed. groups.spared put (fewer put listed);
     }
@@ -169,8 +94,8 @@ module _ (core : Core) (run : CopyRun) (is : IsCore core) (of : IsJobOf core run
 
     -- Each block is right at the front behind the job, which has copied all of its sectors.
     map_ended : (map : Map) (disk : Disk) → core.pool.out ≡ 0 → run.job.made ≡ call_count run.job.reflow run.job.job
-        → CopiesCells reflow core.pool.done run.job (point_of core.pool.out disk) → HoldsMap map (pool_at (at_disk core disk))
-        → HoldsMap map (pool_at (at_disk ended disk))
+        → CopiesCells reflow core.pool.done run.job (point_of core.pool.out disk)
+        → HoldsMap map (pool_at (at_disk core disk)) → HoldsMap map (pool_at (at_disk ended disk))
     map_ended map disk whole all copied held = record {
       table = held.table;
       bytes = held.bytes;
@@ -179,7 +104,7 @@ module _ (core : Core) (run : CopyRun) (is : IsCore core) (of : IsJobOf core run
             let layout = layout_of core.pool.uber.parity core.pool.uber.births entry in
             let pool = listed_in_pool (as_begun core) entry is.is is.step listed in
             run_ends reflow core.pool.done run.job (point_of core.pool.out disk) [] cell of.goes all
-            (copied.each whole cell (cell_close layout content reflow cell pool.within.is pool.width pool.end cell_is)
+            (copied.each whole cell (search cell_close)
             (cell_below layout content cell cell_is) ((held.right entry content listed has).each cell cell_is));
       };
     }
@@ -195,23 +120,21 @@ module _ {old new : Core} {run : CopyRun} {left calls : List HoldingCall} (is : 
   beside call listed = pairs_beside AreBeside beside_turn calls left (Copying run) call gains are.beside listed
 
   was : (call : HoldingCall) → Contains left call → IsCallOfCore old call
-  was call listed = are.each call (gains_old left calls (Copying run) call gains listed)
+  was call listed = are.each call (search gains_old)
 
   -- The other calls are under way still.
   pub job_ends_calls : AreCallsOf new left
   job_ends_calls = subst (λ (core : Core). AreCallsOf core left) (sym ends.rest) (record {
     each = λ call listed. call_ended old run is of new.holds ends.ends call (beside call listed).apart
         (ends_other old.holds new.holds run.hold (hold_of_call call) ends.ends (hold_listed old call (was call listed))
-        (λ same. (beside call listed).actors (sym same)))
-        (was call listed);
-    under = subst (λ (l : List PutRange). AreUnderWay old.pool.blocks l) (ranges_copied left calls run gains) are.under;
-    beside = pairs_lose AreBeside beside_turn calls left (Copying run) gains are.beside;
+        (search (beside, arith))) (was call listed);
+    under = rw (← ranges_copied left calls run gains) are.under;
+    beside = search (pairs_lose, beside_turn);
   })
 
   -- A commit under way beside it is still the core's,
   pub job_ends_commit : (commit : CommitRun) → IsCommitOf old commit → IsCommitOf new commit
-  job_ends_commit commit its = subst (λ (core : Core). IsCommitOf core commit) (sym ends.rest)
-      (commit_on old run is of new.holds ends.ends commit its)
+  job_ends_commit commit its = search (commit_on, of, arith)
 
   -- and all stands, with each block right at the front that the job leaves.
   pub job_ends_stands : {setting : Setting} {last : Kept} {begun : List Kept} {map : Map} {contents : ℕ → List ℕ}
@@ -220,8 +143,9 @@ module _ {old new : Core} {run : CopyRun} {left calls : List HoldingCall} (is : 
       → Stands setting last begun map contents calls commit (at_disk old disk)
       → Stands setting last begun map contents left commit (at_disk new disk)
   job_ends_stands {setting} {last} {begun} {map} {contents} {commit} {disk} whole all stands =
-      subst (λ (core : Core). Stands setting last begun map contents left commit (at_disk core disk)) (sym ends.rest) (record {
-        groups = groups_ended old run is of new.holds ends.ends setting last begun calls left commit disk fewer stands.groups;
+      subst (λ (core : Core). Stands setting last begun map contents left commit (at_disk core disk)) (sym ends.rest)
+      (record {
+        groups = search (groups_ended, of, fewer);
         alike = stands.alike;
         kept = stands.kept;
         spared = λ put listed. stands.spared put (fewer put listed);
@@ -232,9 +156,8 @@ module _ {old new : Core} {run : CopyRun} {left calls : List HoldingCall} (is : 
         holds = map_ended old run is of new.holds ends.ends map disk whole all
             (stands.each (Copying run) (gains_item left calls (Copying run) gains)) stands.holds;
         each = λ call listed. call_holds old run is of new.holds ends.ends disk (contents (actor_of call)) call
-            (beside call listed).apart (was call listed)
-            (stands.each call (gains_old left calls (Copying run) call gains listed));
+            (beside call listed).apart (was call listed) (stands.each call (search gains_old));
       })
     where
       fewer : (put : PutRun) → Contains left (Putting put) → Contains calls (Putting put)
-      fewer put listed = gains_old left calls (Copying run) (Putting put) gains listed
+      fewer put listed = search gains_old

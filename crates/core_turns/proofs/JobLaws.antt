@@ -1,23 +1,5 @@
 -- What a job that is under way has copied, over what others do.
-use Rattle.std.proofs.Common.{◌≡◌, inl, inr, ⊎_elim, ℕ, ◌<◌, [], true, false, sym, ◌∙◌, subst, arith}
-use Rattle.std.proofs.lemmas.Bool.{cases_lt}
-use Rattle.reflow_mark.specs.declared.reflow.Reflow.{Reflow}
-use Rattle.reflow_copier.specs.declared.job.Job.{Job}
-use Rattle.reflow_copier.specs.declared.job.Job.TheVariants.{Fill, Drain, Chunk}
-use Rattle.reflow_copier.specs.Jobs.{job_begin, job_end}
-use Rattle.uberblock_ring.specs.Devices.{has_device, IsWithin}
-use Rattle.uberblock_ring.proofs.DeviceSets.{none_in}
-use Rattle.core_state.specs.Committing.{Point}
-use Rattle.core_state.specs.JobTurns.{MayRun}
-use Rattle.core_state.specs.Whole.{Cell, RightAt}
-use Rattle.core_state.proofs.Places.{IsDataSector}
-use Rattle.spare_write.specs.Around.{IsClose}
-use Rattle.job_copy.specs.Progress.{CopiesSector, IsPlaceSoFar, IsTarget}
-use Rattle.core_copy.specs.JobRun.{JobRun}
-use Rattle.core_copy.specs.Holding.{GoesOnIn, HoldsJob}
-use Rattle.core_copy.proofs.Holding.{run_beside, run_stays}
-use Rattle.core_open.proofs.Unhindered.{none_empty}
-use Rattle.core_turns.specs.Copying.{CopiesCells}
+use Rattle.core_turns.proofs.Words.{◌≡◌, inr, ⊎_elim, ℕ, ◌<◌, [], true, false, sym, ◌∙◌, arith, cases_lt, Reflow, Job, Fill, Drain, Chunk, job_end, has_device, IsWithin, none_in, Point, MayRun, Cell, RightAt, IsDataSector, IsClose, CopiesSector, IsPlaceSoFar, IsTarget, JobRun, GoesOnIn, HoldsJob, run_beside, run_stays, none_empty, CopiesCells}
 use Rattle.core_turns.proofs.Beside.{required_data, row_below}
 
 -- ---- devices
@@ -30,21 +12,18 @@ none_has device has = absurd (apart (sym has ∙ none_in device))
 
 -- Where no device is out now, none was before.
 pub none_before : (old new : ℕ) → IsWithin old new → new ≡ 0 → old ≡ 0
-none_before old new within whole = none_empty old
-    (λ device has. none_has device (subst (λ (n : ℕ). has_device n device ≡ true) whole (within device has)))
+none_before old new within whole = none_empty old (search (none_has, arith))
 
 -- Each is in use.
 pub all_used : (out device : ℕ) → out ≡ 0 → has_device out device ≡ false
-all_used out device whole = subst (λ (n : ℕ). has_device n device ≡ false) (sym whole) (none_in device)
+all_used out device whole = search (none_in, arith)
 
 -- ---- places
 
 -- Where a job writes is in the scratch area or in the data rows.
 pub target_data : (reflow : Reflow) (done : ℕ) (job : Job) (sector device device_sector : ℕ) → MayRun reflow done job
     → CopiesSector reflow job sector → IsTarget reflow job sector device device_sector → IsDataSector device_sector
-target_data reflow done Fill sector device device_sector may inside at =
-    let low = row_below reflow.to sector inside.1 in
-    inl (omega (arith, at.sector_is), omega (arith, at.sector_is, low))
+target_data reflow done Fill sector device device_sector may inside at = search (row_below, arith)
 target_data reflow done Drain sector device device_sector may inside at = inr (omega (arith, at.sector_is))
 target_data reflow done (Chunk lo hi) sector device device_sector may inside at = inr (omega (arith, at.sector_is))
 
@@ -70,9 +49,7 @@ module _ (P : ℕ → ℕ → Type 0) (reflow : Reflow) (done : ℕ) (run : JobR
     was_right : CopiesSector reflow run.job cell.sector → RightAt before.disk.reads reflow done before.out [] cell
     was_right inside = record {
       at = λ device device_sector place used kept.
-          sym (reads device device_sector (all_used after.out device whole)
-          (required_data reflow done cell.row_end cell.sector device device_sector goes.front place)
-          (off.places cell device device_sector close inside (inl place)))
+          sym (reads device device_sector (all_used after.out device whole) (search required_data) (search arith))
           ∙ right.at device device_sector place (all_used after.out device whole) kept;
     }
 
@@ -80,24 +57,13 @@ module _ (P : ℕ → ℕ → Type 0) (reflow : Reflow) (done : ℕ) (run : JobR
     inside_stays : CopiesSector reflow run.job cell.sector → HoldsJob reflow done run after [] cell
     inside_stays inside = run_stays reflow done run before after [] cell within
         (λ device device_sector place used.
-        let wide : IsPlaceSoFar reflow done run.job (job_end reflow run.job) cell device device_sector =
-        ⊎_elim (λ required. inl required) (λ copied. inr (copied.0, inside.1, copied.2)) place in
-        reads device device_sector used
-        (⊎_elim
-        (λ required. required_data reflow done cell.row_end cell.sector device device_sector goes.front required)
-        (λ copied. target_data reflow done run.job cell.sector device device_sector goes.may_run inside copied.2) place)
-        (off.places cell device device_sector close inside wide))
-        (holds.each (none_before before.out after.out within whole) cell close below (was_right inside))
+        reads device device_sector used (⊎_elim
+        (search required_data) (search (target_data, arith)) place) (search arith))
+        (search (none_before, was_right, arith))
 
     -- of another no more is asked.
     cell_stays : HoldsJob reflow done run after [] cell
-    cell_stays = ⊎_elim
-        (λ before_it. run_beside reflow done run after [] cell goes (inl before_it) right)
-        (λ from_it. ⊎_elim
-        (λ within_it. inside_stays (from_it, within_it))
-        (λ behind_it. run_beside reflow done run after [] cell goes (inr behind_it) right)
-        (cases_lt cell.sector (job_end reflow run.job)))
-        (cases_lt cell.sector (job_begin run.job))
+    cell_stays = search (run_beside, goes, inside_stays, cases_lt, arith)
 
   -- A job has come as far as before where nothing was touched that it relies on.
   pub job_leaves : CopiesCells reflow done run after

@@ -1,54 +1,8 @@
 -- What stands between two turns stands over each turn of a job, and so does what images keep.
-use Rattle.std.proofs.Common.{◌≡◌, inl, inr, ⊎_elim, ℕ, ◌<◌, ◌≤◌, List, [], ◌∷◌, Option, refl, sym, ◌∙◌, ap, subst, arith}
-use Rattle.std.specs.Prelude.{Contains}
-use Rattle.bank_trait.specs.Disk.{Disk, Lawful}
-use Rattle.bank_trait.specs.Regions.{Tells, TouchesOnly}
-use Rattle.range_locks.specs.declared.hold.Hold.{Hold}
-use Rattle.range_locks.specs.declared.hold.HoldKind.TheVariants.{Exclusive}
+use Rattle.core_turns.proofs.Words.{◌≡◌, inr, ⊎_elim, ℕ, ◌<◌, ◌≤◌, List, [], ◌∷◌, Option, refl, sym, ◌∙◌, ap, subst, arith, Contains, Disk, Lawful, Tells, TouchesOnly, Hold, Exclusive, Reflow, Layout, Gains, Fill, IsWithin, Uber, count_none, AreAlike, layout_of, Map, Kept, Setting, IsSound, Point, point_of, IsSpare, IsRowOf, KeepsSince, Cell, RightAt, contains_cases, contains_none, contains_head, contains_tail, chooses, around_alone, around_begins, IsCommitChoice, copied_of, IsCellIn, IsClose, StandAround, CopiesSector, IsTarget, MovesMark, call_count, choice_moves, sound_close, job_at_front, job_spare, target_free, gains_cases, gains_item, gains_old, pairs_beside, IsInPool, CommitRun, IsBeside, shown_at, Stage, Lays, sound_paged, begun_run, present_sector, HoldsJob, present_in, run_begins, run_steps, step_goes_on, target_at, listed_in_pool, CopyRun, PutRun, Core, CoreState, IsCore, as_begun, at_disk, HasBankOf, BeginsJobSo, CopiesCells, DropsJob, IsJobOf, StepsJob, HoldingCall, Putting, Reading, Copying, AreBeside, AreCallsOf, CommitStands, IsCallOfCore, NoCommitStands, PutsSpare, Stands, actor_of, shown_of}
 use Rattle.reflow_mark.specs.declared.reflow.State.TheVariants.{None as Unmoved}
-use Rattle.reflow_mark.specs.declared.reflow.Reflow.{Reflow}
-use Rattle.row_layout.specs.Layout.{Layout}
-use Rattle.space_alloc.specs.Space.{Gains}
-use Rattle.reflow_copier.specs.declared.job.Job.TheVariants.{Fill}
-use Rattle.uberblock_ring.specs.Devices.{IsWithin, count_of}
-use Rattle.uberblock_ring.specs.Uberblock.{Uber}
-use Rattle.uberblock_ring.proofs.DeviceSets.{count_none}
-use Rattle.uberblock_ring.specs.Valid.{AreAlike}
-use Rattle.core_state.specs.Index.{layout_of}
-use Rattle.core_state.specs.Map.{Map}
-use Rattle.core_state.specs.Keeps.{Kept, Setting}
-use Rattle.core_state.specs.Certain.{IsSound}
-use Rattle.core_state.specs.Committing.{Point, point_of}
-use Rattle.core_state.specs.Free.{IsSpare}
-use Rattle.core_state.specs.JobTurns.{MayRun}
-use Rattle.core_state.specs.Moment.{IsRowOf, KeepsSince}
-use Rattle.core_state.specs.Whole.{Cell, RightAt}
-use Rattle.core_state.proofs.Listed.{contains_cases, contains_none, contains_head, contains_tail}
-use Rattle.mark_choice.proofs.Recording.{chooses}
-use Rattle.mark_advance.proofs.Advance.{around_alone, around_begins}
-use Rattle.mark_choice.specs.CommitChoice.{IsCommitChoice}
-use Rattle.reflow_band.specs.Band.{IsFrontOf, IsWidening, copied_of}
-use Rattle.spare_write.specs.Around.{IsCellIn, IsClose, StandAround}
-use Rattle.job_copy.specs.Progress.{CopiesSector, IsTarget, MovesMark, call_count}
-use Rattle.job_copy.proofs.Beside.{choice_moves}
-use Rattle.job_copy.proofs.Close.{sound_close}
-use Rattle.job_copy.proofs.Fronts.{job_at_front, job_spare}
-use Rattle.job_copy.proofs.Places.{target_free}
-use Rattle.core_blocks.proofs.Lists.{gains_cases, gains_item, gains_old, pairs_beside}
-use Rattle.core_client.specs.Pool.{IsInPool}
-use Rattle.core_commit.specs.CommitTurns.{CommitRun, IsBeside, shown_at}
-use Rattle.core_commit.specs.declared.commit_run.Stage.{Stage}
-use Rattle.core_commit.specs.declared.commit_run.Stage.TheVariants.{Lays, Signs}
-use Rattle.core_commit.proofs.Halves.{sound_paged}
-use Rattle.core_copy.specs.JobRun.{JobRun, begun_run, present_sector, source_spot}
-use Rattle.core_copy.specs.Holding.{GoesOnIn, HoldsJob}
-use Rattle.core_copy.proofs.Holding.{present_in, run_begins, run_steps, step_goes_on, target_at}
-use Rattle.open_pool.proofs.Holding.{listed_in_pool}
-use Rattle.core_turns.specs.declared.copying.CopyRun.{CopyRun}
-use Rattle.core_turns.specs.declared.putting.PutRun.{PutRun}
-use Rattle.core_turns.specs.Core.{Core, CoreState, IsCore, as_begun, at_disk, HasBankOf}
-use Rattle.core_turns.specs.Copying.{BeginsJobSo, CopiesCells, DropsJob, IsJobOf, StepsJob}
-use Rattle.core_turns.specs.UnderWay.{HoldingCall, Putting, Reading, Copying, AreBeside, AreCallsOf, CommitStands, HoldsCall, IsCallOfCore, NoCommitStands, PutsSpare, Stands, actor_of, shown_of}
+use Rattle.uberblock_ring.specs.Devices.{count_of}
+use Rattle.core_commit.specs.declared.commit_run.Stage.TheVariants.{Signs}
 use Rattle.core_turns.proofs.Calls.{beside_turn}
 use Rattle.core_turns.proofs.Cores.{bank_has, bank_within}
 use Rattle.core_turns.proofs.Frames.{AreOff, IsCallOff, IsOff, Leaves, call_stays, leaves_touched}
@@ -67,13 +21,12 @@ copying_putting same = cc
 -- A job that comes adds no put,
 job_adds : {left calls : List HoldingCall} {run : CopyRun} → Gains left calls (Copying run) → AddsNoPut left calls
 job_adds {left} {calls} {run} gains put listed = ⊎_elim
-    (λ (same : Copying run ≡ Putting put). absurd (copying_putting same))
-    (λ was. was)
-    (gains_cases left calls (Copying run) (Putting put) gains listed)
+    (search (copying_putting, arith))
+    (λ was. was) (gains_cases left calls (Copying run) (Putting put) gains listed)
 
 -- one that ends neither.
 job_loses : {left calls : List HoldingCall} {run : CopyRun} → Gains left calls (Copying run) → AddsNoPut calls left
-job_loses {left} {calls} {run} gains put listed = gains_old left calls (Copying run) (Putting put) gains listed
+job_loses gains put listed = search gains_old
 
 -- No device is none.
 none_counted : count_of 0 ≡ 0
@@ -82,8 +35,7 @@ none_counted = count_none 64
 
 -- A job's hold begins at the front.
 hold_at_front : (core : Core) (run : CopyRun) → IsJobOf core run → run.hold.lo ≡ core.pool.done
-hold_at_front core run of = ap (λ (h : Hold). h.lo) of.hold_is
-    ∙ job_at_front core.pool.uber.reflow core.pool.done run.job.job of.goes.may_run
+hold_at_front core run of = search (job_at_front, arith)
 
 -- ---- its hold beside that of a commit
 
@@ -94,19 +46,17 @@ job_begins_alone {old} {new} {run} begins hold exclusive =
     alone_beside old.pool.done old.holds new.holds run.hold hold exclusive kind (omega (arith, lo)) begins.holds
   where
     kind : run.hold.kind ≡ Exclusive
-    kind = ap (λ (r : CopyRun). r.hold.kind) begins.run_is
+    kind = cc
 
     lo : run.hold.lo ≡ old.pool.done
-    lo = ap (λ (r : CopyRun). r.hold.lo) begins.run_is
-        ∙ job_at_front old.pool.uber.reflow old.pool.done run.job.job (due_runs old run.job.job begins.due)
+    lo = search (job_at_front, due_runs, arith)
 
 -- or of one that is given up.
 pub job_drops_alone : {old new : Core} {run : CopyRun} → IsCore old → DropsJob old new run → IsJobOf old run
     → KeepsAlone old.pool.done old.holds new.holds
 job_drops_alone {old} {new} {run} is drops of hold exclusive =
     alone_passes old.pool.done old.pool.done old.holds new.holds run.hold hold exclusive
-    (ap (λ (h : Hold). h.kind) of.hold_is) (omega (arith, lo)) (omega arith) (none_left old run new.holds is of drops.ends).1
-    drops.ends
+    (cc) (omega (arith, lo)) (omega arith) (none_left old run new.holds is of drops.ends).1 drops.ends
   where
     lo : run.hold.lo ≡ old.pool.done
     lo = hold_at_front old run of
@@ -123,53 +73,31 @@ module _ {setting : Setting} {last : Kept} {begun : List Kept} {map : Map} {cont
   job_begins_stands {old} {new} {disk} {run} {left} {calls} actor is begins gains stands =
       stands_held old new disk is only (job_begins_alone begins) (job_adds gains)
       (λ call listed. ⊎_elim
-      (λ (same : Copying run ≡ call). inl (subst (λ (c : HoldingCall). HoldsCall (at_disk new disk) (contents (actor_of c)) c)
-      same copies))
-      (λ was. inr (stands.each call was))
-      (gains_cases left calls (Copying run) call gains listed))
-      stands
+      (search (copies, arith))
+      (λ was. inr (stands.each call was)) (gains_cases left calls (Copying run) call gains listed)) stands
     where
       only : OnlyHeld old new
-      only = begins.rest ∙ (λ i. record old {
-        holds = new.holds;
-        copying = sym (ap (λ (c : Core). c.copying) begins.rest) i;
-        attaching = sym (ap (λ (c : Core). c.attaching) begins.rest) i;
-      })
+      only = cc
 
       copies : CopiesCells new.pool.uber.reflow new.pool.done run.job (point_of new.pool.out disk)
-      copies = subst (λ (r : JobRun). GoesOnIn new.pool.uber.reflow new.pool.done r
-          → CopiesCells new.pool.uber.reflow new.pool.done r (point_of new.pool.out disk))
-          (sym (ap (λ (r : CopyRun). r.job) begins.run_is))
-          (λ goes. record {
-            goes = goes;
-            each = λ whole cell close below right. begins_cell cell right;
-          })
-          begins.of.goes
+      copies = search (begins_cell, arith)
         where
           begins_cell : (cell : Cell) → RightAt disk.reads new.pool.uber.reflow new.pool.done new.pool.out [] cell
               → HoldsJob new.pool.uber.reflow new.pool.done (begun_run old.pool.uber.reflow run.job.job)
               (point_of new.pool.out disk) [] cell
-          begins_cell cell right = subst (λ (r : Reflow). HoldsJob new.pool.uber.reflow new.pool.done
-              (begun_run r run.job.job) (point_of new.pool.out disk) [] cell)
-              (ap (λ (c : Core). c.pool.uber.reflow) begins.rest)
-              (run_begins new.pool.uber.reflow new.pool.done run.job.job (point_of new.pool.out disk) [] cell right)
+          begins_cell cell right = search (run_begins, arith)
 
   -- A job is given up: the others stand as they did.
   pub job_drops_stands : {old new : Core} {disk : Disk} {run : CopyRun} {left calls : List HoldingCall} → IsCore old
       → DropsJob old new run → IsJobOf old run → Gains left calls (Copying run)
       → Stands setting last begun map contents calls commit (at_disk old disk)
       → Stands setting last begun map contents left commit (at_disk new disk)
-  job_drops_stands {old} {new} {disk} {run} {left} {calls} is drops of gains stands =
+  job_drops_stands {old} {new} {disk} is drops of gains stands =
       stands_held old new disk is only (job_drops_alone is drops of) (job_loses gains)
-      (λ call listed. inr (stands.each call (gains_old left calls (Copying run) call gains listed)))
-      stands
+      (λ call listed. inr (stands.each call (search gains_old))) stands
     where
       only : OnlyHeld old new
-      only = drops.rest ∙ (λ i. record old {
-        holds = new.holds;
-        copying = sym (ap (λ (c : Core). c.copying) drops.rest) i;
-        attaching = sym (ap (λ (c : Core). c.attaching) drops.rest) i;
-      })
+      only = cc
 
 -- ---- a step
 
@@ -199,10 +127,10 @@ module _ {before after : CoreState} {run next : CopyRun} (is : IsCore before.cor
   stepped = at_disk (record before.core { pool = record before.core.pool { out = after.core.pool.out } }) after.disk
 
   touched : TouchesOnly places before.disk after.disk
-  touched = step_touches_target run.job next.job here there steps.steps
+  touched = search step_touches_target
 
   leaves : Leaves places before stepped
-  leaves = leaves_touched places before stepped is.is.front refl within touched
+  leaves = search (leaves_touched, touched)
 
   -- The sector is one of the job's,
   inside : CopiesSector reflow run.job.job (present_sector run.job)
@@ -211,15 +139,12 @@ module _ {before after : CoreState} {run next : CopyRun} (is : IsCore before.cor
   -- and what is written is its target.
   at_target : (device device_sector : ℕ) → places device device_sector
       → IsTarget reflow run.job.job (present_sector run.job) device device_sector
-  at_target device device_sector place =
-      subst (λ (at : ℕ × ℕ). IsTarget reflow run.job.job (present_sector run.job) at.0 at.1)
-      (λ i. (sym place.0 i, sym place.1 i)) (target_at reflow done run.job of.goes)
+  at_target device device_sector place = search (target_at, arith)
 
   -- Blocks of the pool are off it,
   layout_off : (layout : Layout) → IsInPool layout reflow → IsOff places reflow done layout
   layout_off layout pool content cell device device_sector cell_is place written =
-      off_target reflow done run.job.job (present_sector run.job) layout pool run.job of.goes refl inside content cell device
-      device_sector cell_is place (at_target device device_sector written)
+      search (off_target, inside, at_target)
 
   table_off : AreOff places before.core
   table_off entry listed = layout_off
@@ -235,23 +160,19 @@ module _ {before after : CoreState} {run next : CopyRun} (is : IsCore before.cor
 
   -- Not too many devices are out: none is.
   few : count_of before.core.pool.out ≤ before.core.pool.uber.parity
-  few = let none : count_of before.core.pool.out ≡ 0 = ap count_of steps.whole ∙ none_counted in omega (arith, none)
+  few = search (none_counted, arith)
 
   -- It has come one step further with each cell.
   copies_on : Tells before.disk → HasBankOf before.core before.disk
       → CopiesCells reflow done run.job here → CopiesCells reflow done next.job there
   copies_on tells bank held = record {
-    goes = step_goes_on reflow done run.job next.job here there some steps.steps of.goes;
+    goes = search step_goes_on;
     each = λ whole cell close below right.
         run_steps reflow done run.job next.job here there [] cell of.goes some tells
-        (bank_has before.core.pool.uber reflow before.core.pool.out before.disk refl (bank_within before.core before.disk is bank)) close below
-        (λ listed. contains_none ((source_spot run.job).device, (source_spot run.job).device_sector) listed) steps.steps
+        (search (bank_has, bank_within, arith)) close below (search contains_none) steps.steps
         (held.each steps.whole cell close below (record {
           at = λ device device_sector place used kept.
-              sym (touched.reads device device_sector (λ written.
-              target_free reflow done run.job.job (present_sector run.job) cell.row_end cell.sector device device_sector
-              of.goes.widening of.goes.front of.goes.may_run inside close.near close.inside
-              (at_target device device_sector written) place))
+              sym (touched.reads device device_sector (search (target_free, inside, at_target)))
               ∙ right.at device device_sector place (all_used after.core.pool.out device whole) kept;
         }));
   }
@@ -265,26 +186,22 @@ module _ {before after : CoreState} {run next : CopyRun} (is : IsCore before.cor
 
     -- A cell of the last group is close,
     last_close : IsSound setting last → (cell : Cell) → IsCellIn last cell → IsClose reflow cell
-    last_close sound cell its = subst (λ (r : Reflow). IsClose r cell) last_reflow (sound_close setting last cell sound its)
+    last_close sound cell its = rw last_reflow at (sound_close setting last cell sound its)
 
     -- so it stands around the mark.
     last_around : IsSound setting last → StandAround reflow (copied_of reflow done) (last ∷ [])
     last_around sound = subst (λ (r : Reflow). StandAround r (copied_of r done) (last ∷ [])) last_reflow
-        (around_alone last done (subst IsWidening (sym last_reflow) of.goes.widening)
-        (subst (λ (r : Reflow). IsFrontOf r done) (sym last_reflow) of.goes.front)
-        (λ cell its. sound_close setting last cell sound its))
+        (search (around_alone, last_reflow, sound_close))
 
     -- A fill is made while the last group has come no further than None.
     last_unmoved : run.job.job ≡ Fill → last.uber.reflow.state ≡ Unmoved
-    last_unmoved fill = ap (λ (r : Reflow). r.state) last_reflow ∙ (subst (MayRun reflow done) fill of.goes.may_run).0
+    last_unmoved fill = search (last_reflow, arith)
 
     spare_of : (later : List Kept) → IsSound setting last → StandAround reflow (copied_of reflow done) (last ∷ later)
         → (run.job.job ≡ Fill → (kept : Kept) → Contains (last ∷ later) kept → kept.uber.reflow.state ≡ Unmoved)
         → (device device_sector : ℕ) → places device device_sector → IsSpare setting last later device device_sector
     spare_of later sound around unmoved device device_sector written =
-        job_spare setting last later reflow done run.job.job (present_sector run.job) device device_sector
-        (sound_paged setting last sound) of.goes.widening of.goes.may_run around unmoved inside
-        (at_target device device_sector written)
+        search (job_spare, sound_paged, inside, at_target)
 
     -- Without a commit,
     spare_alone : NoCommitStands setting last begun before → (device device_sector : ℕ) → places device device_sector
@@ -292,11 +209,7 @@ module _ {before after : CoreState} {run next : CopyRun} (is : IsCore before.cor
     spare_alone groups device device_sector written =
         subst (λ (later : List Kept). IsSpare setting last later device device_sector) (sym (groups.whole few).0)
         (spare_of [] groups.knows.sound (last_around groups.knows.sound)
-        (λ fill kept listed. ⊎_elim
-        (λ same. ap (λ (k : Kept). k.uber.reflow.state) same ∙ last_unmoved fill)
-        (λ none. absurd (contains_none kept none))
-        (contains_cases last [] kept listed))
-        device device_sector written)
+        (search (last_unmoved, contains_none, contains_cases, arith)) device device_sector written)
 
     -- and beside one, whose group is another of the row.
     module _ (commit : CommitRun) (groups : CommitStands setting last begun calls commit before) where
@@ -308,12 +221,11 @@ module _ {before after : CoreState} {run next : CopyRun} (is : IsCore before.cor
           of.goes.may_run choice.1
 
       next_reflow : groups.next.uber.reflow ≡ commit.uber.reflow
-      next_reflow = sym (ap (λ (u : Uber). u.reflow) groups.come.alike)
+      next_reflow = search arith
 
       next_close : (cell : Cell) → IsCellIn groups.next cell → IsClose reflow cell
       next_close cell its = subst (λ (r : Reflow). IsClose r cell → IsClose reflow cell) (sym (next_reflow ∙ moves.is))
-          (λ close. record { near = close.near; inside = close.inside })
-          (sound_close setting groups.next cell groups.come.sound its)
+          (search (inside, arith)) (search sound_close)
 
       next_around : StandAround reflow (copied_of reflow done) (last ∷ groups.next ∷ [])
       next_around = around_begins reflow done choice.0 last groups.next of.goes.widening of.goes.front
@@ -322,18 +234,11 @@ module _ {before after : CoreState} {run next : CopyRun} (is : IsCore before.cor
 
       next_unmoved : run.job.job ≡ Fill → (kept : Kept) → Contains (last ∷ groups.next ∷ []) kept
           → kept.uber.reflow.state ≡ Unmoved
-      next_unmoved fill kept listed = ⊎_elim
-          (λ same. ap (λ (k : Kept). k.uber.reflow.state) same ∙ last_unmoved fill)
-          (λ later. ⊎_elim
-          (λ same. ap (λ (k : Kept). k.uber.reflow.state) same ∙ ap (λ (r : Reflow). r.state) (next_reflow ∙ moves.is)
-          ∙ (subst (MayRun reflow done) fill of.goes.may_run).0)
-          (λ none. absurd (contains_none kept none))
-          (contains_cases groups.next [] kept later))
-          (contains_cases last (groups.next ∷ []) kept listed)
+      next_unmoved fill kept listed = search (last_unmoved, next_reflow, contains_none, contains_cases, arith)
 
       spare_both : (device device_sector : ℕ) → places device device_sector
           → IsSpare setting last (groups.next ∷ []) device device_sector
-      spare_both = spare_of (groups.next ∷ []) groups.come.sound_first next_around next_unmoved
+      spare_both = search (spare_of, next_around, next_unmoved)
 
       spare_shown : (stage : Stage) (device device_sector : ℕ) → places device device_sector
           → IsSpare setting last (shown_at groups.next stage) device device_sector
@@ -343,63 +248,50 @@ module _ {before after : CoreState} {run next : CopyRun} (is : IsCore before.cor
           record {
             ring = both.ring;
             page = both.page;
-            cells = λ kept bytes listed. both.cells kept bytes (⊎_elim
-                (λ (same : kept ≡ last). subst (λ (k : Kept). Contains (last ∷ groups.next ∷ []) k) (sym same)
-                (contains_head last (groups.next ∷ [])))
-                (λ none. absurd (contains_none kept none))
-                (contains_cases last [] kept listed));
+            cells = λ kept bytes listed. both.cells kept bytes
+                (search (contains_head, contains_none, contains_cases, arith));
           }
 
       beside_both : IsBeside setting last groups.next places
       beside_both = record {
-        region = λ device device_sector written. target_data reflow done run.job.job (present_sector run.job) device
-            device_sector of.goes.may_run inside (at_target device device_sector written);
+        region = λ device device_sector written. search (target_data, inside, at_target);
         not_first = λ device device_sector bytes written. (spare_both device device_sector written).cells last bytes
             (contains_head last (groups.next ∷ []));
-        not_next = λ device device_sector bytes written. (spare_both device device_sector written).cells groups.next bytes
-            (contains_tail last (groups.next ∷ []) groups.next (contains_head groups.next []));
+        not_next = λ device device_sector bytes written. (spare_both device device_sector written).cells groups.next
+            bytes (search (contains_tail, contains_head));
       }
 
     spare_now : AreSpare places setting last begun calls before
-    spare_now = record {
-      alone = spare_alone;
-      shown = λ commit groups. spare_shown commit groups commit.stage;
-      beside = beside_both;
-    }
+    spare_now = search (spare_alone, spare_shown, beside_both)
 
   -- ---- all that stands
 
   module _ {setting : Setting} {last : Kept} {begun : List Kept} {map : Map} {contents : ℕ → List ℕ}
-      {commit : Option CommitRun} {left calls : List HoldingCall} (gains : Gains left calls (Copying run)) (are : AreCallsOf before.core calls)
+      {commit : Option CommitRun} {left calls : List HoldingCall} (gains : Gains left calls (Copying run))
+      (are : AreCallsOf before.core calls)
       (stands : Stands setting last begun map contents calls commit before) where
     -- A step of a job leaves what stands, and has come one call further.
     pub job_steps_stands : {nexts : List HoldingCall} → Lawful after.disk → Gains left nexts (Copying next)
         → Stands setting last begun map contents nexts commit after
     job_steps_stands {nexts} still_lawful again =
         subst (λ (core : Core). Stands setting last begun map contents nexts commit (at_disk core after.disk))
-        (sym steps.rest)
-        (stands_anew places before stepped leaves table_off refl touched.later
+        (sym steps.rest) (stands_anew places before stepped leaves table_off refl touched.later
         (groups_with setting last begun calls nexts commit stepped fewer
-        (groups_written after.core.pool.out after.disk places touched within lawful few setting last begun calls
-        (spare_now setting last begun calls stands.alike) commit still_lawful stands.groups))
-        (fewer last stands.spared)
+        (search (groups_written, touched, few, spare_now))) (fewer last stands.spared)
         (λ call listed. ⊎_elim
-        (λ same. subst (λ (c : HoldingCall). HoldsCall stepped (contents (actor_of c)) c) same
-        (copies_on stands.tells stands.bank (stands.each (Copying run) (gains_item left calls (Copying run) gains))))
+        (λ same. rw (← same) (copies_on stands.tells stands.bank
+        (stands.each (Copying run) (gains_item left calls (Copying run) gains))))
         (λ other.
         let was = gains_old left calls (Copying run) call gains other in
         let beside = pairs_beside AreBeside beside_turn calls left (Copying run) call gains are.beside other in
-        call_stays places (contents (actor_of call)) before stepped call leaves (call_off call beside (are.each call was))
-        (stands.each call was))
-        (gains_cases left nexts (Copying next) call again listed))
-        stands)
+        call_stays places (contents (actor_of call)) before stepped call leaves
+        (call_off call beside (are.each call was))
+        (stands.each call was)) (gains_cases left nexts (Copying next) call again listed)) stands)
       where
         fewer : (group : Kept) → PutsSpare stepped calls group → PutsSpare stepped nexts group
-        fewer group spared put listed = spared put (job_loses gains put (job_adds again put listed))
+        fewer group spared put listed = search (job_loses, job_adds)
 
     -- Each image keeps what it kept, at each moment of it.
     pub job_steps_since : (groups : List Kept) (time : ℕ) → IsRowOf groups last (shown_of begun commit)
         → KeepsSince setting groups time before.disk → KeepsSince setting groups time after.disk
-    job_steps_since groups time row kept =
-        since_written after.core.pool.out after.disk places touched within lawful few setting last begun calls
-        (spare_now setting last begun calls stands.alike) commit groups time row stands.groups kept
+    job_steps_since groups time row kept = search (since_written, touched, few, spare_now)

@@ -1,3 +1,4 @@
+pub mod Words
 pub mod Cores
 pub mod Holds
 pub mod Rows

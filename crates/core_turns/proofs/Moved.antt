@@ -1,24 +1,9 @@
 -- A put goes on in a pool whose reflow or front has moved, where that asks for its block at the places at which it did.
-use Rattle.std.proofs.Common.{◌≡◌, ℕ, ◌+◌, ◌≤◌, List, sym, subst}
-use Rattle.std.specs.Prelude.{Contains}
-use Rattle.bank_trait.specs.Disk.{Disk}
-use Rattle.reflow_mark.specs.declared.reflow.Reflow.{Reflow}
-use Rattle.row_layout.specs.Layout.{Layout}
-use Rattle.shadow_write.specs.declared.write.Write.{Write}
-use Rattle.shadow_write.specs.Required.{IsRequiredPlace}
-use Rattle.reconstruct.specs.Rows.{Rows}
-use Rattle.core_state.specs.Whole.{Cell, IsCell}
-use Rattle.reflow_band.specs.Band.{IsFrontOf}
-use Rattle.core_blocks.specs.Puts.{IsRangeFor}
-use Rattle.core_client.specs.Pool.{IsInPool, IsRightBlock}
-use Rattle.core_client.specs.Writing.{IsPlanOf}
-use Rattle.core_client.specs.BlockTurns.{IsWrittenSoFar}
-use Rattle.core_turns.specs.declared.putting.PutRun.{PutRun}
-use Rattle.core_turns.specs.Core.{Core, at_disk}
-use Rattle.core_turns.specs.Putting.{AsksAlike, HoldsPut, IsPutOf}
+use Rattle.core_turns.proofs.Words.{◌≡◌, ℕ, ◌+◌, ◌≤◌, List, sym, subst, Contains, Disk, Reflow, Layout, Write, IsRequiredPlace, Rows, Cell, IsCell, IsFrontOf, IsRangeFor, IsInPool, IsRightBlock, IsPlanOf, IsWrittenSoFar, PutRun, Core, at_disk, AsksAlike, HoldsPut, IsPutOf}
 
 -- A plan is one at the places at which the block is asked for now.
-pub plan_moves : (layout : Layout) (reflow : Reflow) (done : ℕ) (other : Reflow) (front : ℕ) (content : List ℕ) (rows : Rows)
+pub plan_moves : (layout : Layout) (reflow : Reflow) (done : ℕ) (other : Reflow) (front : ℕ) (content : List ℕ)
+    (rows : Rows)
     (writes : List Write) → AsksAlike layout reflow done other front → IsInPool layout other → IsFrontOf other front
     → IsPlanOf layout reflow done content rows writes → IsPlanOf layout other front content rows writes
 plan_moves layout reflow done other front content rows writes alike pool front_is plan = record {
@@ -34,12 +19,14 @@ plan_moves layout reflow done other front content rows writes alike pool front_i
 }
 
 -- A block is right at the places at which it is asked for now.
-pub block_moves : (layout : Layout) (reflow : Reflow) (done : ℕ) (other : Reflow) (front : ℕ) (content : List ℕ) (disk : Disk)
+pub block_moves : (layout : Layout) (reflow : Reflow) (done : ℕ) (other : Reflow) (front : ℕ) (content : List ℕ)
+    (disk : Disk)
     (out : ℕ) → AsksAlike layout reflow done other front → IsRightBlock layout content reflow done disk.reads out
     → IsRightBlock layout content other front disk.reads out
 block_moves layout reflow done other front content disk out alike right = record {
   each = λ cell is. record {
-    at = λ device device_sector place. (right.each cell is).at device device_sector (back cell is device device_sector place);
+    at = λ device device_sector place. (right.each cell is).at device device_sector
+        (back cell is device device_sector place);
   };
 }
   where
@@ -48,12 +35,12 @@ block_moves layout reflow done other front content disk out alike right = record
         → IsRequiredPlace reflow done cell.row_end cell.sector device device_sector
     back cell is device device_sector place =
         subst (λ (at : ℕ × ℕ). IsRequiredPlace reflow done at.0 at.1 device device_sector)
-        (λ i. (sym is.row_end i, sym is.sector i))
-        ((alike is.row is.column is.there device device_sector).1
+        (λ i. (sym is.row_end i, sym is.sector i)) ((alike is.row is.column is.there device device_sector).1
         (subst (λ (at : ℕ × ℕ). IsRequiredPlace other front at.0 at.1 device device_sector)
         (λ i. (is.row_end i, is.sector i)) place))
 
-module _ (core new : Core) (put : PutRun) (its : IsPutOf core put) (alike : AsksAlike put.range.layout core.pool.uber.reflow
+module _ (core new : Core) (put : PutRun) (its : IsPutOf core put)
+    (alike : AsksAlike put.range.layout core.pool.uber.reflow
     core.pool.done new.pool.uber.reflow new.pool.done) (pool : IsInPool put.range.layout new.pool.uber.reflow)
     (front : IsFrontOf new.pool.uber.reflow new.pool.done) where
   -- The put is one of the pool still,
@@ -75,13 +62,7 @@ module _ (core new : Core) (put : PutRun) (its : IsPutOf core put) (alike : Asks
     hold_is = its.hold_is;
     filled = λ filled is_filled. let was = its.filled filled is_filled in (
       was.0,
-      record {
-        plan = plan_moves put.range.layout core.pool.uber.reflow core.pool.done new.pool.uber.reflow new.pool.done was.0
-            filled.write.rows filled.write.writes alike pool front was.1.plan;
-        so_far = was.1.so_far;
-        len_is = was.1.len_is;
-        digest_is = was.1.digest_is;
-      },
+      search plan_moves,
     );
   }
 
@@ -94,10 +75,6 @@ module _ (core new : Core) (put : PutRun) (its : IsPutOf core put) (alike : Asks
     so_far = λ filled is_filled. let was = held.so_far filled is_filled in (
       was.0,
       subst (λ (n : ℕ). IsWrittenSoFar put.range.layout content new.pool.uber.reflow new.pool.done disk.reads n
-          filled.write) (sym out) (record {
-            plan = plan_moves put.range.layout core.pool.uber.reflow core.pool.done new.pool.uber.reflow new.pool.done
-                content filled.write.rows filled.write.writes alike pool front was.1.plan;
-            held = was.1.held;
-          }),
+          filled.write) (sym out) (search plan_moves),
     );
   }

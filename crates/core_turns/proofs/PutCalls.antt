@@ -1,24 +1,8 @@
 -- Which calls are under way over each turn of a put.
-use Rattle.std.proofs.Common.{◌≡◌, ◌≢◌, inl, true, ℕ, ◌+◌, List, [], ◌∷◌, ◌++◌, length, Option, Some, refl, sym, ◌∙◌, ap, subst, arith}
-use Rattle.std.specs.Prelude.{Contains}
-use Rattle.range_locks.specs.declared.hold.Hold.{Hold}
-use Rattle.range_locks.specs.declared.hold.HoldKind.TheVariants.{Shared}
-use Rattle.range_locks.specs.Holds.{Overlaps}
-use Rattle.space_alloc.specs.Space.{Gains, IsIn}
-use Rattle.row_layout.specs.Layout.{Layout, allocated_of}
-use Rattle.uberblock_ring.specs.Devices.{has_device}
-use Rattle.core_blocks.specs.Blocks.{AreUnderWay, put_run}
-use Rattle.core_blocks.proofs.Lists.{gains_item, gains_old}
-use Rattle.core_blocks.proofs.Runs.{free_of_taken}
-use Rattle.core_turns.specs.declared.filling.Filled.{Filled}
-use Rattle.core_turns.specs.declared.putting.PutRun.{PutRun}
-use Rattle.core_turns.specs.Core.{Core, CoreState}
-use Rattle.core_turns.specs.Putting.{BeginsPutSo, FillsPut, GivesUp, IsPutOf, LeavesBlocks, StoresBlock, WritesOne}
-use Rattle.core_turns.specs.UnderWay.{HoldingCall, Putting, Reading, Copying, AreBeside, AreCallsOf, HaveNoneInCommon, IsCallOfCore, actor_of, ranges_of}
+use Rattle.core_turns.proofs.Words.{◌≡◌, ◌≢◌, ℕ, ◌+◌, List, [], ◌∷◌, ◌++◌, length, Option, Some, sym, ◌∙◌, ap, arith, Contains, Hold, Shared, Overlaps, Gains, AreUnderWay, put_run, gains_item, gains_old, free_of_taken, Filled, PutRun, Core, CoreState, BeginsPutSo, FillsPut, GivesUp, IsPutOf, LeavesBlocks, StoresBlock, WritesOne, HoldingCall, Putting, Reading, Copying, AreBeside, AreCallsOf, HaveNoneInCommon, IsCallOfCore, actor_of, ranges_of, point_of}
 use Rattle.core_turns.proofs.Calls.{calls_gain, calls_lose, calls_swap, range_listed}
 use Rattle.core_turns.proofs.Frames.{KeepsCalls, calls_keep, calls_stay}
 use Rattle.core_turns.proofs.PutRanges.{at_end, ranges_gain, under_moved}
-use Rattle.core_state.specs.Committing.{point_of}
 use Rattle.core_turns.proofs.PutTurns.{fills_of, written, written_of}
 use Rattle.core_turns.proofs.PutGoes.{outs_by_write}
 
@@ -32,16 +16,16 @@ pub record Rearranges (old new : Core) : Type 0 where
 rearranged_keeps : (old new : Core) → Rearranges old new → KeepsCalls old new
 rearranged_keeps old new change = record {
   widths = record {
-    parity = ap (λ (core : Core). core.pool.uber.parity) change.rest;
-    births = ap (λ (core : Core). core.pool.uber.births) change.rest;
-    reflow = ap (λ (core : Core). core.pool.uber.reflow) change.rest;
-    done = ap (λ (core : Core). core.pool.done) change.rest;
+    parity = search arith;
+    births = search arith;
+    reflow = search arith;
+    done = search arith;
     block_parity = change.parity;
     block_births = change.births;
-    begun = (let begun : new.begun ≡ old.begun = ap (λ (core : Core). core.begun) change.rest in omega (arith, begun));
+    begun = search arith;
   };
-  copying = ap (λ (core : Core). core.copying) change.rest;
-  within = λ device has. subst (λ (core : Core). has_device core.pool.out device ≡ true) (sym change.rest) has;
+  copying = cc;
+  within = search arith;
 }
 
 -- ---- a put begins
@@ -60,26 +44,20 @@ begins_beside : {old new : Core} {actor id len : ℕ} {run : PutRun} (left : Lis
     → BeginsPutSo old new actor id len run → AreUnderWay old.pool.blocks (ranges_of left) → (other : HoldingCall)
     → Contains left other → actor_of other ≢ actor → IsCallOfCore old other → AreBeside (Putting run) other
 begins_beside {old} {run = run} left begins under (Putting other) listed differs of = record {
-  actors = λ same. differs (sym same ∙ ap (λ (hold : Hold). hold.actor) begins.hold_is);
+  actors = search arith;
   apart = free_of_taken old.pool.blocks.space old.holds (put_run run.range) begins.begins.first.free
       (put_run other.range) (under.each other.range (range_listed left other listed)).taken;
 }
-begins_beside {old} left begins under (Reading other) listed differs of = record {
+begins_beside left begins under (Reading other) listed differs of = record {
   actors = λ same. differs (sym same ∙ ap (λ (hold : Hold). hold.actor) begins.hold_is);
   apart = λ sector in_put in_read.
-      let inside = subst (λ (l : Layout). IsIn l.start (allocated_of l) sector) of.1.layout_is in_read in
       let shared : (other.hold.kind ≡ Shared) × Overlaps other.hold sector (sector + 1) =
-      subst (λ (hold : Hold). (hold.kind ≡ Shared) × Overlaps hold sector (sector + 1)) (sym of.1.hold_is)
-      (refl, record { begins = omega (arith, inside.0); ends = inside.1 }) in
+      search arith in
       (begins.begins.first.free sector in_put).not_shared (other.hold, of.1.holds, shared.0, shared.1);
 }
-begins_beside {old} {run = run} left begins under (Copying other) listed differs of = record {
+begins_beside {old} left begins under (Copying other) listed differs of = record {
   actors = λ same. differs (sym same ∙ ap (λ (hold : Hold). hold.actor) begins.hold_is);
-  apart = λ overlaps. begins.begins.first.clear other.hold of.holds (record {
-    overlaps = subst (λ (h : Hold). Overlaps other.hold h.lo h.hi) begins.hold_is
-        (record { begins = overlaps.ends; ends = overlaps.begins });
-    exclusive = inl (ap (λ (h : Hold). h.kind) of.hold_is);
-  });
+  apart = λ overlaps. begins.begins.first.clear other.hold of.holds (search arith);
 }
 
 -- So it is under way beside them.
@@ -88,22 +66,15 @@ pub put_begins_calls : {old new : Core} {actor id len : ℕ} {run : PutRun} {lef
     → ((call : HoldingCall) → Contains left call → actor_of call ≢ actor) → Gains left calls (Putting run)
     → AreCallsOf old left → AreCallsOf new calls
 put_begins_calls {old} {new} {actor} {id} {len} {run} {left} {calls} begins differs gains are =
-    calls_gain old new left calls (Putting run) gains
-    (rearranged_keeps old new (begins_rearranges old new actor id len run begins))
-    (λ hold listed. gains_old old.holds new.holds run.hold hold begins.holds listed)
+    calls_gain old new left calls (Putting run) gains (search (rearranged_keeps, begins_rearranges)) (search gains_old)
     (under_moved new.pool.blocks (ranges_of left) (ranges_of left ++ run.range ∷ []) (ranges_of calls) run.range
-    (at_end (ranges_of left) run.range) (ranges_gain gains) (begins.under (ranges_of left) are.under))
-    begins.of
-    (λ other there. begins_beside left begins are.under other there (differs other there) (are.each other there))
-    are
+    (at_end (ranges_of left) run.range) (ranges_gain gains) (begins.under (ranges_of left) are.under)) begins.of
+    (λ other there. begins_beside left begins are.under other there (differs other there) (are.each other there)) are
 
 -- One that is refused calls no device,
 pub leaves_rearranges : (old new : Core) → LeavesBlocks old new → Rearranges old new
 leaves_rearranges old new leaves = record {
-  rest = leaves.rest ∙ (λ i. record old {
-    pool = record old.pool { blocks = new.pool.blocks };
-    holds = sym (ap (λ (core : Core). core.holds) leaves.rest) i;
-  });
+  rest = cc;
   parity = leaves.parity;
   births = leaves.births;
 }
@@ -112,9 +83,7 @@ leaves_rearranges old new leaves = record {
 pub put_refused_calls : (calls : List HoldingCall) (old new : Core) → LeavesBlocks old new → AreCallsOf old calls
     → AreCallsOf new calls
 put_refused_calls calls old new leaves are = calls_keep old new calls
-    (rearranged_keeps old new (leaves_rearranges old new leaves))
-    (λ hold listed. subst (λ (holds : List Hold). Contains holds hold)
-    (sym (ap (λ (core : Core). core.holds) leaves.rest)) listed)
+    (rearranged_keeps old new (leaves_rearranges old new leaves)) (search arith)
     (leaves.under (ranges_of calls) are.under) are
 
 -- ---- a put ends
@@ -139,8 +108,7 @@ gives_up_rearranges old new run gives_up =
 pub put_gives_up_calls : {old new : Core} {run : PutRun} {left calls : List HoldingCall} → GivesUp old new run
     → Gains left calls (Putting run) → AreCallsOf old calls → AreCallsOf new left
 put_gives_up_calls {old} {new} {run} {left} {calls} gives_up gains are =
-    calls_lose old new left calls (Putting run) gains
-    (rearranged_keeps old new (gives_up_rearranges old new run gives_up)) gives_up.ends
+    calls_lose old new left calls (Putting run) gains (search (rearranged_keeps, gives_up_rearranges)) gives_up.ends
     (gives_up.under (ranges_of left) (ranges_of calls) (ranges_gain gains) are.under) are
 
 -- ---- a put goes on
@@ -150,10 +118,7 @@ next_calls : {core : Core} {run : PutRun} {left calls nexts : List HoldingCall} 
     → IsPutOf core (record run { filled = filled }) → Gains left calls (Putting run)
     → Gains left nexts (Putting (record run { filled = filled })) → AreCallsOf core calls → AreCallsOf core nexts
 next_calls {core} {run} {left} {calls} {nexts} filled of gains again are =
-    calls_swap core left calls nexts (Putting run) (Putting (record run { filled = filled })) gains again refl same_apart of
-    (under_moved core.pool.blocks (ranges_of left) (ranges_of calls) (ranges_of nexts) run.range
-    (ranges_gain gains) (ranges_gain {run = record run { filled = filled }} again) are.under)
-    are
+    search (calls_swap, same_apart, under_moved, ranges_gain)
   where
     same_apart : (other : HoldingCall) → HaveNoneInCommon (Putting run) other
         → HaveNoneInCommon (Putting (record run { filled = filled })) other
@@ -163,13 +128,11 @@ next_calls {core} {run} {left} {calls} {nexts} filled of gains again are =
 
 -- Bytes are filled in.
 pub put_fills_calls : {core : Core} {run next : PutRun} {bytes : List ℕ} {left calls nexts : List HoldingCall}
-    → FillsPut run next bytes → length bytes ≡ run.len → Gains left calls (Putting run) → Gains left nexts (Putting next)
-    → AreCallsOf core calls → AreCallsOf core nexts
-put_fills_calls {core} {run} {next} {bytes} {left} {calls} {nexts} fills len_is gains again are =
-    next_calls (Some fills.filled)
-    (subst (IsPutOf core) fills.rest (fills_of core run next bytes fills len_is
-    (are.each (Putting run) (gains_item left calls (Putting run) gains))))
-    gains (subst (λ (r : PutRun). Gains left nexts (Putting r)) fills.rest again) are
+    → FillsPut run next bytes → length bytes ≡ run.len → Gains left calls (Putting run)
+    → Gains left nexts (Putting next) → AreCallsOf core calls → AreCallsOf core nexts
+put_fills_calls {core} {run} {next} {bytes} {left} {calls} fills len_is gains again are =
+    next_calls (Some fills.filled) (rw fills.rest at (fills_of core run next bytes fills len_is
+    (are.each (Putting run) (gains_item left calls (Putting run) gains)))) gains (search arith) are
 
 -- One write more is made or passed over.
 pub put_writes_calls : {before after : CoreState} {run next : PutRun} {left calls nexts : List HoldingCall}
@@ -178,8 +141,6 @@ pub put_writes_calls : {before after : CoreState} {run next : PutRun} {left call
 put_writes_calls {before} {after} {run} {next} {left} {calls} {nexts} writes gains again are =
     calls_stay before.core after.core nexts writes.rest
     (outs_by_write (point_of before.core.pool.out before.disk) (point_of after.core.pool.out after.disk) writes.filled
-    writes.write writes.made).still
-    (next_calls (Some (written writes.filled))
+    writes.write writes.made).still (next_calls (Some (written writes.filled))
     (written_of before.core run writes.filled writes.write writes.filled_is writes.write_is
-    (are.each (Putting run) (gains_item left calls (Putting run) gains)))
-    gains (subst (λ (r : PutRun). Gains left nexts (Putting r)) writes.next_is again) are)
+    (are.each (Putting run) (gains_item left calls (Putting run) gains))) gains (search arith) are)

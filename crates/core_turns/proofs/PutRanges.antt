@@ -1,21 +1,11 @@
 -- The ranges of the puts under way: it does not matter which comes first.
-use Rattle.std.proofs.Common.{◌≡◌, ℕ, ◌+◌, List, [], ◌∷◌, ◌++◌, cond, refl, sym, ◌∙◌, ap, subst, arith, inl, inr, ⊎_elim, append-nil}
-use Rattle.std.specs.Prelude.{Contains, ◌==◌, sum_by}
-use Rattle.std.proofs.lemmas.List.Elements.{filter_map-append}
-use Rattle.std.proofs.lemmas.List.Sums.{sum_by-append}
-use Rattle.space_alloc.specs.Space.{Gains}
-use Rattle.core_blocks.specs.declared.range.PutRange.{PutRange}
-use Rattle.core_blocks.specs.Blocks.{Blocks, AreUnderWay, put_run}
-use Rattle.core_blocks.specs.Runs.{AreClear}
-use Rattle.core_blocks.proofs.Lists.{gains_item, gains_old, gains_cases, pairs_gain, pairs_lose, pairs_beside}
-use Rattle.core_blocks.proofs.Runs.{clear_turned}
-use Rattle.core_turns.specs.declared.putting.PutRun.{PutRun}
-use Rattle.core_turns.specs.UnderWay.{HoldingCall, Putting, range_in, ranges_of}
+use Rattle.core_turns.proofs.Words.{◌≡◌, ℕ, ◌+◌, List, [], ◌∷◌, ◌++◌, ◌∙◌, ap, arith, inl, inr, ⊎_elim, append-nil, Contains, ◌==◌, sum_by, filter_map-append, sum_by-append, Gains, PutRange, Blocks, AreUnderWay, put_run, AreClear, gains_item, gains_old, gains_cases, pairs_gain, pairs_lose, pairs_beside, clear_turned, PutRun, HoldingCall, Putting, ranges_of}
+use Rattle.std.proofs.Common.{cond}
 
 module _ {T : Type 0} (left one other : List T) (x : T) (there : Gains left one x) (here : Gains left other x) where
   -- Two lists that gained the same item contain the same,
   pub gains_moved : (y : T) → Contains one y → Contains other y
-  gains_moved y listed = ⊎_elim (λ same. subst (Contains other) same (gains_item left other x here))
+  gains_moved y listed = ⊎_elim (λ same. rw same at (gains_item left other x here))
       (λ old. gains_old left other x y here old) (gains_cases left one x y there listed)
 
   -- and their sums are the same.
@@ -29,15 +19,7 @@ module _ {T : Type 0} (left one other : List T) (x : T) (there : Gains left one 
       ap (sum_by weight) there.was ∙ sum_by-append weight there.before there.after in
       let left_other : sum_by weight left ≡ sum_by weight here.before + sum_by weight here.after =
       ap (sum_by weight) here.was ∙ sum_by-append weight here.before here.after in
-      omega (
-        arith,
-        one_is,
-        other_is,
-        left_one,
-        left_other,
-        sum_by-append weight (x ∷ []) there.after,
-        sum_by-append weight (x ∷ []) here.after,
-      )
+      omega (arith, sum_by-append weight (x ∷ []) there.after, sum_by-append weight (x ∷ []) here.after)
 
 -- Two puts have no sector in common,
 abbrev AreApart : PutRange → PutRange → Type 0
@@ -45,36 +27,30 @@ AreApart one other = AreClear (put_run one) (put_run other)
 
 -- in either order.
 apart_turned : (one other : PutRange) → AreApart one other → AreApart other one
-apart_turned one other clear = clear_turned (put_run one) (put_run other) clear
+apart_turned one other clear = search clear_turned
 
 -- A range may stand anywhere among those of the puts under way.
 pub under_moved : (blocks : Blocks) (left ranges moved : List PutRange) (range : PutRange) → Gains left ranges range
     → Gains left moved range → AreUnderWay blocks ranges → AreUnderWay blocks moved
 under_moved blocks left ranges moved range there here under = record {
-  each = λ one listed. under.each one (gains_moved left moved ranges range here there one listed);
+  each = λ one listed. under.each one (search gains_moved);
   apart = pairs_gain AreApart apart_turned left moved range here
       (λ one listed. pairs_beside AreApart apart_turned ranges left range one there under.apart listed)
       (pairs_lose AreApart apart_turned ranges left range there under.apart);
   every = λ run listed. ⊎_elim (λ block. inl block)
-      (λ put. inr (put.0, gains_moved left ranges moved range there here put.0 put.1, put.2))
-      (under.every run listed);
+      (λ put. inr (put.0, search gains_moved, put.2)) (under.every run listed);
   reserved = λ id. under.reserved id
       ∙ gains_sum left ranges moved range there here (λ (one : PutRange). cond (id == one.id) 1 0);
 }
 
 -- A list with an item at its end.
 pub at_end : {T : Type 0} (left : List T) (x : T) → Gains left (left ++ x ∷ []) x
-at_end left x = record { before = left; after = []; was = sym (append-nil left); is = refl }
+at_end left x = search (append-nil, arith)
 
 -- A list of calls that gains a put gains its range.
 pub ranges_gain : {left calls : List HoldingCall} {run : PutRun} → Gains left calls (Putting run)
     → Gains (ranges_of left) (ranges_of calls) run.range
-ranges_gain {run = run} gains = record {
-  before = ranges_of gains.before;
-  after = ranges_of gains.after;
-  was = ap ranges_of gains.was ∙ filter_map-append range_in gains.before gains.after;
-  is = ap ranges_of gains.is ∙ filter_map-append range_in gains.before (Putting run ∷ gains.after);
-}
+ranges_gain gains = search (filter_map-append, arith)
 
 -- Two calls that are the same are of the same put.
 pub same_put : {one other : PutRun} → Putting one ≡ Putting other → one ≡ other

@@ -1,35 +1,6 @@
 -- Puts, turn by turn: how one begins, and is filled in.
-use Rattle.std.proofs.Common.{◌≡◌, ℕ, ◌+◌, ◌≤◌, List, ◌∷◌, [], ◌++◌, length, Some, None, Result, Ok, Err, append-nil, refl, sym, ◌∙◌, ap, subst, arith}
-use Rattle.std.specs.Prelude.{Contains, OnOk, OnErr, slice_get}
-use Rattle.std.proofs.lemmas.Option.{slice_get_within}
-use Rattle.width_map.specs.declared.birth.Birth.{Birth}
-use Rattle.range_locks.specs.declared.hold.Hold.{Hold}
-use Rattle.row_layout.specs.Layout.{allocated_of}
-use Rattle.reflow_mark.specs.declared.reflow.Reflow.{Reflow}
-use Rattle.shadow_write.specs.declared.write.Write.{Write}
-use Rattle.space_alloc.specs.Space.{Space, Gains, IsDropping, IsBusySpace, HasNoFreeRun}
-use Rattle.reconstruct.specs.Rows.{Rows}
-use Rattle.block_record.specs.declared.entry.IndexEntry.{IndexEntry}
-use Rattle.reflow_band.specs.Band.{IsFrontOf}
-use Rattle.core_blocks.specs.declared.range.PutRange.{PutRange}
-use Rattle.core_blocks.specs.declared.refused.PutRefused.{PutRefused}
+use Rattle.core_turns.proofs.Words.{◌≡◌, ℕ, ◌+◌, ◌≤◌, List, ◌∷◌, [], ◌++◌, length, Some, None, Result, Ok, Err, append-nil, refl, sym, subst, arith, OnOk, OnErr, slice_get, slice_get_within, Hold, allocated_of, Reflow, Write, Gains, IsDropping, Rows, IndexEntry, PutRange, PutRefused, Blocks, AreInStep, AreUnderWay, IsUnderWay, put_run, NoneFree, SparesAll, BeginsPut, IsAsBefore, IsPutCause, IsRangeFor, sectors_taken, gains_item, adds_none, adds_taken_back, IsInPool, IsPlanOf, range_in_pool, OutOfMemory, Filled, PutRun, Turn, More, Core, IsCore, as_begun, HasTooManyOut, BeginsPutTurn, FillsPut, IsFilledWith, IsPutOf, LeavesBlocks, hold_on, refused_turn}
 use Rattle.core_blocks.specs.declared.refused.PutRefused.TheVariants as refused
-use Rattle.core_blocks.specs.Blocks.{IsListed, Blocks, AreInStep, AreUnderWay, IsUnderWay, put_run}
-use Rattle.core_blocks.specs.Kept.{NoneFree, SparesAll}
-use Rattle.core_blocks.specs.Puts.{BeginsPut, IsAsBefore, IsPutCause, IsRangeFor, layout_at, sectors_taken}
-use Rattle.core_blocks.proofs.Lists.{gains_item}
-use Rattle.core_blocks.proofs.Usage.{adds_none, adds_taken_back}
-use Rattle.core_client.specs.Pool.{IsInPool}
-use Rattle.core_client.specs.Writing.{IsPlanOf}
-use Rattle.open_pool.proofs.PutRanges.{range_in_pool}
-use Rattle.core_turns.specs.declared.getting.OutOfMemory.{OutOfMemory}
-use Rattle.core_turns.specs.declared.filling.Filled.{Filled}
-use Rattle.core_turns.specs.declared.putting.PutRun.{PutRun}
-use Rattle.core_turns.specs.declared.turn.Turn.{Turn}
-use Rattle.core_turns.specs.declared.turn.Turn.TheVariants.{More}
-use Rattle.core_turns.specs.Core.{Core, IsCore, as_begun}
-use Rattle.core_turns.specs.Getting.{HasTooManyOut}
-use Rattle.core_turns.specs.Putting.{AsksAlike, BeginsPutTurn, FillsPut, IsFilledWith, IsPutOf, LeavesBlocks, hold_on, refused_turn}
 use Rattle.core_turns.proofs.Cores.{core_blocks}
 use Rattle.core_turns.proofs.Holds.{shared_gained}
 use Rattle.core_turns.proofs.TakenBack.{was_there}
@@ -43,12 +14,7 @@ same_filled is = cc
 -- The layout of a range is one of the put's length.
 layout_born : (blocks : Blocks) (range : PutRange) (id len group : ℕ) → IsRangeFor blocks id len group range
     → IsRangeFor blocks range.id len range.birth range
-layout_born blocks range id len group of = record {
-  id_is = refl;
-  birth_is = refl;
-  layout_is = of.layout_is
-      ∙ (λ i. layout_at blocks.parity blocks.births range.layout.start len (sym of.birth_is i));
-}
+layout_born blocks range id len group of = search
 
 -- A put begins.
 pub put_begins : (core : Core) (actor id len : ℕ) (begun : Blocks) (range : PutRange) (hold : Hold) (holds : List Hold)
@@ -76,16 +42,15 @@ put_begins core actor id len begun range hold holds reflow is few some short of 
       of = record {
         pool = pool;
         front = is.is.front;
-        begun_pool = subst (IsInPool range.layout) (sym same) pool;
-        begun_front = subst (λ (r : Reflow). IsFrontOf r core.pool.done) (sym same) is.is.front;
-        places = subst (λ (r : Reflow). AsksAlike range.layout r core.pool.done core.pool.uber.reflow core.pool.done)
-            (sym same) (λ row column there device device_sector. (λ is. is, λ is. is));
-        range = layout_born begun range id len (core.begun + 1) of;
-        born = (let birth = of.birth_is in omega (arith, birth), let birth = of.birth_is in omega (arith, birth));
+        begun_pool = rw same pool;
+        begun_front = search arith;
+        places = search arith;
+        range = search layout_born;
+        born = search arith;
         len = (some, short);
         holds = gains_item core.holds holds hold held;
-        hold_is = hold_is ∙ ap (hold_on range) (sym (ap (λ (h : Hold). h.actor) hold_is));
-        filled = λ filled is_filled. absurd (clash is_filled);
+        hold_is = cc;
+        filled = λ filled is_filled. cc;
       };
       under = under;
       kept = kept;
@@ -93,38 +58,23 @@ put_begins core actor id len begun range hold holds reflow is few some short of 
     }
   where
     pool : IsInPool range.layout core.pool.uber.reflow
-    pool = range_in_pool (as_begun core) begun range id len (core.begun + 1) core.holds is.is begins.parity begins.births
-        of begins.first some short
-
-    clash : {filled : Filled} → None ≡ Some filled → ⊥
-    clash is_filled = cc
+    pool = range_in_pool (as_begun core) begun range id len (core.begun + 1) core.holds is.is begins.parity
+        begins.births of begins.first some short
 
 -- The core is one still.
 pub put_begins_core : (core : Core) (actor : ℕ) (range : PutRange) (begun : Blocks) (hold : Hold) (holds : List Hold)
     → IsCore core → BeginsPut core.pool.blocks begun core.holds range → AreInStep begun → hold ≡ hold_on range actor
     → Gains core.holds holds hold → IsCore (record core { pool = record core.pool { blocks = begun }; holds = holds })
 put_begins_core core actor range begun hold holds is begins step hold_is gains =
-    core_blocks core begun holds is begins.parity begins.births begins.taken.capacity
-    (λ entry listed. is.is.born entry (subst (λ (l : List IndexEntry). IsListed l entry) begins.entries listed)) step
-    (shared_gained core.holds holds hold (ap (λ (h : Hold). h.kind) hold_is) gains)
+    core_blocks core begun holds is begins.parity begins.births begins.taken.capacity (search arith) step
+    (shared_gained core.holds holds hold (cc) gains)
 
 -- The blocks of a core whose put was refused.
 leaves : (core : Core) (after : Blocks) → IsAsBefore core.pool.blocks after
     → ((ranges : List PutRange) → AreUnderWay core.pool.blocks ranges → AreUnderWay after ranges)
     → ((past : ℕ) (kept : List IndexEntry) → NoneFree core.pool.blocks past kept → NoneFree after past kept)
     → LeavesBlocks core (record core { pool = record core.pool { blocks = after } })
-leaves core after same under kept = record {
-  rest = refl;
-  parity = same.parity;
-  births = same.births;
-  entries = same.entries;
-  capacity = ap (λ (s : Space). s.capacity) same.space;
-  adds = adds_none core.pool.blocks.space after.space same.space;
-  taken = λ run listed. subst (λ (s : Space). Contains s.taken run) same.space listed;
-  held = ap (λ (s : Space). s.held) same.space;
-  under = under;
-  kept = kept;
-}
+leaves core after same under kept = search (adds_none, arith)
 
 -- A put is refused.
 pub put_refused : (core : Core) (actor id len : ℕ) (after : Blocks) (why : PutRefused) (turn : Turn PutRun)
@@ -132,34 +82,26 @@ pub put_refused : (core : Core) (actor id len : ℕ) (after : Blocks) (why : Put
     → ((ranges : List PutRange) → AreUnderWay core.pool.blocks ranges → AreUnderWay after ranges)
     → ((past : ℕ) (kept : List IndexEntry) → NoneFree core.pool.blocks past kept → NoneFree after past kept)
     → IsPutCause core.pool.blocks core.holds id
-    (sectors_taken core.pool.blocks.parity core.pool.blocks.births len (core.begun + 1)) why
-    → turn ≡ refused_turn why
+    (sectors_taken core.pool.blocks.parity core.pool.blocks.births len (core.begun + 1)) why → turn ≡ refused_turn why
     → BeginsPutTurn core (record core { pool = record core.pool { blocks = after } }) actor id len turn
-put_refused core actor id len after why turn is few same under kept cause turn_is =
-    subst (BeginsPutTurn core (record core { pool = record core.pool { blocks = after } }) actor id len) (sym turn_is)
-    (by why cause)
+put_refused core actor id len after why turn is few same under kept cause turn_is = rw turn_is (by why cause)
   where
     size : sectors_taken core.pool.blocks.parity core.pool.blocks.births len (core.begun + 1)
         ≡ sectors_taken core.pool.uber.parity core.pool.uber.births len (core.begun + 1)
     size i = sectors_taken (is.is.parity i) (is.is.births i) len (core.begun + 1)
 
-    by : (why : PutRefused)
-        → IsPutCause core.pool.blocks core.holds id
+    by : (why : PutRefused) → IsPutCause core.pool.blocks core.holds id
         (sectors_taken core.pool.blocks.parity core.pool.blocks.births len (core.begun + 1)) why
         → BeginsPutTurn core (record core { pool = record core.pool { blocks = after } }) actor id len
         (refused_turn why)
-    by refused.Full cause = (few, cause, leaves core after same under kept)
+    by refused.Full cause = search leaves
     by (refused.NoSpace sectors) cause = (
       few,
-      cause.1 ∙ size,
-      subst (λ (n : ℕ). HasNoFreeRun core.pool.blocks.space core.holds n) (sym cause.1) cause.0,
+      cc,
+      rw cause.1 cause.0,
       leaves core after same under kept,
     )
-    by (refused.Busy by_actor) cause = (
-      few,
-      leaves core after same under kept,
-      subst (λ (n : ℕ). IsBusySpace core.pool.blocks.space core.holds n by_actor) size cause,
-    )
+    by (refused.Busy by_actor) cause = search (leaves, size, arith)
     by refused.NoMemory cause = (few, leaves core after same under kept)
 
 -- A run that was taken and given up leaves the blocks.
@@ -178,22 +120,17 @@ pub put_dropped : (core : Core) (begun after : Blocks) (range : PutRange) (holds
 put_dropped core begun after range holds same begins under kept spares parity births entries dropped under_after
     kept_after = record {
       rest = λ i. record core { pool = record core.pool { blocks = after }; holds = same i };
-      parity = parity ∙ begins.parity;
-      births = births ∙ begins.births;
-      entries = entries ∙ begins.entries;
-      capacity = dropped.capacity ∙ begins.taken.capacity;
-      adds = adds_taken_back core.pool.blocks.space begun.space after.space range.layout.start (allocated_of range.layout)
-          begins.taken dropped;
-      taken = was_there core.pool.blocks.space.taken begun.space.taken after.space.taken
-          (record { start = range.layout.start; len = allocated_of range.layout }) begins.taken.taken dropped.taken;
-      held = dropped.held ∙ begins.taken.held;
-      under = λ ranges all. under_after ranges (ranges ++ range ∷ [])
-          (record { before = ranges; after = []; was = sym (append-nil ranges); is = refl }) (under ranges all);
+      parity = cc;
+      births = cc;
+      entries = cc;
+      capacity = cc;
+      adds = search adds_taken_back;
+      taken = search was_there;
+      held = cc;
+      under = λ ranges all. under_after ranges (ranges ++ range ∷ []) (search (append-nil, arith)) (under ranges all);
       kept = λ past listed none. kept_after past listed
           (subst (λ (p : ℕ). SparesAll p begun.births listed (put_run range)) (sym begins.parity)
-          (subst (λ (b : List Birth). SparesAll core.pool.blocks.parity b listed (put_run range)) (sym begins.births)
-          (spares past listed none)))
-          (kept past listed none);
+          (rw begins.births (spares past listed none))) (kept past listed none);
     }
 
 -- ---- filling in
@@ -213,11 +150,7 @@ filled_of core run filled content with of = record {
   len = of.len;
   holds = of.holds;
   hold_is = of.hold_is;
-  filled = λ other same. (
-    content,
-    subst (λ (f : Filled). IsFilledWith core (record run { filled = Some filled }) f content)
-        (same_filled same) with,
-  );
+  filled = search (same_filled, arith);
 }
 
 -- What is filled in for the widths and the front of the put's begin is the pool's block now.
@@ -240,19 +173,14 @@ plan_now core run content rows writes of plan = record {
 pub fills_of : (core : Core) (old new : PutRun) (content : List ℕ) → FillsPut old new content → length content ≡ old.len
     → IsPutOf core old → IsPutOf core new
 fills_of core old new content fills len of = subst (IsPutOf core) (sym fills.rest)
-    (filled_of core old fills.filled content (record {
-      plan = plan_now core old content fills.filled.write.rows fills.filled.write.writes of fills.made.plan;
-      so_far = (let first = fills.made.next in omega (arith, first));
-      len_is = len;
-      digest_is = fills.made.digest_is;
-    }) of)
+    (filled_of core old fills.filled content (search (plan_now, arith)) of)
 
 -- whether memory was wanting for that or not,
 pub went_filled : (old new : PutRun) (content : List ℕ) (result : Result (Unit {0}) OutOfMemory)
     → OnOk result (FillsPut old new content) → OnErr result (new ≡ old) → length content ≡ old.len
     → (core : Core) → IsPutOf core old → IsPutOf core new
 went_filled old new content (Ok value) fills same len core of = fills_of core old new content fills len of
-went_filled old new content (Err why) fills same len core of = subst (IsPutOf core) (sym same) of
+went_filled old new content (Err why) fills same len core of = rw same of
 
 -- a block with one write more
 abbrev pub written : Filled → Filled
@@ -262,11 +190,4 @@ written filled = record filled { write = record filled.write { next = filled.wri
 pub written_of : (core : Core) (run : PutRun) (filled : Filled) (write : Write) → run.filled ≡ Some filled
     → slice_get filled.write.writes filled.write.next ≡ Some write → IsPutOf core run
     → IsPutOf core (record run { filled = Some (written filled) })
-written_of core run filled write is there of =
-    let was = of.filled filled is in
-    filled_of core run (written filled) was.0 (record {
-      plan = was.1.plan;
-      so_far = (let low = slice_get_within filled.write.writes filled.write.next write there in omega (arith, low));
-      len_is = was.1.len_is;
-      digest_is = was.1.digest_is;
-    }) of
+written_of core run filled write is there of = search (filled_of, slice_get_within, arith)

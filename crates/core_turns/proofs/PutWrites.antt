@@ -1,60 +1,6 @@
 -- What stands between two turns stands over each write of a put, and so does what images keep.
-use Rattle.std.proofs.Common.{◌≡◌, ⊎_elim, ℕ, ◌+◌, ◌≤◌, List, [], ◌∷◌, Option, Some, true, refl, sym, ap, subst, arith}
-use Rattle.std.specs.Prelude.{Contains}
-use Rattle.std.proofs.lemmas.Bool.{cases_lt}
-use Rattle.std.proofs.lemmas.List.Elements.{All-contains}
-use Rattle.sha2.specs.Sha256.{sha256}
-use Rattle.bank_trait.specs.Disk.{Lawful}
-use Rattle.bank_trait.specs.Regions.{Tells, TouchesOnly}
-use Rattle.bank_trait.proofs.Touches.{touches_none, wrote_touches}
-use Rattle.width_map.specs.declared.birth.Birth.{Birth}
-use Rattle.reflow_mark.specs.declared.reflow.Reflow.{Reflow}
-use Rattle.reflow_mark.specs.Reflow.{sectors_of}
-use Rattle.row_layout.specs.Layout.{Layout, sector_of, end_of}
-use Rattle.reflow_band.specs.Band.{IsFrontOf}
-use Rattle.reflow_band.proofs.Within.{stop_asks_no_more}
-use Rattle.shadow_write.specs.Required.{IsRequiredPlace, front_after_stop}
-use Rattle.shadow_write.specs.declared.write.Write.{Write}
-use Rattle.shadow_write.specs.Writes.{writes_of}
-use Rattle.shadow_write.proofs.Whole.{are_required}
-use Rattle.shadow_write.proofs.Whole.{are_required}
-use Rattle.space_alloc.specs.Space.{Gains}
-use Rattle.block_record.specs.declared.entry.IndexEntry.{IndexEntry}
-use Rattle.block_record.specs.Page.{IsRightEntry}
-use Rattle.reconstruct.specs.Rows.{Rows}
-use Rattle.uberblock_ring.specs.Devices.{has_device, count_of}
-use Rattle.uberblock_ring.specs.Uberblock.{Uber}
-use Rattle.uberblock_ring.specs.Valid.{AreAlike}
-use Rattle.core_state.specs.Map.{Map}
-use Rattle.core_state.specs.Index.{layout_of, block_end}
-use Rattle.core_state.specs.Keeps.{Kept, Setting}
-use Rattle.core_state.specs.Certain.{IsSound}
-use Rattle.core_state.specs.Committing.{Point, point_of}
-use Rattle.core_state.specs.Free.{IsSpare}
-use Rattle.core_state.specs.Moment.{IsRowOf, KeepsSince}
-use Rattle.core_state.proofs.Listed.{contains_cases, contains_none}
-use Rattle.core_state.proofs.Places.{IsDataSector, data_is_no_page, page_place}
-use Rattle.core_blocks.specs.Blocks.{AreInStep, IsUnderWay, layout_run, put_run}
-use Rattle.core_blocks.specs.Kept.{SparesAll}
-use Rattle.core_blocks.specs.Runs.{AreClear}
-use Rattle.core_blocks.proofs.Lists.{gains_item, gains_old, gains_cases, pairs_beside}
-use Rattle.core_client.specs.Outs.{OnlyFailedGoOut}
-use Rattle.core_client.specs.Pool.{IsInPool}
-use Rattle.core_client.specs.Writing.{IsMade, IsPassedOrMade, IsPlaceOf}
-use Rattle.core_client.specs.BlockTurns.{IsWrittenSoFar}
-use Rattle.core_client.proofs.BlockTurns.{listed_at, written_more}
-use Rattle.core_commit.specs.declared.commit_run.Stage.{Stage}
-use Rattle.core_commit.specs.declared.commit_run.Stage.TheVariants.{Lays, Signs}
-use Rattle.core_commit.specs.CommitTurns.{CommitRun, shown_at, shown_by}
-use Rattle.core_commit.proofs.Halves.{sound_paged}
-use Rattle.open_pool.proofs.Holding.{listed_in_pool}
-use Rattle.open_pool.proofs.Layouts.{entry_in_pool}
-use Rattle.open_pool.proofs.PutRanges.{tells_at}
-use Rattle.core_turns.specs.declared.filling.Filled.{Filled}
-use Rattle.core_turns.specs.declared.putting.PutRun.{PutRun}
-use Rattle.core_turns.specs.Core.{Core, CoreState, IsCore, as_begun, at_disk, HasBankOf}
-use Rattle.core_turns.specs.Putting.{IsPutOf, HoldsPut, WritesOne}
-use Rattle.core_turns.specs.UnderWay.{HoldingCall, Putting, Reading, Copying, AreBeside, AreCallsOf, CommitStands, HoldsCall, IsCallOfCore, NoCommitStands, PutsSpare, Stands, actor_of, shown_of}
+use Rattle.core_turns.proofs.Words.{◌≡◌, ⊎_elim, ℕ, ◌+◌, ◌≤◌, List, [], ◌∷◌, Option, Some, true, refl, sym, ap, subst, arith, Contains, cases_lt, sha256, Lawful, Tells, TouchesOnly, touches_none, wrote_touches, Reflow, Layout, IsFrontOf, stop_asks_no_more, Write, writes_of, are_required, are_required, Gains, IndexEntry, Rows, has_device, count_of, Uber, AreAlike, Map, layout_of, Kept, Setting, IsSound, Point, point_of, IsSpare, IsRowOf, KeepsSince, contains_cases, contains_none, IsDataSector, data_is_no_page, page_place, AreInStep, IsUnderWay, layout_run, put_run, SparesAll, AreClear, gains_item, gains_old, gains_cases, pairs_beside, OnlyFailedGoOut, IsInPool, IsMade, IsPassedOrMade, IsPlaceOf, IsWrittenSoFar, listed_at, written_more, Stage, Lays, CommitRun, shown_at, shown_by, sound_paged, listed_in_pool, entry_in_pool, tells_at, Filled, PutRun, CoreState, IsCore, as_begun, at_disk, HasBankOf, IsPutOf, HoldsPut, WritesOne, HoldingCall, Putting, Reading, Copying, AreBeside, AreCallsOf, CommitStands, HoldsCall, IsCallOfCore, NoCommitStands, PutsSpare, Stands, actor_of, shown_of}
+use Rattle.core_commit.specs.declared.commit_run.Stage.TheVariants.{Signs}
 use Rattle.core_turns.proofs.Beside.{IsWrittenTo, AreInPool, never_asked, put_beside_commit, required_data}
 use Rattle.core_turns.proofs.CommitEnds.{layout_same}
 use Rattle.core_turns.proofs.Cores.{bank_within}
@@ -74,27 +20,15 @@ written_data : (reflow : Reflow) (done : ℕ) (layout : Layout) (out device devi
     → IsWrittenTo layout reflow done out device device_sector → IsDataSector device_sector
 written_data reflow done layout out device device_sector front (write, has, used, device_is, sector_is) =
     let required = (are_required layout reflow done).only write has in
-    subst IsDataSector (sym sector_is)
-    (required_data reflow done (end_of layout write.row) (sector_of layout write.row write.column) write.device
-    write.device_sector front required.1)
+    subst IsDataSector (sym sector_is) (search required_data)
 
 -- A group's blocks lie in the pool whose widths are the group's.
 sound_in_pool : (setting : Setting) (kept : Kept) (reflow : Reflow) (done : ℕ) → IsSound setting kept
     → reflow ≡ kept.uber.reflow → IsFrontOf reflow done → AreInPool kept reflow done
 sound_in_pool setting kept reflow done sound same front = record {
   asked = λ row_end sector device device_sector inside place.
-      stop_asks_no_more reflow done row_end sector device device_sector front
-      (subst (λ (r : Reflow). IsRequiredPlace r (front_after_stop r) row_end sector device device_sector) (sym same) place);
-  each = λ entry listed.
-      let right : IsRightEntry entry = All-contains IsRightEntry kept.entries entry sound.index.each listed in
-      let below : block_end kept.uber.parity kept.uber.births entry ≤ sectors_of kept.uber.reflow =
-      All-contains
-      (λ (e : IndexEntry). block_end kept.uber.parity kept.uber.births e ≤ sectors_of kept.uber.reflow)
-      kept.entries entry sound.fitting.below listed in
-      subst (IsInPool (layout_of kept.uber.parity kept.uber.births entry)) (sym same)
-      (subst (λ (u : Uber). IsInPool (layout_of u.parity u.births entry) u.reflow) sound.alike
-      (entry_in_pool sound.uber entry sound.right right
-      (subst (λ (u : Uber). block_end u.parity u.births entry ≤ sectors_of u.reflow) (sym sound.alike) below)));
+      search (stop_asks_no_more, arith);
+  each = search (entry_in_pool, arith);
 }
 
 -- A put has no sector in common with a block of this group, whose blocks lie in the pool.
@@ -103,19 +37,16 @@ record IsClearOf (layout : Layout) (reflow : Reflow) (done : ℕ) (kept : Kept) 
   spares : SparesAll kept.uber.parity kept.uber.births kept.entries (layout_run layout)
 
 -- Where it writes is spare beside such groups.
-written_spare : (setting : Setting) (first : Kept) (later : List Kept) (reflow : Reflow) (done : ℕ) (layout : Layout) (out : ℕ)
-    → IsFrontOf reflow done → IsSound setting first → IsInPool layout reflow
+written_spare : (setting : Setting) (first : Kept) (later : List Kept) (reflow : Reflow) (done : ℕ) (layout : Layout)
+    (out : ℕ) → IsFrontOf reflow done → IsSound setting first → IsInPool layout reflow
     → ((kept : Kept) → Contains (first ∷ later) kept → IsClearOf layout reflow done kept)
     → (device device_sector : ℕ) → IsWrittenTo layout reflow done out device device_sector
     → IsSpare setting first later device device_sector
 written_spare setting first later reflow done layout out front sound pool clear device device_sector written =
     let data_sector = written_data reflow done layout out device device_sector front written in
     record {
-      ring = ⊎_elim (λ scratch. scratch.0) (λ rows. omega (arith, rows)) data_sector;
-      page = λ below works part low same.
-          let paged = sound_paged setting first sound in
-          let place = page_place first.uber part paged.area paged.count low in
-          data_is_no_page device_sector data_sector (omega (arith, place.0, same)) (omega (arith, place.2, same));
+      ring = search arith;
+      page = search (sound_paged, page_place, data_is_no_page, arith);
       cells = λ kept bytes listed asks. absurd (never_asked kept reflow done layout out device device_sector bytes front
           (clear kept listed).inside pool (clear kept listed).spares written asks);
     }
@@ -125,16 +56,15 @@ one_touched : (rows : Rows) (writes : List Write) (write : Write) (before after 
     → IsPassedOrMade rows write before after → TouchesOnly (IsPlaceOf writes before.out) before.disk after.disk
 one_touched rows writes write before after listed step = ⊎_elim
     (λ (passed : (has_device before.out write.device ≡ true) × (after ≡ before)).
-    subst (λ (p : Point). TouchesOnly (IsPlaceOf writes before.out) before.disk p.disk) (sym passed.1)
-    (touches_none (IsPlaceOf writes before.out) before.disk))
+    rw passed.1 (touches_none (IsPlaceOf writes before.out) before.disk))
     (λ (made : IsMade rows write before after).
-    wrote_touches (IsPlaceOf writes before.out) (write, listed, made.called.in_use, refl, refl) made.wrote)
-    step
+    search wrote_touches) step
 
 -- ---- one write
 
 module _ {left calls : List HoldingCall} {before after : CoreState} {run next : PutRun} (is : IsCore before.core)
-    (lawful : Lawful before.disk) (writes : WritesOne before run after next) (gains : Gains left calls (Putting run)) where
+    (lawful : Lawful before.disk) (writes : WritesOne before run after next)
+    (gains : Gains left calls (Putting run)) where
   abbrev reflow : Reflow
   reflow = before.core.pool.uber.reflow
 
@@ -163,19 +93,17 @@ module _ {left calls : List HoldingCall} {before after : CoreState} {run next : 
 
   -- At most the write's device goes out.
   outs : OnlyFailedGoOut here there
-  outs = outs_by_write here there writes.filled writes.write writes.made
+  outs = search outs_by_write
 
   -- Not too many devices were out.
   few : count_of before.core.pool.out ≤ before.core.pool.uber.parity
-  few = ⊎_elim (λ many. absurd (writes.few many)) (λ low. low)
-      (cases_lt before.core.pool.uber.parity (count_of before.core.pool.out))
+  few = search (cases_lt, arith)
 
   module _ (of : IsPutOf before.core run) where
     -- The write is one of the block's,
     write_listed : Contains (writes_of layout reflow done) writes.write
     write_listed =
-        let is = (of.filled writes.filled writes.filled_is).1.plan.required.only writes.write
-        (listed_at writes.filled.write.writes writes.filled.write.next writes.write writes.write_is) in
+        let is = (of.filled writes.filled writes.filled_is).1.plan.required.only writes.write (search listed_at) in
         (are_required layout reflow done).all writes.write.row writes.write.column writes.write.device
         writes.write.device_sector is.0 is.1
 
@@ -190,20 +118,16 @@ module _ {left calls : List HoldingCall} {before after : CoreState} {run next : 
     -- Blocks that have no sector of the put are off it: those of other calls,
     calls_off : (call : HoldingCall) → AreBeside (Putting run) call → IsCallOfCore before.core call
         → IsCallOff places reflow done call
-    calls_off (Putting other) beside other_of =
-        off_written reflow done layout other.range.layout before.core.pool.out is.is.front of.pool other_of.pool beside.apart
-    calls_off (Reading other) beside other_of =
-        off_written reflow done layout other.read.layout before.core.pool.out is.is.front of.pool other_of.1.pool beside.apart
-    calls_off (Copying other) beside other_of =
-        job_off_written before.core run other before.core.pool.out of other_of beside.apart
+    calls_off (Putting other) beside other_of = search off_written
+    calls_off (Reading other) beside other_of = search off_written
+    calls_off (Copying other) beside other_of = search job_off_written
 
     -- and those of the table.
     table_off : AreInStep before.core.pool.blocks → IsUnderWay before.core.pool.blocks run.range
         → AreOff places before.core
     table_off step under entry listed = off_written reflow done layout
-        (layout_of before.core.pool.uber.parity before.core.pool.uber.births entry) before.core.pool.out is.is.front of.pool
-        (listed_in_pool (as_begun before.core) entry is.is step listed)
-        (listed_clear before.core run.range entry is under listed)
+        (layout_of before.core.pool.uber.parity before.core.pool.uber.births entry) before.core.pool.out is.is.front
+        of.pool (listed_in_pool (as_begun before.core) entry is.is step listed) (search listed_clear)
 
     -- One write more of the put's block stands there.
     holds_further : (content : List ℕ) → Tells before.disk → HasBankOf before.core before.disk
@@ -216,15 +140,12 @@ module _ {left calls : List HoldingCall} {before after : CoreState} {run next : 
           (same_filled filled same) (
             so_far.0,
             written_more layout content reflow done writes.filled.write writes.write here there
-                writes.write_is so_far.1 writes.made
-                (λ used. tells_at layout before.core.pool.uber done before.core.pool.out before.disk of.pool is.is.front (bank_within before.core before.disk is bank) tells
-                writes.write write_listed used),
+                writes.write_is so_far.1 writes.made (search (tells_at, bank_within, write_listed)),
           );
     })
       where
         so_far : (writes.filled.digest ≡ sha256 content)
-            × IsWrittenSoFar layout content reflow done before.disk.reads before.core.pool.out
-            writes.filled.write
+            × IsWrittenSoFar layout content reflow done before.disk.reads before.core.pool.out writes.filled.write
         so_far = holds.so_far writes.filled writes.filled_is
 
         same_filled : (filled : Filled) → Some further ≡ Some filled → further ≡ filled
@@ -234,10 +155,9 @@ module _ {left calls : List HoldingCall} {before after : CoreState} {run next : 
       -- The put has no sector of a block of a group that it spares.
       spares_now : (group : Kept) → PutsSpare before calls group
           → SparesAll before.core.pool.uber.parity before.core.pool.uber.births group.entries (put_run run.range)
-      spares_now group spared = subst (λ (p : ℕ). SparesAll p before.core.pool.uber.births group.entries (put_run run.range))
-          is.is.parity
-          (subst (λ (b : List Birth). SparesAll before.core.pool.blocks.parity b group.entries (put_run run.range))
-          is.is.births (spared run (gains_item left calls (Putting run) gains)))
+      spares_now group spared = subst (λ (p : ℕ). SparesAll p before.core.pool.uber.births group.entries
+          (put_run run.range))
+          is.is.parity (rw is.is.births at (spared run (gains_item left calls (Putting run) gains)))
 
       module _ (alike : AreAlike before.core.pool.uber last.uber) (spared : PutsSpare before calls last) where
         -- So it is clear of the last one,
@@ -249,15 +169,11 @@ module _ {left calls : List HoldingCall} {before after : CoreState} {run next : 
         }
 
         -- A block of the one that a commit makes has the layout that it has in the pool,
-        next_layout : (commit : CommitRun) (groups : CommitStands setting last begun calls commit before) (entry : IndexEntry)
-            → Contains groups.next.entries entry
-            → layout_of groups.next.uber.parity groups.next.uber.births entry
+        next_layout : (commit : CommitRun) (groups : CommitStands setting last begun calls commit before)
+            (entry : IndexEntry)
+            → Contains groups.next.entries entry → layout_of groups.next.uber.parity groups.next.uber.births entry
             ≡ layout_of before.core.pool.uber.parity before.core.pool.uber.births entry
-        next_layout commit groups entry listed =
-            subst (λ (u : Uber). layout_of u.parity u.births entry
-            ≡ layout_of before.core.pool.uber.parity before.core.pool.uber.births entry) groups.come.alike
-            (layout_same before.core commit is groups.of entry
-            (let born = groups.lies.born entry listed in omega (arith, born)))
+        next_layout commit groups entry listed = search (layout_same, arith)
 
         -- so it is clear of that one.
         next_clear : (commit : CommitRun) (groups : CommitStands setting last begun calls commit before)
@@ -266,27 +182,22 @@ module _ {left calls : List HoldingCall} {before after : CoreState} {run next : 
           inside = record {
             asked = λ row_end sector device device_sector inside place.
                 (core_follows before.core commit.uber.reflow is groups.of.next.choice).stop row_end sector device
-                device_sector inside
-                (subst (λ (u : Uber). IsRequiredPlace u.reflow (front_after_stop u.reflow) row_end sector device device_sector)
-                (sym groups.come.alike) place);
-            each = λ entry listed. subst (λ (l : Layout). IsInPool l reflow) (sym (next_layout commit groups entry listed))
-                (groups.lies.inside entry listed);
+                device_sector inside (search arith);
+            each = λ entry listed. rw (next_layout commit groups entry listed) (groups.lies.inside entry listed);
           };
           spares = λ entry listed. subst (λ (l : Layout). AreClear (put_run run.range) (layout_run l))
-              (sym (next_layout commit groups entry listed)) (spares_now groups.next groups.spared entry listed);
+              (sym (next_layout commit groups entry listed)) (search spares_now);
         }
 
         -- So it writes to spare sectors without a commit
-        spare_alone : NoCommitStands setting last begun before → (device device_sector : ℕ) → places device device_sector
-            → IsSpare setting last begun device device_sector
+        spare_alone : NoCommitStands setting last begun before → (device device_sector : ℕ)
+            → places device device_sector → IsSpare setting last begun device device_sector
         spare_alone groups device device_sector place =
-            subst (λ (later : List Kept). IsSpare setting last later device device_sector) (sym (groups.whole few).0)
-            (written_spare setting last [] reflow done layout before.core.pool.out is.is.front groups.knows.sound of.pool
+            rw (groups.whole few).0 (written_spare setting last [] reflow done layout before.core.pool.out is.is.front
+            groups.knows.sound of.pool
             (λ kept listed. ⊎_elim
             (λ same. subst (IsClearOf layout reflow done) (sym same) (last_clear groups.knows.sound))
-            (λ none. absurd (contains_none kept none))
-            (contains_cases last [] kept listed))
-            device device_sector place)
+            (λ none. absurd (contains_none kept none)) (contains_cases last [] kept listed)) device device_sector place)
 
         -- and beside one.
         spare_beside : (commit : CommitRun) (groups : CommitStands setting last begun calls commit before)
@@ -295,15 +206,13 @@ module _ {left calls : List HoldingCall} {before after : CoreState} {run next : 
         spare_beside commit groups = written_spare setting last (shown_by groups.next commit) reflow done layout
             before.core.pool.out is.is.front groups.come.sound_first of.pool
             (λ kept listed. ⊎_elim
-            (λ same. subst (IsClearOf layout reflow done) (sym same) (last_clear groups.come.sound_first))
-            (λ later. subst (IsClearOf layout reflow done) (sym (shown_next commit.stage kept later))
-            (next_clear commit groups))
+            (search (last_clear, arith))
+            (λ later. rw (shown_next commit.stage kept later) (next_clear commit groups))
             (contains_cases last (shown_by groups.next commit) kept listed))
           where
             shown_next : (stage : Stage) (kept : Kept) → Contains (shown_at groups.next stage) kept → kept ≡ groups.next
             shown_next Lays kept listed = absurd (contains_none kept listed)
-            shown_next Signs kept listed = ⊎_elim (λ same. same) (λ none. absurd (contains_none kept none))
-                (contains_cases groups.next [] kept listed)
+            shown_next Signs kept listed = search (contains_none, contains_cases, arith)
 
         -- So nobody asks for what it writes.
         spare_now : AreSpare places setting last begun calls before
@@ -313,8 +222,7 @@ module _ {left calls : List HoldingCall} {before after : CoreState} {run next : 
           beside = λ commit groups.
               let first = last_clear groups.come.sound_first in
               let next = next_clear commit groups in
-              put_beside_commit setting last groups.next reflow done layout before.core.pool.out is.is.front first.inside
-              next.inside of.pool first.spares next.spares;
+              search put_beside_commit;
         }
 
   module _ {setting : Setting} {last : Kept} {begun : List Kept} {map : Map} {contents : ℕ → List ℕ}
@@ -330,36 +238,32 @@ module _ {left calls : List HoldingCall} {before after : CoreState} {run next : 
     pub put_writes_stands : {nexts : List HoldingCall} → Lawful after.disk → Gains left nexts (Putting next)
         → Stands setting last begun map contents nexts commit after
     put_writes_stands {nexts} still_lawful again =
-        subst (λ (core : Core). Stands setting last begun map contents nexts commit (at_disk core after.disk))
-        (sym writes.rest)
-        (stands_anew places before written (leaves its_of)
+        rw writes.rest (stands_anew places before written (leaves its_of)
         (table_off its_of is.step (are.under.each run.range (range_listed calls run its_calls)))
-        refl (touched its_of).later
-        (groups_with setting last begun calls nexts commit written spared
-        (groups_written after.core.pool.out after.disk places (touched its_of) outs.still lawful few setting last begun calls
+        refl (touched its_of).later (groups_with setting last begun calls nexts commit written spared
+        (groups_written after.core.pool.out after.disk places
+        (touched its_of) outs.still lawful few setting last begun calls
         (spare_now its_of setting last begun stands.alike stands.spared) commit still_lawful stands.groups))
         (spared last stands.spared)
         (λ call listed. ⊎_elim
         (λ same. subst (λ (c : HoldingCall). HoldsCall written (contents (actor_of c)) c) same
         (subst (λ (actor : ℕ). HoldsPut (contents actor) written next)
         (sym (ap (λ (r : PutRun). r.hold.actor) writes.next_is))
-        (holds_further its_of (contents run.hold.actor) stands.tells stands.bank (stands.each (Putting run) its_calls))))
+        (holds_further its_of (contents run.hold.actor) stands.tells stands.bank
+        (stands.each (Putting run) its_calls))))
         (λ other.
         let was = gains_old left calls (Putting run) call gains other in
         let beside = pairs_beside AreBeside beside_turn calls left (Putting run) call gains are.beside other in
         call_stays places (contents (actor_of call)) before written call (leaves its_of)
         (calls_off its_of call beside (are.each call was)) (stands.each call was))
-        (gains_cases left nexts (Putting next) call again listed))
-        stands)
+        (gains_cases left nexts (Putting next) call again listed)) stands)
       where
         spared : (group : Kept) → PutsSpare written calls group → PutsSpare written nexts group
-        spared group = next_spares written group (Some further) gains
-            (subst (λ (r : PutRun). Gains left nexts (Putting r)) writes.next_is again)
+        spared group = next_spares written group (Some further) gains (search arith)
 
     -- Each image keeps what it kept, at each moment of it.
     pub put_writes_since : (groups : List Kept) (time : ℕ) → IsRowOf groups last (shown_of begun commit)
-        → KeepsSince setting groups time before.disk
-        → KeepsSince setting groups time after.disk
+        → KeepsSince setting groups time before.disk → KeepsSince setting groups time after.disk
     put_writes_since groups time row kept =
-        since_written after.core.pool.out after.disk places (touched its_of) outs.still lawful few setting last begun calls
-        (spare_now its_of setting last begun stands.alike stands.spared) commit groups time row stands.groups kept
+        since_written after.core.pool.out after.disk places (touched its_of) outs.still lawful few setting last begun
+        calls (spare_now its_of setting last begun stands.alike stands.spared) commit groups time row stands.groups kept

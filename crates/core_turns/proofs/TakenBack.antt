@@ -1,8 +1,5 @@
 -- An item that a list gains and then loses.
-use Rattle.std.proofs.Common.{◌≡◌, ⊎_elim, List, [], ◌∷◌, ◌++◌, refl, sym, ◌∙◌, subst}
-use Rattle.std.specs.Prelude.{Contains}
-use Rattle.space_alloc.specs.Space.{Gains}
-use Rattle.core_blocks.proofs.Lists.{first_listed, rest_listed, listed_cases, gains_old, gains_item, gains_cases}
+use Rattle.core_turns.proofs.Words.{◌≡◌, ⊎_elim, List, [], ◌∷◌, ◌++◌, refl, sym, ◌∙◌, subst, Contains, Gains, first_listed, rest_listed, listed_cases, gains_old, gains_item, gains_cases}
 
 module _ {T : Type 0} where
   heads : {one other : T} {items others : List T} → one ∷ items ≡ other ∷ others → one ≡ other
@@ -14,10 +11,9 @@ module _ {T : Type 0} where
   -- Where a list holds an item at two places, it has as much without the one as without the other.
   without : (item : T) (before after further behind : List T) → before ++ item ∷ after ≡ further ++ item ∷ behind
       → (other : T) → Contains (further ++ behind) other → Contains (before ++ after) other
-  without item [] after [] behind same other listed = subst (λ (l : List T). Contains l other) (sym (tails same)) listed
+  without item [] after [] behind same other listed = rw (tails same) listed
   without item [] after (first ∷ further) behind same other listed =
-      subst (λ (l : List T). Contains l other) (sym (tails same))
-      (⊎_elim
+      rw (tails same) (⊎_elim
       (λ is. subst (Contains (further ++ item ∷ behind)) (heads same ∙ is)
       (gains_item (further ++ behind) (further ++ item ∷ behind) item (gain further behind)))
       (λ rest. gains_old (further ++ behind) (further ++ item ∷ behind) item other (gain further behind) rest)
@@ -28,8 +24,7 @@ module _ {T : Type 0} where
   without item (first ∷ before) after [] behind same other listed =
       ⊎_elim
       (λ is. subst (Contains (first ∷ before ++ after)) (heads same ∙ is) (first_listed first (before ++ after)))
-      (λ rest. rest_listed first other (before ++ after) rest)
-      (gains_cases (before ++ after) (before ++ item ∷ after) item other
+      (search rest_listed) (gains_cases (before ++ after) (before ++ item ∷ after) item other
       (record { before = before; after = after; was = refl; is = refl })
       (subst (λ (l : List T). Contains l other) (sym (tails same)) listed))
   without item (first ∷ before) after (next ∷ further) behind same other listed =
@@ -44,5 +39,4 @@ module _ {T : Type 0} where
       → (other : T) → Contains new other → Contains old other
   was_there old mid new item gains loses other listed =
       subst (λ (l : List T). Contains l other) (sym gains.was)
-      (without item gains.before gains.after loses.before loses.after (sym gains.is ∙ loses.is) other
-      (subst (λ (l : List T). Contains l other) loses.was listed))
+      (without item gains.before gains.after loses.before loses.after (cc) other (rw loses.was at listed))

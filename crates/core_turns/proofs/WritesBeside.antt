@@ -1,19 +1,6 @@
 -- A write to sectors that no group asks for leaves the groups, and what images keep of them.
-use Rattle.std.proofs.Common.{◌≡◌, ℕ, ◌≤◌, List, [], ◌∷◌, Option, Some, None, refl, ◌∙◌, ap, subst}
-use Rattle.bank_trait.specs.Disk.{Disk, Lawful}
-use Rattle.bank_trait.specs.Regions.{TouchesOnly}
-use Rattle.uberblock_ring.specs.Devices.{IsWithin, count_of}
-use Rattle.core_state.specs.Keeps.{Kept, Setting}
-use Rattle.core_state.specs.Committing.{point_of}
-use Rattle.core_state.specs.Free.{IsSpare}
-use Rattle.core_state.specs.Moment.{IsRowOf, KeepsSince}
-use Rattle.core_state.proofs.Touched.{touched_knows, touched_since}
-use Rattle.core_commit.specs.declared.commit_run.Stage.{Stage}
-use Rattle.core_commit.specs.declared.commit_run.Stage.TheVariants.{Lays, Signs}
-use Rattle.core_commit.specs.CommitTurns.{CommitRun, IsBeside, shown_at, shown_by}
-use Rattle.core_commit.proofs.Beside.{committing_knows, committing_touched}
-use Rattle.core_turns.specs.Core.{CoreState, at_disk}
-use Rattle.core_turns.specs.UnderWay.{HoldingCall, CommitStands, GroupsStand, NoCommitStands, shown_in, shown_of}
+use Rattle.core_turns.proofs.Words.{◌≡◌, ℕ, ◌≤◌, List, [], ◌∷◌, Option, Some, None, refl, ◌∙◌, ap, Disk, Lawful, TouchesOnly, IsWithin, count_of, Kept, Setting, point_of, IsSpare, IsRowOf, KeepsSince, touched_knows, touched_since, Stage, Lays, CommitRun, IsBeside, shown_at, shown_by, committing_knows, committing_touched, CoreState, at_disk, HoldingCall, CommitStands, GroupsStand, NoCommitStands, shown_in, shown_of}
+use Rattle.core_commit.specs.declared.commit_run.Stage.TheVariants.{Signs}
 use Rattle.core_turns.proofs.StandFrames.{commit_still, lies_still, out_leaves}
 
 -- Of one group that was begun images can show what its commit has come to.
@@ -22,7 +9,8 @@ shown_one next Lays = refl
 shown_one next Signs = refl
 
 -- These sectors are asked for by no group that stands, and a write there may come between the steps of a commit.
-pub record AreSpare (P : ℕ → ℕ → Type 0) (setting : Setting) (last : Kept) (begun : List Kept) (calls : List HoldingCall)
+pub record AreSpare (P : ℕ → ℕ → Type 0) (setting : Setting) (last : Kept) (begun : List Kept)
+    (calls : List HoldingCall)
     (state : CoreState) : Type 0 where
   pub alone : NoCommitStands setting last begun state → (device device_sector : ℕ) → P device device_sector
       → IsSpare setting last begun device device_sector
@@ -50,10 +38,10 @@ module _ {before : CoreState} (out : ℕ) (disk : Disk) (P : ℕ → ℕ → Typ
   groups_written (Some commit) still_lawful groups = record {
     next = groups.next;
     begun_is = groups.begun_is;
-    of = commit_still before.core written.core (out_leaves before.core written.core refl within) groups.of;
+    of = search (commit_still, out_leaves);
     come = committing_touched setting last groups.next P commit (point_of before.core.pool.out before.disk)
         (point_of out disk) (spare.beside commit groups) touched within still_lawful groups.come;
-    lies = lies_still before.core written.core (out_leaves before.core written.core refl within) groups.lies;
+    lies = search (lies_still, out_leaves);
     kept = groups.kept;
     spared = groups.spared;
   }
@@ -67,6 +55,6 @@ module _ {before : CoreState} (out : ℕ) (disk : Disk) (P : ℕ → ℕ → Typ
       touched_since P touched setting last begun lawful (spare.alone stands) stands.knows groups time row kept
   since_written (Some commit) groups time row stands kept =
       touched_since P touched setting last (shown_by stands.next commit) lawful (spare.shown commit stands)
-      (committing_knows setting last stands.next commit (point_of before.core.pool.out before.disk) stands.come) groups time
-      (subst (IsRowOf groups last)
-      (ap (λ (l : List Kept). shown_in l commit.stage) stands.begun_is ∙ shown_one stands.next commit.stage) row) kept
+      (search committing_knows) groups time
+      (rw (← ap (λ (l : List Kept). shown_in l commit.stage) stands.begun_is ∙ shown_one stands.next commit.stage) row)
+      kept

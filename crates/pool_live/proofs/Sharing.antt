@@ -27,7 +27,7 @@ had_none script start room ready = record {
   passed = [];
   actors_are = refl;
   taken = tt;
-  come = came_nowhere script start [] refl;
+  come = came_nowhere refl;
   ready = ready;
 }
 
@@ -39,7 +39,7 @@ had_more script start before after actors actor room left had turn ready = recor
   passed = had.passed ++ taken_by actor after ∷ [];
   actors_are = map-append (λ (turn : TurnTaken). turn.actor) had.passed (taken_by actor after ∷ [])
       ∙ ap (λ (l : List ℕ). l ++ actor ∷ []) had.actors_are;
-  taken = taken_more script start had.passed (taken_by actor after) had.taken
+  taken = taken_more start had.passed had.taken
       (subst (λ (turns : Turns). IsTurnOf script actor turns after) (sym had.come.ends) turn.is);
   come = came_on script start before after had.passed (taken_by actor after ∷ []) had.come turn.come;
   ready = ready;
@@ -123,9 +123,9 @@ pub carried_played : (script : Script) (start now : Replay) (room : ℕ) → Has
 carried_played script start now room played = record {
   passed = played.passed;
   clients = now.turns.clients;
-  taken = (gone_taken script start now played.passed played.gone).0;
+  taken = (gone_taken played.gone).0;
   come = played.come;
-  counted = gone_counted script start now played.passed played.gone;
+  counted = gone_counted played.gone;
 }
 
 pub counted_first : (turns : ℕ) (passed : List TurnTaken) → turns ≡ 0 + length passed → turns ≡ length passed

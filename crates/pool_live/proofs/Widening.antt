@@ -86,11 +86,11 @@ left_undone script attaches state items widens rest bank none = record {
       passed = [];
       clients = blank_clients 9;
       taken = tt;
-      come = came_nowhere (with_copier attaches script) (turns_from (with_copier attaches script) state items) [] refl;
+      come = came_nowhere refl;
       counted = refl;
     },
   );
-  calls = (schedule_at_rest (with_copier attaches script) state.core state.disk items 9 rest bank none).answered.right;
+  calls = (schedule_at_rest (with_copier attaches script) 9 rest bank none).answered.right;
   complete = λ whole. cc;
   limit = λ limit. cc;
   memory = λ is. refl;

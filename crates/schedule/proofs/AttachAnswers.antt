@@ -1,19 +1,8 @@
 -- What an attach is answered that made a group.
-use Rattle.std.proofs.Common.{◌≡◌, ℕ, List, Option, None, Some, refl}
-use Rattle.std.specs.Prelude.{⊤}
-use Rattle.bank_trait.specs.Disk.{Disk}
-use Rattle.core_state.specs.declared.answer.Answer.{Answer}
+use Rattle.schedule.proofs.Words.{◌≡◌, ℕ, List, Option, None, Some, refl, ⊤, Disk, Answer, Entry, Item, IsAnswerOf, Map, PutBytes, map_after_answer, WhyDropped, attach_answer, IsAnswerCause, IsDeviceCause}
 use Rattle.core_state.specs.declared.answer.Answer.TheVariants as answer
 use Rattle.core_state.specs.declared.answer.Kind.TheVariants as kind
-use Rattle.core_state.specs.declared.item.Entry.{Entry}
-use Rattle.core_state.specs.declared.item.Item.{Item}
-use Rattle.core_state.specs.Legal.{IsAnswerOf}
-use Rattle.core_state.specs.Map.{Map, PutBytes, map_after_answer}
-use Rattle.join_commit.specs.declared.join_run.WhyDropped.{WhyDropped}
 use Rattle.join_commit.specs.declared.join_run.WhyDropped.TheVariants as why
-use Rattle.core_turns.specs.Attaching.{attach_answer}
-use Rattle.schedule.specs.Caused.{IsAnswerCause}
-use Rattle.schedule.specs.Fitting.{IsDeviceCause}
 use Rattle.schedule.proofs.Refusals.{IsRefusal}
 
 -- The device was attached, or not: it failed, or one of the pool is out.
@@ -44,7 +33,8 @@ pub end_cause : (devices : ℕ) (dropped : WhyDropped → Type 0) (because : Opt
     → ((cause : WhyDropped) → because ≡ Some cause → dropped cause)
     → IsDeviceCause devices dropped (attach_answer because width group)
 end_cause devices dropped None width group known = tt
-end_cause devices dropped (Some (why.NewDeviceFailed device)) width group known = known (why.NewDeviceFailed device) refl
+end_cause devices dropped (Some (why.NewDeviceFailed device)) width group known = known
+    (why.NewDeviceFailed device) refl
 end_cause devices dropped (Some (why.DeviceOut device)) width group known = known (why.DeviceOut device) refl
 
 -- Each answers an attach,
@@ -55,9 +45,9 @@ end_answers (answer.DeviceOut device) ended = refl
 end_answers other ended = absurd ended
 
 -- and changes no map.
-pub end_map : (handed : PutBytes) (map : Map) (entry : Entry) (given : Answer) → IsAttachEnd given
+pub end_map : (handed : PutBytes) {map : Map} (entry : Entry) (given : Answer) → IsAttachEnd given
     → map_after_answer handed map entry given ≡ map
-end_map handed map entry (answer.Attached width group) ended = refl
-end_map handed map entry (answer.NewDeviceFailed device) ended = refl
-end_map handed map entry (answer.DeviceOut device) ended = refl
-end_map handed map entry other ended = absurd ended
+end_map handed entry (answer.Attached width group) ended = refl
+end_map handed entry (answer.NewDeviceFailed device) ended = refl
+end_map handed entry (answer.DeviceOut device) ended = refl
+end_map handed entry other ended = absurd ended

@@ -1,41 +1,10 @@
 -- What the turns of an attach come to that make its commit, while the group stays as it was begun.
-use Rattle.std.proofs.Common.{◌≡◌, ◌≢◌, ℕ, ◌-◌, List, [], length, Option, Some, None, refl, sym, ◌∙◌, ap, subst}
-use Rattle.std.specs.Prelude.{slice_get}
-use Rattle.uberblock_ring.specs.Devices.{IsWithin}
-use Rattle.core_commit.specs.declared.commit_run.Stage.{Stage}
-use Rattle.core_commit.specs.declared.commit_run.Stage.TheVariants.{Lays, Signs as Signing}
-use Rattle.core_commit.specs.CommitTurns.{CommitRun}
+use Rattle.schedule.proofs.Words.{◌≡◌, ◌≢◌, ℕ, ◌-◌, List, [], Option, Some, None, refl, sym, ◌∙◌, ap, subst, slice_get, IsWithin, Stage, Lays, CommitRun, map_of, AwaitsAttach, World, WhyDropped, JoinRun, ScriptCall, Script, calls_of, AttachRun, Joins, Signs, More, HoldsAttach, IsAttachRunOf, OnlyGoOut, StepsJoin, attach_commit, IsCommitOf, StepsCommit, Core, HasTooManyOut, Stands, shown_in, join_drops_since, join_drops_stands, join_goes_since, join_goes_stands, few_out, commit_steps_since, commit_steps_stands, Client, UnderWay, Comes, TakesTurn, Past, Recorded, HasBegun, HasBegunIn, IsGoing, Runs, call_of_client, calls_under_way, commit_in, setting_now, LeavesGoing, Station, WorkGoesOn}
+use Rattle.core_commit.specs.declared.commit_run.Stage.TheVariants.{Signs as Signing}
 use Rattle.core_state.specs.declared.answer.Kind.TheVariants as kind
-use Rattle.core_state.specs.Map.{map_of}
-use Rattle.core_state.specs.Moment.{AwaitsAttach}
-use Rattle.core_state.specs.World.{World}
 use Rattle.join_commit.specs.declared.join_run.JoinStep.TheVariants as step
-use Rattle.join_commit.specs.declared.join_run.WhyDropped.{WhyDropped}
-use Rattle.join_commit.specs.JoinRun.{JoinRun}
-use Rattle.client_script.specs.declared.call.ScriptCall.{ScriptCall}
-use Rattle.client_script.specs.Script.{Script, calls_of}
-use Rattle.core_turns.specs.declared.attaching.AttachRun.{AttachRun}
-use Rattle.core_turns.specs.declared.attaching.AttachRun.TheVariants.{Joins, Signs}
-use Rattle.core_turns.specs.declared.turn.Turn.TheVariants.{More}
-use Rattle.core_turns.specs.Attaching.{HoldsAttach, IsAttachRunOf, OnlyGoOut, StepsJoin, attach_commit}
-use Rattle.core_turns.specs.Committing.{IsCommitOf, StepsCommit}
-use Rattle.core_turns.specs.Core.{Core}
-use Rattle.core_turns.specs.Getting.{HasTooManyOut}
-use Rattle.core_turns.specs.UnderWay.{AreCallsOf, HoldingCall, Stands, shown_in, shown_of}
-use Rattle.core_turns.proofs.AttachSigns.{join_drops_since, join_drops_stands, join_goes_since}
-use Rattle.core_turns.proofs.AttachStands.{join_goes_stands}
-use Rattle.core_turns.proofs.Commits.{few_out}
-use Rattle.core_turns.proofs.CommitStands.{commit_steps_since, commit_steps_stands}
 use Rattle.core_turns.proofs.Frames.{calls_stay as core_calls}
-use Rattle.schedule.specs.declared.client.Client.{Client}
-use Rattle.schedule.specs.declared.client.UnderWay.{UnderWay}
 use Rattle.schedule.specs.declared.client.Work.TheVariants as work
-use Rattle.schedule.specs.Comes.{Comes, TakesTurn}
-use Rattle.schedule.specs.Moments.{Past}
-use Rattle.schedule.specs.Recorded.{Recorded}
-use Rattle.schedule.specs.Running.{HasBegun, HasBegunBy, HasBegunIn, IsGoing, Runs, call_of_client, calls_under_way, commit_in, held_by, held_under, setting_now}
-use Rattle.schedule.specs.Turned.{LeavesGoing, Station, WorkGoesOn}
-use Rattle.schedule.specs.Works.{begun_at}
 use Rattle.schedule.proofs.Coming.{goes_for_attach}
 use Rattle.schedule.proofs.Going.{attach_commits, one_commit}
 use Rattle.schedule.proofs.Recording.{GoesOnSince, HalvesGoOn, recorded_halves}
@@ -49,8 +18,8 @@ pub from_first : (to : Stage) → HalvesGoOn Lays to
 from_first Lays = tt
 from_first Signing = tt
 
-module _ {script : Script} {actor : ℕ} {before after : Station} {clients news : List Client} (call : ScriptCall)
-    (takes : TakesTurn script actor before after clients news) (under : UnderWay) (run : AttachRun) (commit : CommitRun)
+module _ {script : Script} {actor : ℕ} {before after : Station} {clients news : List Client} {call : ScriptCall}
+    (takes : TakesTurn script actor before after clients news) {under : UnderWay} {run : AttachRun} {commit : CommitRun}
     (makes : attach_commit run ≡ Some commit) (does_is : under.work ≡ work.Attach run)
     (under_is : before.client.under_way ≡ Some under)
     (is : slice_get (calls_of script actor) (before.client.begun - 1) ≡ Some call)
@@ -62,17 +31,18 @@ module _ {script : Script} {actor : ℕ} {before after : Station} {clients news 
   now = after.state.core
 
   commit_is : commit_in under.work ≡ Some commit
-  commit_is = ap commit_in does_is ∙ makes
+  commit_is = cc
 
   attaching : IsGoing clients actor before.client under
-  attaching = its_going takes call under (work.Attach run) does_is under_is is
+  attaching = search its_going
 
   -- No other client makes a commit,
   pub only : OnlyIt clients actor
   only = one_commit takes.schedule.going attaching commit_is
 
   -- the commit and the attach are the core's,
-  pub of_core : (IsCommitOf old commit × (old.committing ≡ Some actor)) × (IsAttachRunOf old run × (old.attaching ≡ Some actor))
+  pub of_core : (IsCommitOf old commit × (old.committing ≡ Some actor))
+      × (IsAttachRunOf old run × (old.attaching ≡ Some actor))
   of_core = let its = its_work takes call under (work.Attach run) does_is under_is is in
       (its.commit commit makes, its.attach run refl)
 
@@ -87,28 +57,24 @@ module _ {script : Script} {actor : ℕ} {before after : Station} {clients news 
       (some_is (sym ((takes.schedule.going.each other its its_under going).attach its_run attach).1 ∙ of_core.1.1))
 
   pub same_calls : call_of_client after.client ≡ [] → calls_under_way news ≡ calls_under_way clients
-  same_calls = calls_stay takes.was takes.changes (ap held_under under_is ∙ ap held_by does_is)
+  same_calls = calls_stay takes.was takes.changes (cc)
 
   -- It is the commit that stands.
   pub its_stands : {world : World} {past : Past} (runs : Runs world script past before.state before.items clients)
       → Stands (setting_now runs) runs.last runs.begun (map_of world.handed world.opening before.items) runs.contents
       (calls_under_way clients) (Some commit) before.state
-  its_stands {world = world} runs = subst (λ (c : Option CommitRun). Stands (setting_now runs) runs.last runs.begun
-      (map_of world.handed world.opening before.items) runs.contents (calls_under_way clients) c before.state)
-      (its_commit clients actor before.client under commit runs.commit attaching commit_is only runs.theirs) runs.stands
+  its_stands {world = world} runs = rw (← its_commit runs.commit attaching commit_is only runs.theirs) runs.stands
 
   pub its_recorded : {world : World} {past : Past} (runs : Runs world script past before.state before.items clients)
       → Recorded world past before.items runs.item runs.last (shown_in runs.begun commit.stage) before.state.disk
-  its_recorded {world = world} {past = past} runs = subst (λ (c : Option CommitRun). Recorded world past before.items
-      runs.item runs.last (shown_of runs.begun c) before.state.disk)
-      (its_commit clients actor before.client under commit runs.commit attaching commit_is only runs.theirs) runs.recorded
+  its_recorded {world = world} {past = past} runs = rw (its_commit runs.commit attaching commit_is only runs.theirs)
+      at runs.recorded
 
   -- The group begun is the attach's.
   pub its_group : {world : World} {past : Past} (runs : Runs world script past before.state before.items clients)
       → HasBegun world before.items runs.item runs.begun under.at (AwaitsAttach world.calls before.items under.at)
   its_group {world = world} runs = subst (HasBegunIn world before.items runs.item runs.begun under.at) makes
-      (subst (HasBegunBy world before.items runs.item runs.begun under.at) does_is
-      (runs.each actor before.client under attaching).group)
+      (rw does_is at (runs.each actor before.client under attaching).group)
 
   -- what is known of it before the turn
   pub its_known : {world : World} {past : Past} (runs : Runs world script past before.state before.items clients)
@@ -132,48 +98,34 @@ module _ {script : Script} {actor : ℕ} {before after : Station} {clients news 
       → IsWithin old.pool.out world.setting.failed → StandsOn next made world past runs)
       → LeavesGoing actor call before after under (More (work.Attach next))
       → Comes script actor before after clients news
-  attach_steps next made next_makes few core of of_commit stands further = comes_further takes call under (work.Attach run)
-      does_is under_is is (work.Attach next) (goes_for_attach script actor (before.client.begun - 1) call is for_call.0 goes)
-      further refl
-      (attach_commits takes.was takes.changes takes.schedule.going
-      (subst (AreCallsOf now) (sym (same_calls (ap held_under next_is)))
-      (core_calls old now (calls_under_way clients) core goes.0.out.still takes.schedule.going.are))
-      (record { at = under.at; work = work.Attach next }) next made call alone
+  attach_steps next made next_makes few core of of_commit stands further = comes_further takes call under
+      (work.Attach run)
+      does_is under_is is (work.Attach next) (goes_for_attach actor (before.client.begun - 1) is for_call.0 goes)
+      further refl (attach_commits takes.was takes.changes takes.schedule.going
+      (search (same_calls, next_is, core_calls)) alone
       only refl of (ap (λ (c : Core). c.attaching) core ∙ of_core.1.1) next_is next_makes tt
       (ap (λ (c : Client). slice_get (calls_of script actor) (c.begun - 1)) further.1 ∙ is) for_call of_commit
       (ap (λ (c : Core). c.committing) core ∙ of_core.0.1))
       (λ world past handed within listed runs.
       let stood = stands world past runs (within (few_out old few)) in
-      commit_goes_on after.state takes.was takes.changes runs under (work.Attach next) made
-      (its_holds after.state takes.was takes.changes runs runs.begun under.at next next_is stood.2)
-      (λ other its its_under its_run apart going does. absurd (alone other its its_under its_run apart going does))
-      goes.0.later
+      commit_goes_on after.state takes.was takes.changes runs under made (search (its_holds, next_is))
+      (λ other its its_under its_run apart going does. search alone) goes.0.later
       (recorded_halves (its_group runs) (λ awaits. awaits) (begun_parity (its_stands runs)) commit.stage made.stage
-      stood.0 (its_recorded runs))
-      stood.1 under_is next_makes client_is
-      (λ group. subst (HasBegunIn world before.items runs.item runs.begun under.at) (sym next_makes) (its_group runs))
-      (λ asked. tt)
-      (subst (λ (l : List HoldingCall). Stands (setting_now runs) runs.last runs.begun
-      (map_of world.handed world.opening before.items) runs.contents l (Some made) after.state)
-      (sym (same_calls (ap held_under next_is))) stood.3))
+      stood.0 (its_recorded runs)) stood.1 under_is next_makes client_is
+      (λ group. rw next_makes (its_group runs))
+      (λ asked. tt) (search (same_calls, next_is)))
     where
-      at_is : begun_at (attach_commit next) (commit_in under.work) under.at (length before.items) ≡ under.at
-      at_is = λ i. begun_at (next_makes i) (commit_is i) under.at (length before.items)
-
       client_is : after.client
           ≡ record { begun = before.client.begun; under_way = Some (record { at = under.at; work = work.Attach next }) }
-      client_is = further.1 ∙ ap (λ (at : ℕ). record {
-        begun = before.client.begun;
-        under_way = Some (record { at = at; work = work.Attach next });
-      }) at_is
+      client_is = cc
 
       next_is : after.client.under_way ≡ Some (record { at = under.at; work = work.Attach next })
-      next_is = ap (λ (c : Client). c.under_way) client_is
+      next_is = cc
 
 -- ---- turn by turn
 
-module _ {script : Script} {actor : ℕ} {before after : Station} {clients news : List Client} (call : ScriptCall)
-    (takes : TakesTurn script actor before after clients news) (under : UnderWay)
+module _ {script : Script} {actor : ℕ} {before after : Station} {clients news : List Client} {call : ScriptCall}
+    (takes : TakesTurn script actor before after clients news) {under : UnderWay}
     (under_is : before.client.under_way ≡ Some under)
     (is : slice_get (calls_of script actor) (before.client.begun - 1) ≡ Some call) where
   -- The device has come one call further beside the commit.
@@ -183,17 +135,16 @@ module _ {script : Script} {actor : ℕ} {before after : Station} {clients news 
       → IsAttachRunOf after.state.core (Joins next)
       → LeavesGoing actor call before after under (More (work.Attach (Joins next)))
       → Comes script actor before after clients news
-  join_goes join next does_is goes did core of = attach_steps call takes under (Joins join) join.run refl does_is under_is is
+  join_goes join next does_is goes did core of = attach_steps takes refl does_is under_is is
       goes (Joins next) next.run refl did.few core of of.0.of
       (λ world past runs within.
-      let its = its_stands call takes under (Joins join) join.run refl does_is under_is is goes runs in
-      let known = its_known call takes under (Joins join) join.run refl does_is under_is is goes runs in
-      let attach = of_core call takes under (Joins join) join.run refl does_is under_is is goes in
-      let stood = join_goes_stands join takes.is takes.schedule.going.are attach.1.0.1 its known after.state next did core
-      within takes.still_lawful in (
-        subst (λ (s : Stage). HalvesGoOn s next.run.stage) (sym known.3) (from_first next.run.stage),
-        λ groups time row. join_goes_since join after.state takes.is attach.1.0.1 takes.schedule.going.are its known next
-            groups time did within takes.still_lawful row,
+      let its = its_stands takes refl does_is under_is is goes runs in
+      let known = its_known takes refl does_is under_is is goes runs in
+      let attach = of_core takes refl does_is under_is is goes in
+      let stood = join_goes_stands join takes.is takes.schedule.going.are attach.1.0.1 its known after.state next did
+      core within takes.still_lawful in (
+        rw known.3 (from_first next.run.stage),
+        search join_goes_since,
         stood.1,
         stood.0,
       ))
@@ -205,18 +156,16 @@ module _ {script : Script} {actor : ℕ} {before after : Station} {clients news 
       → IsAttachRunOf after.state.core (Signs made (Some because))
       → LeavesGoing actor call before after under (More (work.Attach (Signs made (Some because))))
       → Comes script actor before after clients news
-  join_drops join made because does_is goes did core of = attach_steps call takes under (Joins join) join.run refl does_is
+  join_drops join made because does_is goes did core of = attach_steps takes refl does_is
       under_is is goes (Signs made (Some because)) made refl did.few core of of.0.of
       (λ world past runs within.
-      let its = its_stands call takes under (Joins join) join.run refl does_is under_is is goes runs in
-      let known = its_known call takes under (Joins join) join.run refl does_is under_is is goes runs in
-      let attach = of_core call takes under (Joins join) join.run refl does_is under_is is goes in (
-        subst (λ (s : Stage). HalvesGoOn s made.stage) (sym known.3) (from_first made.stage),
-        join_drops_since join after.state takes.is attach.1.0.1 takes.schedule.going.are its known made because did core
-            within,
+      let its = its_stands takes refl does_is under_is is goes runs in
+      let known = its_known takes refl does_is under_is is goes runs in
+      let attach = of_core takes refl does_is under_is is goes in (
+        rw known.3 (from_first made.stage),
+        search join_drops_since,
         tt,
-        join_drops_stands join after.state takes.is attach.1.0.1 takes.schedule.going.are its known made because did core
-            within,
+        search join_drops_stands,
       ))
 
   -- The second half goes on.
@@ -226,12 +175,8 @@ module _ {script : Script} {actor : ℕ} {before after : Station} {clients news 
       → StepsCommit before.state commit after.state (More next) → IsAttachRunOf after.state.core (Signs next same)
       → LeavesGoing actor call before after under (More (work.Attach (Signs next same)))
       → Comes script actor before after clients news
-  signs_on commit next because same does_is goes steps of = attach_steps call takes under (Signs commit because) commit refl
+  signs_on commit next because same does_is goes steps of = attach_steps takes refl
       does_is under_is is goes (Signs next same) next refl steps.0 steps.2 of of.0.of
       (λ world past runs within.
-      let its = its_stands call takes under (Signs commit because) commit refl does_is under_is is goes runs in (
-        halves_go steps.1,
-        commit_steps_since takes.is steps within its,
-        tt,
-        commit_steps_stands takes.is steps within its,
-      ))
+      let its = its_stands takes refl does_is under_is is goes runs in search
+      (halves_go, commit_steps_since, commit_steps_stands))

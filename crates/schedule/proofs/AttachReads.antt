@@ -1,54 +1,10 @@
 -- What the turns of an attach come to that make no commit, among the other clients' calls: the reads of the new device,
 -- and an attach that ends with them.
-use Rattle.std.proofs.Common.{◌≡◌, ◌≢◌, inl, ℕ, ◌-◌, List, [], ◌∷◌, ◌++◌, length, Some, None, refl, sym, ◌∙◌, ap, subst}
-use Rattle.std.specs.Prelude.{slice_get}
-use Rattle.bank_trait.specs.Disk.{Disk, Lawful, Unchanged}
-use Rattle.bank_trait.proofs.Moments.{later_refl}
-use Rattle.uberblock_ring.specs.Uberblock.{Uber, max_group}
-use Rattle.attach_ring.specs.Ring.{HasReadRing, ReadsSlot, RingRead}
-use Rattle.attach_ring.proofs.Rings.{one_more_read}
-use Rattle.core_commit.specs.Spared.{IsOnInUse}
-use Rattle.core_open.proofs.Others.{read_touches}
-use Rattle.core_open.proofs.Unchanged.{unchanged_none}
-use Rattle.core_state.specs.declared.answer.Answer.{Answer}
+use Rattle.schedule.proofs.Words.{◌≡◌, ◌≢◌, inl, ℕ, ◌-◌, List, [], ◌∷◌, ◌++◌, Some, None, refl, sym, ◌∙◌, ap, subst, slice_get, Disk, Lawful, Unchanged, later_refl, Uber, max_group, ReadsSlot, RingRead, one_more_read, IsOnInUse, read_touches, unchanged_none, Answer, Entry, Item, IsAnswerOf, Map, PutBytes, map_after_answer, map_of, World, WhyDropped, ScriptCall, Script, calls_of, AttachRun, Reads, Checked, Joins, Signs, More, Done, AttachGoesOn, FindsFree, HoldsAttach, IsAttachRunOf, IsDeviceRefused, ReadsNext, StopsAttach, WaitsForCommit, attach_commit, IsSyncRefused, Core, CoreState, HasBankOf, IsCore, at_disk, HasTooManyOut, AreCallsOf, Stands, attach_beside, attaching_calls, attaching_stands, look_stands, attaching_commit, rests, since_read, Client, UnderWay, Comes, TakesTurn, GoesOnFor, HasDropCause, IsDeviceCause, IsGroupKind, Past, IsRightNext, AreGoing, IsGoing, Runs, call_of_client, calls_under_way, commit_in, held_under, setting_now, turns_of, made_by, LeavesGoing, Station, WorkGoesOn, entry_for}
 use Rattle.core_state.specs.declared.answer.Answer.TheVariants as answer
-use Rattle.core_state.specs.declared.answer.Kind.{Kind}
 use Rattle.core_state.specs.declared.answer.Kind.TheVariants as kind
-use Rattle.core_state.specs.declared.item.Entry.{Entry}
-use Rattle.core_state.specs.declared.item.Item.{Item}
 use Rattle.core_state.specs.declared.item.Item.TheVariants.{Call as CallItem}
-use Rattle.core_state.specs.Legal.{IsAnswerOf}
-use Rattle.core_state.specs.Map.{Map, PutBytes, map_after_answer, map_of}
-use Rattle.core_state.specs.World.{World}
-use Rattle.join_commit.specs.declared.join_run.WhyDropped.{WhyDropped}
-use Rattle.client_script.specs.declared.call.ScriptCall.{ScriptCall}
-use Rattle.client_script.specs.Script.{Script, calls_of}
-use Rattle.core_turns.specs.declared.attaching.AttachRun.{AttachRun}
-use Rattle.core_turns.specs.declared.attaching.AttachRun.TheVariants.{Reads, Checked, Joins, Signs}
-use Rattle.core_turns.specs.declared.turn.Turn.TheVariants.{More, Done}
-use Rattle.core_turns.specs.Attaching.{AttachGoesOn, FindsFree, HoldsAttach, IsAttachRunOf, IsDeviceRefused, ReadsNext, StopsAttach, WaitsForCommit, attach_commit}
-use Rattle.core_turns.specs.Committing.{IsCommitOf, IsSyncRefused}
-use Rattle.core_turns.specs.Core.{Core, CoreState, HasBankOf, IsCore, at_disk}
-use Rattle.core_turns.specs.Getting.{HasTooManyOut}
-use Rattle.core_turns.specs.UnderWay.{AreCallsOf, HoldingCall, Stands}
-use Rattle.core_turns.proofs.AttachBeside.{attach_beside}
-use Rattle.core_turns.proofs.AttachStands.{attaching_calls, attaching_stands, look_stands}
-use Rattle.core_turns.proofs.AttachTurns.{attaching_commit}
-use Rattle.core_turns.proofs.Commits.{rests}
-use Rattle.core_turns.proofs.StandFrames.{since_read}
-use Rattle.schedule.specs.declared.client.Client.{Client}
-use Rattle.schedule.specs.declared.client.UnderWay.{UnderWay}
 use Rattle.schedule.specs.declared.client.Work.TheVariants as work
-use Rattle.schedule.specs.Comes.{Comes, TakesTurn}
-use Rattle.schedule.specs.Coming.{GoesOnFor}
-use Rattle.schedule.specs.Dropping.{HasDropCause}
-use Rattle.schedule.specs.Fitting.{IsDeviceCause, IsGroupKind}
-use Rattle.schedule.specs.Moments.{Past}
-use Rattle.schedule.specs.Recorded.{IsRightNext}
-use Rattle.schedule.specs.Running.{AreGoing, IsGoing, Runs, call_of_client, calls_under_way, commit_in, held_by, held_under, setting_now}
-use Rattle.schedule.specs.Turns.{turns_of}
-use Rattle.schedule.specs.Works.{made_by}
-use Rattle.schedule.specs.Turned.{LeavesGoing, Station, WorkGoesOn, entry_for}
 use Rattle.schedule.proofs.AttachUses.{refused_plain, sync_plain}
 use Rattle.schedule.proofs.Coming.{goes_for_attach}
 use Rattle.schedule.proofs.Fitting.{TellsOut, attach_fits}
@@ -59,7 +15,7 @@ use Rattle.schedule.proofs.Refusals.{IsRefusal, device_cause, device_caused, dev
 use Rattle.schedule.proofs.RunsEnd.{answers_call as runs_answer}
 use Rattle.schedule.proofs.RunsGoOn.{goes_on as runs_goes_on, its_holds}
 use Rattle.schedule.proofs.Syncs.{its_commit, refused_answers as sync_answers, refused_map as sync_map, refused_right as sync_refused_right, refused_tells as sync_tells, stands_know}
-use Rattle.schedule.proofs.Theirs.{begun_before, calls_stay, none_some, none_there, same_attach, some_is, work_no_commit}
+use Rattle.schedule.proofs.Theirs.{calls_stay, none_there, same_attach, some_is, work_no_commit}
 use Rattle.schedule.proofs.UsingEnds.{EndsPlainly}
 use Rattle.schedule.proofs.UsingWorks.{plain_listed}
 use Rattle.schedule.proofs.TurnComes.{comes_answered, comes_further, its_asked, its_going, its_number, its_place, its_work}
@@ -69,22 +25,23 @@ abbrev pub looked : {world : World} {script : Script} {past : Past} {before : Co
     {clients : List Client} (after : Disk) → AreGoing script before.core clients → IsCore before.core → Lawful after
     → Unchanged before.disk after → Runs world script past before items clients
     → Runs world script past (at_disk before.core after) items clients
-looked {before = before} {clients = clients} after going is lawful unchanged runs = record {
+looked {before = before} after going is lawful unchanged runs = record {
   last = runs.last;
   begun = runs.begun;
   contents = runs.contents;
   commit = runs.commit;
   item = runs.item;
   reach = runs.reach;
-  recorded = recorded_goes runs.recorded runs.reach unchanged.goes_on.later
+  recorded = recorded_goes runs.recorded unchanged.goes_on.later
       (λ groups time row. since_read (setting_now runs) groups time before.disk after unchanged);
   stands = look_stands before (at_disk before.core after) is refl unchanged lawful runs.stands;
   theirs = runs.theirs;
   each = runs.each;
-  attaches = λ other its under run is does. attach_beside before after run ((going.each other its under is).attach run does).0
+  attaches = λ other its under run is does. attach_beside before after run
+      ((going.each other its under is).attach run does).0
       (λ join is_join.
       let makes : commit_in under.work ≡ Some join.run = ap commit_in does ∙ ap attach_commit is_join in
-      its_commit clients other its under join.run runs.commit is makes (one_commit going is makes) runs.theirs)
+      its_commit runs.commit is makes (one_commit going is makes) runs.theirs)
       (read_touches (IsOnInUse before.core.reach before.core.pool.out) unchanged) runs.stands
       (runs.attaches other its under run is does);
 }
@@ -94,10 +51,10 @@ made_none : (run : AttachRun) → attach_commit run ≡ None → made_by (work.A
 made_none (Reads ring) none = refl
 made_none (Checked ring) none = refl
 made_none (Joins join) none = refl
-made_none (Signs commit because) none = absurd (none_some (sym none))
+made_none (Signs commit because) none = cc
 
-module _ {script : Script} {actor : ℕ} {before after : Station} {clients news : List Client} (call : ScriptCall)
-    (takes : TakesTurn script actor before after clients news) (under : UnderWay) (run : AttachRun)
+module _ {script : Script} {actor : ℕ} {before after : Station} {clients news : List Client} {call : ScriptCall}
+    (takes : TakesTurn script actor before after clients news) {under : UnderWay} {run : AttachRun}
     (does_is : under.work ≡ work.Attach run) (under_is : before.client.under_way ≡ Some under)
     (is : slice_get (calls_of script actor) (before.client.begun - 1) ≡ Some call)
     (goes : WorkGoesOn (work.Attach run) before.state after.state) (none : attach_commit run ≡ None) where
@@ -119,10 +76,10 @@ module _ {script : Script} {actor : ℕ} {before after : Station} {clients news 
   of_core = (its_work takes call under (work.Attach run) does_is under_is is).attach run refl
 
   on : GoesOnFor script before.state after.state
-  on = goes_for_attach script actor (before.client.begun - 1) call is for_call.0 goes
+  on = goes_for_attach actor (before.client.begun - 1) is for_call.0 goes
 
   no_commit : commit_in under.work ≡ None
-  no_commit = ap commit_in does_is ∙ none
+  no_commit = cc
 
   -- Another's is none.
   alone : (other : ℕ) (its : Client) (its_under : UnderWay) (its_run : AttachRun) → other ≢ actor
@@ -132,58 +89,49 @@ module _ {script : Script} {actor : ℕ} {before after : Station} {clients news 
 
   -- The calls that hold sectors are the same.
   same_calls : call_of_client after.client ≡ [] → calls_under_way news ≡ calls_under_way clients
-  same_calls = calls_stay takes.was takes.changes (ap held_under under_is ∙ ap held_by does_is)
+  same_calls = calls_stay takes.was takes.changes (cc)
 
   -- It goes on, and makes no commit yet.
   pub attach_looks : (next : AttachRun) → now ≡ old → Unchanged before.state.disk after.state.disk
       → attach_commit next ≡ None → IsAttachRunOf now next
-      → ((world : World) (past : Past) (runs : Runs world script past (at_disk old after.state.disk) before.items clients)
+      → ((world : World) (past : Past) (runs : Runs world script past
+      (at_disk old after.state.disk) before.items clients)
       → HoldsAttach (setting_now runs) runs.last runs.begun after.state.disk next)
       → LeavesGoing actor call before after under (More (work.Attach next)) → ItComes
-  attach_looks next core unchanged next_early of holds further = comes_further takes call under (work.Attach run) does_is
-      under_is is (work.Attach next) on further refl
-      (going_goes takes.was takes.changes takes.schedule.going are (same_keeps old now core)
-      (work_no_commit under_is (λ makes. none_there no_commit makes))
-      (record { at = under.at; work = work.Attach next }) next next_is refl
+  attach_looks next core unchanged next_early of holds further = comes_further takes call under
+      (work.Attach run) does_is under_is is (work.Attach next) on further refl
+      (going_goes takes.was takes.changes takes.schedule.going are (same_keeps old core)
+      (work_no_commit under_is (λ makes. none_there no_commit makes)) next next_is refl
       (ap (λ (c : Core). c.attaching) core ∙ of_core.1) (record {
         hold = tt;
         call = call;
-        there = ap (λ (c : Client). slice_get (calls_of script actor) (c.begun - 1)) further.1 ∙ is;
+        there = cc;
         asked = for_call;
-        commit = λ commit its. absurd (none_some (sym next_early ∙ its));
+        commit = λ commit its. cc;
         attach = λ its its_is. (
-          subst (IsAttachRunOf now) (same_attach its_is) of,
+          rw (← same_attach its_is) of,
           ap (λ (c : Core). c.attaching) core ∙ of_core.1,
         );
       }))
       (λ world past handed within listed was.
       let runs = looked after.state.disk takes.schedule.going takes.is takes.still_lawful unchanged was in
-      runs_goes_on after.state takes.was takes.changes runs under (work.Attach next)
-      (its_holds after.state takes.was takes.changes runs runs.begun under.at next next_is (holds world past runs))
-      (λ other its its_under its_run apart going attach. absurd (alone other its its_under its_run apart going attach))
+      runs_goes_on after.state takes.was takes.changes runs under (search (its_holds, next_is))
+      (λ other its its_under its_run apart going attach. search alone)
       (later_refl after.state.disk) (λ groups time row kept. kept) under_is client_is
       (λ makes. none_there no_commit makes) (λ makes. none_there next_early makes) (λ asked asked_is. tt)
       (subst (λ (s : CoreState). Stands (setting_now runs) runs.last runs.begun
       (map_of world.handed world.opening before.items) runs.contents (calls_under_way news) runs.commit s)
-      (λ i. at_disk (sym core i) after.state.disk)
-      (subst (λ (l : List HoldingCall). Stands (setting_now runs) runs.last runs.begun
-      (map_of world.handed world.opening before.items) runs.contents l runs.commit (at_disk old after.state.disk))
-      (sym (same_calls (ap held_under next_is))) runs.stands)))
+      (λ i. at_disk (sym core i) after.state.disk) (search (same_calls, next_is))))
     where
       client_is : after.client
           ≡ record { begun = before.client.begun; under_way = Some (record { at = under.at; work = work.Attach next }) }
-      client_is = further.1 ∙ ap (λ (at : ℕ). record {
-        begun = before.client.begun;
-        under_way = Some (record { at = at; work = work.Attach next });
-      }) (begun_before (work.Attach next) under.work under.at (length before.items)
-          (λ makes. none_there next_early makes))
+      client_is = cc
 
       next_is : after.client.under_way ≡ Some (record { at = under.at; work = work.Attach next })
-      next_is = ap (λ (c : Client). c.under_way) client_is
+      next_is = cc
 
       are : AreCallsOf now (calls_under_way news)
-      are = subst (λ (c : Core). AreCallsOf c (calls_under_way news)) (sym core)
-          (subst (AreCallsOf old) (sym (same_calls (ap held_under next_is))) takes.schedule.going.are)
+      are = rw core (subst (AreCallsOf old) (sym (same_calls (ap held_under next_is))) takes.schedule.going.are)
 
   -- what an answer is with which it ends before its commit
   pub record EndsEarly (given : Answer) : Type 0 where
@@ -200,72 +148,63 @@ module _ {script : Script} {actor : ℕ} {before after : Station} {clients news 
   -- It ends, and no device is attached.
   pub attach_stops : (given : Answer) → EndsEarly given → StopsAttach before.state after.state
       → EndsPlainly given None → LeavesGoing actor call before after under (Done given) → ItComes
-  attach_stops given early stops plain leaves = comes_answered takes call before.client.begun under.at given
-      (its_number takes call under (work.Attach run) does_is under_is is)
+  attach_stops given early stops plain leaves = comes_answered takes under.at (search its_number)
       (its_place takes call under (work.Attach run) does_is under_is is) on listed leaves.1
-      (attach_fits old call.kind given for_call.0 early.answers early.tells early.limit early.cause)
-      (λ full. absurd (early.no_full full))
-      (going_stops takes.was takes.changes takes.schedule.going are of_core.1 (ap (λ (c : Core). c.attaching) stops.core)
-      (ap (λ (c : Core). c.committing) stops.core)
-      (λ commit of. subst (λ (c : Core). IsCommitOf c commit) (sym stops.core) (attaching_commit old None of))
+      (attach_fits for_call.0 early.answers early.tells early.limit early.cause)
+      (λ full. absurd (early.no_full full)) (going_stops takes.was takes.changes takes.schedule.going are of_core.1 (cc)
+      (cc)
+      (λ commit of. rw stops.core (attaching_commit old None of))
       (λ many. subst HasTooManyOut (sym stops.core) many)
       (work_no_commit under_is (λ makes. none_there no_commit makes)) idle_now)
       (λ world past handed within with was.
       let runs = looked after.state.disk takes.schedule.going takes.is takes.still_lawful stops.unchanged was in
       let map : Map = map_of world.handed world.opening before.items in
-      runs_answer after.state takes.was takes.changes runs runs.commit runs.recorded entry refl idle_now refl
+      runs_answer after.state takes.was takes.changes runs runs.commit runs.recorded refl idle_now refl
       (stands_know runs.stands) (early.right world past was) answers with runs.theirs
       (work_no_commit under_is (λ makes. none_there no_commit makes))
       (subst (λ (m : Map). Stands (setting_now runs) runs.last runs.begun m runs.contents (calls_under_way news)
-      runs.commit after.state)
-      (sym (early.no_block world.handed map entry))
+      runs.commit after.state) (sym (early.no_block world.handed map entry))
       (subst (λ (s : CoreState). Stands (setting_now runs) runs.last runs.begun map runs.contents (calls_under_way news)
       runs.commit s)
-      (λ i. at_disk (sym stops.core i) after.state.disk)
-      (attaching_stands old None after.state.disk takes.is
-      (subst (λ (l : List HoldingCall). Stands (setting_now runs) runs.last runs.begun map runs.contents l runs.commit
-      (at_disk old after.state.disk))
-      (sym (same_calls (ap held_under idle_now))) runs.stands)))))
+      (λ i. at_disk (sym stops.core i) after.state.disk) (search (attaching_stands, same_calls, idle_now)))))
     where
       entry : Entry
       entry = entry_for call actor before.client.begun under.at given
 
       answers : IsAnswerOf call.kind given
-      answers = subst (λ (k : Kind). IsAnswerOf k given) (sym for_call.0) early.answers
+      answers = rw for_call.0 early.answers
 
       listed : after.items ≡ before.items ++ CallItem entry ∷ []
-      listed = leaves.0 ∙ plain_listed now before.items under.at entry (made_by under.work) given
-          (subst (EndsPlainly given) (sym (ap made_by does_is ∙ made_none run none)) plain)
+      listed = leaves.0 ∙ plain_listed now before.items under.at entry
+          (rw (← ap made_by does_is ∙ made_none run none) at plain)
 
       idle_now : after.client.under_way ≡ None
-      idle_now = ap (λ (c : Client). c.under_way) leaves.1
+      idle_now = cc
 
       are : AreCallsOf now (calls_under_way news)
       are = subst (AreCallsOf now) (sym (same_calls (ap held_under idle_now)))
-          (subst (λ (c : Core). AreCallsOf c (calls_under_way clients)) (sym stops.core)
-          (attaching_calls old None (calls_under_way clients) takes.schedule.going.are))
+          (rw stops.core (attaching_calls old None (calls_under_way clients) takes.schedule.going.are))
 
   -- What is known of the ring that was read so far.
   known_of : {world : World} {past : Past}
       (runs : Runs world script past (at_disk old after.state.disk) before.items clients)
       → HoldsAttach (setting_now runs) runs.last runs.begun after.state.disk run
-  known_of runs = runs.attaches actor before.client under run (its_going takes call under (work.Attach run) does_is under_is is)
-      does_is
+  known_of runs = runs.attaches actor before.client under run (search its_going) does_is
 
 -- ---- turn by turn
 
 -- A slot was read of what the device shows still.
-reads_still : (before after : Disk) (ring next : RingRead) → Unchanged before after → ReadsSlot before ring next
-    → ReadsSlot after ring next
-reads_still before after ring next unchanged reads = record {
+reads_still : {before after : Disk} (ring : RingRead) {next : RingRead} → Unchanged before after
+    → ReadsSlot before ring next → ReadsSlot after ring next
+reads_still ring unchanged reads = record {
   bytes = reads.bytes;
   told = λ known is. reads.told known (sym (unchanged.reads ring.device ring.slots) ∙ is);
   taken = reads.taken;
   rest = reads.rest;
 }
 
-module _ {script : Script} {actor : ℕ} {before after : Station} {clients news : List Client} (call : ScriptCall)
-    (takes : TakesTurn script actor before after clients news) (under : UnderWay) (ring : RingRead)
+module _ {script : Script} {actor : ℕ} {before after : Station} {clients news : List Client} {call : ScriptCall}
+    (takes : TakesTurn script actor before after clients news) {under : UnderWay} (ring : RingRead)
     (under_is : before.client.under_way ≡ Some under)
     (is : slice_get (calls_of script actor) (before.client.begun - 1) ≡ Some call)
     (goes : (AttachGoesOn before.state after.state)
@@ -280,80 +219,65 @@ module _ {script : Script} {actor : ℕ} {before after : Station} {clients news 
   pub reads_next : (next : RingRead) → under.work ≡ work.Attach (Reads ring)
       → ReadsNext before.state ring after.state next → IsAttachRunOf after.state.core (Reads next)
       → LeavesGoing actor call before after under (More (work.Attach (Reads next))) → TurnComes
-  reads_next next does_is did of leaves = attach_looks call takes under (Reads ring) does_is under_is is goes refl
+  reads_next next does_is did of leaves = attach_looks takes does_is under_is is goes refl
       (Reads next) did.core did.unchanged refl of
-      (λ world past runs. one_more_read after.state.disk ring next
-      (reads_still before.state.disk after.state.disk ring next did.unchanged did.reads)
-      (known_of call takes under (Reads ring) does_is under_is is goes refl runs))
-      leaves
+      (λ world past runs. one_more_read after.state.disk ring next (reads_still ring did.unchanged did.reads)
+      (known_of takes does_is under_is is goes refl runs)) leaves
 
   -- it is found free,
   pub finds_free : (next : RingRead) → under.work ≡ work.Attach (Reads ring)
       → FindsFree before.state ring after.state next → IsAttachRunOf after.state.core (Checked next)
       → LeavesGoing actor call before after under (More (work.Attach (Checked next))) → TurnComes
-  finds_free next does_is did of leaves = attach_looks call takes under (Reads ring) does_is under_is is goes refl
+  finds_free next does_is did of leaves = attach_looks takes does_is under_is is goes refl
       (Checked next) did.core did.unchanged refl of
-      (λ world past runs. subst (HasReadRing after.state.disk) (sym did.same)
-      (known_of call takes under (Reads ring) does_is under_is is goes refl runs))
-      leaves
+      (λ world past runs. rw did.same (known_of takes does_is under_is is goes refl runs)) leaves
 
   -- or the attach waits for another's commit.
   pub waits_on : (next : RingRead) → under.work ≡ work.Attach (Checked ring)
       → WaitsForCommit before.state ring after.state next → IsAttachRunOf after.state.core (Checked next)
       → LeavesGoing actor call before after under (More (work.Attach (Checked next))) → TurnComes
-  waits_on next does_is did of leaves = attach_looks call takes under (Checked ring) does_is under_is is goes refl
-      (Checked next) (ap (λ (s : CoreState). s.core) did.state)
-      (subst (Unchanged before.state.disk) (sym (ap (λ (s : CoreState). s.disk) did.state))
-      (unchanged_none before.state.disk))
-      refl of
-      (λ world past runs. subst (HasReadRing after.state.disk) (sym did.same)
-      (known_of call takes under (Checked ring) does_is under_is is goes refl runs))
-      leaves
+  waits_on next does_is did of leaves = attach_looks takes does_is under_is is goes refl (Checked next) (cc)
+      (rw (ap (λ (s : CoreState). s.disk) did.state) (unchanged_none before.state.disk)) refl of
+      (λ world past runs. rw did.same (known_of takes does_is under_is is goes refl runs)) leaves
 
   -- It ends without a device: that one is not to be had,
   pub device_refused : (given : Answer) → under.work ≡ work.Attach (Reads ring)
       → StopsAttach before.state after.state → IsDeviceRefused before.state ring after.state given
       → LeavesGoing actor call before after under (Done given) → TurnComes
-  device_refused given does_is stops refused leaves = attach_stops call takes under (Reads ring) does_is under_is is goes
-      refl given (record {
-        answers = refusal_answers given refusal;
-        tells = device_tells before.state ring after.state given refused;
-        limit = λ reached told. absurd (subst IsRefusal told refusal);
-        cause = device_cause before.state.disk.devices dropped before.state ring after.state given refused (λ device rose. inl rose);
-        no_full = λ full. subst IsRefusal full refusal;
-        no_block = λ handed map entry. refusal_map handed map entry given refusal;
-        right = λ world past runs. refusal_right world before.items
-            (entry_for call actor before.client.begun under.at given) after.state.disk
-            (its_asked takes call under (work.Attach (Reads ring)) does_is under_is is).0 refusal
-            (device_caused before.state ring after.state given before.items runs.item (length before.items)
-            runs.recorded.latest
-            ((its_work takes call under (work.Attach (Reads ring)) does_is under_is is).attach (Reads ring) refl).0.behind
-            (ap (λ (u : Uber). u.reflow.to) runs.stands.alike ∙ runs.recorded.item_is.widths.1)
-            (known_of call takes under (Reads ring) does_is under_is is goes refl
-            (looked after.state.disk takes.schedule.going takes.is takes.still_lawful stops.unchanged runs)) refused);
-      })
-      stops (refused_plain before.state after.state takes.is ring given refused) leaves
+  device_refused given does_is stops refused leaves = attach_stops takes does_is under_is is goes refl given (record {
+    answers = refusal_answers given refusal;
+    tells = device_tells before.state ring after.state given refused;
+    limit = λ reached told. absurd (subst IsRefusal told refusal);
+    cause = device_cause before.state.disk.devices dropped before.state ring after.state given refused
+        (λ device rose. inl rose);
+    no_full = λ full. subst IsRefusal full refusal;
+    no_block = λ handed map entry. refusal_map handed map entry given refusal;
+    right = λ world past runs. refusal_right
+        (its_asked takes call under (work.Attach (Reads ring)) does_is under_is is).0 refusal
+        (device_caused before.state ring after.state given runs.recorded.latest
+        ((its_work takes call under (work.Attach (Reads ring)) does_is under_is is).attach (Reads ring) refl).0.behind
+        (ap (λ (u : Uber). u.reflow.to) runs.stands.alike ∙ runs.recorded.item_is.widths.1)
+        (known_of takes does_is under_is is goes refl
+        (looked after.state.disk takes.schedule.going takes.is takes.still_lawful stops.unchanged runs)) refused);
+  }) stops (search refused_plain) leaves
     where
       refusal : IsRefusal given
-      refusal = device_refusal before.state ring after.state given refused
+      refusal = search device_refusal
 
   -- or its commit is not begun, as that of a sync.
   pub commit_refused : (given : Answer) → under.work ≡ work.Attach (Checked ring)
       → StopsAttach before.state after.state → IsSyncRefused before.state.core given
       → LeavesGoing actor call before after under (Done given) → TurnComes
-  commit_refused given does_is stops refused leaves = attach_stops call takes under (Checked ring) does_is under_is is
-      goes refl given (record {
-        answers = sync_answers kind.Attach before.state.core given refused;
-        tells = sync_tells before.state.core given refused;
-        limit = λ reached told. (subst (IsSyncRefused before.state.core) told refused).2;
-        cause = sync_cause before.state.disk.devices dropped before.state.core given refused;
-        no_full = λ full. subst (IsSyncRefused before.state.core) full refused;
-        no_block = λ handed map entry. sync_map handed map entry before.state.core given refused;
-        right = λ world past runs. sync_refused_right world before.items runs.item
-            (entry_for call actor before.client.begun under.at given) after.state.disk before.state.core given
-            (subst IsGroupKind (sym (its_asked takes call under (work.Attach (Checked ring)) does_is under_is is).0) tt)
-            refl runs.recorded.latest
-            (λ none. rests before.state.core takes.is none ∙ ap (λ (u : Uber). u.group) runs.stands.alike
-            ∙ runs.recorded.item_is.number) refused;
-      })
-      stops (sync_plain before.state after.state takes.is given refused) leaves
+  commit_refused given does_is stops refused leaves = attach_stops takes does_is under_is is goes refl given (record {
+    answers = search sync_answers;
+    tells = sync_tells before.state.core given refused;
+    limit = λ reached told. (rw told at refused).2;
+    cause = search sync_cause;
+    no_full = λ full. rw full at refused;
+    no_block = λ handed map entry. search (sync_map, entry);
+    right = λ world past runs. sync_refused_right world before.state.core given
+        (subst IsGroupKind (sym (its_asked takes call under (work.Attach (Checked ring)) does_is under_is is).0) tt)
+        refl runs.recorded.latest
+        (λ none. rests before.state.core takes.is none ∙ ap (λ (u : Uber). u.group) runs.stands.alike
+        ∙ runs.recorded.item_is.number) refused;
+  }) stops (search sync_plain) leaves

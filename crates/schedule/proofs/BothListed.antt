@@ -1,19 +1,6 @@
 -- A group and the answer of the call that made it are listed at once.
-use Rattle.std.proofs.Common.{◌≡◌, inl, inr, ⊎_elim, ℕ, suc, ◌+◌, ◌<◌, ◌≤◌, List, [], ◌∷◌, ◌++◌, length, Some, refl, sym, ◌∙◌, ap, subst, arith, length-append}
-use Rattle.std.specs.List.{AllZip}
-use Rattle.std.proofs.lemmas.Bool.{cases_lt}
-use Rattle.core_state.specs.declared.item.Entry.{Entry}
+use Rattle.schedule.proofs.Words.{◌≡◌, inl, inr, ℕ, suc, ◌+◌, ◌<◌, ◌≤◌, List, [], ◌∷◌, ◌++◌, length, Some, refl, ap, arith, length-append, AllZip, cases_lt, Entry, Item, Group, Call, Map, PutBytes, GroupAt, IsGroupBefore, Calls, Follows, GroupsAreRight, IsAttachOf, Kept, Groups, IsGroupOf, groups_in, contains_none, grown_has, group_before_first, new_or_before, group_of_grown, width_step_where}
 use Rattle.core_state.specs.declared.item.Group.{Group as GroupItem}
-use Rattle.core_state.specs.declared.item.Item.{Item}
-use Rattle.core_state.specs.declared.item.Item.TheVariants.{Group, Call}
-use Rattle.core_state.specs.Map.{Map, PutBytes}
-use Rattle.core_state.specs.Legal.{GroupAt, IsGroupBefore}
-use Rattle.core_state.specs.Journal.{Calls, Follows, GroupsAreRight, IsAttachOf}
-use Rattle.core_state.specs.Keeps.{Kept}
-use Rattle.core_state.specs.Moment.{Groups, IsGroupOf, groups_in}
-use Rattle.core_state.proofs.Listed.{contains_none}
-use Rattle.journal_law.proofs.Grown.{grown_has, group_before_first, new_or_before}
-use Rattle.journal_law.proofs.GrownGroups.{group_of_grown, width_step_where}
 
 same_group : {one other : GroupItem} → Group one ≡ Group other → one ≡ other
 same_group is = cc
@@ -23,16 +10,8 @@ no_group is = cc
 
 -- The last group before an index is one alone.
 pub one_latest : {items : List Item} {index : ℕ} {one other : GroupItem} → IsGroupBefore items index one
-    → IsGroupBefore items index other
-    → one ≡ other
-one_latest {items = items} {one = one} {other = other} first second = ⊎_elim
-    (λ (less : first.place < second.place). absurd (first.latest second.place other less second.before second.there))
-    (λ (not_less : second.place ≤ first.place). ⊎_elim
-    (λ (more : second.place < first.place). absurd (second.latest first.place one more first.before first.there))
-    (λ (not_more : first.place ≤ second.place).
-    let at : first.place ≡ second.place = omega (arith, not_less, not_more) in
-    same (sym (subst (λ (k : ℕ). GroupAt items k one) at first.there) ∙ second.there))
-    (cases_lt second.place first.place)) (cases_lt first.place second.place)
+    → IsGroupBefore items index other → one ≡ other
+one_latest {items = items} {one = one} {other = other} first second = search (same, cases_lt, arith)
   where
     same : Some (Group one) ≡ Some (Group other) → one ≡ other
     same is = cc
@@ -65,7 +44,7 @@ module _ (items : List Item) (group : GroupItem) (entry : Entry) where
   abbrev pub with_both : List Item
   with_both = (items ++ Group group ∷ []) ++ Call entry ∷ []
 
-  module _ (item : GroupItem) (right : GroupsAreRight items) (latest : IsGroupBefore items (length items) item)
+  module _ {item : GroupItem} (right : GroupsAreRight items) (latest : IsGroupBefore items (length items) item)
       (follows : Follows with_both (length items) item group) where
     older : (index : ℕ) (before next : GroupItem) → index < length items → IsGroupBefore with_both index before
         → GroupAt items index next → Follows with_both index before next
@@ -77,9 +56,7 @@ module _ (items : List Item) (group : GroupItem) (entry : Entry) where
     }
       where
         first : IsGroupBefore items index before
-        first = group_before_first items (Group group ∷ []) index before (omega (arith, low))
-            (group_before_first with_group (Call entry ∷ []) index before
-            (omega (arith, low, length-append items (Group group ∷ []))) is)
+        first = search (group_before_first, length-append, arith)
 
         was : Follows items index before next
         was = right.each index before next first there
@@ -88,35 +65,29 @@ module _ (items : List Item) (group : GroupItem) (entry : Entry) where
         grown is = (
           is.0,
           is.1,
-          grown_has with_group (Call entry ∷ []) is.0 (Call is.1)
-              (grown_has items (Group group ∷ []) is.0 (Call is.1) is.2),
+          search grown_has,
           is.3,
         )
 
-    newest : (index : ℕ) (before next : GroupItem) → index ≡ length items → group ≡ next
+    newest : {index : ℕ} (before next : GroupItem) → index ≡ length items → group ≡ next
         → IsGroupBefore with_both index before → Follows with_both index before next
-    newest index before next at same is =
-        let here : IsGroupBefore with_both (length items) before = subst (λ (k : ℕ). IsGroupBefore with_both k before) at is in
+    newest before next at same is =
+        let here : IsGroupBefore with_both (length items) before = rw at at is in
         let first : IsGroupBefore items (length items) before =
-        group_before_first items (Group group ∷ []) (length items) before (omega arith)
-        (group_before_first with_group (Call entry ∷ []) (length items) before
-        (omega (arith, length-append items (Group group ∷ []))) here) in
-        subst (λ (k : ℕ). Follows with_both k before next) (sym at)
-        (subst (λ (g : GroupItem). Follows with_both (length items) before g) same
-        (subst (λ (g : GroupItem). Follows with_both (length items) g group) (one_latest latest first) follows))
+        search (group_before_first, length-append, arith) in
+        search (same, one_latest, first, arith)
 
     -- The groups are right, also where the answer tells that a device was attached with the new one.
     pub both_right : GroupsAreRight with_both
     both_right = record {
       first = right.first;
-      there = grown_has with_group (Call entry ∷ []) 0 (Group right.first)
-          (grown_has items (Group group ∷ []) 0 (Group right.first) right.there);
+      there = search grown_has;
       from_start = right.from_start;
       each = λ index before next is there. elim (new_or_before with_group (Call entry) index (Group next) there) [
-        | inl new ↦ absurd (no_group new.1)
+        | inl new ↦ cc
         | inr old ↦ elim (new_or_before items (Group group) index (Group next) old.1) [
-          | inl new ↦ newest index before next new.0 (same_group new.1) is
-          | inr older_one ↦ older index before next older_one.0 is older_one.1
+          | inl new ↦ newest before next new.0 (same_group new.1) is
+          | inr older_one ↦ search older
         ]
       ];
     }
@@ -127,23 +98,18 @@ module _ (items : List Item) (group : GroupItem) (entry : Entry) where
       → (groups : Groups calls handed opening known with_group) → groups.begun ≡ []
       → (grown : Groups calls handed opening known with_both) × (grown.answered ≡ groups.answered) × (grown.begun ≡ [])
   groups_both {handed = handed} {opening = opening} within after groups none = (
-    record {
-      answered = groups.answered;
-      begun = [];
-      each = subst (λ (l : List GroupItem). AllZip (IsGroupOf handed opening with_both) l groups.answered)
-          (sym (groups_with_call with_group entry))
-          (each_later handed opening with_group (Call entry ∷ []) with_group groups.answered each_within groups.each);
-      one = omega arith;
-      unanswered = λ kept has. absurd (contains_none kept has);
-    },
+    search (groups_with_call, each_later, each_within, contains_none, arith),
     refl,
     refl,
   )
     where
       each_within : (index : ℕ) (other : GroupItem) → GroupAt with_group index other → other.after ≤ length with_group
       each_within index other there = elim (new_or_before items (Group group) index (Group other) there) [
-        | inl new ↦ (let same = ap (λ (g : GroupItem). g.after) (same_group new.1) in
-            omega (arith, same, after, length-append items (Group group ∷ [])))
-        | inr old ↦ (let low = within index other old.1 in let below = old.0 in
-            omega (arith, low, below, length-append items (Group group ∷ [])))
+        | inl new ↦ (omega (
+          arith,
+          ap (λ (g : GroupItem). g.after) (same_group new.1),
+          after,
+          length-append items (Group group ∷ []),
+        ))
+        | inr old ↦ search (length-append, arith)
       ]

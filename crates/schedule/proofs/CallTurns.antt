@@ -1,45 +1,9 @@
 -- The turns of calls.
-use Rattle.std.proofs.Common.{◌≡◌, ◌⊎◌, inl, inr, ⊎_elim, ℕ, zero, suc, ◌+◌, length, List, Option, Some, None, refl, sym, ap, subst, arith}
-use Rattle.std.specs.Prelude.{IsTrue, is_some, ◌≤◌}
-use Rattle.std.proofs.lemmas.Bool.{false≢true}
-use Rattle.bank_trait.specs.Disk.{Disk, Unchanged}
-use Rattle.row_layout.specs.Layout.{Layout, rows_of}
-use Rattle.uberblock_ring.specs.Uberblock.{Uber}
-use Rattle.core_state.specs.declared.answer.Answer.{Answer}
+use Rattle.schedule.proofs.Words.{◌≡◌, ◌⊎◌, inl, inr, ⊎_elim, ℕ, zero, suc, ◌+◌, length, List, Option, Some, None, refl, ap, subst, arith, IsTrue, is_some, false≢true, Disk, Unchanged, rows_of, Uber, Answer, Kind, OnlyFailedGoOut, point_of, read_touches, ScriptCall, fill_bytes, pattern_from, AttachRun, Reads, Checked, Joins, Signs, CopyRound, Rests, Copies, Commits, IsMoreAttach, StepsAttach, IsMoreRound, StepsCopy, GetRun, Filled, ToFill, Blocks, IsUnderWay, PutRun, Turn, More, Busy, Done, Core, CoreState, at_disk, IsReadKind, IsGetOf, BeginsGet, ReadsTurn, SolvesGet, EndsGet, IsFillable, IsPutOf, FillsPut, EndsPut, GivesUpTurn, left_to_fill, to_fill_of, turn_with, TurnGoesOn, reads_reaching, solved_of, fills_of, Work, MakesRoom, taken_for, AnswersAtOnce, Waits, BeginsWork, BeginsCall, GoesOnBy, HasDeviceForTurn, IsFilledIn, MayGoOn, PutGoesOn, WritesOn, ReadGoesOn, WorkGoesOn, attach_turn, copy_turn, read_turn, made_in}
+use Rattle.std.specs.Prelude.{◌≤◌}
 use Rattle.core_state.specs.declared.answer.Answer.TheVariants as answer
-use Rattle.core_state.specs.declared.answer.Kind.{Kind}
 use Rattle.core_state.specs.declared.answer.Kind.TheVariants as kind
-use Rattle.core_client.specs.Outs.{OnlyFailedGoOut}
-use Rattle.core_state.specs.Committing.{point_of}
-use Rattle.core_commit.specs.Spared.{IsOnInUse}
-use Rattle.core_open.proofs.Others.{read_touches}
-use Rattle.client_script.specs.declared.call.ScriptCall.{ScriptCall}
-use Rattle.client_script.specs.Lines.{fill_bytes, pattern_from}
-use Rattle.core_turns.specs.declared.attaching.AttachRun.{AttachRun}
-use Rattle.core_turns.specs.declared.attaching.AttachRun.TheVariants.{Reads, Checked, Joins, Signs}
-use Rattle.core_turns.specs.declared.rounds.CopyRound.{CopyRound}
-use Rattle.core_turns.specs.declared.rounds.CopyRound.TheVariants.{Rests, Copies, Commits}
-use Rattle.core_turns.specs.Attaching.{IsMoreAttach, StepsAttach}
-use Rattle.core_turns.specs.Rounds.{IsMoreRound, StepsCopy}
-use Rattle.core_turns.specs.declared.getting.GetRun.{GetRun}
-use Rattle.core_turns.specs.declared.filling.Filled.{Filled}
-use Rattle.core_turns.specs.declared.filling.ToFill.{ToFill}
-use Rattle.core_blocks.specs.Blocks.{Blocks, IsUnderWay}
-use Rattle.core_turns.specs.declared.putting.PutRun.{PutRun}
-use Rattle.core_turns.specs.declared.turn.Turn.{Turn}
-use Rattle.core_turns.specs.declared.turn.Turn.TheVariants.{More, Busy, Done}
-use Rattle.core_turns.specs.Core.{Core, CoreState, at_disk}
-use Rattle.core_turns.specs.Getting.{IsReadKind, IsGetOf, BeginsGet, ReadsTurn, SolvesGet, EndsGet}
-use Rattle.core_turns.specs.Putting.{IsFillable, IsPutOf, FillsPut, EndsPut, GivesUpTurn, left_to_fill, to_fill_of}
-use Rattle.core_turns.specs.Steps.{turn_with}
-use Rattle.core_turns.specs.UnderWay.{TurnGoesOn}
-use Rattle.core_turns.proofs.GetTurns.{reads_reaching, solved_of}
-use Rattle.core_turns.proofs.PutTurns.{fills_of}
-use Rattle.schedule.specs.declared.client.Work.{Work}
 use Rattle.schedule.specs.declared.client.Work.TheVariants as work
-use Rattle.schedule.specs.Playing.{MakesRoom, taken_for}
-use Rattle.schedule.specs.Turned.{AnswersAtOnce, Waits, BeginsWork, BeginsCall, GoesOnBy, HasDeviceForTurn, IsFilledIn, MayGoOn, PutGoesOn, WritesOn, ReadGoesOn, WorkGoesOn, attach_turn, copy_turn, group_by, read_turn}
-use Rattle.schedule.specs.Works.{made_by, made_in}
 use Rattle.schedule.proofs.LeavesPool.{pool_goes}
 use Rattle.schedule.proofs.Rooms.{taken_one}
 use Rattle.schedule.proofs.Theirs.{some_is}
@@ -75,83 +39,69 @@ begins_as old new devices actor call (Busy by) begins = begins
 begins_as old new devices actor call (Done given) begins = begins
 
 -- The first turn of a read is that of its call.
-pub read_begins : (old new : Core) (devices actor id : ℕ) (call : ScriptCall) (turn : Turn GetRun) (result : Turn Work)
+pub read_begins : (old new : Core) (devices actor : ℕ) {id : ℕ} (call : ScriptCall)
+    (turn : Turn GetRun) {result : Turn Work}
     → IsReadKind call.kind → call.id ≡ Some id → result ≡ read_turn turn → BeginsGet old new actor call.kind id turn
     → BeginsCall old new devices actor call result
-read_begins old new devices actor id call turn result is id_is same begins =
-    subst (BeginsCall old new devices actor call) (sym same) (begins_as old new devices actor call (read_turn turn)
-    (subst (λ (i : Option ℕ). BeginsAs old new devices actor call call.kind i (read_turn turn)) (sym id_is)
-    (read_begun old new devices actor id call call.kind turn is begins)))
+read_begins old new devices actor call turn is id_is same begins = search (begins_as, read_begun, arith)
 
 -- ---- turns without a device call
 
 ended_goes : (old new : Core) (disk : Disk) (run : PutRun) (given : Answer) → EndsPut old run new (Done given)
     → TurnGoesOn (at_disk old disk) (at_disk new disk)
-ended_goes old new disk run answer.Stored ends = pool_goes old new new.pool.blocks new.holds disk ends.rest
-ended_goes old new disk run (answer.TooManyFailed out) ends =
-    pool_goes old new new.pool.blocks new.holds disk ends.gives_up.rest
+ended_goes old new disk run answer.Stored ends = pool_goes ends.rest
+ended_goes old new disk run (answer.TooManyFailed out) ends = pool_goes ends.gives_up.rest
 ended_goes old new disk run other ends = absurd ends
 
 gave_up_goes : (old new : Core) (disk : Disk) (run : PutRun) (given : Answer) → GivesUpTurn old run new (Done given)
     → TurnGoesOn (at_disk old disk) (at_disk new disk)
-gave_up_goes old new disk run answer.NoMemory gives = pool_goes old new new.pool.blocks new.holds disk gives.1.rest
-gave_up_goes old new disk run (answer.TooManyFailed out) gives =
-    pool_goes old new new.pool.blocks new.holds disk gives.gives_up.rest
+gave_up_goes old new disk run answer.NoMemory gives = pool_goes gives.1.rest
+gave_up_goes old new disk run (answer.TooManyFailed out) gives = pool_goes gives.gives_up.rest
 gave_up_goes old new disk run other gives = absurd gives
 
 -- The last turn of a put goes on,
-pub put_end_goes : (old new : Core) (disk : Disk) (run : PutRun) (turn : Turn PutRun) → EndsPut old run new turn
+pub put_end_goes : {old new : Core} {disk : Disk} (run : PutRun) (turn : Turn PutRun) → EndsPut old run new turn
     → TurnGoesOn (at_disk old disk) (at_disk new disk)
-put_end_goes old new disk run (Done given) ends = ended_goes old new disk run given ends
-put_end_goes old new disk run (More next) ends = absurd ends
-put_end_goes old new disk run (Busy by) ends = absurd ends
+put_end_goes {old = old} {new = new} {disk = disk} run (Done given) ends = ended_goes old new disk run given ends
+put_end_goes run (More next) ends = absurd ends
+put_end_goes run (Busy by) ends = absurd ends
 
 -- and so does one that gives up,
-pub put_gives_goes : (old new : Core) (disk : Disk) (run : PutRun) (turn : Turn PutRun) → GivesUpTurn old run new turn
+pub put_gives_goes : {old new : Core} {disk : Disk} (run : PutRun) (turn : Turn PutRun) → GivesUpTurn old run new turn
     → TurnGoesOn (at_disk old disk) (at_disk new disk)
-put_gives_goes old new disk run (Done given) gives = gave_up_goes old new disk run given gives
-put_gives_goes old new disk run (More next) gives = absurd gives
-put_gives_goes old new disk run (Busy by) gives = absurd gives
+put_gives_goes {old = old} {new = new} {disk = disk} run (Done given) gives = gave_up_goes old new disk run given gives
+put_gives_goes run (More next) gives = absurd gives
+put_gives_goes run (Busy by) gives = absurd gives
 
 -- and the last one of a read.
-pub read_end_goes : (old new : Core) (disk : Disk) (run : GetRun) (turn : Turn GetRun) → EndsGet old run new turn
+pub read_end_goes : {old new : Core} {disk : Disk} (run : GetRun) (turn : Turn GetRun) → EndsGet old run new turn
     → TurnGoesOn (at_disk old disk) (at_disk new disk)
-read_end_goes old new disk run (Done given) ends = pool_goes old new old.pool.blocks new.holds disk ends.rest
-read_end_goes old new disk run (More next) ends = absurd ends
-read_end_goes old new disk run (Busy by) ends = absurd ends
+read_end_goes run (Done given) ends = pool_goes ends.rest
+read_end_goes run (More next) ends = absurd ends
+read_end_goes run (Busy by) ends = absurd ends
 
 -- ---- puts
 
 -- What is filled in is the core's put still.
-pub filled_of : (core : Core) (call : ScriptCall) (run filled : PutRun) → IsFilledIn call run filled
+pub filled_of : {core : Core} (call : ScriptCall) {run filled : PutRun} → IsFilledIn call run filled
     → length (fill_bytes call.fill) ≡ run.len → IsPutOf core run → IsPutOf core filled
-filled_of core call run filled fills len of = ⊎_elim
-    (λ (same : filled ≡ run). subst (IsPutOf core) (sym same) of)
+filled_of call {run = run} {filled = filled} fills len of = ⊎_elim
+    (search arith)
     (λ (now : (run.filled ≡ None) × FillsPut run filled (fill_bytes call.fill)).
-    fills_of core run filled (fill_bytes call.fill) now.1 len of)
-    fills
+    search fills_of) fills
 
 -- and has its sectors.
-pub filled_under : (blocks : Blocks) (call : ScriptCall) (run filled : PutRun) → IsFilledIn call run filled
+pub filled_under : {blocks : Blocks} (call : ScriptCall) {run filled : PutRun} → IsFilledIn call run filled
     → IsUnderWay blocks run.range → IsUnderWay blocks filled.range
-filled_under blocks call run filled fills under = ⊎_elim
-    (λ (same : filled ≡ run). subst (λ (r : PutRun). IsUnderWay blocks r.range) (sym same) under)
-    (λ (now : (run.filled ≡ None) × FillsPut run filled (fill_bytes call.fill)).
-    subst (λ (r : PutRun). IsUnderWay blocks r.range) (sym now.1.rest) under)
-    fills
+filled_under call fills under = search arith
 
 -- A put for which memory was wanting is given up.
-pub put_gives : (old new : Core) (disk : Disk) (call : ScriptCall) (run given_up : PutRun) (turn : Turn PutRun)
+pub put_gives : (old new : Core) (disk : Disk) (call : ScriptCall) {run given_up : PutRun} (turn : Turn PutRun)
     → run.filled ≡ None → given_up ≡ run → GivesUpTurn old given_up new turn
     → PutGoesOn (at_disk old disk) (at_disk new disk) call run turn
-put_gives old new disk call run given_up (Done given) none same gives = record {
-  filled = run;
-  fills = inl refl;
-  disk = refl;
-  ends = inr (inr (none, refl, subst (λ (r : PutRun). GivesUpTurn old r new (Done given)) same gives));
-}
-put_gives old new disk call run given_up (More next) none same gives = absurd gives
-put_gives old new disk call run given_up (Busy by) none same gives = absurd gives
+put_gives old new disk call (Done given) none same gives = search arith
+put_gives old new disk call (More next) none same gives = absurd gives
+put_gives old new disk call (Busy by) none same gives = absurd gives
 
 -- ---- reads
 
@@ -167,47 +117,37 @@ read_goes_on before after run turn reads unchanged out =
       rows = ap (λ (u : Uber). u.reflow.rows) uber;
       later = unchanged.goes_on.later;
       out = out;
-      only = read_touches (IsOnInUse before.core.reach before.core.pool.out) unchanged;
+      only = search read_touches;
     }
 
 -- A read is the core's still once its block is solved.
-pub read_of : (core : Core) (run solved : GetRun) → (solved ≡ run) ⊎ SolvesGet run solved → IsGetOf core run
+pub read_of : {core : Core} {run solved : GetRun} → (solved ≡ run) ⊎ SolvesGet run solved → IsGetOf core run
     → IsGetOf core solved
-read_of core run solved solves of = ⊎_elim
-    (λ (same : solved ≡ run). subst (IsGetOf core) (sym same) of)
-    (λ (now : SolvesGet run solved). solved_of core run solved now of)
-    solves
+read_of solves of = search (solved_of, arith)
 
 -- A read of which all columns were read ends, its block solved where memory was there.
-pub read_ends : (old new : Core) (disk : Disk) (run solved : GetRun) (turn : Turn GetRun)
+pub read_ends : (old new : Core) (disk : Disk) {run solved : GetRun} (turn : Turn GetRun)
     → (solved ≡ run) ⊎ SolvesGet run solved → run.read.row ≡ rows_of run.read.layout → EndsGet old solved new turn
     → ReadGoesOn (at_disk old disk) (at_disk new disk) run turn
-read_ends old new disk run solved (Done given) solves done ends =
-    record { disk = refl; ends = inr (solved, solves, done, ends) }
-read_ends old new disk run solved (More next) solves done ends = absurd ends
-read_ends old new disk run solved (Busy by) solves done ends = absurd ends
+read_ends old new disk (Done given) solves done ends = search arith
+read_ends old new disk (More next) solves done ends = absurd ends
+read_ends old new disk (Busy by) solves done ends = absurd ends
 
 -- ---- blocks that are made up in no turn
 
-left_is : (run : PutRun) (filled : Option Filled) (block : ToFill) → left_to_fill run filled ≡ Some block
+left_is : (run : PutRun) (filled : Option Filled) {block : ToFill} → left_to_fill run filled ≡ Some block
     → to_fill_of run ≡ block
-left_is run None block is = some_is is
-left_is run (Some filled) block is = cc
+left_is run None is = some_is is
+left_is run (Some filled) is = cc
 
 -- A put's block can be made up of the bytes that it is asked to have.
-pub put_fillable : (core : Core) (run : PutRun) (content : List ℕ) → IsPutOf core run → length content ≡ run.len
+pub put_fillable : {core : Core} {run : PutRun} {content : List ℕ} → IsPutOf core run → length content ≡ run.len
     → IsFillable (to_fill_of run) content
-put_fillable core run content of len = record {
-  pool = of.begun_pool;
-  front = of.begun_front;
-  sectors = sym (ap (λ (l : Layout). l.sectors) of.range.layout_is);
-  len = len;
-}
+put_fillable of len = search
 
-pub put_ahead : (core : Core) (call : ScriptCall) (run : PutRun) (block : ToFill) → MayGoOn core call (work.Put run)
+pub put_ahead : {core : Core} (call : ScriptCall) {run : PutRun} {block : ToFill} → MayGoOn core call (work.Put run)
     → left_to_fill run run.filled ≡ Some block → IsFillable block (fill_bytes call.fill)
-put_ahead core call run block may left = subst (λ (b : ToFill). IsFillable b (fill_bytes call.fill))
-    (left_is run run.filled block left) (put_fillable core run (fill_bytes call.fill) may.0 may.2)
+put_ahead call may left = search (left_is, put_fillable, arith)
 
 -- ---- works in their places
 
@@ -254,50 +194,35 @@ copy_by before after call round (Busy by) steps of = never round steps
     never (Commits run) steps = steps
 
 -- One for whose next group memory is wanting ends there, and nothing is done.
-pub lacks_room : (state : CoreState) (call : ScriptCall) (does : Work) (made : Option ℕ) → made ≡ made_in does
+pub lacks_room : (state : CoreState) (call : ScriptCall) (does : Work) {made : Option ℕ} → made ≡ made_in does
     → IsTrue (is_some made) → GoesOnBy state state call does (Done answer.NoMemory)
-lacks_room state call (work.Copy (Rests actor (Some group))) made is some = inr (refl, refl)
-lacks_room state call (work.Copy (Rests actor None)) made is some =
-    absurd (false≢true (subst (λ (m : Option ℕ). IsTrue (is_some m)) is some))
-lacks_room state call other made is some = absurd (false≢true (subst (λ (m : Option ℕ). IsTrue (is_some m)) is some))
+lacks_room state call (work.Copy (Rests actor (Some group))) is some = inr (refl, refl)
+lacks_room state call (work.Copy (Rests actor None)) is some = cc
+lacks_room state call other is some = absurd (false≢true (subst (λ (m : Option ℕ). IsTrue (is_some m)) is some))
 
 -- So it goes on as every turn does,
-pub lacking_goes : (core : Core) (disk : Disk) (does : Work) (made : Option ℕ) → made ≡ made_in does
+pub lacking_goes : (core : Core) (disk : Disk) (does : Work) {made : Option ℕ} → made ≡ made_in does
     → IsTrue (is_some made) → WorkGoesOn does (at_disk core disk) (at_disk core disk)
-lacking_goes core disk (work.Copy round) made is some = pool_goes core core core.pool.blocks core.holds disk refl
-lacking_goes core disk other made is some = absurd (false≢true (subst (λ (m : Option ℕ). IsTrue (is_some m)) is some))
+lacking_goes core disk (work.Copy round) is some = pool_goes refl
+lacking_goes core disk other is some = cc
 
 -- and room is left for its answer.
-pub lacking_room : (does : Work) (made : Option ℕ) (before after : ℕ) → made ≡ made_in does
+pub lacking_room : (does : Work) {made : Option ℕ} {before after : ℕ} → made ≡ made_in does
     → IsTrue (is_some made) → before ≤ after → MakesRoom does before after (Done answer.NoMemory)
-lacking_room (work.Copy (Rests actor (Some group))) made before after is some kept = omega (arith, kept)
-lacking_room (work.Copy (Rests actor None)) made before after is some kept =
-    absurd (false≢true (subst (λ (m : Option ℕ). IsTrue (is_some m)) is some))
-lacking_room other made before after is some kept =
-    absurd (false≢true (subst (λ (m : Option ℕ). IsTrue (is_some m)) is some))
+lacking_room (work.Copy (Rests actor (Some group))) is some kept = omega arith
+lacking_room (work.Copy (Rests actor None)) is some kept = cc
+lacking_room other is some kept = absurd (false≢true (subst (λ (m : Option ℕ). IsTrue (is_some m)) is some))
 
 -- Where memory was there room is left for the next group and for what the turn lists.
-pub makes_room : (does : Work) (made : Option ℕ) (before after : ℕ) (turn : Turn Work) → made ≡ made_in does
+pub makes_room : (does : Work) {made : Option ℕ} (before : ℕ) {after : ℕ} (turn : Turn Work) → made ≡ made_in does
     → before + taken_for made ≤ after → MakesRoom does before after turn
-makes_room does made before after (More next) is more = let same = ap taken_for is in omega (arith, more, same)
-makes_room does made before after (Busy by) is more = tt
-makes_room does made before after (Done given) is more =
-    let same = ap taken_for is in
-    let one = taken_one (group_by given (made_by does)) in
-    omega (arith, more, same, one)
+makes_room does before (More next) is more = search arith
+makes_room does before (Busy by) is more = tt
+makes_room does before (Done given) is more = search (taken_one, arith)
 
 -- A put that is filled in goes on by its next write, or by its last turn.
-pub put_writes : (before after : CoreState) (call : ScriptCall) (run filled : PutRun) (turn : Turn PutRun) → IsFilledIn call run filled
-    → WritesOn before filled after turn → PutGoesOn before after call run turn
-put_writes before after call run filled (More next) fills on = record {
-  filled = filled;
-  fills = fills;
-  writes = ⊎_elim (λ writes. writes) (λ ends. absurd ends.1.3) on;
-}
-put_writes before after call run filled (Busy by) fills on = ⊎_elim (λ writes. writes) (λ ends. ends.1.3) on
-put_writes before after call run filled (Done given) fills on = record {
-  filled = filled;
-  fills = fills;
-  disk = ⊎_elim (λ stops. stops.1) (λ ends. ends.0) on;
-  ends = ⊎_elim (λ stops. inl stops) (λ ends. inr (inl ends.1)) on;
-}
+pub put_writes : (before after : CoreState) (call : ScriptCall) {run filled : PutRun} (turn : Turn PutRun)
+    → IsFilledIn call run filled → WritesOn before filled after turn → PutGoesOn before after call run turn
+put_writes before after call (More next) fills on = search arith
+put_writes before after call (Busy by) fills on = search arith
+put_writes before after call {filled = filled} (Done given) fills on = search arith

@@ -1,59 +1,25 @@
 -- Turns that go on from where others came to.
-use Rattle.std.proofs.Common.{◌≡◌, ◌⊎◌, inl, inr, ⊎_elim, ℕ, ◌+◌, ◌≤◌, ◌<◌, List, [], ◌∷◌, ◌++◌, Some, true, refl, sym, ◌∙◌, ap, subst, arith}
-use Rattle.std.specs.Prelude.{slice_get}
-use Rattle.std.proofs.lemmas.Bool.{cases_lt, true≢false}
-use Rattle.bank_trait.specs.Disk.{Disk}
-use Rattle.bank_trait.specs.Regions.{TouchesOnly}
-use Rattle.bank_trait.proofs.Moments.{later_refl, later_trans}
-use Rattle.bank_trait.proofs.Touches.{touches_none, touches_then, touches_widen}
-use Rattle.uberblock_ring.specs.Devices.{count_of, has_device, IsWithin}
-use Rattle.uberblock_ring.proofs.DeviceSets.{none_in}
+use Rattle.schedule.proofs.Words.{◌≡◌, ◌⊎◌, inl, inr, ⊎_elim, ℕ, ◌+◌, ◌≤◌, ◌<◌, List, [], ◌∷◌, ◌++◌, Some, refl, sym, ◌∙◌, subst, arith, slice_get, cases_lt, true≢false, Disk, TouchesOnly, later_refl, later_trans, touches_none, touches_then, touches_widen, count_of, has_device, IsWithin, none_in, Item, CallAt, World, point_of, outs_none, outs_then, IsOnInUse, in_use_before, count_grows, WhyDropped, ScriptCall, Script, calls_of, grown_has, CoreState, HasBankOf, AttachGoesOn, TurnGoesOn, as_attach, turn_bank, AttachesNone, GoesOnFor, IsWorldOf, LeadTo, KeepsUsing, StaysAsWide, Turns, TurnTaken, last_left, AreListedWith, IsListedWith, taken_by, HasDropCause, IsDropCause, IsToBeTold, IsDeviceCause, IsNumbered, Runs, Past}
+use Rattle.std.proofs.Common.{true}
 use Rattle.core_state.specs.declared.answer.Kind.TheVariants as kind
-use Rattle.core_state.specs.declared.item.Item.{Item}
-use Rattle.core_state.specs.Legal.{CallAt}
-use Rattle.core_state.specs.World.{World}
-use Rattle.core_state.specs.Committing.{point_of}
-use Rattle.core_client.proofs.Outs.{outs_none, outs_then}
-use Rattle.core_commit.specs.Spared.{IsOnInUse}
-use Rattle.core_commit.proofs.Going.{in_use_before}
 use Rattle.core_open.proofs.Written.{none_listed}
-use Rattle.open_pool.proofs.Banks.{count_grows}
-use Rattle.join_commit.specs.declared.join_run.WhyDropped.{WhyDropped}
 use Rattle.join_commit.specs.declared.join_run.WhyDropped.TheVariants as why
-use Rattle.client_script.specs.declared.call.ScriptCall.{ScriptCall}
-use Rattle.client_script.specs.Script.{Script, calls_of}
-use Rattle.journal_law.proofs.Grown.{grown_has}
-use Rattle.core_turns.specs.Core.{CoreState, HasBankOf}
-use Rattle.core_turns.specs.Attaching.{AttachGoesOn}
-use Rattle.core_turns.specs.UnderWay.{TurnGoesOn}
-use Rattle.core_turns.proofs.AttachGoes.{as_attach}
-use Rattle.core_turns.proofs.CommitGoes.{turn_bank}
-use Rattle.schedule.specs.Coming.{AttachesNone, GoesOnFor, IsWorldOf, LeadTo, KeepsUsing, StaysAsWide}
-use Rattle.schedule.specs.Turns.{Turns, TurnTaken, last_left, AreListedWith, IsListedWith, taken_by}
-use Rattle.schedule.specs.Dropping.{HasDropCause, IsDropCause, IsToBeTold}
-use Rattle.schedule.specs.Fitting.{IsDeviceCause}
-use Rattle.schedule.specs.Numbered.{IsNumbered}
-use Rattle.schedule.specs.Running.{Runs}
 use Rattle.schedule.proofs.Fitting.{FitSince, device_cause_on}
 use Rattle.schedule.proofs.Fulls.{FullStays}
-use Rattle.schedule.specs.Moments.{Past}
 
 few_or_many : (out parity : ℕ) → (count_of out ≤ parity) ⊎ (parity < count_of out)
-few_or_many out parity = ⊎_elim (λ many. inr many) (λ few. inl few) (cases_lt parity (count_of out))
+few_or_many out parity = search (cases_lt, arith)
 
 none_out : (device : ℕ) → has_device 0 device ≡ true → ⊥
 none_out device out = true≢false (sym out ∙ none_in device)
 
 as_wide_nowhere : (state : CoreState) → StaysAsWide state state
-as_wide_nowhere state = record {
-  reach = refl;
-  only = touches_none (IsOnInUse state.core.reach state.core.pool.out) state.disk;
-}
+as_wide_nowhere state = search touches_none
 
 -- Nothing was done, also where a turn was taken that did nothing.
-pub came_nowhere : (script : Script) (turns : Turns) (passed : List TurnTaken) → last_left turns passed ≡ turns
+pub came_nowhere : {script : Script} {turns : Turns} {passed : List TurnTaken} → last_left turns passed ≡ turns
     → LeadTo script turns passed turns
-came_nowhere script turns passed same = by (few_or_many turns.state.core.pool.out turns.state.core.pool.uber.parity)
+came_nowhere {script = script} {turns = turns} {passed = passed} same = by (search few_or_many)
   where
     by : (count_of turns.state.core.pool.out ≤ turns.state.core.pool.uber.parity)
         ⊎ (turns.state.core.pool.uber.parity < count_of turns.state.core.pool.out) → LeadTo script turns passed turns
@@ -62,19 +28,19 @@ came_nowhere script turns passed same = by (few_or_many turns.state.core.pool.ou
       later = later_refl turns.state.disk;
       parity = refl;
       reach = omega arith;
-      only = touches_none (IsOnInUse (turns.state.core.reach + 1) turns.state.core.pool.out) turns.state.disk;
+      only = search touches_none;
       same = λ none. as_wide_nowhere turns.state;
-      out = outs_none (point_of turns.state.core.pool.out turns.state.disk);
+      out = search outs_none;
       listed = λ index item there. there;
       fits = λ index entry there. inl there;
       dropped = λ cause told. inr told;
       borne = turns.state.core.pool.out;
       few = few;
       from_start = λ still device out. out;
-      stopped = λ many. absurd (omega (arith, few, many));
+      stopped = λ many. absurd (omega arith);
       within = λ device out. out;
       runs = λ world past handed runs within listed. runs;
-      full = λ world past handed runs within listed caused. caused;
+      full = search;
       space = λ uber entries used. used;
       numbers = λ numbered. numbered;
     }
@@ -90,7 +56,7 @@ came_nowhere script turns passed same = by (few_or_many turns.state.core.pool.ou
       fits = λ index entry there. inl there;
       dropped = λ cause told. inr told;
       borne = 0;
-      few = none_listed turns.state.core.pool.uber.parity;
+      few = search none_listed;
       from_start = λ few. absurd (omega (arith, few, many));
       stopped = λ still device out. out;
       within = λ device out. absurd (none_out device out);
@@ -113,75 +79,62 @@ listed_split banks start (turn ∷ one) two listed =
     let rest = listed_split banks turn.left one two listed.1 in ((listed.0, rest.0), rest.1)
 
 -- Turns after turns.
-module _ (script : Script) (start middle now : Turns) (one two : List TurnTaken) (first : LeadTo script start one middle)
+module _ (script : Script) (start middle now : Turns) (one two : List TurnTaken)
+    (first : LeadTo script start one middle)
     (second : LeadTo script middle two now) where
   -- what they left
   ends : last_left start (one ++ two) ≡ now
-  ends = last_then start one two ∙ ap (λ (turns : Turns). last_left turns two) first.ends ∙ second.ends
+  ends = search (last_then, arith)
 
   -- with whose banks items were listed
   split : (banks : ℕ → Disk) → AreListedWith banks start (one ++ two)
       → AreListedWith banks start one × AreListedWith banks middle two
-  split banks listed = let parts = listed_split banks start one two listed in (
-    parts.0,
-    subst (λ (turns : Turns). AreListedWith banks turns two) first.ends parts.1,
-  )
+  split banks listed = search (listed_split, arith)
 
   parity_is : now.state.core.pool.uber.parity ≡ start.state.core.pool.uber.parity
-  parity_is = second.parity ∙ first.parity
+  parity_is = cc
 
   reach_then : start.state.core.reach ≤ now.state.core.reach
-  reach_then = let one = first.reach in let two = second.reach in omega (arith, one, two)
+  reach_then = search arith
 
   -- Who is in use later was so at the start.
   in_use_then : (reach device device_sector : ℕ) → IsOnInUse reach middle.state.core.pool.out device device_sector
       → IsOnInUse reach start.state.core.pool.out device device_sector
-  in_use_then reach device device_sector here = (
-    here.0,
-    in_use_before (point_of start.state.core.pool.out start.state.disk)
-        (point_of middle.state.core.pool.out middle.state.disk) device first.out.still here.1,
-  )
+  in_use_then reach device device_sector here = search (in_use_before, arith)
 
   only_then : TouchesOnly (IsOnInUse (now.state.core.reach + 1) start.state.core.pool.out) start.state.disk
       now.state.disk
   only_then = touches_then (IsOnInUse (middle.state.core.reach + 1) start.state.core.pool.out)
       (IsOnInUse (now.state.core.reach + 1) middle.state.core.pool.out)
-      (IsOnInUse (now.state.core.reach + 1) start.state.core.pool.out)
-      (λ d x here. (let below = here.0 in let more = second.reach in omega (arith, below, more), here.1))
+      (IsOnInUse (now.state.core.reach + 1) start.state.core.pool.out) (search arith)
       (in_use_then (now.state.core.reach + 1)) first.only second.only
 
   as_wide_then : AttachesNone script → StaysAsWide start.state now.state
   as_wide_then none =
       let one = first.same none in
       let two = second.same none in record {
-        reach = two.reach ∙ one.reach;
+        reach = cc;
         only = touches_then (IsOnInUse start.state.core.reach start.state.core.pool.out)
             (IsOnInUse middle.state.core.reach middle.state.core.pool.out)
             (IsOnInUse start.state.core.reach start.state.core.pool.out)
-            (λ d x here. here)
-            (λ d x here. in_use_then start.state.core.reach d x
-            (subst (λ (reach : ℕ). d < reach) one.reach here.0, here.1))
-            one.only two.only;
+            (λ d x here. here) (search (in_use_then, arith)) one.only two.only;
       }
 
   -- Why no device was attached that was known so far, or came to be known,
   dropped_before : (cause : WhyDropped) → HasDropCause start middle cause → HasDropCause start now cause
-  dropped_before cause = ⊎_elim (λ since. inl (by cause since)) (λ earlier. inr earlier)
+  dropped_before cause = search (by, arith)
     where
-      by : (cause : WhyDropped)
-          → IsDropCause start.state.disk middle.state.disk middle.state.core.pool.out cause
+      by : (cause : WhyDropped) → IsDropCause start.state.disk middle.state.disk middle.state.core.pool.out cause
           → IsDropCause start.state.disk now.state.disk now.state.core.pool.out cause
-      by (why.NewDeviceFailed device) rose =
-          let more = second.later.faults device in omega (arith, rose, more)
+      by (why.NewDeviceFailed device) rose = search arith
       by (why.DeviceOut device) out = second.out.still device out
 
   dropped_since : (cause : WhyDropped) → HasDropCause middle now cause → HasDropCause start now cause
-  dropped_since cause = ⊎_elim (λ since. inl (by cause since)) (λ earlier. dropped_before cause (first.dropped cause earlier))
+  dropped_since cause = search (by, dropped_before, arith)
     where
       by : (cause : WhyDropped) → IsDropCause middle.state.disk now.state.disk now.state.core.pool.out cause
           → IsDropCause start.state.disk now.state.disk now.state.core.pool.out cause
-      by (why.NewDeviceFailed device) rose =
-          let more = first.later.faults device in omega (arith, rose, more)
+      by (why.NewDeviceFailed device) rose = search arith
       by (why.DeviceOut device) out = out
 
   dropped_then : (cause : WhyDropped) → IsToBeTold now.clients cause → HasDropCause start now cause
@@ -193,28 +146,25 @@ module _ (script : Script) (start middle now : Turns) (one two : List TurnTaken)
       (λ fit. inr (record {
         of_kind = fit.of_kind;
         too_many = λ listed is. let many = fit.too_many listed is in
-            (many.0, λ device out. second.out.still device (many.1 device out));
+            search arith;
         limit = fit.limit;
         memory = fit.memory;
-        device = device_cause_on start.state.disk.devices (HasDropCause start middle) (HasDropCause start now)
-            entry.answer dropped_before fit.device;
-      }))
-      (first.fits index entry was))
+        device = search (device_cause_on, dropped_before);
+      })) (first.fits index entry was))
       (λ fit. inr (record {
         of_kind = fit.of_kind;
         too_many = λ listed is. let many = fit.too_many listed is in
-            (subst (λ (n : ℕ). n < count_of listed) first.parity many.0, many.1);
+            search arith;
         limit = fit.limit;
         memory = fit.memory;
         device = subst (λ (n : ℕ). IsDeviceCause n (HasDropCause start now) entry.answer) first.later.devices
-            (device_cause_on middle.state.disk.devices (HasDropCause middle now) (HasDropCause start now) entry.answer
-            dropped_since fit.device);
-      }))
-      (second.fits index entry there)
+            (search (device_cause_on, dropped_since));
+      })) (second.fits index entry there)
 
   -- the devices that have to be borne in both
   by : (count_of middle.state.core.pool.out ≤ middle.state.core.pool.uber.parity)
-      ⊎ (middle.state.core.pool.uber.parity < count_of middle.state.core.pool.out) → LeadTo script start (one ++ two) now
+      ⊎ (middle.state.core.pool.uber.parity < count_of middle.state.core.pool.out)
+      → LeadTo script start (one ++ two) now
   by (inl few) = record {
     ends = ends;
     later = later_trans first.later second.later;
@@ -222,29 +172,24 @@ module _ (script : Script) (start middle now : Turns) (one two : List TurnTaken)
     reach = reach_then;
     only = only_then;
     same = as_wide_then;
-    out = outs_then (point_of start.state.core.pool.out start.state.disk)
-        (point_of middle.state.core.pool.out middle.state.disk) (point_of now.state.core.pool.out now.state.disk)
-        first.later.faults second.later.faults first.out second.out;
-    listed = λ index item there. second.listed index item (first.listed index item there);
+    out = search outs_then;
+    listed = search arith;
     fits = fits_then;
     dropped = dropped_then;
     borne = second.borne;
-    few = (let low = second.few in let same = first.parity in omega (arith, low, same));
-    from_start = λ still device out. second.from_start few device (first.out.still device out);
-    stopped = λ many. absurd (let more = count_grows start.state.core.pool.out middle.state.core.pool.out first.out.still in
-        let same = first.parity in omega (arith, more, few, many, same));
+    few = search arith;
+    from_start = search arith;
+    stopped = search (count_grows, arith);
     within = second.within;
     runs = λ world past same runs within listed. let parts = split past.banks listed in
-        second.runs world past same
-        (first.runs world past same runs
-        (λ device out. within device (second.from_start few device (first.within device out))) parts.0)
-        within parts.1;
+        second.runs world past same (first.runs world past same runs (search arith) parts.0) within parts.1;
     full = λ world past same runs within listed caused. let parts = split past.banks listed in
-        let earlier : IsWithin first.borne world.setting.failed = λ device out. within device (second.from_start few device (first.within device out)) in
-        second.full world past same (first.runs world past same runs earlier parts.0) within parts.1
+        let earlier : IsWithin first.borne world.setting.failed = λ device out. within device
+        (second.from_start few device (first.within device out)) in
+        second.full world past same (search arith) within parts.1
         (first.full world past same runs earlier parts.0 caused);
-    space = λ uber entries used. second.space uber entries (first.space uber entries used);
-    numbers = λ numbered. second.numbers (first.numbers numbered);
+    space = search arith;
+    numbers = search arith;
   }
   by (inr many) = record {
     ends = ends;
@@ -263,14 +208,11 @@ module _ (script : Script) (start middle now : Turns) (one two : List TurnTaken)
     few = first.few;
     from_start = first.from_start;
     stopped = first.stopped;
-    within = λ device out. second.out.still device (first.within device out);
+    within = search arith;
     runs = λ world past same runs within listed. let parts = split past.banks listed in
-        second.runs world past same
-        (first.runs world past same runs within parts.0)
-        (λ device out. absurd (none_out device (second.stopped many device out))) parts.1;
+        second.runs world past same (search arith) (search (none_out, arith)) parts.1;
     full = λ world past same runs within listed caused. let parts = split past.banks listed in
-        second.full world past same
-        (first.runs world past same runs within parts.0)
+        second.full world past same (first.runs world past same runs within parts.0)
         (λ device out. absurd (none_out device (second.stopped many device out))) parts.1
         (first.full world past same runs within parts.0 caused);
     space = λ uber entries used. second.space uber entries (first.space uber entries used);
@@ -278,28 +220,24 @@ module _ (script : Script) (start middle now : Turns) (one two : List TurnTaken)
   }
 
   pub came_on : LeadTo script start (one ++ two) now
-  came_on = by (few_or_many middle.state.core.pool.out middle.state.core.pool.uber.parity)
+  came_on = by (search few_or_many)
 
 -- A turn of a call that is no attach goes on so,
-pub goes_for : {before after : CoreState} (script : Script) → TurnGoesOn before after → GoesOnFor script before after
-goes_for {before} {after} script goes = record {
-  goes = as_attach before after goes;
-  same = λ none. record { reach = goes.reach; only = goes.only };
-  bank = turn_bank before after goes;
-}
+pub goes_for : {before after : CoreState} {script : Script} → TurnGoesOn before after → GoesOnFor script before after
+goes_for {before} {after} goes = search (as_attach, turn_bank)
 
 -- and one of an attach as attaches do.
-pub goes_for_attach : {before after : CoreState} (script : Script) (actor number : ℕ) (call : ScriptCall)
+pub goes_for_attach : {before after : CoreState} {script : Script} (actor number : ℕ) {call : ScriptCall}
     → slice_get (calls_of script actor) number ≡ Some call → call.kind ≡ kind.Attach
     → AttachGoesOn before after × (HasBankOf before.core before.disk → HasBankOf after.core after.disk)
     → GoesOnFor script before after
-goes_for_attach script actor number call is asked goes =
-    record { goes = goes.0; same = λ none. absurd (none actor number call is asked); bank = goes.1 }
+goes_for_attach actor number {call = call} is asked goes = search arith
 
 -- One turn, in which these items were listed.
-module _ (script : Script) (actor : ℕ) (before after : Turns) (on : GoesOnFor script before.state after.state)
+module _ {script : Script} (actor : ℕ) {before after : Turns} (on : GoesOnFor script before.state after.state)
     (space : KeepsUsing script before after)
-    (numbers : IsNumbered before.items before.state.core → IsNumbered after.items after.state.core) (dropped : (cause : WhyDropped) → IsToBeTold after.clients cause → HasDropCause before after cause)
+    (numbers : IsNumbered before.items before.state.core → IsNumbered after.items after.state.core)
+    (dropped : (cause : WhyDropped) → IsToBeTold after.clients cause → HasDropCause before after cause)
     (more : List Item) (items : after.items ≡ before.items ++ more) (fit : FitSince before after)
     (runs : (world : World) (past : Past) → IsWorldOf script world
     → (count_of before.state.core.pool.out ≤ before.state.core.pool.uber.parity
@@ -312,16 +250,16 @@ module _ (script : Script) (actor : ℕ) (before after : Turns) (on : GoesOnFor 
   goes = on.goes
 
   reach_is : before.state.core.reach ≤ after.state.core.reach
-  reach_is = ⊎_elim (λ same. omega (arith, same)) (λ more. omega (arith, more)) goes.reach
+  reach_is = search arith
 
   only_is : TouchesOnly (IsOnInUse (after.state.core.reach + 1) before.state.core.pool.out) before.state.disk
       after.state.disk
   only_is = touches_widen (IsOnInUse (before.state.core.reach + 1) before.state.core.pool.out)
-      (IsOnInUse (after.state.core.reach + 1) before.state.core.pool.out)
-      (λ d x here. (let below = here.0 in let more = reach_is in omega (arith, below, more), here.1)) goes.only
+      (IsOnInUse (after.state.core.reach + 1) before.state.core.pool.out) (search (reach_is, arith)) goes.only
 
   turn : (count_of before.state.core.pool.out ≤ before.state.core.pool.uber.parity)
-      ⊎ (before.state.core.pool.uber.parity < count_of before.state.core.pool.out) → LeadTo script before (taken_by actor after ∷ []) after
+      ⊎ (before.state.core.pool.uber.parity < count_of before.state.core.pool.out)
+      → LeadTo script before (taken_by actor after ∷ []) after
   turn (inl few) = record {
     ends = refl;
     later = goes.later;
@@ -330,17 +268,16 @@ module _ (script : Script) (actor : ℕ) (before after : Turns) (on : GoesOnFor 
     only = only_is;
     same = on.same;
     out = goes.out;
-    listed = λ index item there. subst (λ (l : List Item). slice_get l index ≡ Some item) (sym items)
-        (grown_has before.items more index item there);
+    listed = search (grown_has, arith);
     fits = fit;
     dropped = dropped;
     borne = before.state.core.pool.out;
     few = few;
     from_start = λ still device out. out;
-    stopped = λ many. absurd (omega (arith, few, many));
+    stopped = λ many. absurd (omega arith);
     within = goes.out.still;
-    runs = λ world past same stood within listed. runs world past same (λ still. within) listed.0 stood;
-    full = λ world past same stood within listed. full world past same stood;
+    runs = λ world past same stood within listed. search;
+    full = search;
     space = space;
     numbers = numbers;
   }
@@ -357,7 +294,7 @@ module _ (script : Script) (actor : ℕ) (before after : Turns) (on : GoesOnFor 
     fits = fit;
     dropped = dropped;
     borne = 0;
-    few = none_listed before.state.core.pool.uber.parity;
+    few = search none_listed;
     from_start = λ few. absurd (omega (arith, few, many));
     stopped = λ still device out. out;
     within = λ device out. absurd (none_out device out);
@@ -369,4 +306,4 @@ module _ (script : Script) (actor : ℕ) (before after : Turns) (on : GoesOnFor 
   }
 
   pub came_turn : LeadTo script before (taken_by actor after ∷ []) after
-  came_turn = turn (few_or_many before.state.core.pool.out before.state.core.pool.uber.parity)
+  came_turn = turn (search few_or_many)

@@ -1,20 +1,8 @@
 -- The works that make groups of the widths that are, or that end an expansion: those of a sync and of a copy.
-use Rattle.std.proofs.Common.{◌≡◌, ℕ, List, [], Some, None, refl}
-use Rattle.core_commit.specs.CommitTurns.{CommitRun}
-use Rattle.core_state.specs.declared.answer.Kind.{Kind}
+use Rattle.schedule.proofs.Words.{◌≡◌, ℕ, List, [], Some, None, refl, CommitRun, Kind, Item, Kept, World, ScriptCall, AttachRun, Commits, Work, IsGroupKind, HasBegun, HasBegunBy, HasContent, IsHoldOf, IsWorkFor, commit_in, held_by, made_in}
 use Rattle.core_state.specs.declared.answer.Kind.TheVariants as kind
 use Rattle.core_state.specs.declared.item.Group.{Group as GroupItem}
-use Rattle.core_state.specs.declared.item.Item.{Item}
-use Rattle.core_state.specs.Keeps.{Kept}
-use Rattle.core_state.specs.World.{World}
-use Rattle.client_script.specs.declared.call.ScriptCall.{ScriptCall}
-use Rattle.core_turns.specs.declared.attaching.AttachRun.{AttachRun}
-use Rattle.core_turns.specs.declared.rounds.CopyRound.TheVariants.{Commits}
-use Rattle.schedule.specs.declared.client.Work.{Work}
 use Rattle.schedule.specs.declared.client.Work.TheVariants as work
-use Rattle.schedule.specs.Fitting.{IsGroupKind}
-use Rattle.schedule.specs.Running.{HasBegun, HasBegunBy, HasContent, IsHoldOf, IsWorkFor, commit_in, held_by}
-use Rattle.schedule.specs.Works.{made_in}
 
 -- A call of this kind makes a commit by such a work: it holds no sectors, and its group begins no expansion.
 pub record MakesGroups (asked : Kind) (does : CommitRun → Work) : Type 0 where

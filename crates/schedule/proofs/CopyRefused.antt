@@ -1,31 +1,10 @@
 -- What a copy is answered, as a round of it begins or as it is stopped.
-use Rattle.std.proofs.Common.{◌≡◌, ⊎_elim, ℕ, List, ◌∷◌, [], ◌++◌, length, None, refl, sym, ◌∙◌, subst, arith}
-use Rattle.std.specs.Prelude.{◌≢◌, true}
-use Rattle.bank_trait.specs.Disk.{Disk}
-use Rattle.reflow_mark.specs.Reflow.{Expands}
-use Rattle.uberblock_ring.specs.Devices.{has_device}
-use Rattle.uberblock_ring.specs.Uberblock.{max_group}
-use Rattle.core_state.specs.declared.answer.Answer.{Answer}
+use Rattle.schedule.proofs.Words.{◌≡◌, ⊎_elim, ℕ, List, length, None, refl, arith, true, Disk, Expands, has_device, max_group, Answer, Entry, Item, IsAnswerOf, IsGroupBefore, Map, PutBytes, map_after_answer, World, WhyDropped, group_before_grown, IsSyncRefused, IsJobRefused, Core, IsRoundRefused, IsDeviceCause, IsRightNext, group_by}
+use Rattle.std.specs.Prelude.{◌≢◌}
 use Rattle.core_state.specs.declared.answer.Answer.TheVariants as answer
 use Rattle.core_state.specs.declared.answer.Kind.TheVariants as kind
-use Rattle.core_state.specs.declared.item.Entry.{Entry}
 use Rattle.core_state.specs.declared.item.Group.{Group as GroupItem}
-use Rattle.core_state.specs.declared.item.Item.{Item}
-use Rattle.core_state.specs.declared.item.Item.TheVariants.{Call as CallItem}
-use Rattle.core_state.specs.Legal.{IsAnswerOf, IsGroupBefore, IsRightCopy}
-use Rattle.core_state.specs.Map.{Map, PutBytes, map_after_answer}
-use Rattle.core_state.specs.World.{World}
-use Rattle.join_commit.specs.declared.join_run.WhyDropped.{WhyDropped}
 use Rattle.join_commit.specs.declared.join_run.WhyDropped.TheVariants as why
-use Rattle.journal_law.proofs.Grown.{group_before_grown}
-use Rattle.core_turns.specs.Committing.{IsSyncRefused}
-use Rattle.core_turns.specs.Copying.{IsJobRefused}
-use Rattle.core_turns.specs.Core.{Core}
-use Rattle.core_turns.specs.Rounds.{IsRoundRefused}
-use Rattle.schedule.specs.Caused.{IsAnswerCause}
-use Rattle.schedule.specs.Fitting.{IsDeviceCause, IsGroupKind}
-use Rattle.schedule.specs.Recorded.{IsRightNext}
-use Rattle.schedule.specs.Turned.{group_by}
 use Rattle.schedule.proofs.Fitting.{TellsOut}
 use Rattle.schedule.proofs.Refusals.{sync_cause}
 use Rattle.schedule.proofs.RightNext.{IsStopped, copy_right, group_cut_right, same_out}
@@ -52,22 +31,15 @@ pub record AnswersCopy (core : Core) (devices : ℕ) (dropped : WhyDropped → T
   pub right : IsRightWith core given
 
 -- One that was stopped tells nothing of the pool.
-stopped_with : (core : Core) (given : Answer) → IsStopped given → IsRightWith core given
-stopped_with core given stopped world items item entry disk asked is latest from_is to_is last =
-    group_cut_right world items entry disk (subst IsGroupKind (sym asked) tt) (subst IsStopped (sym is) stopped)
+stopped_with : (core : Core) {given : Answer} → IsStopped given → IsRightWith core given
+stopped_with core stopped world items item entry disk asked is latest from_is to_is last =
+    search (group_cut_right, arith)
 
 -- A copy is done where the pool has one width,
 completed_with : (core : Core) (width : ℕ) → core.pool.uber.reflow.from ≡ core.pool.uber.reflow.to
     → width ≡ core.pool.uber.reflow.to → IsRightWith core (answer.Completed width)
 completed_with core width one width_is world items item entry disk asked is latest from_is to_is last =
-    copy_right world items entry disk asked (λ damaged. apart (sym is ∙ damaged))
-    (subst (IsRightCopy (items ++ CallItem entry ∷ []) (length items)) (sym is) (
-      item,
-      group_before_grown items (CallItem entry ∷ []) (length items) item (omega arith) latest,
-      sym from_is ∙ one ∙ sym width_is,
-      sym to_is ∙ sym width_is,
-    ))
-    (subst (IsAnswerCause items (length items) disk) (sym is) tt)
+    search (copy_right, apart, group_before_grown, arith)
   where
     apart : answer.Completed width ≡ answer.Damaged → ⊥
     apart same = cc
@@ -75,10 +47,8 @@ completed_with core width one width_is world items item entry disk asked is late
 -- and paused where it expands.
 paused_with : (core : Core) (device : ℕ) → Expands core.pool.uber.reflow → IsRightWith core (answer.Paused device)
 paused_with core device expands world items item entry disk asked is latest from_is to_is last =
-    copy_right world items entry disk asked (λ damaged. apart (sym is ∙ damaged))
-    (subst (IsRightCopy (items ++ CallItem entry ∷ []) (length items)) (sym is) tt)
-    (subst (IsAnswerCause items (length items) disk) (sym is)
-    (item.to, (item, latest, omega (arith, expands, from_is, to_is), refl)))
+    copy_right world items entry disk asked (λ damaged. apart (cc)) (rw is tt)
+    (rw is (item.to, (item, latest, omega (arith, expands, from_is, to_is), refl)))
   where
     apart : answer.Paused device ≡ answer.Damaged → ⊥
     apart same = cc
@@ -94,23 +64,23 @@ no_memory_answers core devices dropped = record {
   alone = refl;
   no_full = λ full. cc;
   no_block = λ handed map entry. refl;
-  right = stopped_with core answer.NoMemory tt;
+  right = stopped_with core tt;
 }
 
 -- So it is where a job is refused,
-job_answers : (core : Core) (devices : ℕ) (dropped : WhyDropped → Type 0) (given : Answer) → IsJobRefused core given
+job_answers : (core : Core) {devices : ℕ} {dropped : WhyDropped → Type 0} (given : Answer) → IsJobRefused core given
     → AnswersCopy core devices dropped given
-job_answers core devices dropped (answer.TooManyFailed out) refused = record {
+job_answers core (answer.TooManyFailed out) refused = record {
   answers = tt;
-  tells = λ listed told. (refused.0, same_out (sym told) ∙ refused.1);
+  tells = search (same_out, arith);
   limit = λ reached told. cc;
   cause = λ known. tt;
   alone = refl;
   no_full = λ full. cc;
   no_block = λ handed map entry. refl;
-  right = stopped_with core (answer.TooManyFailed out) tt;
+  right = stopped_with core tt;
 }
-job_answers core devices dropped (answer.Completed width) refused = record {
+job_answers core (answer.Completed width) refused = record {
   answers = refl;
   tells = λ listed told. cc;
   limit = λ reached told. cc;
@@ -118,9 +88,9 @@ job_answers core devices dropped (answer.Completed width) refused = record {
   alone = refl;
   no_full = λ full. cc;
   no_block = λ handed map entry. refl;
-  right = completed_with core width refused.1 refused.2;
+  right = search completed_with;
 }
-job_answers core devices dropped (answer.Paused device) refused = record {
+job_answers core (answer.Paused device) refused = record {
   answers = refl;
   tells = λ listed told. cc;
   limit = λ reached told. cc;
@@ -130,8 +100,9 @@ job_answers core devices dropped (answer.Paused device) refused = record {
   no_block = λ handed map entry. refl;
   right = paused_with core device refused.1;
 }
-job_answers core devices dropped answer.NoMemory refused = no_memory_answers core devices dropped
-job_answers core devices dropped other refused = absurd refused
+job_answers core {devices = devices} {dropped = dropped} answer.NoMemory refused = no_memory_answers core devices
+    dropped
+job_answers core other refused = absurd refused
 
 -- and where a commit is.
 commit_answers : (core : Core) (devices : ℕ) (dropped : WhyDropped → Type 0) (given : Answer) → IsSyncRefused core given
@@ -139,13 +110,12 @@ commit_answers : (core : Core) (devices : ℕ) (dropped : WhyDropped → Type 0)
 commit_answers core devices dropped given refused = record {
   answers = refused_answers kind.Copy core given refused;
   tells = refused_tells core given refused;
-  limit = λ reached told. (subst (IsSyncRefused core) told refused).2;
-  cause = λ known. sync_cause devices dropped core given refused;
+  limit = search arith;
+  cause = search sync_cause;
   alone = commit_alone given refused;
-  no_full = λ full. subst (IsSyncRefused core) full refused;
-  no_block = λ handed map entry. refused_map handed map entry core given refused;
-  right = λ world items item entry disk asked is latest from_is to_is last. refused_right world items item entry disk
-      core given (subst IsGroupKind (sym asked) tt) is latest last refused;
+  no_full = search arith;
+  no_block = search refused_map;
+  right = search (refused_right, arith);
 }
   where
     -- It comes with no group.
@@ -155,8 +125,7 @@ commit_answers core devices dropped given refused = record {
     commit_alone answer.NoMemory refused = refl
     commit_alone other refused = absurd refused
 
-pub round_answers : (core : Core) (devices : ℕ) (dropped : WhyDropped → Type 0) (given : Answer) → IsRoundRefused core given
-    → AnswersCopy core devices dropped given
-round_answers core devices dropped given = ⊎_elim
-    (λ job. job_answers core devices dropped given job)
-    (λ commit. commit_answers core devices dropped given commit.1)
+pub round_answers : (core : Core) {devices : ℕ} {dropped : WhyDropped → Type 0} (given : Answer)
+    → IsRoundRefused core given → AnswersCopy core devices dropped given
+round_answers core given = ⊎_elim
+    (λ job. job_answers core given job) (search (commit_answers, arith))

@@ -1,25 +1,11 @@
 -- What a call is answered in a turn, and that what is listed then fits it.
-use Rattle.std.proofs.Common.{◌≡◌, ◌⊎◌, inl, inr, ℕ, ◌<◌, List, [], ◌∷◌, ◌++◌, Some, true, sym, subst}
-use Rattle.std.specs.Prelude.{◌≢◌, slice_get, ⊤}
-use Rattle.uberblock_ring.specs.Devices.{count_of, has_device, IsWithin}
-use Rattle.uberblock_ring.specs.Uberblock.{max_group}
-use Rattle.core_state.specs.declared.answer.Answer.{Answer}
+use Rattle.schedule.proofs.Words.{◌≡◌, ◌⊎◌, inl, inr, ℕ, List, [], ◌∷◌, ◌++◌, sym, subst, ⊤, IsWithin, max_group, Answer, Kind, Entry, Item, Group, CallAt, IsAnswerOf, WhyDropped, new_or_before, Core, HasTooManyOut, IsReadKind, HasDropCause, FitsSince, IsDeviceCause, IsGroupKind, Turns}
+use Rattle.std.specs.Prelude.{◌≢◌}
 use Rattle.core_state.specs.declared.answer.Answer.TheVariants as answer
-use Rattle.core_state.specs.declared.answer.Kind.{Kind}
 use Rattle.core_state.specs.declared.answer.Kind.TheVariants as kind
-use Rattle.core_state.specs.declared.item.Entry.{Entry}
 use Rattle.core_state.specs.declared.item.Group.{Group as GroupItem}
-use Rattle.core_state.specs.declared.item.Item.{Item}
-use Rattle.core_state.specs.declared.item.Item.TheVariants.{Group, Call as CallItem}
-use Rattle.core_state.specs.Legal.{CallAt, IsAnswerOf}
-use Rattle.join_commit.specs.declared.join_run.WhyDropped.{WhyDropped}
+use Rattle.core_state.specs.declared.item.Item.TheVariants.{Call as CallItem}
 use Rattle.join_commit.specs.declared.join_run.WhyDropped.TheVariants as why
-use Rattle.journal_law.proofs.Grown.{new_or_before}
-use Rattle.core_turns.specs.Core.{Core}
-use Rattle.core_turns.specs.Getting.{HasTooManyOut, IsReadKind}
-use Rattle.schedule.specs.Dropping.{HasDropCause}
-use Rattle.schedule.specs.Fitting.{FitsSince, IsDeviceCause, IsGroupKind}
-use Rattle.schedule.specs.Turns.{Turns}
 use Rattle.schedule.proofs.RightNext.{IsPlain}
 use Rattle.schedule.proofs.Running.{group_apart}
 
@@ -29,7 +15,8 @@ TellsOut core given = (listed : ℕ) → given ≡ answer.TooManyFailed listed
     → HasTooManyOut core × (listed ≡ core.pool.out)
 
 -- what a call of this kind is answered, where the core was this one
-pub record Fits (core : Core) (devices : ℕ) (dropped : WhyDropped → Type 0) (asked : Kind) (given : Answer) : Type 0 where
+pub record Fits (core : Core) (devices : ℕ) (dropped : WhyDropped → Type 0) (asked : Kind)
+    (given : Answer) : Type 0 where
   pub of_kind : IsAnswerOf asked given
   pub tells : TellsOut core given
   pub limit : (reached : ℕ) → given ≡ answer.Limit reached → IsGroupKind asked × (reached ≡ max_group)
@@ -40,8 +27,8 @@ pub record Fits (core : Core) (devices : ℕ) (dropped : WhyDropped → Type 0) 
 abbrev pub NoLimit : Answer → Type 0
 NoLimit given = (reached : ℕ) → given ≡ answer.Limit reached → ⊥
 
-pub plain_no_limit : (given : Answer) → IsPlain given → NoLimit given
-plain_no_limit given plain reached is = subst IsPlain is plain
+pub plain_no_limit : {given : Answer} → IsPlain given → NoLimit given
+plain_no_limit plain reached is = subst IsPlain is plain
 
 -- The call is no free, no attach and no copy.
 abbrev pub IsPlainKind : Kind → Type 0
@@ -64,9 +51,11 @@ plain_lacks_none other plain lacks = lacks
 -- No other call has the cause of one that does.
 pub no_device_cause : (devices : ℕ) (dropped : WhyDropped → Type 0) (asked : Kind) (given : Answer)
     → (LacksDevices asked → ⊥) → IsAnswerOf asked given → IsDeviceCause devices dropped given
-no_device_cause devices dropped asked (answer.NewDeviceFailed device) none of = absurd (none (subst LacksDevices (sym of) tt))
+no_device_cause devices dropped asked (answer.NewDeviceFailed device) none of = absurd
+    (none (subst LacksDevices (sym of) tt))
 no_device_cause devices dropped asked (answer.DeviceOut device) none of = absurd (none (subst LacksDevices (sym of) tt))
-no_device_cause devices dropped asked (answer.NoDevice there width) none of = absurd (none (subst LacksDevices (sym of) tt))
+no_device_cause devices dropped asked (answer.NoDevice there width) none of = absurd
+    (none (subst LacksDevices (sym of) tt))
 no_device_cause devices dropped asked (answer.Paused device) none of = absurd (none (subst LacksDevices (sym of) tt))
 no_device_cause devices dropped asked given none of = tt
 
@@ -76,10 +65,10 @@ read_plain_kind kind.Sum read = tt
 read_plain_kind other read = absurd read
 
 -- So it is known to fit where no limit is told,
-pub fits : {devices : ℕ} {dropped : WhyDropped → Type 0} (core : Core) (asked : Kind) (given : Answer)
+pub fits : {devices : ℕ} {dropped : WhyDropped → Type 0} {core : Core} {asked : Kind} {given : Answer}
     → IsAnswerOf asked given → TellsOut core given → NoLimit given → IsPlainKind asked
     → Fits core devices dropped asked given
-fits {devices} {dropped} core asked given of tells no_limit plain = record {
+fits {devices} {dropped} {asked = asked} {given = given} of tells no_limit plain = record {
   of_kind = of;
   tells = tells;
   limit = λ reached is. absurd (no_limit reached is);
@@ -101,12 +90,12 @@ group_fits core asked given group of tells limit cause = record {
 }
 
 -- So it is of an attach.
-pub attach_fits : {devices : ℕ} {dropped : WhyDropped → Type 0} (core : Core) (asked : Kind) (given : Answer)
+pub attach_fits : {devices : ℕ} {dropped : WhyDropped → Type 0} {core : Core} {asked : Kind} {given : Answer}
     → asked ≡ kind.Attach → IsAnswerOf kind.Attach given → TellsOut core given
     → ((reached : ℕ) → given ≡ answer.Limit reached → reached ≡ max_group) → IsDeviceCause devices dropped given
     → Fits core devices dropped asked given
-attach_fits core asked given is of = group_fits core asked given (subst IsGroupKind (sym is) tt)
-    (subst (λ (k : Kind). IsAnswerOf k given) (sym is) of)
+attach_fits {core = core} {asked = asked} {given = given} is of = group_fits core asked given
+    (subst IsGroupKind (sym is) tt) (rw is of)
 
 -- Its cause stands for whoever has come further.
 pub device_cause_on : (devices : ℕ) (dropped further : WhyDropped → Type 0) (given : Answer)
@@ -125,14 +114,12 @@ FitSince before after = (index : ℕ) (entry : Entry) → CallAt after.items ind
 
 -- So it is where nothing was listed,
 pub fit_same : (before after : Turns) → after.items ≡ before.items → FitSince before after
-fit_same before after items index entry there =
-    inl (subst (λ (l : List Item). slice_get l index ≡ Some (CallItem entry)) items there)
+fit_same before after items index entry there = inl (search)
 
 -- or a group alone, which answers no call,
 pub fit_group : (before after : Turns) (group : GroupItem) → after.items ≡ before.items ++ Group group ∷ []
     → FitSince before after
-fit_group before after group items index entry there = inl (group_apart before.items group index entry
-    (subst (λ (l : List Item). slice_get l index ≡ Some (CallItem entry)) items there))
+fit_group before after group items index entry there = inl (group_apart before.items group index (search))
 
 module _ (before after : Turns) (last : Entry)
     (fit : Fits before.state.core before.state.disk.devices (HasDropCause before after) last.kind last.answer)
@@ -141,8 +128,8 @@ module _ (before after : Turns) (last : Entry)
   its = record {
     of_kind = fit.of_kind;
     too_many = λ listed is. let found = fit.tells listed is in (
-      subst (λ (n : ℕ). before.state.core.pool.uber.parity < count_of n) (sym found.1) found.0,
-      λ device out. still device (subst (λ (n : ℕ). has_device n device ≡ true) found.1 out),
+      rw found.1 found.0,
+      λ device out. still device (search device),
     );
     limit = fit.limit;
     memory = fit.memory;
@@ -152,7 +139,7 @@ module _ (before after : Turns) (last : Entry)
   with_last : (items : List Item) (index : ℕ) (entry : Entry) → CallAt (items ++ CallItem last ∷ []) index entry
       → CallAt items index entry ⊎ FitsSince before after entry
   with_last items index entry there = elim (new_or_before items (CallItem last) index (CallItem entry) there) [
-    | inl new ↦ inr (subst (FitsSince before after) (same new.1) its)
+    | inl new ↦ inr (rw (← same new.1) its)
     | inr earlier ↦ inl earlier.1
   ]
     where
@@ -161,14 +148,12 @@ module _ (before after : Turns) (last : Entry)
 
   -- where an entry was,
   pub fit_entry : after.items ≡ before.items ++ CallItem last ∷ [] → FitSince before after
-  fit_entry items index entry there = with_last before.items index entry
-      (subst (λ (l : List Item). slice_get l index ≡ Some (CallItem entry)) items there)
+  fit_entry items index entry there = with_last before.items index entry (search)
 
   -- and where a group was before it.
   pub fit_both : (group : GroupItem) → after.items ≡ (before.items ++ Group group ∷ []) ++ CallItem last ∷ []
       → FitSince before after
-  fit_both group items index entry there = elim (with_last (before.items ++ Group group ∷ []) index entry
-      (subst (λ (l : List Item). slice_get l index ≡ Some (CallItem entry)) items there)) [
-        | inl earlier ↦ inl (group_apart before.items group index entry earlier)
-        | inr new ↦ inr new
-      ]
+  fit_both group items index entry there = elim (with_last (before.items ++ Group group ∷ []) index entry (search)) [
+    | inl earlier ↦ inl (group_apart before.items group index earlier)
+    | inr new ↦ inr new
+  ]

@@ -1,42 +1,19 @@
 -- What a free comes to.
-use Rattle.std.proofs.Common.{◌≡◌, inr, ℕ, List, Option, Some, None, refl, sym, ◌∙◌, ap, subst}
-use Rattle.std.specs.Prelude.{slice_get, option_and_then}
-use Rattle.bank_trait.specs.Disk.{Disk}
-use Rattle.core_state.specs.declared.answer.Answer.{Answer}
+use Rattle.schedule.proofs.Words.{◌≡◌, inr, ℕ, List, Option, Some, None, refl, sym, ◌∙◌, ap, subst, slice_get, option_and_then, Disk, Answer, Entry, Map, PutBytes, map_of, map_after_answer, IsAnswerOf, IsRightFree, found_id, found_listed, map_after_free, HoldsMap, ScriptCall, Script, calls_of, Core, at_disk, pool_at, FreesBlock, Stands, Done, frees_calls, frees_stands, Client, Station, Frees, LeavesBegun, TakesTurn, Comes, calls_under_way, setting_now}
 use Rattle.core_state.specs.declared.answer.Answer.TheVariants as answer
-use Rattle.core_state.specs.declared.answer.Kind.{Kind}
 use Rattle.core_state.specs.declared.answer.Kind.TheVariants as kind
-use Rattle.core_state.specs.declared.item.Entry.{Entry}
-use Rattle.core_state.specs.Map.{Map, PutBytes, map_of, map_after_answer, with_block}
-use Rattle.core_state.specs.Legal.{IsAnswerOf, IsRightFree}
-use Rattle.core_blocks.proofs.Listed.{found_id, found_listed}
-use Rattle.core_turns.specs.Freeing.{map_after_free}
-use Rattle.open_pool.specs.Pool.{HoldsMap}
-use Rattle.client_script.specs.declared.call.ScriptCall.{ScriptCall}
-use Rattle.client_script.specs.Script.{Script, calls_of}
-use Rattle.core_turns.specs.Core.{Core, at_disk, pool_at}
-use Rattle.core_turns.specs.Freeing.{FreesBlock}
-use Rattle.core_turns.specs.UnderWay.{Stands}
-use Rattle.core_turns.specs.declared.turn.Turn.TheVariants.{Done}
-use Rattle.core_turns.proofs.FreeStands.{frees_calls, frees_stands}
-use Rattle.schedule.specs.Dropping.{HasDropCause}
-use Rattle.schedule.specs.Turns.{turns_of}
-use Rattle.schedule.specs.declared.client.Client.{Client}
-use Rattle.schedule.specs.Turned.{Station, Frees, LeavesBegun}
-use Rattle.schedule.specs.Comes.{TakesTurn, Comes}
 use Rattle.schedule.proofs.Fitting.{no_device_cause, plain_no_limit}
 use Rattle.schedule.proofs.RightNext.{IsPlain, free_right}
 use Rattle.schedule.proofs.Theirs.{none_some}
 use Rattle.schedule.proofs.LeavesPool.{LeavesPool, holds_left}
 use Rattle.schedule.proofs.TurnComes.{first_entry, comes_at_once}
 use Rattle.schedule.proofs.Fulls.{put_alone}
-use Rattle.schedule.specs.Running.{calls_under_way, setting_now}
 
 -- The pool stays,
 frees_pool : (old new : Core) (id : ℕ) (given : Answer) → FreesBlock old new id given → LeavesPool old new
-frees_pool old new id answer.Freed frees = holds_left old new new.pool.blocks frees.2.rest
-frees_pool old new id answer.Absent frees = holds_left old new new.pool.blocks frees.1.rest
-frees_pool old new id (answer.TooManyFailed out) frees = holds_left old new old.pool.blocks frees.2
+frees_pool old new id answer.Freed frees = holds_left frees.2.rest
+frees_pool old new id answer.Absent frees = holds_left frees.1.rest
+frees_pool old new id (answer.TooManyFailed out) frees = holds_left frees.2
 frees_pool old new id other frees = absurd frees
 
 -- the answer is one to a free,
@@ -48,31 +25,31 @@ frees_of old new id (answer.TooManyFailed out) frees = (tt, tt)
 frees_of old new id other frees = absurd frees
 
 -- and right of the map that the pool held.
-frees_right : (old new : Core) (disk : Disk) (map : Map) (id : ℕ) (given : Answer)
+frees_right : (old new : Core) {disk : Disk} (map : Map) (id : ℕ) (given : Answer)
     → HoldsMap map (pool_at (at_disk old disk)) → FreesBlock old new id given → IsRightFree (map id) given
-frees_right old new disk map id answer.Freed holds frees = λ none.
+frees_right old new map id answer.Freed holds frees = λ none.
     let entries = old.pool.blocks.table.entries in
     let told = holds.table.listed frees.1 (found_listed entries id frees.1 frees.2.was) in
     none_some (sym none ∙ ap map (sym (found_id entries id frees.1 frees.2.was)) ∙ told.1)
-frees_right old new disk map id answer.Absent holds frees = by (map id) refl
+frees_right old new map id answer.Absent holds frees = by (map id) refl
   where
     by : (held : Option (List ℕ)) → map id ≡ held → map id ≡ None
     by None is = is
     by (Some content) is = absurd (none_some (sym frees.1.none ∙ (holds.table.every id content is).1))
-frees_right old new disk map id (answer.TooManyFailed out) holds frees = tt
-frees_right old new disk map id other holds frees = absurd frees
+frees_right old new map id (answer.TooManyFailed out) holds frees = tt
+frees_right old new map id other holds frees = cc
 
 -- The map after it is the one that a free leaves.
-frees_map : (old new : Core) (handed : PutBytes) (map : Map) (entry : Entry) (id : ℕ) (given : Answer)
+frees_map : (old new : Core) (handed : PutBytes) (map : Map) (entry : Entry) {id : ℕ} (given : Answer)
     → entry.id ≡ Some id → FreesBlock old new id given
     → map_after_answer handed map entry given ≡ map_after_free map id given
-frees_map old new handed map entry id answer.Freed id_is frees = ap (λ (o : Option ℕ). with_block map o None) id_is
-frees_map old new handed map entry id answer.Absent id_is frees = refl
-frees_map old new handed map entry id (answer.TooManyFailed out) id_is frees = refl
-frees_map old new handed map entry id other id_is frees = absurd frees
+frees_map old new handed map entry answer.Freed id_is frees = cc
+frees_map old new handed map entry answer.Absent id_is frees = refl
+frees_map old new handed map entry (answer.TooManyFailed out) id_is frees = refl
+frees_map old new handed map entry other id_is frees = absurd frees
 
 module _ {script : Script} {actor : ℕ} {before after : Station} {clients news : List Client}
-    (takes : TakesTurn script actor before after clients news) (call : ScriptCall) (id : ℕ) (given : Answer)
+    (takes : TakesTurn script actor before after clients news) {call : ScriptCall} (id : ℕ) {given : Answer}
     (asked : call.kind ≡ kind.Free) (id_is : call.id ≡ Some id) (idle : before.client.under_way ≡ None)
     (next : slice_get (calls_of script actor) before.client.begun ≡ Some call)
     (frees : Frees before.state.core after.state.core id given) (disk : after.state.disk ≡ before.state.disk)
@@ -85,31 +62,25 @@ module _ {script : Script} {actor : ℕ} {before after : Station} {clients news 
   pub free_at_once : Comes script actor before after clients news
   free_at_once =
       let of = frees_of before.state.core after.state.core id given frees.frees in
-      comes_at_once takes call idle (frees_pool before.state.core after.state.core id given frees.frees) disk given next left
-      (record {
-        of_kind = subst (λ (k : Kind). IsAnswerOf k given) (sym asked) of.0;
-        tells = λ out told. let many = subst (FreesBlock before.state.core after.state.core id) told frees.frees in
+      comes_at_once takes call idle (search frees_pool) disk next left (record {
+        of_kind = rw asked of.0;
+        tells = λ out told. let many = rw told at frees.frees in
             (many.0, many.1);
-        limit = λ reached told. absurd (plain_no_limit given of.1 reached told);
-        memory = λ wanting. absurd (subst (FreesBlock before.state.core after.state.core id) wanting frees.frees);
-        device = no_device_cause before.state.disk.devices
-            (HasDropCause (turns_of before.state before.items clients) (turns_of after.state after.items news)) kind.Free given
-            (λ lacks. lacks) of.0;
+        limit = λ reached told. absurd (plain_no_limit of.1 reached told);
+        memory = λ wanting. absurd (rw wanting at frees.frees);
+        device = search no_device_cause;
       })
-      (λ full. absurd (put_alone kind.Free given free_no_put of.0 full))
+      (λ full. absurd (put_alone free_no_put of.0 full))
       (frees_calls before.state.core after.state.core id given (calls_under_way clients) frees.frees frees.under
       takes.schedule.going.are)
       (λ world past runs.
       let map = map_of world.handed world.opening before.items in
       let entry = first_entry call actor before given in (
         free_right world before.items entry after.state.disk asked of.1
-            (subst (λ (held : Option (List ℕ)). IsRightFree held given) (sym (ap (option_and_then map) id_is))
-            (frees_right before.state.core after.state.core before.state.disk map id given runs.stands.holds
-            frees.frees)),
+            (rw (ap (option_and_then map) id_is) (frees_right before.state.core after.state.core map id given
+            runs.stands.holds frees.frees)),
         subst (λ (m : Map). Stands (setting_now runs) runs.last runs.begun m runs.contents (calls_under_way clients)
             runs.commit after.state)
-            (sym (frees_map before.state.core after.state.core world.handed map entry id given id_is frees.frees))
-            (subst (λ (d : Disk). Stands (setting_now runs) runs.last runs.begun (map_after_free map id given) runs.contents
-            (calls_under_way clients) runs.commit (at_disk after.state.core d)) (sym disk)
-            (frees_stands id given takes.is frees.frees frees.kept runs.stands)),
+            (sym (frees_map before.state.core after.state.core world.handed map entry given id_is frees.frees))
+            (rw disk (frees_stands id given takes.is frees.frees frees.kept runs.stands)),
       ))

@@ -1,21 +1,6 @@
 -- The clients' calls under way are calls of the core still, after a client's next turn.
-use Rattle.std.proofs.Common.{◌≡◌, ◌≢◌, ◌⊎◌, inl, inr, ⊎_elim, ℕ, ◌-◌, List, Some, None, sym, ◌∙◌, ap, subst}
-use Rattle.std.specs.Prelude.{slice_get}
-use Rattle.core_commit.specs.CommitTurns.{CommitRun}
-use Rattle.client_script.specs.declared.call.ScriptCall.{ScriptCall}
-use Rattle.client_script.specs.Script.{Script, calls_of}
-use Rattle.core_turns.specs.declared.attaching.AttachRun.{AttachRun}
-use Rattle.core_turns.specs.Attaching.{IsAttachRunOf}
-use Rattle.core_turns.specs.Core.{Core}
-use Rattle.core_turns.specs.Getting.{HasTooManyOut}
-use Rattle.core_turns.specs.Committing.{IsCommitOf}
-use Rattle.core_turns.specs.UnderWay.{AreCallsOf}
-use Rattle.core_turns.proofs.AttachBeside.{IsBeforeCommit, attach_at_begin}
-use Rattle.schedule.specs.declared.client.Client.{Client}
-use Rattle.schedule.specs.declared.client.UnderWay.{UnderWay}
+use Rattle.schedule.proofs.Words.{◌≡◌, ◌≢◌, ◌⊎◌, inl, inr, ⊎_elim, ℕ, ◌-◌, List, Some, None, sym, ◌∙◌, subst, slice_get, CommitRun, ScriptCall, Script, calls_of, AttachRun, IsAttachRunOf, Core, HasTooManyOut, IsCommitOf, AreCallsOf, IsBeforeCommit, attach_at_begin, Client, UnderWay, Changes, AreGoing, IsGoing, IsHoldOf, IsWorkFor, IsWorkOf, MakesCommit, calls_under_way, commit_in}
 use Rattle.schedule.specs.declared.client.Work.TheVariants as work
-use Rattle.schedule.specs.Clients.{Changes}
-use Rattle.schedule.specs.Running.{AreGoing, IsGoing, IsHoldOf, IsWorkFor, IsWorkOf, MakesCommit, calls_under_way, commit_in}
 use Rattle.schedule.proofs.LeavesPool.{KeepsCommit}
 use Rattle.schedule.proofs.Theirs.{IsNoAttach, IsNoCommit, OnlyIt, apart_of_commit, before_commit, each_going, going_on, makes_commit, no_one, none_some, run_of, same_attach, some_is, the_one}
 
@@ -25,11 +10,11 @@ pub record KeepsAttach (core now : Core) : Type 0 where
   pub early : (run : AttachRun) → IsBeforeCommit run → IsAttachRunOf core run → IsAttachRunOf now run
 
 -- So it is where the pool's widths, how far it reaches and who attaches are the same.
-pub keeps_attach : (core now : Core) → now.pool.uber.reflow ≡ core.pool.uber.reflow → now.reach ≡ core.reach
+pub keeps_attach : {core now : Core} → now.pool.uber.reflow ≡ core.pool.uber.reflow → now.reach ≡ core.reach
     → now.attaching ≡ core.attaching → KeepsAttach core now
-keeps_attach core now reflow reach attaching = record {
+keeps_attach {core = core} {now = now} reflow reach attaching = record {
   attaching = attaching;
-  early = λ run before. attach_at_begin core now run before reflow reach attaching;
+  early = search (attach_at_begin, attaching);
 }
 
 module _ {script : Script} {core now : Core} {clients news : List Client} {index : ℕ} {old client : Client}
@@ -45,16 +30,15 @@ module _ {script : Script} {core now : Core} {clients news : List Client} {index
     its,
     under,
     run,
-    going_on was changes actor its under (λ same. none under run (ap (λ (c : Client). c.under_way)
-        (some_is (sym was ∙ subst (λ (n : ℕ). slice_get clients n ≡ Some its) same its_going.there))
-        ∙ its_going.under_way) does) its_going,
+    going_on was changes (λ same. none under run (cc) does) its_going,
     does,
   )
 
   -- What others' attaches come to.
   abbrev OthersAttach : Type 0
   OthersAttach = (caller : ℕ) (its : Client) (under : UnderWay) (run : AttachRun) → caller ≢ index
-      → IsGoing clients caller its under → under.work ≡ work.Attach run → IsAttachRunOf now run × (now.attaching ≡ Some caller)
+      → IsGoing clients caller its under → under.work ≡ work.Attach run → IsAttachRunOf now run
+      × (now.attaching ≡ Some caller)
 
   -- What the others do is kept,
   goes_each : now.committing ≡ core.committing → ((run : CommitRun) → IsCommitOf core run → IsCommitOf now run)
@@ -69,7 +53,7 @@ module _ {script : Script} {core now : Core} {clients news : List Client} {index
         call = work.call;
         there = work.there;
         asked = work.asked;
-        commit = λ run does. let its = work.commit run does in (commits run its.0, committing ∙ its.1);
+        commit = λ run does. let its = work.commit run does in (commits run its.0, cc);
         attach = λ run does. attaches caller its under run apart is does;
       })
 
@@ -80,15 +64,13 @@ module _ {script : Script} {core now : Core} {clients news : List Client} {index
       × (commit_in under.work ≡ Some run))
   goes_one committing many none actor is = ⊎_elim (λ out. inl (many out))
       (λ found.
-      let apart = apart_of_commit was changes none actor found.0 found.1 found.3
-      (makes_commit found.1.work found.2 found.4) in
-      inr (found.0, found.1, found.2, going_on was changes actor found.0 found.1 apart found.3, found.4))
-      (going.one actor (sym committing ∙ is))
+      let apart = apart_of_commit was changes none found.3 (makes_commit found.1.work found.4) in
+      inr (found.0, found.1, found.2, going_on was changes apart found.3, found.4)) (going.one actor (cc))
 
   others_kept : KeepsCommit core now → OthersAttach
   others_kept keeps caller its under run apart is does =
       let was = (going.each caller its under is).attach run does in
-      (keeps.attaches run was.0, keeps.attaching ∙ was.1)
+      (keeps.attaches run was.0, cc)
 
   -- The commit and the attach under way are kept, if there are such: the client's work is and was none of them, or it
   -- has no work.
@@ -97,9 +79,9 @@ module _ {script : Script} {core now : Core} {clients news : List Client} {index
       → AreGoing script now news
   goes keeps none no_attach mine = record {
     are = are;
-    each = goes_each keeps.committing keeps.commits (others_kept keeps) mine;
+    each = search (goes_each, others_kept);
     one = goes_one keeps.committing keeps.many none;
-    attaches = λ actor is. its_attach no_attach actor (going.attaches actor (sym keeps.attaching ∙ is));
+    attaches = λ actor is. its_attach no_attach actor (going.attaches actor (cc));
   }
 
   -- The client's attach is the one under way.
@@ -111,16 +93,15 @@ module _ {script : Script} {core now : Core} {clients news : List Client} {index
     client,
     under,
     run,
-    subst (λ (n : ℕ). IsGoing news n client under) (some_is (sym attaching ∙ is))
-        (record { there = changes.there; under_way = client_is }),
+    search (some_is, attaching),
     does,
   )
 
   -- An attach that makes no commit goes on.
-  pub attach_goes : KeepsCommit core now → IsNoCommit old.under_way → (under : UnderWay) (run : AttachRun)
+  pub attach_goes : KeepsCommit core now → IsNoCommit old.under_way → {under : UnderWay} (run : AttachRun)
       → client.under_way ≡ Some under → under.work ≡ work.Attach run → now.attaching ≡ Some index
       → IsWorkOf script now index client under.work → AreGoing script now news
-  attach_goes keeps none under run client_is does attaching mine = record {
+  attach_goes keeps none {under = under} run client_is does attaching mine = record {
     are = are;
     each = goes_each keeps.committing keeps.commits (others_kept keeps)
         (the_one (λ its. IsWorkOf script now index client its.work) client_is mine);
@@ -144,7 +125,7 @@ module _ {script : Script} {core now : Core} {clients news : List Client} {index
           commit = λ run does. absurd (none_some (sym no_commit ∙ committing ∙ (work.commit run does).1));
           attach = λ run does. absurd (none_some (sym none ∙ (work.attach run does).1));
         });
-    one = λ actor is. absurd (none_some (sym no_commit ∙ is));
+    one = λ actor is. cc;
     attaches = attach_is under run client_is does attaching;
   }
 
@@ -157,9 +138,9 @@ module _ {script : Script} {core now : Core} {clients news : List Client} {index
     each = goes_each committing commits
         (λ caller its under run apart is does.
         absurd (apart (some_is (sym ((going.each caller its under is).attach run does).1 ∙ attaching))))
-        (no_one (λ its. IsWorkOf script now index client its.work) ended);
+        (search no_one);
     one = goes_one committing many none;
-    attaches = λ actor is. absurd (none_some (sym stopped ∙ is));
+    attaches = λ actor is. cc;
   }
 
   -- What is under way of attaches.
@@ -169,15 +150,15 @@ module _ {script : Script} {core now : Core} {clients news : List Client} {index
       × (under.work ≡ work.Attach run)
 
   still_theirs : KeepsAttach core now → IsNoAttach old.under_way → TheirAttach
-  still_theirs keeps none actor is = its_attach none actor (going.attaches actor (sym keeps.attaching ∙ is))
+  still_theirs keeps none actor is = its_attach none actor (going.attaches actor (cc))
 
   -- Another's has begun no commit,
   others_early : KeepsAttach core now → OnlyIt clients index → OthersAttach
   others_early keeps only caller its under run apart is does =
       let was = (going.each caller its under is).attach run does in (
-        keeps.early run (before_commit run (λ makes. apart (only caller its under is (subst MakesCommit (sym does) makes))))
-            was.0,
-        keeps.attaching ∙ was.1,
+        keeps.early run (before_commit run (λ makes. apart (only caller its under is
+            (subst MakesCommit (sym does) makes)))) was.0,
+        cc,
       )
 
   -- or there is none.
@@ -186,15 +167,14 @@ module _ {script : Script} {core now : Core} {clients news : List Client} {index
       → IsGoing clients caller its under → under.work ≡ work.Attach run → ⊥
 
   others_none : IsAlone → OthersAttach
-  others_none alone caller its under run apart is does = absurd (alone caller its under run apart is does)
+  others_none alone caller its under run apart is does = search
 
   -- A commit begins, goes on or ends, and no other client makes one.
   commits : OthersAttach → OnlyIt clients index → TheirAttach
       → ((under : UnderWay) → client.under_way ≡ Some under → IsWorkOf script now index client under.work)
       → ((actor : ℕ) → now.committing ≡ Some actor → HasTooManyOut now
       ⊎ ((its : Client) × (under : UnderWay) × (run : CommitRun) × IsGoing news actor its under
-      × (commit_in under.work ≡ Some run)))
-      → AreGoing script now news
+      × (commit_in under.work ≡ Some run))) → AreGoing script now news
   commits others only attaches mine one = record {
     are = are;
     each = each_going was changes {T = λ caller its under. IsWorkOf script now caller its under.work} mine
@@ -203,7 +183,7 @@ module _ {script : Script} {core now : Core} {clients news : List Client} {index
           call = work.call;
           there = work.there;
           asked = work.asked;
-          commit = λ run does. absurd (apart (only caller its under is (makes_commit under.work run does)));
+          commit = λ run does. search makes_commit;
           attach = λ run does. others caller its under run apart is does;
         });
     one = one;
@@ -218,42 +198,41 @@ module _ {script : Script} {core now : Core} {clients news : List Client} {index
       → slice_get (calls_of script index) (client.begun - 1) ≡ Some call → IsWorkFor call under.work
       → IsCommitOf now run → now.committing ≡ Some index → AreGoing script now news
   commits_as under run call others only attaches its_attaches client_is does_is hold is for of committing =
-      commits others only attaches
-      (the_one (λ its. IsWorkOf script now index client its.work) client_is (record {
+      commits others only attaches (the_one (λ its. IsWorkOf script now index client its.work) client_is (record {
         hold = hold;
         call = call;
         there = is;
         asked = for;
-        commit = λ its_run its_does. (subst (IsCommitOf now) (some_is (sym does_is ∙ its_does)) of, committing);
+        commit = λ its_run its_does. (subst (IsCommitOf now) (some_is (cc)) of, committing);
         attach = its_attaches;
       }))
       (λ actor its. inr (
         client,
         under,
         run,
-        subst (λ (n : ℕ). IsGoing news n client under) (some_is (sym committing ∙ its))
-            (record { there = changes.there; under_way = client_is }),
+        search some_is,
         does_is,
       ))
 
   -- as a sync does,
-  pub commits_on : (under : UnderWay) (run : CommitRun) (call : ScriptCall) → KeepsAttach core now
+  pub commits_on : {under : UnderWay} (run : CommitRun) (call : ScriptCall) → KeepsAttach core now
       → OnlyIt clients index → IsNoAttach old.under_way → ((its : AttachRun) → under.work ≡ work.Attach its → ⊥)
       → client.under_way ≡ Some under → commit_in under.work ≡ Some run → IsHoldOf index under.work
       → slice_get (calls_of script index) (client.begun - 1) ≡ Some call → IsWorkFor call under.work
       → IsCommitOf now run → now.committing ≡ Some index → AreGoing script now news
-  commits_on under run call keeps only no_attach none =
-      commits_as under run call (others_early keeps only) only (still_theirs keeps no_attach) (λ its is_attach. absurd (none its is_attach))
+  commits_on {under = under} run call keeps only no_attach none =
+      commits_as under run call (others_early keeps only) only (still_theirs keeps no_attach)
+      (λ its is_attach. absurd (none its is_attach))
 
   -- or an attach;
-  pub attach_commits : (under : UnderWay) (run : AttachRun) (commit : CommitRun) (call : ScriptCall) → IsAlone
+  pub attach_commits : {under : UnderWay} {run : AttachRun} {commit : CommitRun} {call : ScriptCall} → IsAlone
       → OnlyIt clients index → under.work ≡ work.Attach run → IsAttachRunOf now run → now.attaching ≡ Some index
       → client.under_way ≡ Some under → commit_in under.work ≡ Some commit → IsHoldOf index under.work
       → slice_get (calls_of script index) (client.begun - 1) ≡ Some call → IsWorkFor call under.work
       → IsCommitOf now commit → now.committing ≡ Some index → AreGoing script now news
-  attach_commits under run commit call alone only does of attaching client_is =
+  attach_commits {under = under} {run = run} {commit = commit} {call = call} alone only does of attaching client_is =
       commits_as under commit call (others_none alone) only (attach_is under run client_is does attaching)
-      (λ its is_attach. (subst (IsAttachRunOf now) (same_attach (sym does ∙ is_attach)) of, attaching)) client_is
+      (λ its is_attach. (rw (← same_attach (sym does ∙ is_attach)) of, attaching)) client_is
 
   -- or it has ended, and the client's work makes none.
   pub commit_ends : KeepsAttach core now → OnlyIt clients index → IsNoAttach old.under_way
@@ -266,8 +245,7 @@ module _ {script : Script} {core now : Core} {clients news : List Client} {index
   -- An attach ends with its commit.
   pub attach_ends : IsAlone → now.attaching ≡ None → client.under_way ≡ None → OnlyIt clients index
       → ((actor : ℕ) → now.committing ≡ Some actor → HasTooManyOut now) → AreGoing script now news
-  attach_ends alone ended none only many = commits (others_none alone) only (λ actor is. absurd (none_some (sym ended ∙ is)))
-      (no_one (λ its. IsWorkOf script now index client its.work) none)
+  attach_ends alone ended none only many = commits (others_none alone) only (λ actor is. cc) (search no_one)
       (λ actor its. inl (many actor its))
 
 -- There is one commit at most.

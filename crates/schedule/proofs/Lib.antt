@@ -1,3 +1,4 @@
+pub mod Words
 pub mod Moments
 pub mod Below
 pub mod RightNext

@@ -1,16 +1,7 @@
 -- What a stop leaves once a group was listed shows that group, so no run commits later than it lists.
-use Rattle.std.specs.Prelude.{◌≡◌, ℕ, ◌<◌, ◌≤◌, List, length, take}
-use Rattle.std.proofs.Common.{◌∙◌, ap, arith}
-use Rattle.bank_trait.specs.Disk.{Image, Disk}
-use Rattle.uberblock_ring.specs.Uberblock.{Uber}
+use Rattle.schedule.proofs.Words.{take, ◌∙◌, ap, arith, Image, Disk, Uber, Item, IsGroupBefore, Shows, Kept, Setting, MightStand, Script, RunKeeps}
+use Rattle.std.specs.Prelude.{◌≡◌, ℕ, ◌<◌, ◌≤◌, List, length}
 use Rattle.core_state.specs.declared.item.Group.{Group as GroupItem}
-use Rattle.core_state.specs.declared.item.Item.{Item}
-use Rattle.core_state.specs.Legal.{IsGroupBefore}
-use Rattle.core_state.specs.Shown.{Shows}
-use Rattle.core_state.specs.Keeps.{Kept, Setting}
-use Rattle.core_state.specs.Collision.{MightStand}
-use Rattle.client_script.specs.Script.{Script}
-use Rattle.schedule.specs.WholeRun.{RunKeeps}
 use Rattle.schedule.proofs.BothListed.{one_latest}
 
 -- A device shows an uberblock of this group.
@@ -32,13 +23,11 @@ module _ {script : Script} {setting : Setting} {first : Kept} {later : List Kept
         stands.device,
         stands.shown.0,
         stands.shown.2.shows,
-        stands.shown.1 ∙ until.kept.last_is.number ∙ ap (λ (item : GroupItem). item.group) (one_latest until.kept.latest last),
+        stands.shown.1 ∙ until.kept.last_is.number ∙ ap (λ (item : GroupItem). item.group)
+            (one_latest until.kept.latest last),
       )
 
   -- So where a stop leaves older groups alone, as of a run that commits all at its end, no such promise is met.
-  pub commits_come_first : ((device : ℕ) (uber : Uber) → Shows setting.shape image device uber → uber.group < group.group)
-      → ⊥
-  commits_come_first older =
-      let shown = listed_is_shown in
-      let less = older shown.0 shown.1 shown.2 in
-      omega (arith, less, shown.3)
+  pub commits_come_first : ((device : ℕ) (uber : Uber) → Shows setting.shape image device uber
+      → uber.group < group.group) → ⊥
+  commits_come_first older = search (listed_is_shown, arith)

@@ -1,6 +1,5 @@
 -- Lists into which an item is put.
-use Rattle.std.proofs.Common.{List, [], ◌∷◌, refl}
-use Rattle.space_alloc.specs.Space.{Gains}
+use Rattle.schedule.proofs.Words.{List, [], ◌∷◌, refl, Gains}
 
 -- An item comes first.
 pub gains_first : {T : Type 0} (item : T) (items : List T) → Gains items (item ∷ items) item

@@ -1,26 +1,6 @@
 -- The banks that a run of turns came by, as the devices go on and as the journal grows.
-use Rattle.std.proofs.Common.{◌≡◌, ⊎_elim, ℕ, ◌+◌, ◌<◌, ◌≤◌, List, [], ◌∷◌, ◌++◌, length, sym, ◌∙◌, ap, subst, arith, length-append}
-use Rattle.std.specs.Prelude.{take, Contains}
-use Rattle.std.proofs.lemmas.Bool.{cases_lt}
-use Rattle.std.proofs.lemmas.List.{append-nil, take-append-le}
-use Rattle.std.proofs.Math.Seq.{take-length}
-use Rattle.bank_trait.specs.Disk.{Disk, Later}
-use Rattle.bank_trait.proofs.Moments.{later_refl, later_trans}
+use Rattle.schedule.proofs.Words.{◌≡◌, ⊎_elim, ℕ, ◌+◌, ◌≤◌, List, [], ◌∷◌, ◌++◌, length, sym, arith, length-append, take, Contains, cases_lt, append-nil, take-append-le, take-length, Disk, Later, later_refl, later_trans, Item, Map, PutBytes, IsGroupBefore, Calls, Kept, Setting, Knows, IsGroupOf, IsBegunAfter, IsRowOf, KeepsSince, KeepsThroughout, knows_keep, since_now, since_longer, KeepsUntil, HaveParityOf, moved, KeepsTurnByTurn, KeepsOn, KeptSoFar, Past}
 use Rattle.core_state.specs.declared.item.Group.{Group as GroupItem}
-use Rattle.core_state.specs.declared.item.Item.{Item}
-use Rattle.core_state.specs.Map.{Map, PutBytes}
-use Rattle.core_state.specs.Legal.{IsGroupBefore}
-use Rattle.core_state.specs.Journal.{Calls}
-use Rattle.core_state.specs.Keeps.{Kept, Setting}
-use Rattle.core_state.specs.Certain.{Knows}
-use Rattle.core_state.specs.Moment.{IsGroupOf, IsBegunAfter, IsRowOf, KeepsSince, KeepsThroughout}
-use Rattle.core_state.proofs.Keeping.{knows_keep}
-use Rattle.core_state.proofs.Since.{since_now}
-use Rattle.core_open.proofs.Joining.{since_longer}
-use Rattle.journal_law.specs.Moments.{KeepsUntil}
-use Rattle.journal_law.specs.Parity.{HaveParityOf}
-use Rattle.journal_law.proofs.Moments.{moved}
-use Rattle.schedule.specs.Moments.{KeepsTurnByTurn, KeepsOn, KeptSoFar, Past}
 
 -- The last group of a journal, and at most one that was begun after it, of the parity of the groups known.
 pub record AreLatest (calls : Calls) (handed : PutBytes) (opening : Map) (known : List Kept) (items : List Item)
@@ -32,19 +12,11 @@ pub record AreLatest (calls : Calls) (handed : PutBytes) (opening : Map) (known 
   pub parity : HaveParityOf known (last ∷ begun)
 
 -- Images are judged by how far the pool reached when each was left, so that it is all one how far it does by now.
-pub since_any_reach : (setting : Setting) {groups : List Kept} {time : ℕ} {disk : Disk} (reach other : ℕ)
+pub since_any_reach : (setting : Setting) {groups : List Kept} {time : ℕ} {disk : Disk} {reach other : ℕ}
     → KeepsSince (record setting { reach = reach }) groups time disk
     → KeepsSince (record setting { reach = other }) groups time disk
-since_any_reach setting reach other kept = record {
-  each = λ moment image from until might. let some = kept.each moment image from until might in record {
-    before = some.before;
-    first = some.first;
-    later = some.later;
-    after = some.after;
-    row = some.row;
-    reach = some.reach;
-    keeps = some.keeps;
-  };
+since_any_reach setting {reach = reach} kept = record {
+  each = λ moment image from until might. search (until, arith);
 }
 
 -- A group and those after it are a row of themselves.
@@ -69,8 +41,8 @@ module _ {setting : Setting} {calls : Calls} {handed : PutBytes} {opening : Map}
   }
 
   -- Groups that are begun are no loss.
-  pub on_wider : {from now : Disk} (more : List Kept) → KeepsOn setting calls handed opening items item last begun from now
-      → KeepsOn setting calls handed opening items item last (begun ++ more) from now
+  pub on_wider : {from now : Disk} (more : List Kept) → KeepsOn setting calls handed opening items item last begun from
+      now → KeepsOn setting calls handed opening items item last (begun ++ more) from now
   on_wider {from = from} {now = now} more on = record {
     later = on.later;
     first = on.first;
@@ -84,17 +56,17 @@ module _ {setting : Setting} {calls : Calls} {handed : PutBytes} {opening : Map}
 module _ {setting : Setting} {calls : Calls} {handed : PutBytes} {opening : Map} {known : List Kept} {items : List Item}
     {item : GroupItem} {last : Kept} {begun : List Kept} where
   -- What is certain now the bank keeps, in a pool that reaches so far, and each image from now on.
-  pub on_now : {now : Disk} (reach : ℕ) → AreLatest calls handed opening known items item last begun
+  pub on_now : {now : Disk} {reach : ℕ} → AreLatest calls handed opening known items item last begun
       → Knows (record setting { reach = reach }) last begun now
       → KeepsOn setting calls handed opening items item last begun now now
-  on_now {now = now} reach are knows = record {
+  on_now {now = now} {reach = reach} are knows = record {
     later = later_refl now;
     first = begun;
     one = are.one;
     first_is = are.begun_is;
     reach = reach;
-    keeps = knows_keep (record setting { reach = reach }) last begun now knows;
-    since = since_any_reach setting reach setting.reach
+    keeps = search knows_keep;
+    since = since_any_reach setting
         (since_now (record setting { reach = reach }) (last ∷ begun) last begun now (whole_row last begun) knows);
   }
 
@@ -128,12 +100,7 @@ pub kept_first : {setting : Setting} {calls : Calls} {handed : PutBytes} {openin
     → KeepsThroughout setting calls handed opening known (item ∷ []) past.origin now
     → KeptSoFar setting calls handed opening known (item ∷ []) past
 kept_first {setting = setting} {calls = calls} {handed = handed} {opening = opening} {known = known} {past = past}
-    {item = item} here later opened = record {
-      later = subst (λ (d : Disk). Later past.origin d) (sym here) later;
-      opened = subst (λ (d : Disk). KeepsThroughout setting calls handed opening known (item ∷ []) past.origin d) (sym here)
-          opened;
-      each = λ count from below. absurd (omega (arith, from, below));
-    }
+    {item = item} here later opened = search arith
 
 module _ {setting : Setting} {calls : Calls} {handed : PutBytes} {opening : Map} {known : List Kept} {items : List Item}
     {past : Past} (by : KeptSoFar setting calls handed opening known items past) (some : 1 ≤ length items) {now : Disk}
@@ -144,33 +111,22 @@ module _ {setting : Setting} {calls : Calls} {handed : PutBytes} {opening : Map}
   until : (count : ℕ) → past.banks (length items + 1) ≡ now → 1 ≤ count → count ≤ length items
       → KeepsUntil setting calls handed opening known (take count items) (past.banks count) (past.banks (count + 1))
   until count next from below = ⊎_elim
-      (λ (less : count < length items). by.each count from less)
+      (search arith)
       (λ (not_less : length items ≤ count).
-      let end : count ≡ length items = omega (arith, not_less, below) in
+      let end : count ≡ length items = omega arith in
       moved setting calls handed opening known items _ (past.banks (length items)) now _ _
-      (ap (λ (k : ℕ). take k items) end ∙ take-length items) (ap past.banks end)
-      (ap (λ (k : ℕ). past.banks (k + 1)) end ∙ next) (until_of are on))
-      (cases_lt count (length items))
+      (search (take-length, arith)) (cc) (cc) (until_of are on)) (cases_lt count (length items))
 
   -- One item more is listed with this bank,
   pub kept_more : (new : Item) → past.banks (length items + 1) ≡ now
       → KeptSoFar setting calls handed opening known (items ++ new ∷ []) past
   kept_more new next = record {
     later = by.later;
-    opened = subst (λ (l : List Item). KeepsThroughout setting calls handed opening known l past.origin (past.banks 1))
-        (sym (take-append-le 1 items (new ∷ []) some)) by.opened;
-    each = λ count from below.
-        let low : count ≤ length items = omega (arith, below, length-append items (new ∷ [])) in
-        subst (λ (l : List Item). KeepsUntil setting calls handed opening known l (past.banks count) (past.banks (count + 1)))
-        (sym (take-append-le count items (new ∷ []) low)) (until count next from low);
+    opened = search take-append-le;
+    each = search (length-append, take-append-le, until, arith);
   }
 
   -- or the run ends with it.
   pub kept_to_end : past.banks (length items + 1) ≡ now
       → KeepsTurnByTurn setting calls handed opening known items past now
-  kept_to_end next = record {
-    later = by.later;
-    opened = by.opened;
-    each = λ count from below. until count next from below;
-    ends = next;
-  }
+  kept_to_end next = search until

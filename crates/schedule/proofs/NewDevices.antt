@@ -1,27 +1,16 @@
 -- The bank has the devices that attaches are to bring still.
-use Rattle.std.proofs.Common.{◌≡◌, ⊎_elim, ℕ, ◌<◌, List, Option, Some, None, sym, ◌∙◌, subst, arith}
-use Rattle.std.specs.Prelude.{slice_get}
-use Rattle.std.proofs.lemmas.Bool.{cases_eq}
-use Rattle.bank_trait.specs.Disk.{Disk}
-use Rattle.core_turns.specs.declared.attaching.AttachRun.{AttachRun}
-use Rattle.core_turns.specs.declared.attaching.AttachRun.TheVariants.{Reads, Checked, Joins, Signs}
-use Rattle.core_turns.specs.Attaching.{HasNewDevice}
-use Rattle.schedule.specs.declared.client.Client.{Client}
-use Rattle.schedule.specs.declared.client.UnderWay.{UnderWay}
-use Rattle.schedule.specs.declared.client.Work.{Work}
+use Rattle.schedule.proofs.Words.{◌≡◌, ℕ, ◌<◌, List, Option, Some, None, arith, slice_get, cases_eq, Disk, AttachRun, Reads, Checked, Joins, Signs, HasNewDevice, Client, UnderWay, Work, Changes, HasDeviceFor, HasDeviceUnder}
 use Rattle.schedule.specs.declared.client.Work.TheVariants as work
-use Rattle.schedule.specs.Clients.{Changes}
-use Rattle.schedule.specs.Turned.{HasDeviceFor, HasDeviceUnder}
 use Rattle.schedule.proofs.Theirs.{some_is}
 
-below : (devices now device : ℕ) → now ≡ devices → device < devices → device < now
-below devices now device same low = omega (arith, same, low)
+below : {devices now device : ℕ} → now ≡ devices → device < devices → device < now
+below same low = omega arith
 
 attach_there : (old new : Disk) (run : AttachRun) → new.devices ≡ old.devices → HasNewDevice old run
     → HasNewDevice new run
-attach_there old new (Reads ring) same low = below old.devices new.devices ring.device same low
-attach_there old new (Checked ring) same low = below old.devices new.devices ring.device same low
-attach_there old new (Joins join) same low = below old.devices new.devices join.run.uber.reflow.to same low
+attach_there old new (Reads ring) same low = below same low
+attach_there old new (Checked ring) same low = below same low
+attach_there old new (Joins join) same low = below same low
 attach_there old new (Signs run because) same low = low
 
 work_there : (old new : Disk) (does : Work) → new.devices ≡ old.devices → HasDeviceFor old does → HasDeviceFor new does
@@ -42,8 +31,5 @@ pub devices_there : (old new : Disk) {clients news : List Client} {actor : ℕ} 
     → ((index : ℕ) (its : Client) → slice_get clients index ≡ Some its → HasDeviceUnder old its.under_way)
     → HasDeviceUnder new client.under_way
     → (index : ℕ) (its : Client) → slice_get news index ≡ Some its → HasDeviceUnder new its.under_way
-devices_there old new {news = news} {actor} same changes there mine index its is = ⊎_elim
-    (λ (here : index ≡ actor). subst (λ (c : Client). HasDeviceUnder new c.under_way)
-    (some_is (sym changes.there ∙ subst (λ (n : ℕ). slice_get news n ≡ Some its) here is)) mine)
-    (λ apart. under_there old new its.under_way same (there index its (sym (changes.others index apart) ∙ is)))
-    (cases_eq index actor)
+devices_there old new {news = news} {actor} same changes there mine index its is = search
+    (some_is, under_there, cases_eq, arith)

@@ -1,18 +1,7 @@
 -- Turns of a script, one after the other.
-use Rattle.std.proofs.Common.{◌≡◌, ℕ, ◌+◌, ◌<◌, ◌≤◌, List, [], ◌∷◌, length, drop, get_or, Some, None, refl, sym, ◌∙◌, ap, subst, arith, ◌++◌}
-use Rattle.std.specs.Prelude.{true, false, map, take, slice_get, Result, Ok, Err, OnErr}
-use Rattle.std.proofs.lemmas.List.{drop_more, map-append, take_more}
-use Rattle.bank_trait.specs.Disk.{Disk}
-use Rattle.client_script.specs.InOrder.{given_of}
-use Rattle.client_script.specs.Script.{Script}
-use Rattle.core_state.specs.JournalRoom.{Journal}
-use Rattle.core_turns.specs.Core.{Core, at_disk}
-use Rattle.schedule.specs.declared.client.Client.{Client}
-use Rattle.schedule.specs.declared.progress.Progress.{Progress}
-use Rattle.schedule.specs.Turns.{most_turns, Turns, TurnTaken, turns_of, taken_by}
-use Rattle.schedule.specs.InTurn.{Cursor, InOrder, InRest, InRound, IsCallOfScript, IsStepOf, Replay, after_round, cursor_after, has_left_at, is_any_busy, is_busy_at, replay_at, replay_by, rest_after, turn_at, turns_by}
-use Rattle.schedule.specs.Playing.{HaveHadTurns, HasPlayed, HasRunOutOfTurns, IsReady}
-use Rattle.schedule.specs.Replaying.{AreIdle, HasTurn, HaveBegun}
+use Rattle.schedule.proofs.Words.{◌≡◌, ℕ, ◌+◌, ◌<◌, ◌≤◌, List, [], ◌∷◌, length, drop, Some, None, refl, sym, subst, arith, ◌++◌, true, map, take, slice_get, Result, Ok, Err, OnErr, drop_more, map-append, take_more, Disk, Script, Journal, Core, Client, Progress, most_turns, Turns, taken_by, Cursor, InOrder, InRest, InRound, IsCallOfScript, Replay, after_round, cursor_after, has_left_at, is_any_busy, is_busy_at, replay_at, replay_by, turn_at, turns_by, HaveHadTurns, HasPlayed, HasRunOutOfTurns, IsReady, AreIdle, HasTurn, HaveBegun}
+use Rattle.std.proofs.Common.{get_or}
+use Rattle.std.specs.Prelude.{false}
 use Rattle.schedule.proofs.Coming.{came_nowhere, came_on}
 use Rattle.schedule.proofs.InTurn.{gone_taken, begun_none_left, busy_in_rest, gone_more, gone_none, gone_then, idle_not_busy, left_in_rest, none_in_rest, none_in_round, past_not_busy, round_ends, round_goes, round_next, turn_in_round}
 use Rattle.schedule.proofs.CallTaken.{given_own}
@@ -26,15 +15,15 @@ at_err P (Err error) holds = holds
 pub played_none : {script : Script} {room : ℕ} (now : Replay) → IsReady script now.turns room
     → HasPlayed script now now room
 played_none {script} now ready =
-    record { passed = []; come = came_nowhere script now.turns [] refl; gone = gone_none script now; ready = ready }
+    record { passed = []; come = came_nowhere refl; gone = gone_none script now; ready = ready }
 
 -- Turns go on after turns,
 pub played_then : {script : Script} {start middle now : Replay} {before after : ℕ}
     → HasPlayed script start middle before → HasPlayed script middle now after → HasPlayed script start now after
 played_then {script} {start} {middle} {now} first second = record {
   passed = first.passed ++ second.passed;
-  come = came_on script start.turns middle.turns now.turns first.passed second.passed first.come second.come;
-  gone = gone_then script start middle now first.passed second.passed first.gone second.gone;
+  come = search came_on;
+  gone = search gone_then;
   ready = second.ready;
 }
 
@@ -46,15 +35,15 @@ stopped_then first second =
     record { most = second.most; cursor = second.cursor; played = played_then first second.played }
 
 -- No more turns can be counted from the start on.
-pub stopped_same : (script : Script) (core : Core) (disk : Disk) (journal : Journal) (before after : Progress)
-    (cursor : Cursor) (room : ℕ) → after.clients.items ≡ before.clients.items → after.turns ≡ before.turns
+pub stopped_same : {script : Script} {core : Core} {disk : Disk} (journal : Journal) (before after : Progress)
+    (cursor : Cursor) {room : ℕ} → after.clients.items ≡ before.clients.items → after.turns ≡ before.turns
     → most_turns ≤ after.turns → IsReady script (turns_by core disk journal before) room
-    → HasRunOutOfTurns script (replay_by core disk journal before cursor) (turns_by core disk journal after) after.turns room
-stopped_same script core disk journal before after cursor room clients turns most ready =
+    → HasRunOutOfTurns script (replay_by core disk journal before cursor)
+    (turns_by core disk journal after) after.turns room
+stopped_same {script = script} {core = core} {disk = disk} journal before after cursor {room = room} clients turns most
+    ready =
     subst (λ (taken : ℕ). HasRunOutOfTurns script (replay_by core disk journal before cursor)
-    (turns_by core disk journal after) taken room) (sym turns)
-    (subst (λ (its : List Client). HasRunOutOfTurns script (replay_by core disk journal before cursor)
-    (turns_of (at_disk core disk) journal.items its) before.turns room) (sym clients) (record {
+    (turns_by core disk journal after) taken room) (sym turns) (rw clients (record {
       most = subst (λ (taken : ℕ). most_turns ≤ taken) turns most;
       cursor = cursor;
       played = played_none (replay_by core disk journal before cursor) ready;
@@ -66,67 +55,47 @@ pub played_turn : {script : Script} {start : Replay} {before after : Turns} {tak
     → turn_at script before.clients from ≡ Some actor → cursor_after script before.clients from ≡ to
     → HasTurn script actor before after → counted ≡ taken + 1 → IsReady script after left
     → HasPlayed script start (replay_at after counted to) left
-played_turn {script} {start} {before} {after} {taken} {counted} {actor = actor} {from = from} to played whose goes turn one ready = record {
-  passed = played.passed ++ taken_by actor after ∷ [];
-  come = came_on script start.turns before after played.passed (taken_by actor after ∷ []) played.come turn.come;
-  gone = gone_more script start (replay_at before taken from) (replay_at after counted to) played.passed
-      (played.passed ++ taken_by actor after ∷ []) played.gone (record {
-        turn = subst (IsStepOf script (replay_at before taken from) played.passed
-            (played.passed ++ taken_by actor after ∷ []) (replay_at after counted to)) (sym whose)
-            (turn.is, one, refl);
-        cursor = sym goes;
-      });
-  ready = ready;
-}
+played_turn {script} {start} {before} {after} {taken} {counted} {actor = actor} {from = from} to played whose goes turn
+    one ready = record {
+      passed = played.passed ++ taken_by actor after ∷ [];
+      come = search came_on;
+      gone = search (gone_more, arith);
+      ready = ready;
+    }
 
 -- or it is nobody's turn there.
-pub played_past : {script : Script} {start : Replay} {turns : Turns} {taken room : ℕ} {from : Cursor} (to : Cursor)
+pub played_past : {script : Script} {start : Replay} {turns : Turns} {taken room : ℕ} {from : Cursor} {to : Cursor}
     → HasPlayed script start (replay_at turns taken from) room
     → turn_at script turns.clients from ≡ None → cursor_after script turns.clients from ≡ to
     → HasPlayed script start (replay_at turns taken to) room
-played_past {script} {start} {turns} {taken} {from = from} to played whose goes = record {
-  passed = played.passed;
-  come = played.come;
-  gone = gone_more script start (replay_at turns taken from) (replay_at turns taken to) played.passed played.passed
-      played.gone (record {
-        turn = subst (IsStepOf script (replay_at turns taken from) played.passed played.passed
-            (replay_at turns taken to)) (sym whose) (refl, refl, refl);
-        cursor = sym goes;
-      });
-  ready = played.ready;
-}
+played_past {script} {start} {turns} {taken} {from = from} {to = to} played whose goes = search (gone_more, arith)
 
 -- The same place said otherwise.
 pub played_at : {script : Script} {start : Replay} {turns : Turns} {taken room : ℕ} {from to : Cursor} → from ≡ to
     → HasPlayed script start (replay_at turns taken from) room → HasPlayed script start (replay_at turns taken to) room
-played_at {script} {start} {turns} {taken} {room} same played =
-    subst (λ (c : Cursor). HasPlayed script start (replay_at turns taken c) room) same played
+played_at {script} {start} {turns} {taken} {room} same played = rw same at played
 
 -- The client of a letter of the order had its turn.
 pub played_letter : {script : Script} {start : Replay} {before after : Turns} {taken counted room left actor : ℕ}
-    (letters : List ℕ) (index other : ℕ) → index < length letters
-    → actor ≡ get_or letters index other
+    (letters : List ℕ) (index other : ℕ) → index < length letters → actor ≡ get_or letters index other
     → HasPlayed script start (replay_at before taken (InOrder (drop index letters))) room
     → HasTurn script actor before after → counted ≡ taken + 1 → IsReady script after left
     → HasPlayed script start (replay_at after counted (InOrder (drop (index + 1) letters))) left
 played_letter {script} {before = before} {actor = actor} letters index other low is played turn one ready =
-    played_turn (InOrder (drop (index + 1) letters)) played
-    (ap (λ (letters : List ℕ). turn_at script before.clients (InOrder letters)) next)
-    (ap (λ (letters : List ℕ). cursor_after script before.clients (InOrder letters)) next) turn one ready
+    search (played_turn, played, next)
   where
     next : drop index letters ≡ actor ∷ drop (index + 1) letters
-    next = drop_more letters index other low
-        ∙ ap (λ (letter : ℕ). letter ∷ drop (index + 1) letters) (sym is)
+    next = search (drop_more, arith)
 
 -- The first clients of a list had their turns: those are all that were taken.
 pub record TakesListed (script : Script) (listed : List ℕ) (index : ℕ) (start now : Replay) (room : ℕ) : Type 0 where
   pub played : HasPlayed script start now room
   pub actors : map (λ turn. turn.actor) played.passed ≡ take index listed
 
-pub listed_none : {script : Script} {room : ℕ} (listed : List ℕ) (now : Replay) → IsReady script now.turns room
+pub listed_none : {script : Script} {room : ℕ} {listed : List ℕ} {now : Replay} → IsReady script now.turns room
     → TakesListed script listed 0 now now room
 unfolding played_none
-listed_none listed now ready = record { played = played_none now ready; actors = refl }
+listed_none {now = now} ready = record { played = played_none now ready; actors = refl }
 
 pub listed_more : {script : Script} {listed : List ℕ} {index : ℕ} {start : Replay} {before after : Turns}
     {taken counted room left : ℕ} (other : ℕ) → index < length listed
@@ -136,45 +105,42 @@ pub listed_more : {script : Script} {listed : List ℕ} {index : ℕ} {start : R
 unfolding played_letter played_turn
 listed_more {listed = listed} {index} {after = after} other low so_far turn one ready = record {
   played = played_letter listed index other low refl so_far.played turn one ready;
-  actors = map-append (λ (turn : TurnTaken). turn.actor) so_far.played.passed
-      (taken_by (get_or listed index other) after ∷ [])
-      ∙ ap (λ (l : List ℕ). l ++ get_or listed index other ∷ []) so_far.actors
-      ∙ sym (take_more listed index other low);
+  actors = search (map-append, take_more, arith);
 }
 
-pub have_had_turns : (script : Script) (listed : List ℕ) {index room : ℕ} {start now : Replay}
+pub have_had_turns : {script : Script} {listed : List ℕ} {index room : ℕ} {start now : Replay}
     → take index listed ≡ listed → TakesListed script listed index start now room
     → HaveHadTurns script start.turns listed now.turns room
-have_had_turns script listed {start = start} {now = now} all takes = record {
+have_had_turns {script = script} {start = start} {now = now} all takes = record {
   passed = takes.played.passed;
-  actors_are = takes.actors ∙ all;
-  taken = (gone_taken script start now takes.played.passed takes.played.gone).0;
+  actors_are = cc;
+  taken = (gone_taken takes.played.gone).0;
   come = takes.played.come;
   ready = takes.played.ready;
 }
 
 -- A client had its turn in a round,
-pub played_in_round : {script : Script} {before after : Turns} {room left actor counted : ℕ} (taken : ℕ)
+pub played_in_round : {script : Script} {before after : Turns} {room left actor counted : ℕ} {taken : ℕ}
     → IsReady script before room → actor < script.clients → is_busy_at before.clients actor ≡ true
     → HasTurn script actor before after → counted ≡ taken + 1 → IsReady script after left
     → HasPlayed script (replay_at before taken (InRound actor)) (replay_at after counted (InRound (actor + 1))) left
-played_in_round {script} {before} {actor = actor} taken was low busy turn one ready =
+played_in_round {script} {before} {actor = actor} {taken = taken} was low busy turn one ready =
     played_turn (InRound (actor + 1)) (played_none (replay_at before taken (InRound actor)) was)
-    (turn_in_round script before.clients actor busy) (round_goes script before.clients actor low) turn one ready
+    (search turn_in_round) (round_goes script before.clients actor low) turn one ready
 
 -- or had none.
-pub passed_in_round : {script : Script} {now : Turns} {room actor : ℕ} (taken : ℕ) → IsReady script now room
+pub passed_in_round : {script : Script} {now : Turns} {room actor : ℕ} {taken : ℕ} → IsReady script now room
     → actor < script.clients → is_busy_at now.clients actor ≡ false
     → HasPlayed script (replay_at now taken (InRound actor)) (replay_at now taken (InRound (actor + 1))) room
-passed_in_round {script} {now} {actor = actor} taken ready low free =
-    played_past (InRound (actor + 1)) (played_none (replay_at now taken (InRound actor)) ready)
+passed_in_round {script} {now} {actor = actor} {taken = taken} ready low free =
+    played_past (played_none (replay_at now taken (InRound actor)) ready)
     (none_in_round script now.clients actor free) (round_goes script now.clients actor low)
 
 -- The order is over.
-pub order_over : {script : Script} {now : Turns} {room : ℕ} (taken : ℕ) → IsReady script now room
+pub order_over : {script : Script} {now : Turns} {room : ℕ} {taken : ℕ} → IsReady script now room
     → HasPlayed script (replay_at now taken (InOrder [])) (replay_at now taken (after_round now.clients)) room
-order_over {now = now} taken ready =
-    played_past (after_round now.clients) (played_none (replay_at now taken (InOrder [])) ready) refl refl
+order_over {now = now} {taken = taken} ready =
+    played_past (played_none (replay_at now taken (InOrder [])) ready) refl refl
 
 -- After a round, where another one began, it is over too.
 pub round_over : {script : Script} {start : Replay} {middle now : Turns} {taken counted room left : ℕ}
@@ -183,21 +149,18 @@ pub round_over : {script : Script} {start : Replay} {middle now : Turns} {taken 
     → HasPlayed script (replay_at middle taken (InRound 0)) (replay_at now counted (InRound script.clients)) left
     → HasPlayed script start (replay_at now counted (after_round now.clients)) left
 round_over {script} {middle = middle} {now} so_far busy round =
-    played_past (after_round now.clients) (played_then (played_at (round_next middle.clients busy) so_far) round)
-    (none_in_round script now.clients script.clients (past_not_busy now.clients script.clients
-    (let same = round.ready.counted in omega (arith, same))))
-    (round_ends script now.clients script.clients (omega arith))
+    played_past (played_then (played_at (round_next middle.clients busy) so_far) round)
+    (search (none_in_round, past_not_busy, arith)) (round_ends script now.clients (omega arith))
 
 -- A call of the rest had a turn: the first,
-pub played_first : {script : Script} {before after : Turns} {counted room left given actor number : ℕ} (taken : ℕ)
+pub played_first : {script : Script} {before after : Turns} {counted room left given actor number : ℕ} {taken : ℕ}
     → IsReady script before room → IsCallOfScript script given actor number → is_busy_at before.clients actor ≡ false
     → has_left_at before.clients actor number ≡ true
     → HasTurn script actor before after → counted ≡ taken + 1 → IsReady script after left
     → HasPlayed script (replay_at before taken (InRest given)) (replay_at after counted (InRest given)) left
-played_first {script} {before} {given = given} {actor} {number} taken was is free more turn one ready =
-    let whose = left_in_rest script before.clients given actor number is free more in
-    played_turn (InRest given) (played_none (replay_at before taken (InRest given)) was) whose
-    (ap (rest_after given) whose) turn one ready
+played_first {script} {before} {given = given} {actor} {number} {taken = taken} was is free more turn one ready =
+    let whose = left_in_rest script before.clients actor is free more in
+    played_turn (InRest given) (played_none (replay_at before taken (InRest given)) was) whose (cc) turn one ready
 
 -- or a later one.
 pub played_later : {script : Script} {start : Replay} {before after : Turns}
@@ -206,23 +169,17 @@ pub played_later : {script : Script} {start : Replay} {before after : Turns}
     → HasTurn script actor before after → counted ≡ taken + 1 → IsReady script after left
     → HasPlayed script start (replay_at after counted (InRest given)) left
 played_later {script} {before = before} {given = given} {actor} {number} is played busy turn one ready =
-    let whose = busy_in_rest script before.clients given actor number is busy in
-    played_turn (InRest given) played whose (ap (rest_after given) whose) turn one ready
+    let whose = busy_in_rest script before.clients actor is busy in
+    played_turn (InRest given) played whose (cc) turn one ready
 
 -- A call of the rest has ended, and the next one is looked at.
 pub rest_goes : {script : Script} {start : Replay} {now : Turns} {taken room given next actor number : ℕ}
-    → next ≡ given + 1 → IsCallOfScript script given actor number → AreIdle now.clients → HaveBegun script next now.clients
-    → HasPlayed script start (replay_at now taken (InRest given)) room
+    → next ≡ given + 1 → IsCallOfScript script given actor number → AreIdle now.clients
+    → HaveBegun script next now.clients → HasPlayed script start (replay_at now taken (InRest given)) room
     → HasPlayed script start (replay_at now taken (InRest next)) room
 rest_goes {script} {now = now} {given = given} {next} {actor} {number} one is idle begun played =
-    let none = none_in_rest script now.clients given actor number is (idle_not_busy now.clients actor idle)
-    (begun_none_left now.clients actor number (λ client there. enough client there)) in
-    played_past (InRest next) played none (ap (rest_after given) none ∙ ap InRest (sym one))
+    let none = none_in_rest script now.clients actor is (idle_not_busy actor idle) (search (begun_none_left, enough)) in
+    played_past played none (cc)
   where
     enough : (client : Client) → slice_get now.clients actor ≡ Some client → number ≤ client.begun
-    enough client there =
-        let all = begun.each actor client there in
-        let more = given_own script given actor is.placed is.there is.is in
-        let same = ap (λ (n : ℕ). given_of script n actor) one in
-        let counted = is.counted in
-        omega (arith, all, more, same, counted)
+    enough client there = search (given_own, arith)

@@ -1,22 +1,6 @@
 -- A put is filled in, and how it ends.
-use Rattle.std.proofs.Common.{◌≡◌, ◌≢◌, ◌⊎◌, inl, inr, ⊎_elim, ℕ, List, ◌∷◌, length, Option, Some, refl, sym, ◌∙◌, ap, subst}
-use Rattle.space_alloc.specs.Space.{Gains}
-use Rattle.core_state.specs.declared.answer.Answer.{Answer}
+use Rattle.schedule.proofs.Words.{◌≡◌, ◌≢◌, ◌⊎◌, inl, inr, ⊎_elim, ℕ, List, ◌∷◌, length, Option, Some, refl, sym, subst, Gains, Answer, Map, Kept, Setting, CommitRun, ScriptCall, fill_bytes, Filled, PutRun, Done, Core, CoreState, EndsPut, GivesUp, GivesUpTurn, IsStoppedPut, StoresBlock, HoldingCall, Putting, AreCallsOf, Stands, put_fills_calls, put_fills_stands, EndsPutting, IsFilledIn}
 use Rattle.core_state.specs.declared.answer.Answer.TheVariants as answer
-use Rattle.core_state.specs.Map.{Map}
-use Rattle.core_state.specs.Keeps.{Kept, Setting}
-use Rattle.core_commit.specs.CommitTurns.{CommitRun}
-use Rattle.client_script.specs.declared.call.ScriptCall.{ScriptCall}
-use Rattle.client_script.specs.Lines.{fill_bytes}
-use Rattle.core_turns.specs.declared.filling.Filled.{Filled}
-use Rattle.core_turns.specs.declared.putting.PutRun.{PutRun}
-use Rattle.core_turns.specs.declared.turn.Turn.TheVariants.{Done}
-use Rattle.core_turns.specs.Core.{Core, CoreState}
-use Rattle.core_turns.specs.Putting.{EndsPut, FillsPut, GivesUp, GivesUpTurn, IsStoppedPut, StoresBlock}
-use Rattle.core_turns.specs.UnderWay.{HoldingCall, Putting, AreCallsOf, Stands}
-use Rattle.core_turns.proofs.PutCalls.{put_fills_calls}
-use Rattle.core_turns.proofs.PutStands.{put_fills_stands}
-use Rattle.schedule.specs.Turned.{EndsPutting, IsFilledIn}
 use Rattle.schedule.proofs.Fitting.{TellsOut}
 use Rattle.schedule.proofs.Puts.{IsUnstored, tells_out}
 use Rattle.schedule.proofs.Lists.{gains_first}
@@ -26,12 +10,12 @@ use Rattle.schedule.proofs.Lists.{gains_first}
 -- It is the same put but for what is filled in,
 pub fills_same : (call : ScriptCall) (run filled : PutRun) → IsFilledIn call run filled
     → filled ≡ record run { filled = filled.filled }
-fills_same call run filled (inl same) = subst (λ (r : PutRun). r ≡ record run { filled = r.filled }) (sym same) refl
-fills_same call run filled (inr (none, fills)) = fills.rest
-    ∙ (λ i. record run { filled = sym (ap (λ (r : PutRun). r.filled) fills.rest) i })
+fills_same call run filled (inl same) = rw same refl
+fills_same call run filled (inr (none, fills)) = cc
 
 -- and stands among the calls in its place, with its bytes.
-pub record FilledAmong (state : CoreState) (content : List ℕ) (left calls : List HoldingCall) (run filled : PutRun) : Type 0
+pub record FilledAmong (state : CoreState) (content : List ℕ) (left calls : List HoldingCall)
+    (run filled : PutRun) : Type 0
   where
     pub nexts : List HoldingCall
     pub gains : Gains left nexts (Putting filled)
@@ -46,7 +30,7 @@ pub fills_among : {state : CoreState} {left calls : List HoldingCall} {run fille
     → AreCallsOf state.core calls → FilledAmong state (fill_bytes call.fill) left calls run filled
 fills_among {left = left} {calls} call (inl same) len_is gains are = record {
   nexts = calls;
-  gains = subst (λ (r : PutRun). Gains left calls (Putting r)) (sym same) gains;
+  gains = rw same gains;
   are = are;
   stands = λ setting last begun map contents commit is stands. stands;
 }
@@ -57,7 +41,7 @@ fills_among {left = left} {run = run} {filled} call (inr (none, fills)) len_is g
       gains = first;
       are = put_fills_calls fills len_is gains first are;
       stands = λ setting last begun map contents commit is stands.
-          put_fills_stands (subst (FillsPut run filled) (sym is) fills) gains first are stands;
+          put_fills_stands (rw is fills) gains first are stands;
     }
 
 -- ---- how it ends
@@ -70,25 +54,25 @@ pub record IsGivenUp (old new : Core) (run : PutRun) (given : Answer) : Type 0 w
   pub other : given ≢ answer.Full
 
 -- It is where too many devices are out,
-given_up_stopped : (old new : Core) (run : PutRun) (given : Answer) → IsStoppedPut old new run given
+given_up_stopped : {old new : Core} {run : PutRun} {given : Answer} → IsStoppedPut old new run given
     → IsGivenUp old new run given
-given_up_stopped old new run given stopped = record {
+given_up_stopped {old = old} stopped = record {
   gives_up = stopped.gives_up;
   unstored = subst IsUnstored (sym stopped.given_is) tt;
-  tells = subst (TellsOut old) (sym stopped.given_is) (tells_out old old.pool.out stopped.many refl);
-  other = λ full. apart (sym stopped.given_is ∙ full);
+  tells = rw stopped.given_is (tells_out old stopped.many refl);
+  other = λ full. apart (cc);
 }
   where
     apart : answer.TooManyFailed old.pool.out ≡ answer.Full → ⊥
     apart same = cc
 
 -- and where memory is wanting to fill it in.
-given_up_turn : (old new : Core) (run : PutRun) (given : Answer) → GivesUpTurn old run new (Done given)
+given_up_turn : {old new : Core} {run : PutRun} (given : Answer) → GivesUpTurn old run new (Done given)
     → IsGivenUp old new run given
-given_up_turn old new run answer.NoMemory is = record {
+given_up_turn answer.NoMemory is = record {
   gives_up = is.1;
   unstored = tt;
-  tells = λ listed told. absurd (other listed told);
+  tells = λ listed told. cc;
   other = λ full. apart full;
 }
   where
@@ -97,17 +81,15 @@ given_up_turn old new run answer.NoMemory is = record {
 
     apart : answer.NoMemory ≡ answer.Full → ⊥
     apart same = cc
-given_up_turn old new run (answer.TooManyFailed out) is =
-    given_up_stopped old new run (answer.TooManyFailed out) is
-given_up_turn old new run other is = absurd is
+given_up_turn {old = old} {new = new} {run = run} (answer.TooManyFailed out) is = given_up_stopped is
+given_up_turn other is = absurd is
 
 -- Once all is written, its block is stored or the put is given up.
-stored_or_given_up : (old new : Core) (run : PutRun) (given : Answer) → EndsPut old run new (Done given)
+stored_or_given_up : {old new : Core} {run : PutRun} (given : Answer) → EndsPut old run new (Done given)
     → ((given ≡ answer.Stored) × StoresBlock old new run) ⊎ IsGivenUp old new run given
-stored_or_given_up old new run answer.Stored is = inl (refl, is)
-stored_or_given_up old new run (answer.TooManyFailed out) is =
-    inr (given_up_stopped old new run (answer.TooManyFailed out) is)
-stored_or_given_up old new run other is = absurd is
+stored_or_given_up answer.Stored is = inl (refl, is)
+stored_or_given_up {old = old} {new = new} {run = run} (answer.TooManyFailed out) is = inr (given_up_stopped is)
+stored_or_given_up other is = absurd is
 
 -- All of it was written.
 abbrev pub IsWhole : PutRun → Type 0
@@ -119,11 +101,9 @@ pub put_ended : (before after : CoreState) (call : ScriptCall) (run : PutRun) (g
     → ((given ≡ answer.Stored) × StoresBlock before.core after.core ends.filled × IsWhole ends.filled)
     ⊎ IsGivenUp before.core after.core ends.filled given
 put_ended before after call run given ends = elim ends.ends [
-  | inl writes ↦ inr (given_up_stopped before.core after.core ends.filled given writes.0)
+  | inl writes ↦ inr (given_up_stopped writes.0)
   | inr (inl last) ↦ ⊎_elim
       (λ stored. inl (stored.0, stored.1, (last.0, last.1, last.2)))
-      (λ given_up. inr given_up)
-      (stored_or_given_up before.core after.core ends.filled given last.3)
-  | inr (inr given_up) ↦ inr (subst (λ (r : PutRun). IsGivenUp before.core after.core r given) (sym given_up.1)
-      (given_up_turn before.core after.core run given given_up.2))
+      (λ given_up. inr given_up) (stored_or_given_up given last.3)
+  | inr (inr given_up) ↦ inr (rw given_up.1 (given_up_turn given given_up.2))
 ]

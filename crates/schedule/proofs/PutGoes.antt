@@ -1,50 +1,18 @@
 -- What each later turn of a client's put comes to.
-use Rattle.std.proofs.Common.{◌≡◌, ◌≢◌, ⊎_elim, ℕ, ◌-◌, List, [], ◌∷◌, ◌++◌, Option, Some, refl, sym, ◌∙◌, ap, subst}
-use Rattle.std.specs.Prelude.{option_map, slice_get, unwrap_or}
-use Rattle.std.proofs.lemmas.Bool.{false≢true}
-use Rattle.bank_trait.specs.Disk.{Disk}
-use Rattle.range_locks.specs.Holds.{EndsHold}
-use Rattle.space_alloc.specs.Space.{Gains}
-use Rattle.core_blocks.proofs.Lists.{gains_item}
-use Rattle.core_state.specs.declared.answer.Answer.{Answer}
+use Rattle.schedule.proofs.Words.{◌≡◌, ◌≢◌, ⊎_elim, ℕ, ◌-◌, List, [], ◌∷◌, ◌++◌, Option, Some, refl, sym, ◌∙◌, ap, subst, option_map, slice_get, unwrap_or, false≢true, EndsHold, Gains, gains_item, Answer, Entry, Map, PutBytes, map_of, map_after_answer, with_block, IsAnswerOf, World, ScriptCall, fill_bytes, Script, calls_of, handed_by, PutRun, More, Done, Core, at_disk, IsPutOf, StoresBlock, WritesOne, HoldingCall, Putting, AreCallsOf, Stands, TurnGoesOn, keeps_ended, Rearranges, ends_rearranges, gives_up_rearranges, put_ends_calls, put_gives_up_calls, put_writes_calls, put_ends_stands, put_gives_up_stands, put_shared, put_writes_stands, put_writes_since, Client, UnderWay, IsWorkFor, Runs, calls_under_way, setting_now, Station, EndsPutting, GoesOnPutting, IsFilledIn, LeavesGoing, entry_for, made_by, IsWorldOf, TakesTurn, Comes, Past}
 use Rattle.core_state.specs.declared.answer.Answer.TheVariants as answer
-use Rattle.core_state.specs.declared.answer.Kind.{Kind}
 use Rattle.core_state.specs.declared.answer.Kind.TheVariants as kind
-use Rattle.core_state.specs.declared.item.Entry.{Entry}
 use Rattle.core_state.specs.declared.item.Item.TheVariants.{Call as CallItem}
-use Rattle.core_state.specs.Map.{Map, PutBytes, map_of, map_after_answer, with_block}
-use Rattle.core_state.specs.Legal.{IsAnswerOf}
-use Rattle.core_state.specs.World.{World}
-use Rattle.client_script.specs.declared.call.ScriptCall.{ScriptCall}
-use Rattle.client_script.specs.Lines.{fill_bytes}
-use Rattle.client_script.specs.Script.{Script, calls_of, handed_by}
-use Rattle.core_turns.specs.declared.putting.PutRun.{PutRun}
-use Rattle.core_turns.specs.declared.turn.Turn.TheVariants.{More, Done}
-use Rattle.core_turns.specs.Core.{Core, at_disk}
-use Rattle.core_turns.specs.Putting.{IsPutOf, StoresBlock, WritesOne}
-use Rattle.core_turns.specs.UnderWay.{HoldingCall, Putting, AreCallsOf, Stands, TurnGoesOn}
-use Rattle.core_turns.proofs.Holds.{keeps_ended}
-use Rattle.core_turns.proofs.PutCalls.{Rearranges, ends_rearranges, gives_up_rearranges, put_ends_calls, put_gives_up_calls, put_writes_calls}
-use Rattle.core_turns.proofs.PutStands.{put_ends_stands, put_gives_up_stands, put_shared}
-use Rattle.core_turns.proofs.PutWrites.{put_writes_stands, put_writes_since}
-use Rattle.schedule.specs.declared.client.Client.{Client}
-use Rattle.schedule.specs.declared.client.UnderWay.{UnderWay}
 use Rattle.schedule.specs.declared.client.Work.TheVariants as work
-use Rattle.schedule.specs.Running.{IsWorkFor, Runs, calls_under_way, setting_now}
-use Rattle.schedule.specs.Turned.{Station, EndsPutting, GoesOnPutting, IsFilledIn, LeavesGoing, entry_for, listed_for}
-use Rattle.schedule.specs.Works.{made_by}
-use Rattle.schedule.specs.Coming.{IsWorldOf}
-use Rattle.schedule.specs.Comes.{TakesTurn, Comes}
 use Rattle.schedule.proofs.Fitting.{IsPlainKind, TellsOut, fits, plain_no_limit}
 use Rattle.schedule.proofs.RightNext.{IsPlain, put_right}
 use Rattle.schedule.proofs.TurnComes.{comes_ended, comes_going, held_gone, held_moves, its_asked, its_content, its_work}
 use Rattle.schedule.proofs.Puts.{unstored_plain, unstored_answers, unstored_listed, unstored_map, rearranged_leaves}
 use Rattle.schedule.proofs.LeavesPool.{out_keeps}
 use Rattle.schedule.proofs.PutEnds.{FilledAmong, IsGivenUp, IsWhole, fills_among, fills_same, put_ended}
-use Rattle.schedule.specs.Moments.{Past}
 
 module _ {script : Script} {actor : ℕ} {before after : Station} {clients news : List Client}
-    (takes : TakesTurn script actor before after clients news) (call : ScriptCall) (under : UnderWay) (run : PutRun)
+    (takes : TakesTurn script actor before after clients news) {call : ScriptCall} {under : UnderWay} {run : PutRun}
     (does_is : under.work ≡ work.Put run) (under_is : before.client.under_way ≡ Some under)
     (is : slice_get (calls_of script actor) (before.client.begun - 1) ≡ Some call)
     (goes : TurnGoesOn before.state after.state) where
@@ -56,16 +24,16 @@ module _ {script : Script} {actor : ℕ} {before after : Station} {clients news 
 
   -- The script asks for it, and it has the client's hold.
   asked_for : IsWorkFor call (work.Put run)
-  asked_for = its_asked takes call under (work.Put run) does_is under_is is
+  asked_for = search its_asked
 
   its : run.hold.actor ≡ actor
   its = (its_work takes call under (work.Put run) does_is under_is is).hold
 
   -- Filled in, it is among the calls still, with the bytes that the script hands it.
-  filled_among : (filled : PutRun) → IsFilledIn call run filled → (left : List HoldingCall)
+  filled_among : {filled : PutRun} → IsFilledIn call run filled → {left : List HoldingCall}
       → Gains left (calls_under_way clients) (Putting run)
       → FilledAmong before.state (fill_bytes call.fill) left (calls_under_way clients) run filled
-  filled_among filled fills left gains = fills_among call fills asked_for.2 gains takes.schedule.going.are
+  filled_among fills gains = fills_among call fills asked_for.2 gains takes.schedule.going.are
 
   content_is : {world : World} {past : Past} (runs : Runs world script past before.state before.items clients)
       → runs.contents run.hold.actor ≡ fill_bytes call.fill
@@ -80,8 +48,7 @@ module _ {script : Script} {actor : ℕ} {before after : Station} {clients news 
         asked_for.0,
         asked_for.1 ∙ ap (λ (r : PutRun). Some r.range.id) (sym same),
         asked_for.2 ∙ ap (λ (r : PutRun). r.len) (sym same),
-      )
-      (put_writes_calls writes filled.gains moves.2 filled.are)
+      ) (put_writes_calls writes filled.gains moves.2 filled.are)
       (λ world past runs.
       let stood = filled.stands _ _ _ _ _ _ (content_is runs) runs.stands in (
         put_writes_since takes.is takes.lawful writes filled.gains filled.are stood,
@@ -104,65 +71,53 @@ module _ {script : Script} {actor : ℕ} {before after : Station} {clients news 
           (Putting next) (work.Put next) further refl false≢true
 
       filled : FilledAmong before.state (fill_bytes call.fill) moves.0 (calls_under_way clients) run puts.filled
-      filled = filled_among puts.filled puts.fills moves.0 moves.1
+      filled = filled_among puts.fills moves.1
 
   module _ (given : Answer) (ended : LeavesGoing actor call before after under (Done given))
-      (disk : after.state.disk ≡ before.state.disk) (filled : PutRun) (fills : IsFilledIn call run filled) where
+      (disk : after.state.disk ≡ before.state.disk) {filled : PutRun} (fills : IsFilledIn call run filled) where
     -- the entry of its answer
     abbrev entry : Entry
     entry = entry_for call actor before.client.begun under.at given
 
     among : FilledAmong before.state (fill_bytes call.fill) (calls_under_way news) (calls_under_way clients) run filled
-    among = filled_among filled fills (calls_under_way news) (held_gone takes call under (work.Put run) does_is under_is is
-        (Putting run) refl false≢true goes given ended)
+    among = search (filled_among, held_gone, false≢true)
 
     of_filled : IsPutOf old filled
-    of_filled = among.are.each (Putting filled) (gains_item (calls_under_way news) among.nexts (Putting filled) among.gains)
+    of_filled = among.are.each (Putting filled) (gains_item (calls_under_way news) among.nexts
+        (Putting filled) among.gains)
 
     -- It ends, and its entry alone is listed.
     ends_with : after.items ≡ before.items ++ CallItem entry ∷ [] → Rearranges old now
-        → EndsHold old.holds now.holds filled.hold → IsPlain given → IsAnswerOf kind.Put given → TellsOut old given → given ≢ answer.Full → AreCallsOf now (calls_under_way news)
+        → EndsHold old.holds now.holds filled.hold → IsPlain given → IsAnswerOf kind.Put given → TellsOut old given
+        → given ≢ answer.Full → AreCallsOf now (calls_under_way news)
         → ((world : World) (past : Past) → IsWorldOf script world
         → (runs : Runs world script past before.state before.items clients)
-        → Stands (setting_now runs) runs.last runs.begun (map_of world.handed world.opening before.items) runs.contents among.nexts
-        runs.commit before.state
-        → Stands (setting_now runs) runs.last runs.begun
+        → Stands (setting_now runs) runs.last runs.begun (map_of world.handed world.opening before.items) runs.contents
+        among.nexts runs.commit before.state → Stands (setting_now runs) runs.last runs.begun
         (map_after_answer world.handed (map_of world.handed world.opening before.items) entry given) runs.contents
         (calls_under_way news) runs.commit (at_disk now before.state.disk))
         → Comes script actor before after clients news
-    ends_with listed change ends plain answers tells other are stands = comes_ended takes call under (work.Put run) does_is under_is
-        is (Putting run) refl false≢true goes given ended listed (rearranged_leaves old now change
-        (keeps_ended old.pool.done old.holds now.holds filled.hold (put_shared old filled of_filled) ends)) disk
-        (fits old call.kind given (subst (λ (k : Kind). IsAnswerOf k given) (sym asked_for.0) answers) tells
-        (plain_no_limit given plain) (subst IsPlainKind (sym asked_for.0) tt))
-        other are
+    ends_with listed change ends plain answers tells other are stands = comes_ended takes call under
+        (work.Put run) does_is under_is is (Putting run) refl false≢true goes given ended listed
+        (search (rearranged_leaves, keeps_ended, put_shared, filled, of_filled)) disk
+        (fits (rw asked_for.0 answers) tells (plain_no_limit plain) (subst IsPlainKind (sym asked_for.0) tt)) other are
         (λ world past handed runs. (
           put_right world before.items entry after.state.disk asked_for.0 plain,
-          subst (λ (d : Disk). Stands (setting_now runs) runs.last runs.begun
-              (map_after_answer world.handed (map_of world.handed world.opening before.items) entry given) runs.contents
-              (calls_under_way news) runs.commit (at_disk now d)) (sym disk)
-              (stands world past handed runs (among.stands _ _ _ _ _ _ (content_is runs) runs.stands)),
+          rw disk (stands world past handed runs (among.stands _ _ _ _ _ _ (content_is runs) runs.stands)),
         ))
 
     -- Its block is stored: the map has the bytes that the script hands it.
     put_stored : given ≡ answer.Stored → StoresBlock old now filled → IsWhole filled
         → Comes script actor before after clients news
-    put_stored given_is stores whole = ends_with
-        (ended.0 ∙ subst (λ (a : Answer). listed_for now before.items under.at entry (made_by under.work) a ≡ before.items ++ CallItem entry ∷ [])
-        (sym given_is) refl)
+    put_stored given_is stores whole = ends_with (cc)
         (ends_rearranges old now filled stores) stores.ends (subst IsPlain (sym given_is) tt)
-        (subst (IsAnswerOf kind.Put) (sym given_is) refl) (λ listed told. absurd (apart listed (sym given_is ∙ told)))
-        (λ full. no_full (sym given_is ∙ full)) (put_ends_calls stores among.gains among.are)
+        (rw given_is refl) (λ listed told. cc)
+        (λ full. no_full (cc)) (put_ends_calls stores among.gains among.are)
         (λ world past handed runs stood.
-        subst (λ (m : Map). Stands (setting_now runs) runs.last runs.begun m runs.contents (calls_under_way news) runs.commit
-        (at_disk now before.state.disk))
-        (sym (map_is world handed.handed (map_of world.handed world.opening before.items) (runs.contents filled.hold.actor)
-        (ap (λ (r : PutRun). runs.contents r.hold.actor) same ∙ content_is runs)))
+        rw (map_is world handed.handed (map_of world.handed world.opening before.items)
+        (runs.contents filled.hold.actor) (ap (λ (r : PutRun). runs.contents r.hold.actor) same ∙ content_is runs))
         (put_ends_stands takes.is stores whole among.gains among.are stood))
       where
-        apart : (listed : ℕ) → answer.Stored ≡ answer.TooManyFailed listed → ⊥
-        apart listed told = cc
-
         no_full : answer.Stored ≡ answer.Full → ⊥
         no_full same = cc
 
@@ -187,19 +142,16 @@ module _ {script : Script} {actor : ℕ} {before after : Station} {clients news 
     put_given_up : IsGivenUp old now filled given → Comes script actor before after clients news
     put_given_up given_up = ends_with
         (ended.0 ∙ unstored_listed now before.items under.at entry (made_by under.work) given given_up.unstored)
-        (gives_up_rearranges old now filled given_up.gives_up) given_up.gives_up.ends (unstored_plain given given_up.unstored)
+        (gives_up_rearranges old now filled given_up.gives_up) given_up.gives_up.ends
+        (unstored_plain given given_up.unstored)
         (unstored_answers given given_up.unstored) given_up.tells given_up.other
         (put_gives_up_calls given_up.gives_up among.gains among.are)
         (λ world past handed runs stood.
-        subst (λ (m : Map). Stands (setting_now runs) runs.last runs.begun m runs.contents (calls_under_way news) runs.commit
-        (at_disk now before.state.disk))
-        (sym (unstored_map world.handed (map_of world.handed world.opening before.items) entry given given_up.unstored))
+        rw (unstored_map world.handed entry given given_up.unstored)
         (put_gives_up_stands given_up.gives_up among.gains among.are stood))
 
   -- It ends: its block is stored, or it is given up.
   pub put_ends : (given : Answer) → EndsPutting before.state after.state call run given
       → LeavesGoing actor call before after under (Done given) → Comes script actor before after clients news
   put_ends given ends ended = ⊎_elim
-      (λ stored. put_stored given ended ends.disk ends.filled ends.fills stored.0 stored.1 stored.2)
-      (λ given_up. put_given_up given ended ends.disk ends.filled ends.fills given_up)
-      (put_ended before.state after.state call run given ends)
+      (λ stored. search put_stored) (search put_given_up) (put_ended before.state after.state call run given ends)

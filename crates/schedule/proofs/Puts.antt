@@ -1,21 +1,8 @@
 -- A client's put among the calls under way, what its turns leave of the core, and what its answers mean.
-use Rattle.std.proofs.Common.{◌≡◌, ℕ, List, [], ◌∷◌, ◌++◌, Option, refl, sym, ◌∙◌, subst}
-use Rattle.std.specs.Prelude.{⊤}
-use Rattle.core_state.specs.declared.answer.Answer.{Answer}
+use Rattle.schedule.proofs.Words.{◌≡◌, ℕ, List, [], ◌∷◌, ◌++◌, Option, refl, ⊤, Answer, Entry, Item, Map, PutBytes, map_after_answer, IsAnswerOf, adds_none, Core, HasTooManyOut, IsPutRefused, LeavesBlocks, KeepsAlone, Rearranges, listed_for}
 use Rattle.core_state.specs.declared.answer.Answer.TheVariants as answer
 use Rattle.core_state.specs.declared.answer.Kind.TheVariants as kind
-use Rattle.core_state.specs.declared.item.Entry.{Entry}
-use Rattle.core_state.specs.declared.item.Item.{Item}
 use Rattle.core_state.specs.declared.item.Item.TheVariants.{Call as CallItem}
-use Rattle.core_state.specs.Map.{Map, PutBytes, map_after_answer}
-use Rattle.core_state.specs.Legal.{IsAnswerOf}
-use Rattle.core_blocks.proofs.Usage.{adds_none}
-use Rattle.core_turns.specs.Core.{Core}
-use Rattle.core_turns.specs.Getting.{HasTooManyOut}
-use Rattle.core_turns.specs.Putting.{IsPutRefused, LeavesBlocks}
-use Rattle.core_turns.proofs.Holds.{KeepsAlone}
-use Rattle.core_turns.proofs.PutCalls.{Rearranges}
-use Rattle.schedule.specs.Turned.{listed_for}
 use Rattle.schedule.proofs.Fitting.{TellsOut}
 use Rattle.schedule.proofs.RightNext.{IsPlain}
 use Rattle.schedule.proofs.LeavesPool.{LeavesPool, holds_left, leaves_pool}
@@ -23,12 +10,13 @@ use Rattle.schedule.proofs.LeavesPool.{LeavesPool, holds_left, leaves_pool}
 -- ---- turns that call no device
 
 -- Where only blocks and holds are others, all else of the core is left.
-pub rearranged_leaves : (old new : Core) → Rearranges old new → KeepsAlone old.pool.done old.holds new.holds → LeavesPool old new
-rearranged_leaves old new change = leaves_pool old new new.pool.blocks new.holds change.rest
+pub rearranged_leaves : (old new : Core) → Rearranges old new → KeepsAlone old.pool.done old.holds new.holds
+    → LeavesPool old new
+rearranged_leaves old new change = search leaves_pool
 
 -- So it is where the holds are left too.
 pub refused_leaves : (old new : Core) → LeavesBlocks old new → LeavesPool old new
-refused_leaves old new leaves = holds_left old new new.pool.blocks leaves.rest
+refused_leaves old new leaves = holds_left leaves.rest
 
 -- ---- answers
 
@@ -57,13 +45,13 @@ unstored_answers (answer.NoSpace sectors) unstored = refl
 unstored_answers other unstored = absurd unstored
 
 -- changes no map,
-pub unstored_map : (handed : PutBytes) (map : Map) (entry : Entry) (given : Answer) → IsUnstored given
+pub unstored_map : (handed : PutBytes) {map : Map} (entry : Entry) (given : Answer) → IsUnstored given
     → map_after_answer handed map entry given ≡ map
-unstored_map handed map entry (answer.TooManyFailed out) unstored = refl
-unstored_map handed map entry answer.NoMemory unstored = refl
-unstored_map handed map entry answer.Full unstored = refl
-unstored_map handed map entry (answer.NoSpace sectors) unstored = refl
-unstored_map handed map entry other unstored = absurd unstored
+unstored_map handed entry (answer.TooManyFailed out) unstored = refl
+unstored_map handed entry answer.NoMemory unstored = refl
+unstored_map handed entry answer.Full unstored = refl
+unstored_map handed entry (answer.NoSpace sectors) unstored = refl
+unstored_map handed entry other unstored = absurd unstored
 
 -- and its entry alone is listed.
 pub unstored_listed : (core : Core) (items : List Item) (at : ℕ) (entry : Entry) (made : Option ℕ) (given : Answer)
@@ -75,12 +63,9 @@ unstored_listed core items at entry made (answer.NoSpace sectors) unstored = ref
 unstored_listed core items at entry made other unstored = absurd unstored
 
 -- Where it tells of too many devices and says what is out, it lists those that are.
-pub tells_out : (core : Core) (out : ℕ) → HasTooManyOut core → out ≡ core.pool.out
+pub tells_out : (core : Core) {out : ℕ} → HasTooManyOut core → out ≡ core.pool.out
     → TellsOut core (answer.TooManyFailed out)
-tells_out core out many out_is listed is = (many, same is ∙ out_is)
-  where
-    same : answer.TooManyFailed out ≡ answer.TooManyFailed listed → listed ≡ out
-    same is = cc
+tells_out core many out_is listed is = (many, cc)
 
 -- A put is refused: the blocks are left, and its block is not stored.
 pub record Refuses (old new : Core) (given : Answer) : Type 0 where
@@ -89,41 +74,30 @@ pub record Refuses (old new : Core) (given : Answer) : Type 0 where
   pub tells : TellsOut old given
 
 -- Where too many devices are out, all is as it was,
-leaves_same : (old new : Core) → new ≡ old → LeavesBlocks old new
-leaves_same old new same = subst (LeavesBlocks old) (sym same) (record {
-  rest = refl;
-  parity = refl;
-  births = refl;
-  entries = refl;
-  capacity = refl;
-  adds = adds_none old.pool.blocks.space old.pool.blocks.space refl;
-  taken = λ run listed. listed;
-  held = refl;
-  under = λ ranges under. under;
-  kept = λ past kept none. none;
-})
+leaves_same : (old : Core) {new : Core} → new ≡ old → LeavesBlocks old new
+leaves_same old same = search (same, adds_none)
 
 -- and so a put is refused, whatever its first turn answers.
-pub put_refused : (old new : Core) (id len : ℕ) (given : Answer) → IsPutRefused old new id len given
+pub put_refused : {old new : Core} (id len : ℕ) (given : Answer) → IsPutRefused old new id len given
     → Refuses old new given
-put_refused old new id len (answer.TooManyFailed out) is = record {
-  leaves = leaves_same old new is.2;
+put_refused {old = old} id len (answer.TooManyFailed out) is = record {
+  leaves = leaves_same old is.2;
   unstored = tt;
-  tells = tells_out old out is.0 is.1;
+  tells = tells_out old is.0 is.1;
 }
-put_refused old new id len answer.Full is =
-    record { leaves = is.2; unstored = tt; tells = λ listed told. absurd (other listed told) }
+put_refused id len answer.Full is =
+    record { leaves = is.2; unstored = tt; tells = λ listed told. cc }
   where
     other : (listed : ℕ) → answer.Full ≡ answer.TooManyFailed listed → ⊥
     other listed told = cc
-put_refused old new id len (answer.NoSpace sectors) is =
+put_refused id len (answer.NoSpace sectors) is =
     record { leaves = is.3; unstored = tt; tells = λ listed told. absurd (other listed told) }
   where
     other : (listed : ℕ) → answer.NoSpace sectors ≡ answer.TooManyFailed listed → ⊥
     other listed told = cc
-put_refused old new id len answer.NoMemory is =
+put_refused id len answer.NoMemory is =
     record { leaves = is.1; unstored = tt; tells = λ listed told. absurd (other listed told) }
   where
     other : (listed : ℕ) → answer.NoMemory ≡ answer.TooManyFailed listed → ⊥
     other listed told = cc
-put_refused old new id len other is = absurd is
+put_refused id len other is = absurd is

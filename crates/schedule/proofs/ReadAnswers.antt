@@ -1,42 +1,8 @@
 -- What reads are answered, and what their end leaves.
-use Rattle.std.proofs.Common.{◌≡◌, inl, inr, ⊎_elim, ℕ, ◌≤◌, List, [], ◌∷◌, ◌++◌, length, Option, Some, None, refl, sym, ◌∙◌, ap, subst, arith}
-use Rattle.std.specs.Prelude.{option_and_then}
-use Rattle.std.proofs.lemmas.Bool.{cases_lt}
-use Rattle.bank_trait.specs.Disk.{Disk}
-use Rattle.range_locks.specs.Holds.{EndsHold}
-use Rattle.row_layout.specs.Layout.{rows_of}
-use Rattle.space_alloc.specs.Space.{Gains}
-use Rattle.uberblock_ring.specs.Devices.{count_of}
-use Rattle.core_state.specs.declared.answer.Answer.{Answer}
+use Rattle.schedule.proofs.Words.{◌≡◌, inl, inr, ⊎_elim, ℕ, ◌≤◌, List, [], ◌∷◌, ◌++◌, length, Option, Some, None, refl, subst, arith, option_and_then, cases_lt, Disk, EndsHold, rows_of, Gains, count_of, Answer, Kind, Entry, Item, Map, PutBytes, map_after, map_after_answer, IsAnswerOf, Kept, Setting, World, CommitRun, IsReadRight, ScriptCall, point_after, read_point, GetRun, Solved, NotYet, Bytes, Damaged, Done, Core, CoreState, IsCore, IsReadKind, HasTooManyOut, IsGetRefused, ReadsTurn, SolvesGet, AnswersSolved, EndsGet, answer_of, HoldingCall, Reading, AreCallsOf, Stands, gains_item, get_tells, get_ends_stands, get_solves_stands, get_ends_calls, get_solves_calls, get_shared, keeps_ended, IsRightNext, AllBelow, EndsReading, entry_for, listed_for}
 use Rattle.core_state.specs.declared.answer.Answer.TheVariants as answer
-use Rattle.core_state.specs.declared.answer.Kind.{Kind}
 use Rattle.core_state.specs.declared.answer.Kind.TheVariants as kind
-use Rattle.core_state.specs.declared.item.Entry.{Entry}
-use Rattle.core_state.specs.declared.item.Item.{Item}
 use Rattle.core_state.specs.declared.item.Item.TheVariants.{Call as CallItem}
-use Rattle.core_state.specs.Map.{Map, PutBytes, map_after, map_after_answer}
-use Rattle.core_state.specs.Legal.{IsAnswerOf}
-use Rattle.core_state.specs.Keeps.{Kept, Setting}
-use Rattle.core_state.specs.World.{World}
-use Rattle.core_commit.specs.CommitTurns.{CommitRun}
-use Rattle.core_turns.specs.Getting.{IsReadRight}
-use Rattle.client_script.specs.declared.call.ScriptCall.{ScriptCall}
-use Rattle.journal_law.specs.Points.{point_after, read_point}
-use Rattle.core_turns.specs.declared.getting.GetRun.{GetRun}
-use Rattle.core_turns.specs.declared.solving.Solved.{Solved}
-use Rattle.core_turns.specs.declared.solving.Solved.TheVariants.{NotYet, Bytes, Damaged}
-use Rattle.core_turns.specs.declared.turn.Turn.TheVariants.{Done}
-use Rattle.core_turns.specs.Core.{Core, CoreState, IsCore, at_disk}
-use Rattle.core_turns.specs.Getting.{IsReadKind, HasTooManyOut, IsGetRefused, ReadsTurn, SolvesGet, AnswersSolved, EndsGet, answer_of}
-use Rattle.core_turns.specs.UnderWay.{HoldingCall, Reading, AreCallsOf, Stands}
-use Rattle.core_blocks.proofs.Lists.{gains_item}
-use Rattle.core_turns.proofs.GetLaws.{get_tells}
-use Rattle.core_turns.proofs.GetStands.{get_ends_stands, get_solves_stands}
-use Rattle.core_turns.proofs.GetCalls.{get_ends_calls, get_solves_calls}
-use Rattle.core_turns.proofs.GetTurns.{get_shared}
-use Rattle.core_turns.proofs.Holds.{keeps_ended}
-use Rattle.schedule.specs.Recorded.{IsRightNext, AllBelow}
-use Rattle.schedule.specs.Turned.{EndsReading, entry_for, listed_for}
 use Rattle.schedule.proofs.Fitting.{NoLimit}
 use Rattle.schedule.proofs.RightNext.{read_right, read_cut_right, same_out}
 use Rattle.schedule.proofs.LeavesPool.{LeavesPool, leaves_pool}
@@ -57,14 +23,16 @@ damaged_of kind.Sum is = inr refl
 damaged_of other is = absurd is
 
 -- the point that a read's answer speaks of
-point_read : (asked : Kind) (at : ℕ) (given : Answer) → IsReadKind asked → point_after asked at given ≡ read_point at given
+point_read : (asked : Kind) (at : ℕ) (given : Answer) → IsReadKind asked
+    → point_after asked at given ≡ read_point at given
 point_read kind.Get at given is = refl
 point_read kind.Sum at given is = refl
 point_read other at given is = absurd is
 
 -- An answer to a read makes no group,
 pub listed_read : (core : Core) (items : List Item) (at : ℕ) (entry : Entry) (made : Option ℕ) (asked : Kind)
-    (given : Answer) → IsReadKind asked → IsAnswerOf asked given → listed_for core items at entry made given ≡ items ++ CallItem entry ∷ []
+    (given : Answer) → IsReadKind asked → IsAnswerOf asked given
+    → listed_for core items at entry made given ≡ items ++ CallItem entry ∷ []
 listed_read core items at entry made asked (answer.Synced group) is of = absurd (subst IsReadKind of is)
 listed_read core items at entry made asked (answer.Attached width group) is of = absurd (subst IsReadKind of is)
 listed_read core items at entry made asked (answer.NewDeviceFailed device) is of = absurd (subst IsReadKind of is)
@@ -72,28 +40,24 @@ listed_read core items at entry made asked (answer.DeviceOut device) is of = abs
 listed_read core items at entry made asked other is of = refl
 
 -- and leaves the map.
-pub map_read : (handed : PutBytes) (map : Map) (entry : Entry) (asked : Kind) (given : Answer) → IsReadKind asked
+pub map_read : (handed : PutBytes) {map : Map} (entry : Entry) (asked : Kind) (given : Answer) → IsReadKind asked
     → IsAnswerOf asked given → map_after_answer handed map entry given ≡ map
-map_read handed map entry asked answer.Stored is of = absurd (subst IsReadKind of is)
-map_read handed map entry asked answer.Freed is of = absurd (subst IsReadKind of is)
-map_read handed map entry asked other is of = refl
+map_read handed entry asked answer.Stored is of = absurd (subst IsReadKind of is)
+map_read handed entry asked answer.Freed is of = absurd (subst IsReadKind of is)
+map_read handed entry asked other is of = refl
 
 -- An answer to a read that began after some of the items, all of its caller's among them, is right where it tells of
 -- the map of that time, or was cut short.
-pub right_read : (world : World) (items : List Item) (disk : Disk) (call : ScriptCall) (actor number at : ℕ) (given : Answer)
-    → IsReadKind call.kind → 1 ≤ at → at ≤ length items → AllBelow items actor at
+pub right_read : (world : World) {items : List Item} {disk : Disk} (call : ScriptCall) (actor : ℕ) {number at : ℕ}
+    (given : Answer) → IsReadKind call.kind → 1 ≤ at → at ≤ length items → AllBelow items actor at
     → IsReadRight (option_and_then (map_after world.handed world.opening items at) call.id) call.kind given
     → IsRightNext world items (entry_for call actor number at given) disk
-right_read world items disk call actor number at (answer.TooManyFailed out) is some within below right =
-    read_cut_right world items (entry_for call actor number at (answer.TooManyFailed out)) disk is
-    (point_read call.kind at (answer.TooManyFailed out) is) tt
-right_read world items disk call actor number at answer.NoMemory is some within below right =
-    read_cut_right world items (entry_for call actor number at answer.NoMemory) disk is
-    (point_read call.kind at answer.NoMemory is) tt
-right_read world items disk call actor number at answer.Damaged is some within below right = absurd right
-right_read world items disk call actor number at other is some within below right =
-    read_right world items (entry_for call actor number at other) disk at is (point_read call.kind at other is) some within
-    below right
+right_read world call actor (answer.TooManyFailed out) is some within below right = search (read_cut_right, point_read)
+right_read world {items = items} {disk = disk} call actor {number = number} {at = at} answer.NoMemory is some within
+    below right = search (read_cut_right, point_read)
+right_read world call actor answer.Damaged is some within below right = absurd right
+right_read world {items = items} {disk = disk} call actor {number = number} {at = at} other is some within below right =
+    search (read_right, point_read)
 
 -- Why a read was refused is an answer to it,
 pub refused_of : (core : Core) (id : ℕ) (asked : Kind) (given : Answer) → IsReadKind asked → IsGetRefused core id given
@@ -104,18 +68,17 @@ refused_of core id asked answer.NoMemory is refused = tt
 refused_of core id asked other is refused = absurd refused
 
 -- and right, whatever the map has, where that has nothing at the id if it says so.
-pub refused_right : (core : Core) (id : ℕ) (held : Option (List ℕ)) (asked : Kind) (given : Answer)
+pub refused_right : (core : Core) (id : ℕ) {held : Option (List ℕ)} (asked : Kind) (given : Answer)
     → (given ≡ answer.Absent → held ≡ None) → IsGetRefused core id given → IsReadRight held asked given
-refused_right core id held asked (answer.TooManyFailed out) none refused = tt
-refused_right core id held asked answer.Absent none refused =
-    subst (λ (h : Option (List ℕ)). IsReadRight h asked answer.Absent) (sym (none refl)) refl
-refused_right core id held asked answer.NoMemory none refused = tt
-refused_right core id held asked other none refused = absurd refused
+refused_right core id asked (answer.TooManyFailed out) none refused = tt
+refused_right core id asked answer.Absent none refused = search arith
+refused_right core id asked answer.NoMemory none refused = tt
+refused_right core id asked other none refused = absurd refused
 
 -- What was solved is answered so, and never that too many devices are out or of a limit.
-solved_of : (run : GetRun) (solved : Solved) (given : Answer) → IsReadKind run.kind → AnswersSolved run solved given
+solved_of : (run : GetRun) (solved : Solved) {given : Answer} → IsReadKind run.kind → AnswersSolved run solved given
     → IsAnswerOf run.kind given × ((out : ℕ) → given ≡ answer.TooManyFailed out → ⊥) × NoLimit given
-solved_of run solved given is answers = by solved answers
+solved_of run solved {given = given} is answers = by solved answers
   where
     Tells : Kind → Answer → Type 0
     Tells asked told = IsAnswerOf asked told × ((out : ℕ) → told ≡ answer.TooManyFailed out → ⊥) × NoLimit told
@@ -126,9 +89,9 @@ solved_of run solved given is answers = by solved answers
     block other bytes asked = absurd asked
 
     by : (solved : Solved) → AnswersSolved run solved given → Tells run.kind given
-    by NotYet told = subst (Tells run.kind) (sym told) (tt, λ out same. cc, λ reached same. cc)
-    by (Bytes bytes) told = subst (Tells run.kind) (sym told) (block run.kind bytes is)
-    by Damaged told = subst (Tells run.kind) (sym told) (damaged_of run.kind is, λ out same. cc, λ reached same. cc)
+    by NotYet told = search arith
+    by (Bytes bytes) told = search (block, arith)
+    by Damaged told = search (damaged_of, arith)
 
 -- ---- the end of a read
 
@@ -158,15 +121,14 @@ stopped_ends : {before after : CoreState} {run : GetRun} {given : Answer} {left 
     → IsCore before.core → ReadsTurn before run after (Done given) → Gains left calls (Reading run)
     → AreCallsOf before.core calls → EndsRead before after run given left calls
 stopped_ends {before} {after} {run} {given} {left} {calls} core stops gains are = record {
-  leaves = read_leaves stops.0.rest stops.0.ends gains are;
-  answer_is = subst (IsAnswerOf run.kind) (sym stops.0.given_is) tt;
-  too_many = λ out tells. (stops.0.many, same_out (sym tells ∙ stops.0.given_is));
-  no_limit = λ reached told. none_told reached (sym stops.0.given_is ∙ told);
-  calls_are = get_ends_calls stops.0.rest stops.0.ends gains are;
+  leaves = search read_leaves;
+  answer_is = search arith;
+  too_many = search (same_out, arith);
+  no_limit = search (none_told, arith);
+  calls_are = search get_ends_calls;
   stands = λ setting last begun map contents commit stands. (
-    subst (λ (d : Disk). Stands setting last begun map contents left commit (at_disk after.core d)) (sym stops.1)
-        (get_ends_stands core stops.0.rest stops.0.ends gains are stands),
-    subst (IsReadRight (Some (contents run.hold.actor)) run.kind) (sym stops.0.given_is) tt,
+    rw stops.1 (get_ends_stands core stops.0.rest stops.0.ends gains are stands),
+    search arith,
   );
 }
   where
@@ -180,29 +142,19 @@ answered_ends : {before after : CoreState} {run : GetRun} {given : Answer} {left
     → EndsRead before after run given left calls
 answered_ends {before} {after} {run} {given} {left} {calls} core is ends disk gains are = record {
   leaves = read_leaves ends.rest ends.ends gains are;
-  answer_is = ⊎_elim
-      (λ many. subst (IsAnswerOf run.kind) (sym (ends.too_many many)) tt)
-      (λ low. (solved_of run run.solved given is (ends.solved (few low))).0)
-      (cases_lt before.core.pool.uber.parity (count_of before.core.pool.out));
-  too_many = λ out tells. ⊎_elim
-      (λ many. (many, same_out (sym tells ∙ ends.too_many many)))
-      (λ low. absurd ((solved_of run run.solved given is (ends.solved (few low))).1 out tells))
-      (cases_lt before.core.pool.uber.parity (count_of before.core.pool.out));
-  no_limit = λ reached told. ⊎_elim
-      (λ many. none_told reached (sym (ends.too_many many) ∙ told))
-      (λ low. (solved_of run run.solved given is (ends.solved (few low))).2 reached told)
-      (cases_lt before.core.pool.uber.parity (count_of before.core.pool.out));
+  answer_is = search (solved_of, few, cases_lt, arith);
+  too_many = search (same_out, solved_of, few, cases_lt, arith);
+  no_limit = search (none_told, solved_of, few, cases_lt, arith);
   calls_are = get_ends_calls ends.rest ends.ends gains are;
   stands = λ setting last begun map contents commit stands. (
-    subst (λ (d : Disk). Stands setting last begun map contents left commit (at_disk after.core d)) (sym disk)
-        (get_ends_stands core ends.rest ends.ends gains are stands),
+    rw disk (get_ends_stands core ends.rest ends.ends gains are stands),
     get_tells (contents run.hold.actor) before.core after.core before.disk run (Done given) is
         (stands.each (Reading run) (gains_item left calls (Reading run) gains)) ends,
   );
 }
   where
     few : count_of before.core.pool.out ≤ before.core.pool.uber.parity → HasTooManyOut before.core → ⊥
-    few low many = omega (arith, low, many)
+    few low many = omega arith
 
     none_told : NoLimit (answer.TooManyFailed before.core.pool.out)
     none_told reached same = cc
@@ -210,39 +162,31 @@ answered_ends {before} {after} {run} {given} {left} {calls} core is ends disk ga
 -- where it may be solved just then.
 solved_ends : {before after : CoreState} {run solved : GetRun} {given : Answer} {left calls : List HoldingCall}
     → IsCore before.core → SolvesGet run solved → run.read.row ≡ rows_of run.read.layout
-    → Gains left calls (Reading run) → AreCallsOf before.core calls → EndsRead before after solved given left (Reading solved ∷ left)
-    → EndsRead before after run given left calls
-solved_ends {before} {run = run} {solved} {given} {left} core solves whole gains are ends = record {
+    → Gains left calls (Reading run) → AreCallsOf before.core calls
+    → EndsRead before after solved given left (Reading solved ∷ left) → EndsRead before after run given left calls
+solved_ends {run = run} {solved} {given} {left} core solves whole gains are ends = record {
   leaves = ends.leaves;
-  answer_is = subst (λ (k : Kind). IsAnswerOf k given) same_kind ends.answer_is;
+  answer_is = search (same_kind, arith);
   too_many = ends.too_many;
   no_limit = ends.no_limit;
   calls_are = ends.calls_are;
   stands = λ setting last begun map contents commit stands.
       let done = ends.stands setting last begun map contents commit
-      (get_solves_stands core solves whole gains (gains_first (Reading solved) left) are stands) in (
-        done.0,
-        subst (λ (k : Kind). IsReadRight (Some (contents run.hold.actor)) k given) same_kind
-            (subst (λ (actor : ℕ). IsReadRight (Some (contents actor)) solved.kind given)
-            (ap (λ (r : GetRun). r.hold.actor) solves.rest) done.1),
-      );
+      (search (get_solves_stands, gains_first, stands)) in search (same_kind, arith);
 }
   where
     same_kind : solved.kind ≡ run.kind
-    same_kind = ap (λ (r : GetRun). r.kind) solves.rest
+    same_kind = cc
 
 -- However it ends.
 pub read_ends_so : {before after : CoreState} {run : GetRun} {given : Answer} {left calls : List HoldingCall}
     → IsCore before.core → IsReadKind run.kind → EndsReading before after run given
     → Gains left calls (Reading run) → AreCallsOf before.core calls → EndsRead before after run given left calls
-read_ends_so {before} {after} {run} {given} {left} {calls} core is ending gains are = elim ending.ends [
+read_ends_so {before} {after} {run} {given} {left} core is ending gains are = elim ending.ends [
   | inl stops ↦ stopped_ends core stops gains are
   | inr ended ↦ ⊎_elim
-      (λ same. answered_ends core is (subst (λ (r : GetRun). EndsGet before.core r after.core (Done given)) same ended.3)
-      ending.disk gains are)
+      (λ same. answered_ends core is (search arith) ending.disk gains are)
       (λ solves. let first = gains_first (Reading ended.0) left in
-      solved_ends core solves ended.2 gains are
-      (answered_ends core (subst IsReadKind (sym (ap (λ (r : GetRun). r.kind) solves.rest)) is) ended.3 ending.disk first
-      (get_solves_calls solves gains first are)))
-      ended.1
+      solved_ends core solves ended.2 gains are (answered_ends core (search arith) ended.3 ending.disk first
+      (get_solves_calls solves gains first are))) ended.1
 ]

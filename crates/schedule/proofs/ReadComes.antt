@@ -1,39 +1,7 @@
 -- What the turns of reads come to.
-use Rattle.std.proofs.Common.{◌≡◌, ◌≢◌, ℕ, ◌+◌, ◌-◌, List, length, Option, Some, None, refl, sym, ◌∙◌, ap, subst, arith}
-use Rattle.std.specs.Prelude.{Contains, slice_get, option_and_then}
-use Rattle.std.proofs.lemmas.Bool.{false≢true}
-use Rattle.bank_trait.specs.Disk.{Disk}
-use Rattle.range_locks.specs.declared.hold.Hold.{Hold}
-use Rattle.space_alloc.specs.Space.{Gains}
-use Rattle.core_state.specs.declared.answer.Answer.{Answer}
+use Rattle.schedule.proofs.Words.{◌≡◌, ◌≢◌, ℕ, ◌-◌, List, length, Some, None, refl, sym, ◌∙◌, ap, subst, arith, Contains, slice_get, option_and_then, false≢true, Disk, Hold, Gains, Answer, Kind, Entry, Map, map_of, map_after, IsAnswerOf, found_id, gains_item, IsReadRight, ScriptCall, Script, calls_of, map_at_end, GetRun, More, Busy, Done, Core, at_disk, IsReadKind, BeginsGet, HoldingCall, Reading, Stands, TurnGoesOn, actor_of, since_read, get_finds, keeps_gained, get_begins_stands, get_reads_stands, get_begins_calls, get_reads_calls, Client, UnderWay, IsWorkFor, calls_under_way, setting_now, Station, GoesOnReading, EndsReading, LeavesBegun, LeavesGoing, entry_for, TakesTurn, Comes}
 use Rattle.core_state.specs.declared.answer.Answer.TheVariants as answer
-use Rattle.core_state.specs.declared.answer.Kind.{Kind}
-use Rattle.core_state.specs.declared.item.Entry.{Entry}
-use Rattle.core_state.specs.Map.{Map, map_of, map_after}
-use Rattle.core_state.specs.Legal.{IsAnswerOf}
-use Rattle.core_blocks.proofs.Listed.{found_id}
-use Rattle.core_blocks.proofs.Lists.{gains_item}
-use Rattle.core_turns.specs.Getting.{IsReadRight}
-use Rattle.client_script.specs.declared.call.ScriptCall.{ScriptCall}
-use Rattle.client_script.specs.Script.{Script, calls_of}
-use Rattle.journal_law.proofs.Grown.{map_at_end}
-use Rattle.core_turns.specs.declared.getting.GetRun.{GetRun}
-use Rattle.core_turns.specs.declared.turn.Turn.TheVariants.{More, Busy, Done}
-use Rattle.core_turns.specs.Core.{Core, at_disk}
-use Rattle.core_turns.specs.Getting.{IsReadKind, IsGetRefused, BeginsGet}
-use Rattle.core_turns.specs.UnderWay.{HoldingCall, Reading, AreCallsOf, Stands, TurnGoesOn, actor_of}
-use Rattle.core_turns.proofs.StandFrames.{since_read}
-use Rattle.core_turns.proofs.GetLaws.{get_finds}
-use Rattle.core_turns.proofs.Holds.{keeps_gained}
-use Rattle.core_turns.proofs.GetStands.{get_begins_stands, get_reads_stands}
-use Rattle.core_turns.proofs.GetCalls.{get_begins_calls, get_reads_calls}
-use Rattle.schedule.specs.declared.client.Client.{Client}
-use Rattle.schedule.specs.declared.client.UnderWay.{UnderWay}
 use Rattle.schedule.specs.declared.client.Work.TheVariants as work
-use Rattle.schedule.specs.Running.{IsWorkFor, calls_under_way, setting_now}
-use Rattle.schedule.specs.Turned.{Station, GoesOnReading, EndsReading, LeavesBegun, LeavesGoing, entry_for}
-use Rattle.schedule.specs.Works.{made_by}
-use Rattle.schedule.specs.Comes.{TakesTurn, Comes}
 use Rattle.schedule.proofs.Fitting.{fits, read_plain_kind}
 use Rattle.schedule.proofs.Below.{below_end}
 use Rattle.schedule.proofs.Theirs.{calls_of_others}
@@ -56,24 +24,25 @@ module _ {script : Script} {actor : ℕ} {before after : Station} {clients news 
 
   -- ---- a read in its first turn
 
-  module _ (id : ℕ) (is : IsReadKind call.kind) (id_is : call.id ≡ Some id) (idle : before.client.under_way ≡ None)
+  module _ {id : ℕ} (is : IsReadKind call.kind) (id_is : call.id ≡ Some id) (idle : before.client.under_way ≡ None)
       (next : slice_get (calls_of script actor) before.client.begun ≡ Some call)
       (disk : after.state.disk ≡ before.state.disk) where
     -- A read begins.
     pub read_begins : (run : GetRun) → BeginsGet old now actor call.kind id (More run)
         → LeavesBegun actor call before after (More (work.Read run)) → ItComes
     read_begins run begins begun =
-        let gains = held_gains takes call idle leaves disk (Reading run) (work.Read run) next begun refl false≢true in
-        comes_begun takes call idle leaves disk (Reading run) (work.Read run) next begun refl false≢true
+        let gains = held_gains takes call idle leaves disk next begun refl false≢true in
+        comes_begun takes call idle leaves disk next begun refl false≢true
         (ap (λ (h : Hold). h.actor) begins.4) (sym begins.2, id_is ∙ ap Some (sym entry_id))
         (get_begins_calls actor id call.kind is takes.is begins others gains takes.schedule.going.are)
         (λ world past runs.
         let map = map_of world.handed world.opening before.items in
         let found = get_begins_stands actor id call.kind takes.is begins others runs.stands in (
           found.0,
-          ap (λ (m : Map). m run.entry.id) (map_at_end world.handed world.opening before.items) ∙ ap map entry_id ∙ found.1,
-          subst (λ (d : Disk). Stands (setting_now runs) runs.last runs.begun map (with_content runs.contents actor found.0)
-              (calls_under_way news) runs.commit (at_disk now d)) (sym disk)
+          ap (λ (m : Map). m run.entry.id) (map_at_end world.handed world.opening before.items) ∙ ap map entry_id
+              ∙ found.1,
+          subst (λ (d : Disk). Stands (setting_now runs) runs.last runs.begun map
+              (with_content runs.contents actor found.0) (calls_under_way news) runs.commit (at_disk now d)) (sym disk)
               (found.2 (with_content runs.contents actor found.0) (calls_under_way news)
               (sets_content runs.contents actor found.0) gains),
         ))
@@ -83,54 +52,46 @@ module _ {script : Script} {actor : ℕ} {before after : Station} {clients news 
 
         leaves : LeavesPool old now
         leaves = leaves_pool old now old.pool.blocks now.holds begins.6
-            (keeps_gained old.pool.done old.holds now.holds run.hold (ap (λ (h : Hold). h.kind) begins.4) begins.8 begins.9)
+            (keeps_gained old.pool.done old.holds now.holds run.hold
+            (ap (λ (h : Hold). h.kind) begins.4) begins.8 begins.9)
 
         others : (other : HoldingCall) → Contains (calls_under_way clients) other → actor_of other ≢ actor
         others = calls_of_others takes.was idle takes.schedule.going
 
     -- It waits, and nothing changes.
-    pub read_waits : (by : ℕ) → BeginsGet old now actor call.kind id (Busy by) → LeavesBegun actor call before after (Busy by)
-        → ItComes
-    read_waits by begins left = comes_nowhere takes
-        (λ i. record { state = at_disk (begins.1 i) (disk i); items = left.0 i; client = left.1 i })
+    pub read_waits : {by : ℕ} → BeginsGet old now actor call.kind id (Busy by)
+        → LeavesBegun actor call before after (Busy by) → ItComes
+    read_waits begins left = comes_nowhere takes (search arith)
 
     -- It is answered at once.
     pub read_at_once : (given : Answer) → BeginsGet old now actor call.kind id (Done given)
         → LeavesBegun actor call before after (Done given) → ItComes
     read_at_once given begins left =
         let of = refused_of old id call.kind given is begins.1 in
-        comes_at_once takes call idle (holds_left old now old.pool.blocks begins.0) disk given next left
-        (fits old call.kind given of (λ out tells. subst (IsGetRefused old id) tells begins.1)
-        (λ reached told. subst (IsGetRefused old id) told begins.1) (read_plain_kind call.kind is))
-        (λ full. absurd (put_alone call.kind given (read_no_put call.kind is) of full))
-        (subst (λ (c : Core). AreCallsOf c (calls_under_way clients)) (sym begins.0) takes.schedule.going.are)
+        comes_at_once takes call idle (holds_left begins.0) disk next left (search (fits, read_plain_kind, arith))
+        (λ full. absurd (put_alone (read_no_put is) of full)) (search arith)
         (λ world past runs.
         let map = map_of world.handed world.opening before.items in
         let map_now = map_after world.handed world.opening before.items (length before.items) in
         let none : given ≡ answer.Absent → map id ≡ None = get_finds map old now before.state.disk actor id call.kind
         (Done given) runs.stands.holds begins in (
-          right_read world before.items after.state.disk call actor (before.client.begun + 1) (length before.items) given is
-              (let some = runs.recorded.latest.before in omega (arith, some)) (omega arith) (below_end before.items actor)
-              (refused_right old id (option_and_then map_now call.id) call.kind given
-              (λ absent. ap (option_and_then map_now) id_is
-              ∙ ap (λ (m : Map). m id) (map_at_end world.handed world.opening before.items) ∙ none absent)
-              begins.1),
-          subst (λ (m : Map). Stands (setting_now runs) runs.last runs.begun m runs.contents (calls_under_way clients)
-              runs.commit after.state)
-              (sym (map_read world.handed map (first_entry call actor before given) call.kind given is of))
-              (subst (Stands (setting_now runs) runs.last runs.begun map runs.contents (calls_under_way clients) runs.commit)
+          right_read world call actor given is (search arith) (omega arith) (below_end before.items actor)
+              (search (refused_right, map_at_end, arith)),
+          rw (map_read world.handed (first_entry call actor before given) call.kind given is of)
+              (subst (Stands (setting_now runs) runs.last runs.begun map runs.contents
+              (calls_under_way clients) runs.commit)
               (λ i. at_disk (sym begins.0 i) (sym disk i)) runs.stands),
         ))
 
   -- ---- a read in its later turns
 
-  module _ (under : UnderWay) (run : GetRun) (does_is : under.work ≡ work.Read run)
+  module _ {under : UnderWay} {run : GetRun} (does_is : under.work ≡ work.Read run)
       (under_is : before.client.under_way ≡ Some under)
       (is : slice_get (calls_of script actor) (before.client.begun - 1) ≡ Some call)
       (goes : TurnGoesOn before.state after.state) where
     -- The script asks for it, and it has the client's hold.
     asked_for : IsWorkFor call (work.Read run)
-    asked_for = its_asked takes call under (work.Read run) does_is under_is is
+    asked_for = search its_asked
 
     its : run.hold.actor ≡ actor
     its = (its_work takes call under (work.Read run) does_is under_is is).hold
@@ -138,16 +99,17 @@ module _ {script : Script} {actor : ℕ} {before after : Station} {clients news 
     -- A read goes on.
     pub read_goes_on : (next : GetRun) → GoesOnReading before.state after.state run next
         → LeavesGoing actor call before after under (More (work.Read next)) → ItComes
-    read_goes_on next reads further = comes_going takes call under (work.Read run) does_is under_is is (Reading run) refl
-        false≢true goes (Reading next) (work.Read next) further refl false≢true
-        (out_keeps reads.reads.2 goes.out.still) (ap (λ (r : GetRun). r.hold.actor) same ∙ its)
-        (asked_for.0 ∙ sym (ap (λ (r : GetRun). r.kind) same), asked_for.1 ∙ sym (ap (λ (r : GetRun). Some r.entry.id) same))
-        (get_reads_calls reads.reads moves.1 moves.2 takes.schedule.going.are)
+    read_goes_on next reads further = comes_going takes call under (work.Read run) does_is under_is is
+        (Reading run) refl false≢true goes (Reading next) (work.Read next) further refl false≢true
+        (out_keeps reads.reads.2 goes.out.still) (ap (λ (r : GetRun). r.hold.actor) same ∙ its) (
+          asked_for.0 ∙ sym (ap (λ (r : GetRun). r.kind) same),
+          asked_for.1 ∙ sym (ap (λ (r : GetRun). Some r.entry.id) same),
+        ) (get_reads_calls reads.reads moves.1 moves.2 takes.schedule.going.are)
         (λ world past runs. (
-          (λ groups time row. since_read (setting_now runs) groups time before.state.disk after.state.disk reads.unchanged),
-          (λ has. ap (λ (r : GetRun). map_after world.handed world.opening before.items under.at r.entry.id) same ∙ has),
-          get_reads_stands takes.is reads.place reads.left reads.reads reads.unchanged goes.out takes.still_lawful moves.1
-              moves.2 takes.schedule.going.are runs.stands,
+          search since_read,
+          search same,
+          get_reads_stands takes.is reads.place reads.left reads.reads reads.unchanged goes.out takes.still_lawful
+              moves.1 moves.2 takes.schedule.going.are runs.stands,
         ))
       where
         same : next ≡ record run { read = next.read }
@@ -162,41 +124,35 @@ module _ {script : Script} {actor : ℕ} {before after : Station} {clients news 
     pub read_ends : (given : Answer) → EndsReading before.state after.state run given
         → LeavesGoing actor call before after under (Done given) → ItComes
     read_ends given ending ended = comes_ended takes call under (work.Read run) does_is under_is is (Reading run) refl
-        false≢true goes given ended
-        (ended.0 ∙ listed_read now before.items under.at entry (made_by under.work) call.kind given call_read given_is) ends.leaves ending.disk
-        (fits old call.kind given given_is ends.too_many ends.no_limit (read_plain_kind call.kind call_read))
-        (λ full. put_alone call.kind given (read_no_put call.kind call_read) given_is full) ends.calls_are
+        false≢true goes given ended (search (listed_read, entry, call_read, given_is, arith)) ends.leaves ending.disk
+        (search (fits, given_is, read_plain_kind, call_read, arith))
+        (λ full. put_alone (read_no_put call_read) given_is full) ends.calls_are
         (λ world past handed runs.
         let map = map_of world.handed world.opening before.items in
-        let mine = runs.each actor before.client under (its_going takes call under (work.Read run) does_is under_is is) in
+        let mine = runs.each actor before.client under (search its_going) in
         let content = its_content takes call under (work.Read run) does_is under_is is runs in
         let done = ends.stands _ _ _ _ _ _ runs.stands in (
-          right_read world before.items after.state.disk call actor before.client.begun under.at given call_read mine.at.0 mine.at.1
-              mine.after
-              (subst (λ (held : Option (List ℕ)). IsReadRight held call.kind given)
-              (sym (ap (option_and_then (map_after world.handed world.opening before.items under.at)) asked_for.1 ∙ content))
-              (subst (λ (k : Kind). IsReadRight (Some (runs.contents actor)) k given) (sym asked_for.0)
+          right_read world call actor given call_read mine.at.0 mine.at.1 mine.after
+              (rw (ap (option_and_then (map_after world.handed world.opening before.items under.at)) asked_for.1
+              ∙ content) (subst (λ (k : Kind). IsReadRight (Some (runs.contents actor)) k given) (sym asked_for.0)
               (subst (λ (index : ℕ). IsReadRight (Some (runs.contents index)) run.kind given) its done.1))),
-          subst (λ (m : Map). Stands (setting_now runs) runs.last runs.begun m runs.contents (calls_under_way news)
-              runs.commit after.state) (sym (map_read world.handed map entry call.kind given call_read given_is)) done.0,
+          rw (map_read world.handed entry call.kind given call_read given_is) done.0,
         ))
       where
         entry : Entry
         entry = entry_for call actor before.client.begun under.at given
 
         gone : Gains (calls_under_way news) (calls_under_way clients) (Reading run)
-        gone = held_gone takes call under (work.Read run) does_is under_is is (Reading run) refl false≢true goes given
-            ended
+        gone = search (held_gone, false≢true)
 
         is_read : IsReadKind run.kind
-        is_read = (takes.schedule.going.are.each (Reading run)
-            (gains_item (calls_under_way news) (calls_under_way clients) (Reading run) gone)).0
+        is_read = (takes.schedule.going.are.each (Reading run) (search (gains_item, gone))).0
 
         call_read : IsReadKind call.kind
         call_read = subst IsReadKind (sym asked_for.0) is_read
 
         ends : EndsRead before.state after.state run given (calls_under_way news) (calls_under_way clients)
-        ends = read_ends_so takes.is is_read ending gone takes.schedule.going.are
+        ends = search (read_ends_so, is_read, gone)
 
         given_is : IsAnswerOf call.kind given
-        given_is = subst (λ (k : Kind). IsAnswerOf k given) (sym asked_for.0) ends.answer_is
+        given_is = rw asked_for.0 ends.answer_is

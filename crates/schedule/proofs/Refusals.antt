@@ -1,29 +1,10 @@
 -- What an attach is answered that made no group.
-use Rattle.std.proofs.Common.{◌≡◌, ℕ, List, length, Some, subst, arith, sym, ◌∙◌, refl}
-use Rattle.std.specs.Prelude.{⊤, true}
-use Rattle.bank_trait.specs.Causes.{FaultCounted}
-use Rattle.bank_trait.specs.Disk.{Disk}
-use Rattle.uberblock_ring.specs.Devices.{has_device}
-use Rattle.attach_ring.specs.Ring.{HasReadRing, IsLowestTaken, RingRead}
-use Rattle.core_state.specs.declared.answer.Answer.{Answer}
+use Rattle.schedule.proofs.Words.{◌≡◌, ℕ, List, length, arith, refl, ⊤, true, FaultCounted, Disk, has_device, HasReadRing, RingRead, Answer, Entry, Item, IsAnswerOf, IsGroupBefore, IsRightAttach, Map, PutBytes, map_after_answer, World, WhyDropped, IsAttachRefused, IsDeviceRefused, IsSyncRefused, Core, CoreState, HasTooManyOut, IsAnswerCause, IsDeviceCause, IsRightNext}
 use Rattle.core_state.specs.declared.answer.Answer.TheVariants as answer
 use Rattle.core_state.specs.declared.answer.Kind.TheVariants as kind
-use Rattle.core_state.specs.declared.item.Entry.{Entry}
 use Rattle.core_state.specs.declared.item.Group.{Group as GroupItem}
-use Rattle.core_state.specs.declared.item.Item.{Item}
-use Rattle.core_state.specs.Legal.{IsAnswerOf, IsGroupBefore, IsRightAttach}
-use Rattle.core_state.specs.Map.{Map, PutBytes, map_after_answer}
-use Rattle.core_state.specs.World.{World}
-use Rattle.join_commit.specs.declared.join_run.WhyDropped.{WhyDropped}
 use Rattle.join_commit.specs.declared.join_run.WhyDropped.TheVariants as why
-use Rattle.core_turns.specs.Attaching.{IsAttachRefused, IsDeviceRefused}
-use Rattle.core_turns.specs.Committing.{IsSyncRefused}
-use Rattle.core_turns.specs.Core.{Core, CoreState}
-use Rattle.core_turns.specs.Getting.{HasTooManyOut}
-use Rattle.schedule.specs.Caused.{IsAnswerCause}
-use Rattle.schedule.specs.Fitting.{IsDeviceCause}
-use Rattle.schedule.specs.Recorded.{IsRightNext}
-use Rattle.schedule.proofs.RightNext.{same_out, untold_right}
+use Rattle.schedule.proofs.RightNext.{untold_right}
 
 -- Why no device was attached, but that no number was left for a group.
 abbrev pub IsRefusal : Answer → Type 0
@@ -56,7 +37,7 @@ refusal_answers given refusal = (refuses given refusal).answers
 
 pub refusal_map : (handed : PutBytes) (map : Map) (entry : Entry) (given : Answer) → IsRefusal given
     → map_after_answer handed map entry given ≡ map
-refusal_map handed map entry given refusal = (refuses given refusal).no_block handed map entry
+refusal_map handed map entry given refusal = search (refuses, arith)
 
 -- It is right wherever it is listed, with its cause.
 no_attach_told : (items : List Item) (previous index : ℕ) (given : Answer) → IsRefusal given
@@ -64,12 +45,10 @@ no_attach_told : (items : List Item) (previous index : ℕ) (given : Answer) →
 no_attach_told items previous index (answer.Attached width group) refusal = absurd refusal
 no_attach_told items previous index other refusal = tt
 
-pub refusal_right : (world : World) (items : List Item) (entry : Entry) (disk : Disk) → entry.kind ≡ kind.Attach
-    → IsRefusal entry.answer → IsAnswerCause items (length items) disk entry.answer
-    → IsRightNext world items entry disk
-refusal_right world items entry disk asked refusal = untold_right world items entry disk asked
-    (λ damaged. subst IsRefusal damaged refusal)
-    (λ listed previous index. no_attach_told listed previous index entry.answer refusal)
+pub refusal_right : {world : World} {items : List Item} {entry : Entry} {disk : Disk} → entry.kind ≡ kind.Attach
+    → IsRefusal entry.answer → IsAnswerCause items (length items) disk entry.answer → IsRightNext world items entry disk
+refusal_right {world = world} {items = items} {entry = entry} {disk = disk} asked refusal = search
+    (untold_right, no_attach_told, arith)
 
 -- ---- the first turn
 
@@ -83,11 +62,11 @@ refused_is core devices other refused = absurd refused.3
 -- Where it tells of too many devices they are out.
 pub refused_tells : (core : Core) (devices : ℕ) (given : Answer) → IsAttachRefused core devices given → (listed : ℕ)
     → given ≡ answer.TooManyFailed listed → HasTooManyOut core × (listed ≡ core.pool.out)
-refused_tells core devices (answer.TooManyFailed out) refused listed is = (refused.0, same_out (sym is) ∙ refused.1)
+refused_tells core devices (answer.TooManyFailed out) refused listed is = (refused.0, cc)
 refused_tells core devices (answer.Expanding to) refused listed is = cc
 refused_tells core devices (answer.DeviceOut device) refused listed is = cc
 refused_tells core devices (answer.NoDevice there width) refused listed is = cc
-refused_tells core devices other refused listed is = absurd refused.3
+refused_tells core devices other refused listed is = cc
 
 -- ---- before its commit
 
@@ -103,9 +82,8 @@ pub device_tells : (before : CoreState) (ring : RingRead) (after : CoreState) (g
     → HasTooManyOut before.core × (listed ≡ before.core.pool.out)
 device_tells before ring after (answer.NewDeviceFailed device) refused listed is = cc
 device_tells before ring after (answer.Taken slot) refused listed is = cc
-device_tells before ring after (answer.TooManyFailed out) refused listed is =
-    (refused.0, same_out (sym is) ∙ refused.1)
-device_tells before ring after other refused listed is = absurd refused
+device_tells before ring after (answer.TooManyFailed out) refused listed is = (refused.0, cc)
+device_tells before ring after other refused listed is = cc
 
 -- ---- the causes of what is told of devices
 
@@ -142,30 +120,26 @@ sync_cause devices dropped core other refused = absurd refused
 -- ---- the causes that the journal tells
 
 -- in a first turn, where the last group listed has the pool's widths,
-pub refused_caused : (core : Core) (devices : ℕ) (items : List Item) (item : GroupItem) (index : ℕ) (disk : Disk)
+pub refused_caused : (core : Core) (devices : ℕ) {items : List Item} {item : GroupItem} {index : ℕ} (disk : Disk)
     (given : Answer) → IsGroupBefore items index item → core.pool.uber.reflow.from ≡ item.from
     → core.pool.uber.reflow.to ≡ item.to → IsAttachRefused core devices given → IsAnswerCause items index disk given
-refused_caused core devices items item index disk (answer.TooManyFailed out) latest from_is to_is refused = tt
-refused_caused core devices items item index disk (answer.Expanding to) latest from_is to_is refused =
-    let wider = refused.3.0 in
-    let same = refused.3.1 in
-    (item, latest, omega (arith, wider, same, from_is), sym to_is ∙ sym same)
-refused_caused core devices items item index disk (answer.DeviceOut device) latest from_is to_is refused = tt
-refused_caused core devices items item index disk (answer.NoDevice there width) latest from_is to_is refused =
-    (item, latest, sym to_is ∙ sym refused.3.3)
-refused_caused core devices items item index disk other latest from_is to_is refused = absurd refused.3
+refused_caused core devices disk (answer.TooManyFailed out) latest from_is to_is refused = tt
+refused_caused core devices {item = item} disk (answer.Expanding to) latest from_is to_is refused = search arith
+refused_caused core devices disk (answer.DeviceOut device) latest from_is to_is refused = tt
+refused_caused core devices {item = item} disk (answer.NoDevice there width) latest from_is to_is refused =
+    (item, latest, cc)
+refused_caused core devices disk other latest from_is to_is refused = absurd refused.3
 
 -- and before the commit, where the device is the one behind the pool's and its ring was read.
-pub device_caused : (before : CoreState) (ring : RingRead) (after : CoreState) (given : Answer) (items : List Item)
-    (item : GroupItem) (index : ℕ) → IsGroupBefore items index item → ring.device ≡ before.core.pool.uber.reflow.to
+pub device_caused : (before : CoreState) (ring : RingRead) (after : CoreState) (given : Answer) {items : List Item}
+    {item : GroupItem} {index : ℕ} → IsGroupBefore items index item → ring.device ≡ before.core.pool.uber.reflow.to
     → before.core.pool.uber.reflow.to ≡ item.to → HasReadRing after.disk ring
     → IsDeviceRefused before ring after given → IsAnswerCause items index after.disk given
-device_caused before ring after (answer.NewDeviceFailed device) items item index latest behind to_is read refused = tt
-device_caused before ring after (answer.Taken slot) items item index latest behind to_is read refused = (
+device_caused before ring after (answer.NewDeviceFailed device) latest behind to_is read refused = tt
+device_caused before ring after (answer.Taken slot) {item = item} latest behind to_is read refused = (
   ring.device,
-  (item, latest, sym to_is ∙ sym behind),
-  subst (λ (slots : ℕ). IsLowestTaken after.disk ring.device slots (Some slot)) refused.1
-      (subst (IsLowestTaken after.disk ring.device ring.slots) refused.2 read),
+  (item, latest, cc),
+  search arith,
 )
-device_caused before ring after (answer.TooManyFailed out) items item index latest behind to_is read refused = tt
-device_caused before ring after other items item index latest behind to_is read refused = absurd refused
+device_caused before ring after (answer.TooManyFailed out) latest behind to_is read refused = tt
+device_caused before ring after other latest behind to_is read refused = absurd refused

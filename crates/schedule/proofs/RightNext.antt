@@ -1,24 +1,9 @@
 -- The next entry is right where it is listed.
-use Rattle.std.proofs.Common.{◌≡◌, inr, ℕ, ◌+◌, ◌≤◌, List, [], ◌∷◌, ◌++◌, length, Option, Some, None, refl, sym, ◌∙◌, subst, arith, length-append}
-use Rattle.std.specs.Prelude.{◌≢◌, option_and_then, ⊤}
-use Rattle.bank_trait.specs.Disk.{Disk}
-use Rattle.core_state.specs.declared.answer.Answer.{Answer}
+use Rattle.schedule.proofs.Words.{◌≡◌, inr, ℕ, ◌+◌, ◌≤◌, List, [], ◌∷◌, ◌++◌, length, Option, Some, None, refl, sym, subst, arith, length-append, option_and_then, ⊤, Disk, Answer, Kind, Entry, Item, Group, Call, Map, PutBytes, map_of, map_after, IsAnsweredGroup, IsPrevious, IsGroupBefore, IsReadOf, IsCutShort, IsRightAttach, IsRightCopy, IsRightRead, IsRightFree, IsRightSync, IsRightCall, World, max_group, IsReadKind, group_before_first, grown_has, last_there, map_before, map_at_end, IsAnswerCause, IsGroupKind, IsRightNext, AllBelow}
+use Rattle.std.specs.Prelude.{◌≢◌}
 use Rattle.core_state.specs.declared.answer.Answer.TheVariants as answer
-use Rattle.core_state.specs.declared.answer.Kind.{Kind}
 use Rattle.core_state.specs.declared.answer.Kind.TheVariants as kind
-use Rattle.core_state.specs.declared.item.Entry.{Entry}
 use Rattle.core_state.specs.declared.item.Group.{Group as GroupItem}
-use Rattle.core_state.specs.declared.item.Item.{Item}
-use Rattle.core_state.specs.declared.item.Item.TheVariants.{Group, Call}
-use Rattle.core_state.specs.Map.{Map, PutBytes, map_of, map_after}
-use Rattle.core_state.specs.Legal.{IsAnsweredGroup, IsPrevious, IsGroupBefore, IsReadOf, IsCutShort, IsRightAttach, IsRightCopy, IsRightRead, IsRightFree, IsRightSync, IsRightCall}
-use Rattle.core_state.specs.World.{World}
-use Rattle.uberblock_ring.specs.Uberblock.{max_group}
-use Rattle.core_turns.specs.Getting.{IsReadKind}
-use Rattle.journal_law.proofs.Grown.{group_before_first, grown_has, last_there, map_before, map_at_end}
-use Rattle.schedule.specs.Caused.{IsAnswerCause}
-use Rattle.schedule.specs.Fitting.{IsGroupKind}
-use Rattle.schedule.specs.Recorded.{IsRightNext, AllBelow}
 use Rattle.schedule.proofs.Below.{previous_below, below_group}
 use Rattle.schedule.proofs.BothListed.{one_latest}
 
@@ -85,10 +70,8 @@ cut_copy items index other cut = absurd cut
 
 cut_group : (handed : PutBytes) (opening : Map) (items : List Item) (previous index : ℕ) (entry : Entry) (asked : Kind)
     → IsGroupKind asked → IsCutShort entry.answer → IsRightCall handed opening items previous index entry asked
-cut_group handed opening items previous index entry kind.Sync group cut =
-    cut_sync items previous index entry.answer cut
-cut_group handed opening items previous index entry kind.Attach group cut =
-    cut_attach items previous index entry.answer cut
+cut_group handed opening items previous index entry kind.Sync group cut = search cut_sync
+cut_group handed opening items previous index entry kind.Attach group cut = search cut_attach
 cut_group handed opening items previous index entry kind.Copy group cut = cut_copy items index entry.answer cut
 cut_group handed opening items previous index entry other group cut = absurd group
 
@@ -117,11 +100,7 @@ module _ (world : World) (items : List Item) (entry : Entry) (disk : Disk) where
       → IsRightCall world.handed world.opening with_entry previous (length items) entry asked
 
   next_plain : IsPlain entry.answer → IsRightAs entry.kind → IsRightNext world items entry disk
-  next_plain plain right = record {
-    right = right;
-    sound = λ damaged. subst IsPlain damaged plain;
-    caused = plain_caused items (length items) disk entry.answer plain;
-  }
+  next_plain plain right = search (plain_caused, arith)
 
   -- A get or a sum that speaks of the map after some of the items, all of its caller's among them.
   pub read_right : (at : ℕ) → IsReadKind entry.kind → entry.at ≡ Some at → 1 ≤ at → at ≤ length items
@@ -129,53 +108,37 @@ module _ (world : World) (items : List Item) (entry : Entry) (disk : Disk) where
       → IsReadOf (option_and_then (map_after world.handed world.opening items at) entry.id) entry.kind entry.answer
       → IsRightNext world items entry disk
   read_right at asked at_is some within below is =
-      next_plain (read_plain (option_and_then (map_after world.handed world.opening items at) entry.id) entry.kind
-      entry.answer is) (λ previous previous_is.
+      next_plain (search read_plain) (λ previous previous_is.
       read_call world.handed world.opening with_entry previous (length items) entry entry.kind asked
       (subst (IsRightRead world.handed world.opening with_entry previous (length items) entry) (sym at_is) (
-        previous_below items (Call entry ∷ []) entry.caller at previous some below previous_is,
+        search previous_below,
         within,
-        inr (subst (λ (map : Map). IsReadOf (option_and_then map entry.id) entry.kind entry.answer)
-            (sym (map_before world.handed world.opening items (Call entry ∷ []) at within)) is),
+        inr (search map_before),
       )))
 
   -- One that was cut short.
-  pub read_cut_right : IsReadKind entry.kind → entry.at ≡ None → IsStopped entry.answer → IsRightNext world items entry disk
-  read_cut_right asked at_is stopped = next_plain (stopped_plain entry.answer stopped) (λ previous previous_is.
-      read_call world.handed world.opening with_entry previous (length items) entry entry.kind asked
-      (subst (IsRightRead world.handed world.opening with_entry previous (length items) entry) (sym at_is)
-      (stopped_cut entry.answer stopped)))
+  pub read_cut_right : IsReadKind entry.kind → entry.at ≡ None → IsStopped entry.answer
+      → IsRightNext world items entry disk
+  read_cut_right asked at_is stopped = search (next_plain, stopped_plain, read_call, stopped_cut, arith)
 
   -- A put, whatever else it answers.
   pub put_right : entry.kind ≡ kind.Put → IsPlain entry.answer → IsRightNext world items entry disk
-  put_right asked plain = next_plain plain (subst IsRightAs (sym asked) (λ previous previous_is. tt))
+  put_right asked plain = search (next_plain, arith)
 
   -- A free that speaks of the map after all items.
   pub free_right : entry.kind ≡ kind.Free → IsPlain entry.answer
       → IsRightFree (option_and_then (map_of world.handed world.opening items) entry.id) entry.answer
       → IsRightNext world items entry disk
-  free_right asked plain is = next_plain plain (subst IsRightAs (sym asked) (λ previous previous_is.
-      subst (λ (map : Map). IsRightFree (option_and_then map entry.id) entry.answer)
-      (sym (map_before world.handed world.opening items (Call entry ∷ []) (length items) (omega arith)
-      ∙ map_at_end world.handed world.opening items)) is))
+  free_right asked plain is = search (next_plain, map_before, map_at_end, arith)
 
   -- A sync, an attach or a copy that was cut short.
   pub group_cut_right : IsGroupKind entry.kind → IsStopped entry.answer → IsRightNext world items entry disk
-  group_cut_right asked stopped = next_plain (stopped_plain entry.answer stopped) (λ previous previous_is.
-      cut_group world.handed world.opening with_entry previous (length items) entry entry.kind asked
-      (stopped_cut entry.answer stopped))
+  group_cut_right asked stopped = search (next_plain, stopped_plain, cut_group, stopped_cut)
 
   -- One that found no number left for its group.
   pub group_limit_right : (item : GroupItem) → IsGroupKind entry.kind → entry.answer ≡ answer.Limit max_group
-      → IsGroupBefore items (length items) item → max_group ≤ item.group + 1
-      → IsRightNext world items entry disk
-  group_limit_right item asked answer_is latest at_last = record {
-    right = λ previous previous_is. cut_group world.handed world.opening with_entry previous (length items) entry
-        entry.kind asked (subst IsCutShort (sym answer_is) tt);
-    sound = λ damaged. apart (sym answer_is ∙ damaged);
-    caused = subst (IsAnswerCause items (length items) disk) (sym answer_is)
-        (record { reached_is = refl; group = item; before = latest; last = at_last });
-  }
+      → IsGroupBefore items (length items) item → max_group ≤ item.group + 1 → IsRightNext world items entry disk
+  group_limit_right item asked answer_is latest at_last = search (cut_group, apart, arith)
     where
       apart : answer.Limit max_group ≡ answer.Damaged → ⊥
       apart is = cc
@@ -184,18 +147,14 @@ module _ (world : World) (items : List Item) (entry : Entry) (disk : Disk) where
   pub copy_right : entry.kind ≡ kind.Copy → entry.answer ≢ answer.Damaged
       → IsRightCopy with_entry (length items) entry.answer → IsAnswerCause items (length items) disk entry.answer
       → IsRightNext world items entry disk
-  copy_right asked sound right caused = record {
-    right = subst IsRightAs (sym asked) (λ previous previous_is. right);
-    sound = sound;
-    caused = caused;
-  }
+  copy_right asked sound right caused = search arith
 
   -- An attach that told of no group.
   pub untold_right : entry.kind ≡ kind.Attach → entry.answer ≢ answer.Damaged
       → ((listed : List Item) (previous index : ℕ) → IsRightAttach listed previous index entry.answer)
       → IsAnswerCause items (length items) disk entry.answer → IsRightNext world items entry disk
   untold_right asked sound right caused = record {
-    right = subst IsRightAs (sym asked) (λ previous previous_is. right with_entry previous (length items));
+    right = subst IsRightAs (sym asked) (search);
     sound = sound;
     caused = caused;
   }
@@ -213,30 +172,24 @@ module _ (world : World) (items : List Item) (group : GroupItem) (entry : Entry)
   answered_group some below previous is = record {
     place = length items;
     group = group;
-    there = grown_has with_group (Call entry ∷ []) (length items) (Group group) (last_there items (Group group));
+    there = search (grown_has, last_there);
     earlier = omega (arith, length-append items (Group group ∷ []));
     number_is = refl;
-    begun = previous_below with_group (Call entry ∷ []) entry.caller group.after previous some
-        (below_group items group below) is;
+    begun = search (previous_below, below_group);
   }
 
   -- A sync that ended a group, which is listed just before it and was begun after all items of its caller.
   pub sync_right : entry.kind ≡ kind.Sync → entry.answer ≡ answer.Synced group.group → 1 ≤ group.after
-      → AllBelow items entry.caller group.after
-      → IsRightNext world (items ++ Group group ∷ []) entry disk
-  sync_right asked answer_is some below = next_plain world with_group entry disk (subst IsPlain (sym answer_is) tt)
-      (λ previous is.
-      subst (IsRightCall world.handed world.opening with_both previous (length with_group) entry) (sym asked)
-      (subst (IsRightSync with_both previous (length with_group)) (sym answer_is)
-      (answered_group some below previous is)))
+      → AllBelow items entry.caller group.after → IsRightNext world (items ++ Group group ∷ []) entry disk
+  sync_right asked answer_is some below = search (next_plain, answered_group, arith)
 
   -- An attach that did, whose group begins the expansion of a pool at rest.
-  pub attached_right : (last : GroupItem) (width : ℕ) → entry.kind ≡ kind.Attach
+  pub attached_right : {last : GroupItem} {width : ℕ} → entry.kind ≡ kind.Attach
       → entry.answer ≡ answer.Attached width group.group → 1 ≤ group.after → AllBelow items entry.caller group.after
       → IsGroupBefore items (length items) last → (last.from + 1 ≡ width) × (last.to ≡ last.from)
       → (group.from + 1 ≡ width) × (group.to ≡ width) → IsRightNext world (items ++ Group group ∷ []) entry disk
   unfolding answered_group
-  attached_right last width asked answer_is some below latest was now =
+  attached_right asked answer_is some below latest was now =
       next_plain world with_group entry disk (subst IsPlain (sym answer_is) tt)
       (λ previous is.
       subst (IsRightCall world.handed world.opening with_both previous (length with_group) entry) (sym asked)
@@ -244,12 +197,9 @@ module _ (world : World) (items : List Item) (group : GroupItem) (entry : Entry)
         answered_group some below previous is,
         record {
           now = now;
-          before = λ old before. subst (λ (g : GroupItem). (g.from + 1 ≡ width) × (g.to ≡ g.from))
-              (one_latest latest (earlier old before)) was;
+          before = λ old before. rw (← one_latest latest (earlier old before)) was;
         },
       )))
     where
       earlier : (old : GroupItem) → IsGroupBefore with_both (length items) old → IsGroupBefore items (length items) old
-      earlier old before = group_before_first items (Group group ∷ []) (length items) old (omega arith)
-          (group_before_first with_group (Call entry ∷ []) (length items) old
-          (omega (arith, length-append items (Group group ∷ []))) before)
+      earlier old before = search (group_before_first, length-append, arith)

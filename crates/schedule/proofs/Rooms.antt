@@ -1,22 +1,6 @@
 -- Room in a journal for the answers of calls.
-use Rattle.std.proofs.Common.{◌≡◌, ℕ, ◌+◌, ◌-◌, ◌*◌, ◌≤◌, ◌<◌, ◌≢◌, ⊎_elim, List, [], ◌∷◌, length, Option, Some, None, zero, suc, refl, sym, ◌∙◌, ap, subst, arith, eq-eqb, ne_eqb, slice_set}
-use Rattle.std.specs.Prelude.{Bool, filter, slice_get, ◌==◌, if◌then◌else◌}
-use Rattle.std.proofs.lemmas.Bool.{cases_eq}
-use Rattle.std.proofs.lemmas.List.{length-map}
-use Rattle.core_state.specs.declared.answer.Answer.{Answer}
-use Rattle.core_state.specs.declared.item.Entry.{Entry}
-use Rattle.client_script.specs.declared.call.ScriptCall.{ScriptCall}
-use Rattle.client_script.specs.Script.{Placed, Script}
-use Rattle.core_turns.specs.declared.turn.Turn.TheVariants.{More, Done}
-use Rattle.schedule.specs.declared.client.Client.{Client}
-use Rattle.schedule.specs.declared.client.UnderWay.{UnderWay}
-use Rattle.schedule.specs.declared.client.Work.{Work}
-use Rattle.schedule.specs.Clients.{answered_of}
-use Rattle.schedule.specs.Playing.{HasRoomForAnswers, MakesRoom, UsesRoom, all_owed, calls_by, owed, taken_for, taken_of, taken_under}
-use Rattle.schedule.specs.Replaying.{blank_clients}
-use Rattle.schedule.specs.Turned.{entry_for, group_by}
-use Rattle.schedule.specs.Works.{made_by, made_in}
-use Rattle.schedule.proofs.Theirs.{none_some, some_is}
+use Rattle.schedule.proofs.Words.{◌≡◌, ℕ, ◌+◌, ◌-◌, ◌*◌, ◌≤◌, ◌<◌, ◌≢◌, ⊎_elim, List, [], ◌∷◌, length, Option, Some, None, zero, suc, refl, ◌∙◌, ap, arith, eq-eqb, ne_eqb, slice_set, filter, slice_get, ◌==◌, cases_eq, length-map, Answer, Entry, ScriptCall, Placed, Script, More, Done, Client, UnderWay, Work, answered_of, HasRoomForAnswers, MakesRoom, UsesRoom, all_owed, calls_by, owed, taken_for, taken_of, taken_under, blank_clients, entry_for, group_by, made_by, made_in}
+use Rattle.schedule.proofs.Theirs.{some_is}
 
 -- A group takes room for one item.
 pub taken_one : (made : Option ℕ) → taken_for made ≤ 1
@@ -24,131 +8,104 @@ taken_one None = omega arith
 taken_one (Some group) = omega arith
 
 -- A client takes no more room than its calls have.
-pub taken_few : (calls : ℕ) (client : Client) → client.begun ≤ calls
+pub taken_few : {calls : ℕ} {client : Client} → client.begun ≤ calls
     → ((under : UnderWay) → client.under_way ≡ Some under → 1 ≤ client.begun) → taken_of client ≤ 2 * calls
-taken_few calls client few some = by client.under_way refl
+taken_few {calls = calls} {client = client} few some = by client.under_way refl
   where
     by : (its : Option UnderWay) → client.under_way ≡ its
         → 2 * answered_of client.begun its + taken_under its ≤ 2 * calls
-    by None is = omega (arith, few)
-    by (Some under) is =
-        let begun = some under is in let least = taken_one (made_in under.work) in omega (arith, few, begun, least)
+    by None is = omega arith
+    by (Some under) is = search (taken_one, arith)
 
 -- ---- a turn of one client
 
 -- Room for what a client's next call lists is there,
 pub room_to_begin : (calls room : ℕ) (client : Client) → client.under_way ≡ None → owed calls client ≤ room
     → client.begun < calls → 2 ≤ room
-room_to_begin calls room client idle enough low =
-    let none = ap (λ (u : Option UnderWay). 2 * answered_of client.begun u + taken_under u) idle in
-    omega (arith, enough, low, none)
+room_to_begin calls room client idle enough low = search arith
 
 -- and none is taken of it where that call begins,
 pub begun_uses : (room : ℕ) (client : Client) (under : UnderWay) → client.under_way ≡ None
     → UsesRoom room room client (record { begun = client.begun + 1; under_way = Some under })
-begun_uses room client under idle =
-    let none = ap (λ (u : Option UnderWay). 2 * answered_of client.begun u + taken_under u) idle in
-    omega (arith, none)
+begun_uses room client under idle = search arith
 
 -- or that of its answer where it is answered at once.
-pub answered_uses : (before after : ℕ) (client : Client) (left : Option UnderWay) → client.under_way ≡ None
+pub answered_uses : {before : ℕ} (after : ℕ) (client : Client) {left : Option UnderWay} → client.under_way ≡ None
     → left ≡ None → before ≤ after + 1
     → UsesRoom before after client (record { begun = client.begun + 1; under_way = left })
-answered_uses before after client left idle none uses =
-    let was = ap (λ (u : Option UnderWay). 2 * answered_of client.begun u + taken_under u) idle in
-    let now = ap (λ (u : Option UnderWay). 2 * answered_of (client.begun + 1) u + taken_under u) none in
-    omega (arith, was, now, uses)
+answered_uses after client idle none uses = search arith
 
 -- The entry of an answer, with the group that was made, takes as much room as these.
-pub listed_room : (call : ScriptCall) (actor number at : ℕ) (entry : Entry) (group : Option ℕ) (given : Answer)
-    (made : Option ℕ) → entry ≡ entry_for call actor number at given → group ≡ made
+pub listed_room : (call : ScriptCall) {actor number : ℕ} (at : ℕ) {entry : Entry} {group : Option ℕ} {given : Answer}
+    {made : Option ℕ} → entry ≡ entry_for call actor number at given → group ≡ made
     → taken_for (group_by entry.answer group) ≡ taken_for (group_by given made)
-listed_room call actor number at entry group given made entry_is made_is i =
-    taken_for (group_by (entry_is i).answer (made_is i))
+listed_room call at entry_is made_is i = taken_for (group_by (entry_is i).answer (made_is i))
 
 -- A call under way of a client that has room for its calls.
 module _ (calls before room : ℕ) (client : Client) (under : UnderWay) (going : client.under_way ≡ Some under)
     (some : 1 ≤ client.begun) where
   its_taken : taken_of client ≡ 2 * (client.begun - 1) + taken_for (made_in under.work)
-  its_taken = ap (λ (u : Option UnderWay). 2 * answered_of client.begun u + taken_under u) going
+  its_taken = cc
 
   -- Once room was made there is some for the group that it lists,
   pub room_to_go : (next : Work) → client.begun ≤ calls → owed calls client ≤ before
       → MakesRoom under.work before room (More next) → taken_for (made_in next) ≤ room
-  room_to_go next few enough makes =
-      let taken = its_taken in
-      let one = taken_one (made_in next) in
-      omega (arith, taken, some, few, enough, makes, one)
+  room_to_go next few enough makes = search (its_taken, taken_one, arith)
 
   -- or for its answer and the group that comes with it,
   pub room_to_end : (given : Answer) → client.begun ≤ calls → owed calls client ≤ before
-      → MakesRoom under.work before room (Done given)
-      → taken_for (group_by given (made_by under.work)) + 1 ≤ room
-  room_to_end given few enough makes =
-      let taken = its_taken in
-      let one = taken_one (made_in under.work) in
-      let other = taken_one (group_by given (made_by under.work)) in
-      omega (arith, taken, some, few, enough, makes, one, other)
+      → MakesRoom under.work before room (Done given) → taken_for (group_by given (made_by under.work)) + 1 ≤ room
+  room_to_end given few enough makes = search (its_taken, taken_one, arith)
 
   -- and no more is taken than what these need.
   pub going_uses : (after at : ℕ) (next : Work) → MakesRoom under.work before room (More next)
-      → room ≤ after + taken_for (made_in next)
-      → UsesRoom before after client (record {
+      → room ≤ after + taken_for (made_in next) → UsesRoom before after client (record {
         begun = client.begun;
         under_way = Some (record { at = at; work = next });
       })
-  going_uses after at next makes uses = let taken = its_taken in omega (arith, taken, makes, uses)
+  going_uses after at next makes uses = search (its_taken, arith)
 
-  pub ended_uses : (after : ℕ) (given : Answer) (left : Option UnderWay) → left ≡ None
+  pub ended_uses : (after : ℕ) (given : Answer) {left : Option UnderWay} → left ≡ None
       → MakesRoom under.work before room (Done given)
       → room ≤ after + (taken_for (group_by given (made_by under.work)) + 1)
       → UsesRoom before after client (record { begun = client.begun; under_way = left })
-  ended_uses after given left none makes uses =
-      let taken = its_taken in
-      let now = ap (λ (u : Option UnderWay). 2 * answered_of client.begun u + taken_under u) none in
-      omega (arith, taken, now, some, makes, uses)
+  ended_uses after given none makes uses = search (its_taken, arith)
 
 -- ---- one client among all
 
 -- What its calls have still is among what all have,
-owed_few : (calls : ℕ → ℕ) (clients : List Client) (index : ℕ) (client : Client)
+owed_few : (calls : ℕ → ℕ) (clients : List Client) (index : ℕ) {client : Client}
     → slice_get clients index ≡ Some client → owed (calls index) client ≤ all_owed calls clients
-owed_few calls [] index client there = absurd (none_some there)
-owed_few calls (first ∷ clients) zero client there =
-    let same = ap (owed (calls 0)) (some_is there) in omega (arith, same)
-owed_few calls (first ∷ clients) (suc index) client there =
-    let few = owed_few (λ actor. calls (suc actor)) clients index client there in omega (arith, few)
+owed_few calls [] index there = cc
+owed_few calls (first ∷ clients) zero there = search (some_is, arith)
+owed_few calls (first ∷ clients) (suc index) there =
+    omega (arith, owed_few (λ actor. calls (suc actor)) clients index there)
 
 -- and where it has more or less, all have as much more or less.
-owed_set : (calls : ℕ → ℕ) (clients : List Client) (place : ℕ) (was now : Client)
-    → slice_get clients place ≡ Some was
+owed_set : (calls : ℕ → ℕ) (clients : List Client) (place : ℕ) (was now : Client) → slice_get clients place ≡ Some was
     → all_owed calls (slice_set clients place now) + owed (calls place) was
     ≡ all_owed calls clients + owed (calls place) now
-owed_set calls [] place was now there = absurd (none_some there)
-owed_set calls (first ∷ clients) zero was now there =
-    let same = ap (owed (calls 0)) (some_is there) in omega (arith, same)
+owed_set calls [] place was now there = cc
+owed_set calls (first ∷ clients) zero was now there = search (some_is, arith)
 owed_set calls (first ∷ clients) (suc place) was now there =
-    let same = owed_set (λ actor. calls (suc actor)) clients place was now there in omega (arith, same)
+    omega (arith, owed_set (λ actor. calls (suc actor)) clients place was now there)
 
 -- ---- turns
 
 -- There is room for what a client's calls have still.
-pub room_left : (script : Script) (actor room : ℕ) (clients : List Client) (client : Client)
+pub room_left : {script : Script} (actor : ℕ) {room : ℕ} {clients : List Client} {client : Client}
     → HasRoomForAnswers script clients room → slice_get clients actor ≡ Some client
     → owed (calls_by script actor) client ≤ room
-room_left script actor room clients client has there =
-    let few = owed_few (calls_by script) clients actor client there in
-    let enough = has.enough in
-    omega (arith, few, enough)
+room_left {script = script} actor {clients = clients} has there =
+    omega (arith, owed_few (calls_by script) clients actor there, has.enough)
 
 -- After a turn there is room for what is left.
-pub room_after : (script : Script) (place actor before after : ℕ) (clients : List Client) (was now : Client)
+pub room_after : {script : Script} {place actor before after : ℕ} (clients : List Client) (was now : Client)
     → place ≡ actor → HasRoomForAnswers script clients before → slice_get clients actor ≡ Some was
     → taken_of was ≤ 2 * calls_by script actor → taken_of now ≤ 2 * calls_by script actor
-    → UsesRoom before after was now
-    → HasRoomForAnswers script (slice_set clients place now) after
-room_after script place actor before after clients was now same has there few few_now uses =
-    subst (λ (n : ℕ). HasRoomForAnswers script (slice_set clients n now) after) (sym same) (record {
+    → UsesRoom before after was now → HasRoomForAnswers script (slice_set clients place now) after
+room_after {script = script} {actor = actor} clients was now same has there few few_now uses =
+    rw same (record {
       enough =
           let enough = has.enough in
           let set = owed_set (calls_by script) clients actor was now there in
@@ -167,73 +124,66 @@ calls_from calls caller (suc count) =
 other_call : (first : Placed) (calls : List Placed) (caller : ℕ) → first.actor ≢ caller
     → length (filter (λ (placed : Placed). placed.actor == caller) (first ∷ calls))
     ≡ length (filter (λ (placed : Placed). placed.actor == caller) calls)
-other_call first calls caller apart =
-    ap (λ (its : Bool). length (if its then first ∷ filter (λ (placed : Placed). placed.actor == caller) calls
-    else filter (λ (placed : Placed). placed.actor == caller) calls)) (ne_eqb first.actor caller apart)
+other_call first calls caller apart = search ne_eqb
 
 -- and one of its own is one more.
 own_call : (first : Placed) (calls : List Placed) (caller : ℕ) → first.actor ≡ caller
     → length (filter (λ (placed : Placed). placed.actor == caller) (first ∷ calls))
     ≡ length (filter (λ (placed : Placed). placed.actor == caller) calls) + 1
-own_call first calls caller same =
-    ap (λ (its : Bool). length (if its then first ∷ filter (λ (placed : Placed). placed.actor == caller) calls
-    else filter (λ (placed : Placed). placed.actor == caller) calls)) (eq-eqb first.actor caller same) ∙ omega arith
+own_call first calls caller same = search (eq-eqb, arith)
 
 -- A call of an earlier client is none of theirs,
 call_before : (first : Placed) (calls : List Placed) (caller count : ℕ) → first.actor < caller
     → calls_from (first ∷ calls) caller count ≡ calls_from calls caller count
 call_before first calls caller zero low = refl
 call_before first calls caller (suc count) low =
-    let later = call_before first calls (caller + 1) count (omega (arith, low)) in
-    let none = other_call first calls caller (λ same. absurd (omega (arith, low, same))) in
-    omega (arith, later, none)
+    omega (
+      arith,
+      call_before first calls (caller + 1) count (omega (arith, low)),
+      other_call first calls caller
+          (λ same. absurd (omega (arith, low, same))),
+    )
 
 -- and one call is at most one of theirs.
 one_call_more : (first : Placed) (calls : List Placed) (caller count : ℕ)
     → calls_from (first ∷ calls) caller count ≤ calls_from calls caller count + 1
 one_call_more first calls caller zero = omega arith
 one_call_more first calls caller (suc count) = ⊎_elim
-    (λ (same : first.actor ≡ caller).
-    let one = own_call first calls caller same in
-    let later = call_before first calls (caller + 1) count (omega (arith, same)) in
-    omega (arith, one, later))
+    (search (own_call, call_before, arith))
     (λ (apart : first.actor ≢ caller).
-    let none = other_call first calls caller apart in
-    let later = one_call_more first calls (caller + 1) count in
-    omega (arith, none, later))
+    omega (arith, other_call first calls caller apart, one_call_more first calls (caller + 1) count))
     (cases_eq first.actor caller)
 
 -- So they have no more calls than there are.
 calls_few : (calls : List Placed) (caller count : ℕ) → calls_from calls caller count ≤ length calls
 calls_few [] caller zero = omega arith
-calls_few [] caller (suc count) = let few = calls_few [] (caller + 1) count in omega (arith, few)
+calls_few [] caller (suc count) = omega (arith, calls_few [] (caller + 1) count)
 calls_few (first ∷ calls) caller count =
-    let few = calls_few calls caller count in
-    let one = one_call_more first calls caller count in
-    omega (arith, few, one)
+    omega (arith, calls_few calls caller count, one_call_more first calls caller count)
 
 -- Clients that have begun no call have the room of all of theirs,
-blank_owed : (script : Script) (calls : ℕ → ℕ) (caller count : ℕ)
+blank_owed : (script : Script) {calls : ℕ → ℕ} (caller count : ℕ)
     → ((actor : ℕ) → calls actor ≡ calls_by script (caller + actor))
     → all_owed calls (blank_clients count) ≡ 2 * calls_from script.calls caller count
-blank_owed script calls caller zero each = refl
-blank_owed script calls caller (suc count) each =
-    let later = blank_owed script (λ actor. calls (suc actor)) (caller + 1) count
+blank_owed script caller zero each = refl
+blank_owed script caller (suc count) each =
+    let later = blank_owed script (caller + 1) count
     (λ actor. let same : caller + suc actor ≡ caller + 1 + actor = omega arith in
     each (suc actor) ∙ ap (calls_by script) same) in
     let first : caller + 0 ≡ caller = omega arith in
     let here = each 0 ∙ ap (calls_by script) first in
     let placed = filter (λ (placed : Placed). placed.actor == caller) script.calls in
-    let its = length-map placed (λ (placed : Placed). placed.call) in
-    omega (arith, later, here, its)
+    omega (arith, later, here, length-map placed (λ (placed : Placed). placed.call))
 
 -- and room for two items of each call of a script is enough for them.
-pub room_at_first : (script : Script) (count room : ℕ) → 2 * length script.calls ≤ room
+pub room_at_first : (script : Script) (count : ℕ) {room : ℕ} → 2 * length script.calls ≤ room
     → HasRoomForAnswers script (blank_clients count) room
-room_at_first script count room enough = record {
+room_at_first script count enough = record {
   enough =
-      let all = blank_owed script (calls_by script) 0 count
-      (λ actor. let same : actor ≡ 0 + actor = omega arith in ap (calls_by script) same) in
-      let few = calls_few script.calls 0 count in
-      omega (arith, all, few, enough);
+      omega (
+        arith,
+        blank_owed script 0 count (λ actor. let same : actor ≡ 0 + actor = omega arith in ap (calls_by script) same),
+        calls_few script.calls 0 count,
+        enough,
+      );
 }

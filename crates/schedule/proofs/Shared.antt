@@ -1,29 +1,9 @@
 -- Where no call is under way no hold is in the way of another call, so that none waits.
-use Rattle.std.proofs.Common.{◌≡◌, inl, inr, ⊎_elim, ℕ, ◌+◌, ◌<◌, ◌≤◌, List, [], ◌∷◌, length, Option, Some, None, refl, sym, ◌∙◌, ap, arith}
-use Rattle.std.specs.Prelude.{Contains}
-use Rattle.std.proofs.lemmas.List.Sums.{sum_by-cons}
-use Rattle.range_locks.specs.declared.hold.Hold.{Hold}
-use Rattle.range_locks.specs.declared.hold.HoldKind.{HoldKind}
-use Rattle.range_locks.specs.declared.hold.HoldKind.TheVariants.{Shared, Exclusive}
-use Rattle.range_locks.specs.Holds.{IsBusyBy}
-use Rattle.range_locks.specs.Order.{exclusive_count}
+use Rattle.schedule.proofs.Words.{◌≡◌, inl, inr, ⊎_elim, ℕ, ◌+◌, ◌<◌, ◌≤◌, List, [], ◌∷◌, length, Option, Some, None, refl, sym, ◌∙◌, ap, arith, Contains, sum_by-cons, Hold, HoldKind, Shared, Exclusive, IsBusyBy, exclusive_count, count_none, Kind, ScriptCall, contains_cases, contains_none, More, Busy, Done, Core, IsCore, HasTooManyOut, IsRoundBusy, below_all, none_below, one_if, Client, UnderWay, shared_count, Station, Turned, Nothing, Began, Went, Waits}
 use Rattle.uberblock_ring.specs.Devices.{count_of}
-use Rattle.uberblock_ring.proofs.DeviceSets.{count_none}
-use Rattle.core_state.specs.declared.answer.Kind.{Kind}
 use Rattle.core_state.specs.declared.answer.Kind.TheVariants as kind
-use Rattle.client_script.specs.declared.call.ScriptCall.{ScriptCall}
-use Rattle.core_state.proofs.Listed.{contains_cases, contains_none}
-use Rattle.core_turns.specs.declared.turn.Turn.TheVariants.{More, Busy, Done}
-use Rattle.core_turns.specs.Core.{Core, IsCore, alone_below, jobs_begun}
-use Rattle.core_turns.specs.Getting.{HasTooManyOut}
-use Rattle.core_turns.specs.Rounds.{IsRoundBusy}
-use Rattle.core_turns.proofs.Holds.{below_all, none_below, one_if}
-use Rattle.schedule.specs.declared.client.Client.{Client}
-use Rattle.schedule.specs.declared.client.UnderWay.{UnderWay}
-use Rattle.range_locks.specs.Order.{shared_count}
 use Rattle.schedule.proofs.Theirs.{none_some}
 use Rattle.schedule.proofs.UsingTurns.{adds_shared, is_shared_hold}
-use Rattle.schedule.specs.Turned.{Station, Turned, Nothing, Began, Went, Waits}
 
 -- ---- no call waits
 
@@ -35,28 +15,25 @@ HasNoneAlone holds = (hold : Hold) → Contains holds hold → hold.kind ≡ Exc
 none_alone : (holds : List Hold) → exclusive_count holds ≡ 0 → HasNoneAlone holds
 none_alone holds none hold listed exclusive =
     let few = below_all (hold.lo + 1) holds in
-    let high = none_below (hold.lo + 1) holds (omega (arith, few, none)) hold listed exclusive in
-    absurd (omega (arith, high))
+    let high = none_below (hold.lo + 1) holds (omega arith) hold listed exclusive in
+    absurd (omega arith)
 
 -- as in a core of which neither a commit nor a copy is under way.
-core_alone : (core : Core) → IsCore core → core.copying ≡ None
+core_alone : {core : Core} → IsCore core → core.copying ≡ None
     → ((HasTooManyOut core → ⊥) → (other : ℕ) → core.committing ≡ Some other → ⊥) → (HasTooManyOut core → ⊥)
     → HasNoneAlone core.holds
-core_alone core is copying none few = none_alone core.holds (
-    let commits = is.shared (none_under core.committing (none few)) in
-    let copies = is.copies ∙ ap (λ (by : Option ℕ). alone_below core.pool.done core.holds + jobs_begun by) copying in
-    omega (arith, commits, copies))
+core_alone {core = core} is copying none few = none_alone core.holds (
+    search (none_under, arith))
   where
     none_under : (committing : Option ℕ) → ((other : ℕ) → committing ≡ Some other → ⊥) → committing ≡ None
     none_under None never = refl
     none_under (Some other) never = absurd (never other refl)
 
 -- Nothing shared is in the way of a shared hold.
-none_busy : (holds : List Hold) (lo hi by : ℕ) → HasNoneAlone holds → IsBusyBy holds lo hi Shared by → ⊥
-none_busy holds lo hi by alone busy = ⊎_elim
-    (λ exclusive. alone busy.hold busy.listed exclusive)
-    (λ exclusive. apart exclusive)
-    busy.blocks.exclusive
+none_busy : {holds : List Hold} {lo hi by : ℕ} → HasNoneAlone holds → IsBusyBy holds lo hi Shared by → ⊥
+none_busy alone busy = ⊎_elim
+    (search)
+    (λ exclusive. apart exclusive) busy.blocks.exclusive
   where
     apart : Shared ≡ Exclusive → ⊥
     apart same = cc
@@ -68,20 +45,16 @@ none_shared [] none hold listed shared = contains_none hold listed
 none_shared (first ∷ holds) none hold listed shared =
     let more = sum_by-cons (one_if is_shared_hold) first holds in
     ⊎_elim
-    (λ (same : hold ≡ first).
-    let one = adds_shared hold shared in
-    let its = ap (one_if is_shared_hold) same in
-    absurd (omega (arith, more, none, one, its)))
-    (λ there. none_shared holds (omega (arith, more, none)) hold there shared)
-    (contains_cases first holds hold listed)
+    (search (adds_shared, one_if, is_shared_hold, arith))
+    (λ there. none_shared holds (omega arith) hold there shared) (contains_cases first holds hold listed)
 
 -- and so nothing is in the way of a job where none is held alone either.
-none_held : (holds : List Hold) (lo hi by : ℕ) → HasNoneAlone holds → shared_count holds ≡ 0
+none_held : (holds : List Hold) {lo hi by : ℕ} → HasNoneAlone holds → shared_count holds ≡ 0
     → IsBusyBy holds lo hi Exclusive by → ⊥
-none_held holds lo hi by alone none busy = by_kind busy.hold.kind refl
+none_held holds alone none busy = by_kind busy.hold.kind refl
   where
     by_kind : (kind : HoldKind) → busy.hold.kind ≡ kind → ⊥
-    by_kind Shared is = none_shared holds none busy.hold busy.listed is
+    by_kind Shared is = search none_shared
     by_kind Exclusive is = alone busy.hold busy.listed is
 
 -- No device is none.
@@ -91,8 +64,7 @@ none_counted = count_none 64
 
 -- Where no device is out these are not too many.
 whole_few : (core : Core) → core.pool.out ≡ 0 → HasTooManyOut core → ⊥
-whole_few core whole many =
-    let same = ap count_of whole in let none = none_counted in omega (arith, many, same, none)
+whole_few core whole many = search (none_counted, arith)
 
 -- So no round of a copy waits.
 no_round_waits : (core : Core) (by : ℕ) → IsCore core → core.copying ≡ None → shared_count core.holds ≡ 0
@@ -100,70 +72,57 @@ no_round_waits : (core : Core) (by : ℕ) → IsCore core → core.copying ≡ N
 no_round_waits core by is copying shared none busy = elim busy [
   | inl (expands, whole, inl copies) ↦ none_some (sym copying ∙ copies)
   | inl (expands, whole, inr (job, due, held)) ↦
-      none_held core.holds _ _ by (core_alone core is copying none (whole_few core whole)) shared held
+      search (none_held, core_alone, whole_few)
   | inr (due, commits) ↦ none (whole_few core due.whole) by commits
 ]
 
 none_waits : (old new : Core) (devices actor : ℕ) (call : ScriptCall) (asked : Kind) (id : Option ℕ) (by : ℕ)
     → IsCore old → old.copying ≡ None → shared_count old.holds ≡ 0
     → ((HasTooManyOut old → ⊥) → (other : ℕ) → old.committing ≡ Some other → ⊥)
-    → ((other : ℕ) → old.attaching ≡ Some other → ⊥)
-    → Waits old new devices actor call asked id by → ⊥
+    → ((other : ℕ) → old.attaching ≡ Some other → ⊥) → Waits old new devices actor call asked id by → ⊥
 none_waits old new devices actor call kind.Put (Some id) by is copying shared none no_attach waits =
-    none_busy old.holds _ _ by (core_alone old is copying none waits.0) waits.2.busy
+    search (none_busy, core_alone)
 none_waits old new devices actor call kind.Get (Some id) by is copying shared none no_attach waits =
-    none_busy old.holds _ _ by (core_alone old is copying none waits.0) waits.2.2
+    search (none_busy, core_alone)
 none_waits old new devices actor call kind.Sum (Some id) by is copying shared none no_attach waits =
-    none_busy old.holds _ _ by (core_alone old is copying none waits.0) waits.2.2
+    none_busy (core_alone is copying none waits.0) waits.2.2
 none_waits old new devices actor call kind.Sync None by is copying shared none no_attach waits = none waits.0 by waits.1
-none_waits old new devices actor call kind.Attach None by is copying shared none no_attach waits = ⊎_elim
-    (λ attaches. no_attach by attaches) (λ commits. none waits.0 by commits.1) waits.1
-none_waits old new devices actor call kind.Copy None by is copying shared none no_attach waits =
-    no_round_waits old by is copying shared none waits.0
+none_waits old new devices actor call kind.Attach None by is copying shared none no_attach waits = search arith
+none_waits old new devices actor call kind.Copy None by is copying shared none no_attach waits = search no_round_waits
 none_waits old new devices actor call asked id by is copying shared none no_attach waits = absurd waits
 
 -- Where no call is under way, a client's next call begins.
-pub turned_begins : (calls : List ScriptCall) (actor : ℕ) (before after : Station)
+pub turned_begins : {calls : List ScriptCall} {actor : ℕ} {before after : Station}
     → Turned calls actor before after → IsCore before.state.core → before.state.core.copying ≡ None
     → shared_count before.state.core.holds ≡ 0
     → ((HasTooManyOut before.state.core → ⊥) → (other : ℕ) → before.state.core.committing ≡ Some other → ⊥)
     → ((other : ℕ) → before.state.core.attaching ≡ Some other → ⊥)
-    → before.client.under_way ≡ None → before.client.begun < length calls
-    → after.client.begun ≡ before.client.begun + 1
-turned_begins calls actor before after (Nothing left) is copying shared none no_attach idle low =
-    absurd (omega (arith, left.none, low))
-turned_begins calls actor before after (Began (More does) begins leaves) is copying shared none no_attach idle low =
+    → before.client.under_way ≡ None → before.client.begun < length calls → after.client.begun ≡ before.client.begun + 1
+turned_begins (Nothing left) is copying shared none no_attach idle low = absurd (omega arith)
+turned_begins (Began (More does) begins leaves) is copying shared none no_attach idle low = cc
+turned_begins
+    (Began (Busy by) begins leaves) is copying shared none no_attach idle low =
+    search (none_waits, arith)
+turned_begins (Began (Done given) begins leaves) is copying shared none no_attach idle low =
     ap (λ (c : Client). c.begun) leaves.1
-turned_begins calls actor before after (Began (Busy by) begins leaves) is copying shared none no_attach idle low =
-    absurd (none_waits before.state.core after.state.core before.state.disk.devices actor begins.call begins.call.kind
-    begins.call.id by is copying shared none no_attach begins.did)
-turned_begins calls actor before after (Began (Done given) begins leaves) is copying shared none no_attach idle low =
-    ap (λ (c : Client). c.begun) leaves.1
-turned_begins calls actor before after (Went under turn goes leaves) is copying shared none no_attach idle low =
-    absurd (none_some (sym idle ∙ goes.going))
+turned_begins (Went under turn goes leaves) is copying shared none no_attach idle low = cc
 
 -- A turn takes back no call,
-pub turned_further : (calls : List ScriptCall) (actor : ℕ) (before after : Station)
+pub turned_further : {calls : List ScriptCall} {actor : ℕ} {before after : Station}
     → Turned calls actor before after → before.client.begun ≤ after.client.begun
-turned_further calls actor before after (Nothing left) =
-    omega (arith, ap (λ (s : Station). s.client.begun) left.same)
-turned_further calls actor before after (Began (More does) begins leaves) =
-    omega (arith, ap (λ (c : Client). c.begun) leaves.1)
-turned_further calls actor before after (Began (Busy by) begins leaves) =
-    omega (arith, ap (λ (c : Client). c.begun) leaves.1)
-turned_further calls actor before after (Began (Done given) begins leaves) =
-    omega (arith, ap (λ (c : Client). c.begun) leaves.1)
-turned_further calls actor before after (Went under (More does) goes leaves) =
-    omega (arith, ap (λ (c : Client). c.begun) leaves.1)
-turned_further calls actor before after (Went under (Busy by) goes leaves) = absurd leaves
-turned_further calls actor before after (Went under (Done given) goes leaves) =
-    omega (arith, ap (λ (c : Client). c.begun) leaves.1)
+turned_further (Nothing left) = omega (arith, ap (λ (s : Station). s.client.begun) left.same)
+turned_further (Began (More does) begins leaves) = omega (arith, ap (λ (c : Client). c.begun) leaves.1)
+turned_further (Began (Busy by) begins leaves) = omega (arith, ap (λ (c : Client). c.begun) leaves.1)
+turned_further (Began (Done given) begins leaves) = omega (arith, ap (λ (c : Client). c.begun) leaves.1)
+turned_further (Went under (More does) goes leaves) = omega (arith, ap (λ (c : Client). c.begun) leaves.1)
+turned_further (Went under (Busy by) goes leaves) = absurd leaves
+turned_further (Went under (Done given) goes leaves) = omega (arith, ap (λ (c : Client). c.begun) leaves.1)
 
 -- and begins none while another is under way.
-pub turned_still : (calls : List ScriptCall) (actor : ℕ) (before after : Station) (under : UnderWay)
+pub turned_still : {calls : List ScriptCall} {actor : ℕ} {before after : Station} {under : UnderWay}
     → Turned calls actor before after → before.client.under_way ≡ Some under → after.client.begun ≡ before.client.begun
-turned_still calls actor before after under (Nothing left) going = absurd (none_some (sym left.idle ∙ going))
-turned_still calls actor before after under (Began turn begins leaves) going = absurd (none_some (sym begins.idle ∙ going))
-turned_still calls actor before after under (Went its (More does) goes leaves) going = ap (λ (c : Client). c.begun) leaves.1
-turned_still calls actor before after under (Went its (Busy by) goes leaves) going = absurd leaves
-turned_still calls actor before after under (Went its (Done given) goes leaves) going = ap (λ (c : Client). c.begun) leaves.1
+turned_still (Nothing left) going = cc
+turned_still (Began turn begins leaves) going = cc
+turned_still (Went its (More does) goes leaves) going = cc
+turned_still (Went its (Busy by) goes leaves) going = absurd leaves
+turned_still (Went its (Done given) goes leaves) going = ap (λ (c : Client). c.begun) leaves.1

@@ -1,36 +1,7 @@
 -- What the first turn of a sync comes to, among the other clients' calls.
-use Rattle.std.proofs.Common.{◌≡◌, ℕ, ◌+◌, ◌-◌, ◌≤◌, List, [], ◌∷◌, length, Option, Some, None, refl, sym, ◌∙◌, ap, subst, arith}
-use Rattle.std.specs.Prelude.{slice_get}
-use Rattle.std.proofs.lemmas.Option.{slice_get_within}
-use Rattle.bank_trait.specs.Disk.{Disk}
-use Rattle.reflow_mark.specs.declared.reflow.Reflow.{Reflow}
-use Rattle.block_table.specs.Table.{IsTable}
-use Rattle.uberblock_ring.specs.Uberblock.{Uber}
-use Rattle.mark_advance.specs.Behind.{KeepsOrEnds}
-use Rattle.core_state.specs.declared.answer.Answer.{Answer}
-use Rattle.core_state.specs.declared.answer.Kind.{Kind}
+use Rattle.schedule.proofs.Words.{◌≡◌, ℕ, ◌+◌, ◌-◌, ◌≤◌, List, [], ◌∷◌, length, Option, Some, None, refl, sym, ◌∙◌, ap, subst, arith, slice_get, slice_get_within, Disk, Reflow, IsTable, Uber, KeepsOrEnds, Answer, Kind, Map, map_of, CommitRun, ScriptCall, Script, calls_of, More, Busy, Done, Core, at_disk, BeginsCommit, BeginsCommitSo, AreCallsOf, Stands, HoldingCall, few_out, rests, commit_begins_calls, commit_begins_stands, turn_still, Client, UnderWay, Work, call_of_client, calls_under_way, held_under, setting_now, Station, LeavesBegun, TakesTurn, Comes, IsGroupKind}
 use Rattle.core_state.specs.declared.answer.Kind.TheVariants as kind
-use Rattle.core_state.specs.Map.{Map, map_of}
-use Rattle.core_commit.specs.CommitTurns.{CommitRun}
-use Rattle.client_script.specs.declared.call.ScriptCall.{ScriptCall}
-use Rattle.client_script.specs.Script.{Script, calls_of}
-use Rattle.core_turns.specs.declared.turn.Turn.TheVariants.{More, Busy, Done}
-use Rattle.core_turns.specs.Core.{Core, at_disk}
-use Rattle.core_turns.specs.Committing.{BeginsCommit, BeginsCommitSo, IsSyncRefused}
-use Rattle.core_turns.specs.UnderWay.{AreCallsOf, Stands, HoldingCall}
-use Rattle.core_turns.proofs.Commits.{few_out, rests}
-use Rattle.core_turns.proofs.CommitStands.{commit_begins_calls, commit_begins_stands}
-use Rattle.core_turns.proofs.CommitGoes.{turn_still}
-use Rattle.schedule.specs.Dropping.{HasDropCause}
-use Rattle.schedule.specs.Turns.{turns_of}
-use Rattle.schedule.specs.declared.client.Client.{Client}
-use Rattle.schedule.specs.declared.client.UnderWay.{UnderWay}
-use Rattle.schedule.specs.declared.client.Work.{Work}
 use Rattle.schedule.specs.declared.client.Work.TheVariants as work
-use Rattle.schedule.specs.Running.{call_of_client, calls_under_way, held_under, setting_now}
-use Rattle.schedule.specs.Turned.{Station, LeavesBegun}
-use Rattle.schedule.specs.Comes.{TakesTurn, Comes}
-use Rattle.schedule.specs.Fitting.{IsGroupKind}
 use Rattle.schedule.proofs.CommitWorks.{MakesGroups, sync_makes}
 use Rattle.schedule.proofs.Theirs.{IsNoAttach, OnlyIt, calls_stay, idle_no_attach, none_some, other_no_attach, run_of}
 use Rattle.schedule.proofs.Answered.{answered, answered_going, answered_idle}
@@ -42,7 +13,7 @@ use Rattle.schedule.proofs.Fulls.{put_alone}
 use Rattle.schedule.proofs.LeavesPool.{holds_left}
 use Rattle.schedule.proofs.TurnComes.{RunsOn, first_entry, comes_nowhere, comes_on, comes_at_once}
 use Rattle.schedule.proofs.Refusals.{sync_cause}
-use Rattle.schedule.proofs.Syncs.{no_commit, refused_tells, refused_map, refused_answers, refused_right}
+use Rattle.schedule.proofs.Syncs.{no_commit, refused_tells, refused_map, refused_right}
 
 -- ---- a commit begins
 
@@ -58,29 +29,24 @@ module _ {script : Script} {actor : ℕ} {before after : Station} {clients news 
   next_core = after.state.core
 
   -- In the first turn of a call or in a later one a commit begins, which makes the group after the last one.
-  pub commit_comes : (number : ℕ) (run : CommitRun) → IsTable core.pool.blocks.table
+  pub commit_comes : {number : ℕ} {run : CommitRun} → IsTable core.pool.blocks.table
       → BeginsCommitSo core next_core actor run → slice_get (calls_of script actor) (number - 1) ≡ Some call
-      → after.items ≡ before.items
-      → after.client ≡ record {
+      → after.items ≡ before.items → after.client ≡ record {
         begun = number;
         under_way = Some (record { at = length before.items; work = does run });
-      }
-      → answered before.client + 1 ≡ number → number ≤ length (calls_of script actor)
+      } → answered before.client + 1 ≡ number → number ≤ length (calls_of script actor)
       → Comes script actor before after clients news
-  commit_comes number run table begins is items client_is number_is low =
-      comes_on takes
-      (goes_for script (turn_still before.state after.state (ap (λ (c : Core). c.pool.uber) begins.rest)
-      (ap (λ (c : Core). c.reach) begins.rest)
-      (ap (λ (c : Core). c.pool.out) begins.rest) disk))
+  commit_comes {number = number} {run = run} table begins is items client_is number_is low =
+      comes_on takes (goes_for (turn_still before.state after.state (ap (λ (c : Core). c.pool.uber) begins.rest)
+      (ap (λ (c : Core). c.reach) begins.rest) (ap (λ (c : Core). c.pool.out) begins.rest) disk))
       items (answered_going after.client under_is ∙ one_less) (omega (arith, low, begun_is))
       (λ its_under is. omega (arith, begun_is, number_is))
-      (commits_on takes.was takes.changes takes.schedule.going are under run call
-      (keeps_attach core next_core (ap (λ (c : Core). c.pool.uber.reflow) begins.rest) (ap (λ (c : Core). c.reach) begins.rest)
+      (commits_on takes.was takes.changes takes.schedule.going are run call
+      (keeps_attach (ap (λ (c : Core). c.pool.uber.reflow) begins.rest) (ap (λ (c : Core). c.reach) begins.rest)
       (ap (λ (c : Core). c.attaching) begins.rest))
       none_commits no_attach (makes.no_attach run) under_is (makes.commit run) (makes.its actor run)
       (ap (λ (c : Client). slice_get (calls_of script actor) (c.begun - 1)) client_is ∙ is)
-      (makes.for call run asked_is) begins.of (ap (λ (c : Core). c.committing) begins.rest))
-      on
+      (makes.for call run asked_is) begins.of (ap (λ (c : Core). c.committing) begins.rest)) on
     where
       under : UnderWay
       under = record { at = length before.items; work = does run }
@@ -113,33 +79,34 @@ module _ {script : Script} {actor : ℕ} {before after : Station} {clients news 
           let map : Map = map_of world.handed world.opening before.items in
           let calls = calls_under_way clients in
           let none : runs.commit ≡ None =
-          no_commit (setting_now runs) runs.last runs.begun calls runs.commit before.state begins.none runs.stands.groups in
+          no_commit (setting_now runs) runs.last runs.begun calls runs.commit before.state begins.none
+          runs.stands.groups in
           let alone : Stands (setting_now runs) runs.last runs.begun map runs.contents calls None before.state =
-          subst (λ (c : Option CommitRun). Stands (setting_now runs) runs.last runs.begun map runs.contents calls c before.state)
-          none runs.stands in
+          subst (λ (c : Option CommitRun). Stands (setting_now runs) runs.last runs.begun map runs.contents calls c
+          before.state) none runs.stands in
           let empty : runs.begun ≡ [] = (alone.groups.whole (few_out core begins.few)).0 in
           let made = commit_begins_stands takes.lawful takes.is table begins takes.schedule.going.are alone in
           let last : core.pool.uber.group ≡ runs.last.uber.group = ap (λ (u : Uber). u.group) runs.stands.alike in
           let rest = rests core takes.is begins.none in
           let begun : next_core.begun ≡ core.begun + 1 = ap (λ (c : Core). c.begun) begins.rest in
           let its = begun_now runs.recorded (let group = made.2 in omega (arith, group, begun, rest, last))
-          (subst (λ (r : Reflow). KeepsOrEnds r made.0.uber.reflow) (ap (λ (u : Uber). u.reflow) runs.stands.alike) made.3)
+          (subst (λ (r : Reflow). KeepsOrEnds r made.0.uber.reflow)
+          (ap (λ (u : Uber). u.reflow) runs.stands.alike) made.3)
           (λ id. ap (λ (m : Map). m id) made.1) in
-          commit_begins after.state takes.was takes.changes runs number (does run) run made.0
+          commit_begins after.state takes.was takes.changes runs (does run) run made.0
           (none_holds after.state takes.was takes.changes runs (made.0 ∷ [])
           (other_no_attach under_is refl (makes.no_attach run))) empty none (makes.commit run)
           (ap (λ (r : CommitRun). r.stage) begins.run_is) disk client_is
           (makes.begins world before.items runs.item (made.0 ∷ []) (length before.items) run (made.0, refl, its))
           (λ asked. makes.content world before.items asked (length before.items) (runs.contents actor) run)
-          (subst (λ (l : List HoldingCall). Stands (setting_now runs) runs.last (made.0 ∷ []) map runs.contents l (Some run)
-          after.state)
-          (sym same_calls)
+          (subst (λ (l : List HoldingCall). Stands (setting_now runs) runs.last (made.0 ∷ []) map runs.contents l
+          (Some run) after.state) (sym same_calls)
           (subst (λ (d : Disk). Stands (setting_now runs) runs.last (made.0 ∷ []) map runs.contents calls (Some run)
           (at_disk next_core d)) (sym disk) made.5))
 
 -- ---- a sync
 
-module _ {script : Script} {actor : ℕ} {before after : Station} {clients news : List Client} (call : ScriptCall)
+module _ {script : Script} {actor : ℕ} {before after : Station} {clients news : List Client} {call : ScriptCall}
     (takes : TakesTurn script actor before after clients news) (asked : call.kind ≡ kind.Sync) (no_id : call.id ≡ None)
     (idle : before.client.under_way ≡ None)
     (next : slice_get (calls_of script actor) before.client.begun ≡ Some call)
@@ -154,47 +121,33 @@ module _ {script : Script} {actor : ℕ} {before after : Station} {clients news 
   pub sync_begins : (run : CommitRun) → IsTable old.pool.blocks.table → BeginsCommit old now actor (More run)
       → LeavesBegun actor call before after (More (work.Sync run)) → Comes script actor before after clients news
   sync_begins run table begins leaves =
-      commit_comes sync_makes call takes (asked, no_id) (ap held_under idle) (idle_no_attach idle) disk
-      (before.client.begun + 1) run table begins
+      commit_comes sync_makes call takes (asked, no_id) (ap held_under idle) (idle_no_attach idle) disk table begins
       (ap (slice_get (calls_of script actor)) one_less ∙ next) leaves.0 leaves.1
-      (ap (λ (n : ℕ). n + 1) (answered_idle before.client idle))
+      (ap (λ (n : ℕ). n + 1) (answered_idle idle))
       (let low = slice_get_within (calls_of script actor) before.client.begun call next in omega (arith, low))
     where
       one_less : before.client.begun + 1 - 1 ≡ before.client.begun
       one_less = omega arith
 
   -- A sync waits for another's.
-  pub sync_waits : (by : ℕ) → BeginsCommit old now actor (Busy by) → LeavesBegun actor call before after (Busy by)
+  pub sync_waits : {by : ℕ} → BeginsCommit old now actor (Busy by) → LeavesBegun actor call before after (Busy by)
       → Comes script actor before after clients news
-  sync_waits by waits leaves = comes_nowhere takes
-      (λ i. record { state = at_disk (waits.2 i) (disk i); items = leaves.0 i; client = leaves.1 i })
+  sync_waits waits leaves = comes_nowhere takes (search arith)
 
   -- A sync is answered at once.
   pub sync_at_once : (given : Answer) → BeginsCommit old now actor (Done given)
       → LeavesBegun actor call before after (Done given) → Comes script actor before after clients news
   sync_at_once given refused leaves =
-      let of = refused_answers call.kind old given refused.0 in
-      comes_at_once takes call idle (holds_left old now old.pool.blocks refused.1) disk given next leaves
-      (record {
-        of_kind = of;
-        tells = refused_tells old given refused.0;
-        limit = λ reached told. (subst IsGroupKind (sym asked) tt, (subst (IsSyncRefused old) told refused.0).2);
-        memory = λ wanting free. no_free (sym asked ∙ free);
-        device = sync_cause before.state.disk.devices
-            (HasDropCause (turns_of before.state before.items clients) (turns_of after.state after.items news)) old given refused.0;
-      })
-      (λ full. absurd (put_alone call.kind given (λ put. no_put (sym asked ∙ put)) of full))
-      (subst (λ (c : Core). AreCallsOf c (calls_under_way clients)) (sym refused.1) takes.schedule.going.are)
+      comes_at_once takes call idle (holds_left refused.1) disk next leaves
+      (search (refused_tells, no_free, sync_cause, arith)) (search (put_alone, no_put, arith)) (search arith)
       (λ world past runs.
       let map : Map = map_of world.handed world.opening before.items in
-      let entry = first_entry call actor before given in
-      let last : old.pool.uber.group ≡ runs.last.uber.group = ap (λ (u : Uber). u.group) runs.stands.alike in (
-        refused_right world before.items runs.item entry after.state.disk old given (subst IsGroupKind (sym asked) tt) refl runs.recorded.latest
-            (λ none. rests old takes.is none ∙ last ∙ runs.recorded.item_is.number) refused.0,
-        subst (λ (m : Map). Stands (setting_now runs) runs.last runs.begun m runs.contents (calls_under_way clients) runs.commit
-            after.state)
-            (sym (refused_map world.handed map entry old given refused.0))
-            (subst (Stands (setting_now runs) runs.last runs.begun map runs.contents (calls_under_way clients) runs.commit)
+      let entry = first_entry call actor before given in (
+        refused_right world old given (subst IsGroupKind (sym asked) tt) refl runs.recorded.latest
+            (search (rests, arith)) refused.0,
+        rw (refused_map world.handed entry old given refused.0)
+            (subst (Stands (setting_now runs) runs.last runs.begun map runs.contents
+            (calls_under_way clients) runs.commit)
             (λ i. at_disk (sym refused.1 i) (sym disk i)) runs.stands),
       ))
     where

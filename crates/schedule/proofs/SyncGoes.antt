@@ -1,52 +1,16 @@
 -- What a commit of a sync or of a copy comes to that goes on or ends, among the other clients' calls.
-use Rattle.std.proofs.Common.{◌≡◌, ℕ, ◌+◌, ◌-◌, ◌≤◌, List, [], ◌∷◌, ◌++◌, length, Option, Some, None, refl, sym, ◌∙◌, ap, subst, arith, append_assoc}
-use Rattle.std.specs.Prelude.{slice_get}
-use Rattle.std.proofs.lemmas.Bool.{false≢true}
-use Rattle.uberblock_ring.specs.Uberblock.{Uber}
-use Rattle.core_state.specs.declared.answer.Answer.{Answer}
+use Rattle.schedule.proofs.Words.{◌≡◌, ℕ, ◌+◌, ◌-◌, List, [], ◌∷◌, ◌++◌, length, Some, None, refl, sym, ◌∙◌, ap, subst, arith, append_assoc, slice_get, false≢true, Uber, Answer, Kind, Entry, Item, Group, Map, map_of, Kept, Knows, Point, World, CommitRun, ScriptCall, Script, calls_of, AttachRun, Rests, More, Done, Core, CoreState, IsCommitOf, StepsCommit, AnswersGroup, Stands, TurnGoesOn, AreCallsOf, HoldingCall, shown_in, attach_at_answer, few_out, turn_bank, commit_ends_calls, commit_ends_stands, commit_steps_calls, commit_steps_stands, commit_steps_since, Client, UnderWay, Work, ClientsAreAnswered, Recorded, HasBegun, IsGoing, IsWorkOf, AreGoing, Runs, call_of_client, calls_under_way, commit_in, held_under, setting_now, begun_at, turns_of, Station, LeavesGoing, entry_for, group_for, TakesTurn, Comes, Past}
 use Rattle.core_state.specs.declared.answer.Answer.TheVariants as answer
-use Rattle.core_state.specs.declared.answer.Kind.{Kind}
 use Rattle.core_state.specs.declared.answer.Kind.TheVariants as kind
-use Rattle.core_state.specs.declared.item.Entry.{Entry}
 use Rattle.core_state.specs.declared.item.Group.{Group as GroupItem}
-use Rattle.core_state.specs.declared.item.Item.{Item}
-use Rattle.core_state.specs.declared.item.Item.TheVariants.{Group, Call as CallItem}
-use Rattle.core_state.specs.Map.{Map, map_of}
-use Rattle.core_state.specs.Keeps.{Kept}
-use Rattle.core_state.specs.Certain.{Knows}
-use Rattle.core_state.specs.Committing.{Point}
-use Rattle.core_state.specs.World.{World}
-use Rattle.core_commit.specs.CommitTurns.{CommitRun}
-use Rattle.client_script.specs.declared.call.ScriptCall.{ScriptCall}
-use Rattle.client_script.specs.Script.{Script, calls_of}
-use Rattle.core_turns.specs.declared.attaching.AttachRun.{AttachRun}
-use Rattle.core_turns.specs.declared.rounds.CopyRound.TheVariants.{Rests}
-use Rattle.core_turns.specs.declared.turn.Turn.TheVariants.{More, Done}
-use Rattle.core_turns.specs.Core.{Core, CoreState}
-use Rattle.core_turns.specs.Committing.{IsCommitOf, StepsCommit, AnswersGroup}
-use Rattle.core_turns.specs.UnderWay.{Stands, TurnGoesOn, AreCallsOf, HoldingCall, shown_in, shown_of}
-use Rattle.core_turns.proofs.AttachBeside.{attach_at_answer}
-use Rattle.core_turns.proofs.Commits.{few_out}
-use Rattle.core_turns.proofs.CommitGoes.{turn_bank}
-use Rattle.core_turns.proofs.CommitEnds.{commit_ends_calls, commit_ends_stands}
-use Rattle.core_turns.proofs.CommitStands.{commit_steps_calls, commit_steps_stands, commit_steps_since, commit_is_cut as cut_stands}
-use Rattle.schedule.specs.declared.client.Client.{Client}
-use Rattle.schedule.specs.declared.client.UnderWay.{UnderWay}
-use Rattle.schedule.specs.declared.client.Work.{Work}
+use Rattle.core_state.specs.declared.item.Item.TheVariants.{Call as CallItem}
+use Rattle.core_turns.proofs.CommitStands.{commit_is_cut as cut_stands}
 use Rattle.schedule.specs.declared.client.Work.TheVariants as work
-use Rattle.schedule.specs.Clients.{ClientsAreAnswered}
-use Rattle.schedule.specs.Fitting.{IsGroupKind}
-use Rattle.schedule.specs.Recorded.{Recorded}
-use Rattle.schedule.specs.Running.{HasBegun, HasBegunBy, IsGoing, IsWorkOf, AreGoing, Runs, call_of_client, calls_under_way, commit_in, held_by, held_under, setting_now}
-use Rattle.schedule.specs.Works.{begun_at}
-use Rattle.schedule.specs.Turns.{turns_of}
-use Rattle.schedule.specs.Turned.{Station, LeavesGoing, entry_for, group_for}
-use Rattle.schedule.specs.Comes.{TakesTurn, Comes}
 use Rattle.schedule.proofs.Coming.{goes_for}
 use Rattle.schedule.proofs.RightNext.{group_cut_right, sync_right, same_out}
 use Rattle.schedule.proofs.CommitWorks.{MakesGroups}
 use Rattle.schedule.proofs.Theirs.{IsNoAttach, OnlyIt, none_some, calls_stay, no_one, other_no_attach, some_is, the_one}
-use Rattle.schedule.proofs.Answered.{answered, answered_going, answers_call, answers_group, answers_same}
+use Rattle.schedule.proofs.Answered.{answered, answers_call, answers_group, answers_same}
 use Rattle.schedule.proofs.Fitting.{FitSince, IsPlainKind, fit_both, fit_group, fits, group_fits}
 use Rattle.schedule.proofs.Fulls.{full_made, full_synced}
 use Rattle.schedule.proofs.Going.{commits_on, commit_ends, keeps_attach, one_commit}
@@ -55,11 +19,10 @@ use Rattle.schedule.proofs.RunsEnd.{commit_ends as runs_ends, commit_is_cut, com
 use Rattle.schedule.proofs.Recording.{recorded_halves, recorded_whole}
 use Rattle.schedule.proofs.Syncs.{begun_parity, halves_go, its_commit}
 use Rattle.schedule.proofs.TurnComes.{RunsOn, came_listed, comes_answered, comes_further, its_asked, its_going, its_number, its_place, its_work, there_still}
-use Rattle.schedule.specs.Moments.{Past}
 
 module _ {script : Script} {actor : ℕ} {before after : Station} {clients news : List Client} {asked : Kind}
-    {does : CommitRun → Work} (makes : MakesGroups asked does) (call : ScriptCall)
-    (takes : TakesTurn script actor before after clients news) (under : UnderWay) (run : CommitRun)
+    {does : CommitRun → Work} (makes : MakesGroups asked does) {call : ScriptCall}
+    (takes : TakesTurn script actor before after clients news) {under : UnderWay} {run : CommitRun}
     (does_is : under.work ≡ does run) (under_is : before.client.under_way ≡ Some under)
     (is : slice_get (calls_of script actor) (before.client.begun - 1) ≡ Some call)
     (goes : TurnGoesOn before.state after.state) where
@@ -76,7 +39,7 @@ module _ {script : Script} {actor : ℕ} {before after : Station} {clients news 
   commit_is = ap commit_in does_is ∙ makes.commit run
 
   syncing : IsGoing clients actor before.client under
-  syncing = its_going takes call under (does run) does_is under_is is
+  syncing = search its_going
 
   -- No other client makes a commit,
   only : OnlyIt clients actor
@@ -88,39 +51,35 @@ module _ {script : Script} {actor : ℕ} {before after : Station} {clients news 
 
   -- and what the script asks for.
   for_call : (call.kind ≡ asked) × (call.id ≡ None)
-  for_call = makes.is call run (its_asked takes call under (does run) does_is under_is is)
+  for_call = makes.is call run (search its_asked)
 
   its_next : before.client.begun ≡ answered before.client + 1
-  its_next = its_number takes call under (does run) does_is under_is is
+  its_next = search its_number
 
   its_there : slice_get (calls_of script actor) (answered before.client) ≡ Some call
-  its_there = its_place takes call under (does run) does_is under_is is
+  its_there = search its_place
 
   -- The calls that hold sectors are the same.
   same_calls : call_of_client after.client ≡ [] → calls_under_way news ≡ calls_under_way clients
-  same_calls = calls_stay takes.was takes.changes (ap held_under under_is ∙ ap held_by does_is ∙ makes.holds run)
+  same_calls = calls_stay takes.was takes.changes (search arith)
 
   -- It is the commit that stands.
   its_stands : {world : World} {past : Past} (runs : Runs world script past before.state before.items clients)
       → Stands (setting_now runs) runs.last runs.begun (map_of world.handed world.opening before.items) runs.contents
       (calls_under_way clients) (Some run) before.state
-  its_stands {world = world} runs = subst (λ (c : Option CommitRun). Stands (setting_now runs) runs.last runs.begun
-      (map_of world.handed world.opening before.items) runs.contents (calls_under_way clients) c before.state)
-      (its_commit clients actor before.client under run runs.commit syncing commit_is only runs.theirs) runs.stands
+  its_stands {world = world} runs = rw (← its_commit runs.commit syncing commit_is only runs.theirs) runs.stands
 
   -- What the journal tells then is of the groups that images can show,
   its_recorded : {world : World} {past : Past} (runs : Runs world script past before.state before.items clients)
       → Recorded world past before.items runs.item runs.last (shown_in runs.begun run.stage) before.state.disk
-  its_recorded {world = world} {past = past} runs = subst (λ (c : Option CommitRun). Recorded world past before.items
-      runs.item runs.last (shown_of runs.begun c) before.state.disk)
-      (its_commit clients actor before.client under run runs.commit syncing commit_is only runs.theirs) runs.recorded
+  its_recorded {world = world} {past = past} runs = rw (its_commit runs.commit syncing commit_is only runs.theirs)
+      at runs.recorded
 
   -- and the group begun is the call's.
   its_group : {world : World} {past : Past} (runs : Runs world script past before.state before.items clients)
       → HasBegun world before.items runs.item runs.begun under.at ⊥
   its_group {world = world} runs = makes.begun world before.items runs.item runs.begun under.at run
-      (subst (HasBegunBy world before.items runs.item runs.begun under.at) does_is
-      (runs.each actor before.client under syncing).group)
+      (rw does_is at (runs.each actor before.client under syncing).group)
 
   -- It comes into the record where its commit is cut short or ends.
   whole_recorded : {world : World} {past : Past} (runs : Runs world script past before.state before.items clients)
@@ -129,45 +88,35 @@ module _ {script : Script} {actor : ℕ} {before after : Station} {clients news 
       run.stage (its_recorded runs)
 
   was_no_attach : IsNoAttach before.client.under_way
-  was_no_attach = other_no_attach under_is does_is (makes.no_attach run)
+  was_no_attach = search (other_no_attach, arith)
 
   -- It goes on.
   pub commit_goes_further : (next : CommitRun) → StepsCommit before.state run after.state (More next)
       → LeavesGoing actor call before after under (More (does next)) → ItComes
   commit_goes_further next steps further = comes_further takes call under (does run) does_is under_is is (does next)
-      (goes_for script goes) further (makes.made next)
-      (commits_on takes.was takes.changes takes.schedule.going
-      (subst (AreCallsOf now) (sym (same_calls none))
-      (commit_steps_calls before.state after.state (calls_under_way clients) run next steps takes.schedule.going.are))
-      (record { at = under.at; work = does next }) next call
-      (keeps_attach old now (ap (λ (c : Core). c.pool.uber.reflow) steps.2) (ap (λ (c : Core). c.reach) steps.2)
-      (ap (λ (c : Core). c.attaching) steps.2))
+      (goes_for goes) further (makes.made next) (commits_on takes.was takes.changes takes.schedule.going
+      (search (same_calls, none, commit_steps_calls)) next call (search (keeps_attach, arith))
       only was_no_attach (makes.no_attach next) next_is (makes.commit next) (makes.its actor next)
-      (ap (λ (c : Client). slice_get (calls_of script actor) (c.begun - 1)) further.1 ∙ is) (makes.for call next for_call) steps.3
-      (ap (λ (c : Core). c.committing) steps.2 ∙ of_core.1))
+      (cc) (makes.for call next for_call) steps.3 (ap (λ (c : Core). c.committing) steps.2 ∙ of_core.1))
       (λ world past handed within listed runs.
       let borne = within (few_out old steps.0) in
-      commit_goes_on after.state takes.was takes.changes runs under (does next) next
+      commit_goes_on after.state takes.was takes.changes runs under next
       (none_holds after.state takes.was takes.changes runs runs.begun
       (other_no_attach next_is refl (makes.no_attach next)))
-      (beside_hold after.state takes.was takes.changes runs takes.schedule.going goes.only) goes.later (recorded_halves (its_group runs) (λ attached. absurd attached) (begun_parity (its_stands runs)) run.stage
-      next.stage (halves_go steps.1) (its_recorded runs)) (commit_steps_since takes.is steps borne (its_stands runs)) under_is (makes.commit next) client_is
-      (λ group. makes.begins world before.items runs.item runs.begun under.at next (its_group runs))
-      (λ asked. makes.content world before.items asked under.at (runs.contents actor) next)
-      (subst (λ (l : List HoldingCall). Stands (setting_now runs) runs.last runs.begun
-      (map_of world.handed world.opening before.items) runs.contents l (Some next) after.state)
-      (sym (same_calls none)) (commit_steps_stands takes.is steps borne (its_stands runs))))
+      (search beside_hold) goes.later (recorded_halves (its_group runs) (λ attached. absurd attached)
+      (begun_parity (its_stands runs)) run.stage
+      next.stage (halves_go steps.1) (its_recorded runs)) (commit_steps_since takes.is steps borne (its_stands runs))
+      under_is (makes.commit next) client_is
+      (λ group. makes.begins world before.items runs.item runs.begun under.at next (its_group runs)) (search arith)
+      (search (same_calls, none, commit_steps_stands, its_stands)))
     where
       -- The group of its commit was begun when it was told before.
       at_is : begun_at (commit_in (does next)) (commit_in under.work) under.at (length before.items) ≡ under.at
-      at_is = λ i. begun_at (makes.commit next i) (commit_is i) under.at (length before.items)
+      at_is = search (commit_is, arith)
 
       client_is : after.client
           ≡ record { begun = before.client.begun; under_way = Some (record { at = under.at; work = does next }) }
-      client_is = further.1 ∙ ap (λ (at : ℕ). record {
-        begun = before.client.begun;
-        under_way = Some (record { at = at; work = does next });
-      }) at_is
+      client_is = search at_is
 
       next_is : after.client.under_way ≡ Some (record { at = under.at; work = does next })
       next_is = ap (λ (c : Client). c.under_way) client_is
@@ -181,46 +130,39 @@ module _ {script : Script} {actor : ℕ} {before after : Station} {clients news 
     entry = entry_for call actor before.client.begun under.at given
 
     idle_now : after.client.under_way ≡ None
-    idle_now = ap (λ (c : Client). c.under_way) ended.1
+    idle_now = cc
 
     ended_calls : calls_under_way news ≡ calls_under_way clients
-    ended_calls = same_calls (ap held_under idle_now)
+    ended_calls = same_calls (cc)
 
     -- With its entry the journal answers one call more.
-    answered_end : (items : List Item) → ClientsAreAnswered script clients items
+    answered_end : {items : List Item} → ClientsAreAnswered script clients items
         → ClientsAreAnswered script news (items ++ CallItem entry ∷ [])
-    answered_end items were = answers_call script clients news actor before.client after.client items takes.changes takes.was
-        (let few = takes.schedule.answered.few actor before.client takes.was in
-        let begun : after.client.begun ≡ before.client.begun = ap (λ (c : Client). c.begun) ended.1 in
-        omega (arith, few, begun))
-        (no_one (λ its_under. 1 ≤ after.client.begun) idle_now) were call entry (ap answered ended.1 ∙ its_next) its_there refl
-        its_next refl refl
+    answered_end {items = items} were = answers_call takes.changes takes.was (search arith)
+        (search (no_one, idle_now)) were entry (ap answered ended.1 ∙ its_next) its_there refl its_next refl refl
 
   -- Its group is answered, and listed before it.
   synced : asked ≡ kind.Sync → (number : ℕ) → AnswersGroup before.state run after.state number
       → LeavesGoing actor call before after under (Done (answer.Synced number)) → ItComes
   synced sync number answers leaves = record {
-    come = came_listed takes (Group group ∷ CallItem entry ∷ []) (goes_for script goes) (leaves.0 ∙ both) fit
+    come = came_listed takes (Group group ∷ CallItem entry ∷ []) (goes_for goes) (leaves.0 ∙ both) fit
         (subst (RunsOn script before after clients news) both on)
         (full_synced script (turns_of before.state before.items clients) (turns_of after.state after.items news) group
         entry leaves.0 (λ full. no_full full));
     schedule = record {
       going = commit_ends takes.was takes.changes takes.schedule.going
           (subst (AreCallsOf now) (sym (ended_calls (answer.Synced number) leaves))
-          (commit_ends_calls takes.is of_core.0 answers (calls_under_way clients) takes.schedule.going.are))
-          (record {
+          (commit_ends_calls takes.is of_core.0 answers (calls_under_way clients) takes.schedule.going.are)) (record {
             attaching = ap (λ (c : Core). c.attaching) answers.answers.rest;
             early = λ its before_it. attach_at_answer before.state after.state run number its before_it takes.is
                 of_core.0 answers;
-          })
-          only was_no_attach
+          }) only was_no_attach
           (no_one (λ its. IsWorkOf script now actor after.client its.work) (idle_now (answer.Synced number) leaves))
           (λ its is. absurd (none_some (sym (ap (λ (c : Core). c.committing) answers.answers.rest) ∙ is)));
-      answered = subst (ClientsAreAnswered script news) (sym leaves.0)
-          (answered_end (answer.Synced number) leaves (before.items ++ Group group ∷ [])
-          (answers_group script clients before.items group takes.schedule.answered));
+      answered = subst (ClientsAreAnswered script news) (sym leaves.0) (answered_end (answer.Synced number) leaves
+          (answers_group group takes.schedule.answered));
       bank = turn_bank before.state after.state goes takes.schedule.bank;
-      there = there_still takes (goes_for script goes);
+      there = there_still takes (goes_for goes);
     };
   }
     where
@@ -230,7 +172,8 @@ module _ {script : Script} {actor : ℕ} {before after : Station} {clients news 
       group : GroupItem
       group = group_for now under.at number
 
-      both : (before.items ++ Group group ∷ []) ++ CallItem entry ∷ [] ≡ before.items ++ Group group ∷ CallItem entry ∷ []
+      both : (before.items ++ Group group ∷ []) ++ CallItem entry ∷ [] ≡ before.items ++ Group group ∷ CallItem entry
+          ∷ []
       both = append_assoc before.items (Group group ∷ []) (CallItem entry ∷ [])
 
       disk : after.state.disk ≡ before.state.disk
@@ -248,9 +191,8 @@ module _ {script : Script} {actor : ℕ} {before after : Station} {clients news 
       -- The group answers no call, and the entry fits the sync.
       fit : FitSince (turns_of before.state before.items clients) (turns_of after.state after.items news)
       fit = fit_both (turns_of before.state before.items clients) (turns_of after.state after.items news) entry
-          (fits old call.kind (answer.Synced number) (for_call.0 ∙ sync) (λ listed told. absurd (none_out listed told)) no_limit
-          (subst IsPlainKind (sym (for_call.0 ∙ sync)) tt))
-          goes.out.still group leaves.0
+          (fits (for_call.0 ∙ sync) (λ listed told. absurd (none_out listed told)) no_limit
+          (subst IsPlainKind (sym (for_call.0 ∙ sync)) tt)) goes.out.still group leaves.0
 
       on : RunsOn script before after clients news ((before.items ++ Group group ∷ []) ++ CallItem entry ∷ [])
       on world past handed within listed runs =
@@ -259,14 +201,13 @@ module _ {script : Script} {actor : ℕ} {before after : Station} {clients news 
           let next : Kept = stands.groups.next in
           let stood = commit_ends_stands takes.is of_core.0 answers takes.schedule.going.are
           (within (few_out old answers.few))
-          (subst (λ (l : List Kept). Stands (setting_now runs) runs.last l map runs.contents (calls_under_way clients) (Some run)
-          before.state) stands.groups.begun_is stands) in
+          (subst (λ (l : List Kept). Stands (setting_now runs) runs.last l map runs.contents (calls_under_way clients)
+          (Some run) before.state) stands.groups.begun_is stands) in
           let number_is : number ≡ next.uber.group =
           answers.group_is ∙ sym stands.groups.of.number ∙ ap (λ (u : Uber). u.group) stands.groups.come.alike in
           let reflow_is : now.pool.uber.reflow ≡ next.uber.reflow = ap (λ (u : Uber). u.reflow) stood.alike in
           let mine = runs.each actor before.client under syncing in
-          runs_ends after.state takes.was takes.changes runs under next group entry refl
-          (idle_now (answer.Synced number) leaves)
+          runs_ends after.state takes.was takes.changes runs under refl (idle_now (answer.Synced number) leaves)
           (its_group runs) (whole_recorded runs) stands.groups.begun_is only disk
           (λ i. record {
             group = number_is i;
@@ -285,40 +226,33 @@ module _ {script : Script} {actor : ℕ} {before after : Station} {clients news 
       → AnswersGroup before.state run after.state number
       → LeavesGoing actor call before after under (More (work.Copy (Rests whose (Some number)))) → ItComes
   group_made copy whose number committing answers further = record {
-    come = came_listed takes (Group group ∷ []) (goes_for script goes) items_are
-        (fit_group (turns_of before.state before.items clients) (turns_of after.state after.items news) group items_are)
-        on
-        (full_made script (turns_of before.state before.items clients) (turns_of after.state after.items news) group
-        items_are);
+    come = came_listed takes (Group group ∷ []) (goes_for goes) items_are (search (fit_group, group, items_are))
+        on (search (full_made, group, items_are));
     schedule = record {
       going = commit_ends takes.was takes.changes takes.schedule.going
-          (subst (AreCallsOf now) (sym same)
-          (commit_ends_calls takes.is of_core.0 answers (calls_under_way clients) takes.schedule.going.are))
+          (rw same (commit_ends_calls takes.is of_core.0 answers (calls_under_way clients) takes.schedule.going.are))
           (record {
-            attaching = ap (λ (c : Core). c.attaching) answers.answers.rest;
+            attaching = cc;
             early = λ its before_it. attach_at_answer before.state after.state run number its before_it takes.is
                 of_core.0 answers;
-          })
-          only was_no_attach
-          (the_one (λ its. IsWorkOf script now actor after.client its.work) rests_now (record {
+          }) only was_no_attach (the_one (λ its. IsWorkOf script now actor after.client its.work) rests_now (record {
             hold = some_is (sym committing ∙ of_core.1);
             call = call;
-            there = ap (λ (c : Client). slice_get (calls_of script actor) (c.begun - 1)) client_is ∙ is;
+            there = cc;
             asked = (for_call.0 ∙ copy, for_call.1);
-            commit = λ other its. absurd (none_some its);
-            attach = λ other its. absurd (no_attach other its);
+            commit = λ other its. cc;
+            attach = λ other its. cc;
           }))
-          (λ its is. absurd (none_some (sym (ap (λ (c : Core). c.committing) answers.answers.rest) ∙ is)));
-      answered = subst (ClientsAreAnswered script news) (sym items_are)
-          (answers_same script clients news actor before.client after.client (before.items ++ Group group ∷ [])
-          takes.changes takes.was
-          (let few = takes.schedule.answered.few actor before.client takes.was in omega (arith, few, begun_is))
-          (λ its_under its_is. let some = takes.schedule.answered.some actor before.client under takes.was under_is in
-          omega (arith, some, begun_is))
-          (answers_group script clients before.items group takes.schedule.answered)
-          (ap answered client_is ∙ sym (answered_going before.client under_is)));
-      bank = turn_bank before.state after.state goes takes.schedule.bank;
-      there = there_still takes (goes_for script goes);
+          (λ its is. cc);
+      answered = subst (ClientsAreAnswered script news) (sym items_are) (answers_same takes.changes takes.was
+          (search (begun_is, arith))
+          (λ its_under its_is. omega (
+            arith,
+            takes.schedule.answered.some actor before.client under takes.was under_is,
+            begun_is,
+          )) (answers_group group takes.schedule.answered) (cc));
+      bank = search turn_bank;
+      there = there_still takes (goes_for goes);
     };
   }
     where
@@ -335,13 +269,13 @@ module _ {script : Script} {actor : ℕ} {before after : Station} {clients news 
       client_is = further.1
 
       rests_now : after.client.under_way ≡ Some (record { at = under.at; work = work.Copy (Rests whose (Some number)) })
-      rests_now = ap (λ (c : Client). c.under_way) client_is
+      rests_now = cc
 
       begun_is : after.client.begun ≡ before.client.begun
-      begun_is = ap (λ (c : Client). c.begun) client_is
+      begun_is = cc
 
       same : calls_under_way news ≡ calls_under_way clients
-      same = same_calls (ap held_under rests_now)
+      same = same_calls (cc)
 
       no_attach : (attach : AttachRun) → work.Copy (Rests whose (Some number)) ≡ work.Attach attach → ⊥
       no_attach attach is_attach = cc
@@ -355,54 +289,35 @@ module _ {script : Script} {actor : ℕ} {before after : Station} {clients news 
           let stands = its_stands runs in
           let next : Kept = stands.groups.next in
           let stood = commit_ends_stands takes.is of_core.0 answers takes.schedule.going.are
-          (within (few_out old answers.few))
-          (subst (λ (l : List Kept). Stands (setting_now runs) runs.last l map runs.contents (calls_under_way clients) (Some run)
-          before.state) stands.groups.begun_is stands) in
+          (within (few_out old answers.few)) (rw stands.groups.begun_is at stands) in
           let number_is : number ≡ next.uber.group =
           answers.group_is ∙ sym stands.groups.of.number ∙ ap (λ (u : Uber). u.group) stands.groups.come.alike in
           let reflow_is : now.pool.uber.reflow ≡ next.uber.reflow = ap (λ (u : Uber). u.reflow) stood.alike in
-          runs_makes after.state takes.was takes.changes runs under (work.Copy (Rests whose (Some number))) next group
+          runs_makes after.state takes.was takes.changes runs
           under_is client_is false≢true no_attach (λ asked_call asked_is. tt)
           (its_group runs) (whole_recorded runs) stands.groups.begun_is only disk
-          (λ i. record {
-            group = number_is i;
-            after = under.at;
-            from = (reflow_is i).from;
-            to = (reflow_is i).to;
-          })
-          (subst (Knows (setting_now runs) next []) disk stood.groups.knows) listed
-          (subst (λ (l : List HoldingCall). Stands (setting_now runs) next [] map runs.contents l None after.state)
-          (sym same) stood)
+          (search group) (search (disk, arith)) listed (search same)
 
   -- It is cut short.
   pub cut : (out : ℕ) → StepsCommit before.state run after.state (Done (answer.TooManyFailed out))
       → LeavesGoing actor call before after under (Done (answer.TooManyFailed out)) → ItComes
-  cut out steps leaves = comes_answered takes call before.client.begun under.at given its_next its_there (goes_for script goes) leaves.0
-      leaves.1
-      (group_fits old call.kind given (subst IsGroupKind (sym for_call.0) makes.kind) tt
-      (λ listed told. (steps.0, same_out (sym told) ∙ steps.1)) (λ reached told. absurd (no_limit reached told)) tt) (λ full. absurd (no_full full))
+  cut out steps leaves = comes_answered takes under.at its_next its_there (goes_for goes) leaves.0 leaves.1
+      (search (group_fits, given, same_out, no_limit, arith)) (λ full. cc)
       (subst (λ (s : CoreState). AreGoing script s.core news) (sym steps.2)
-      (commit_ends takes.was takes.changes takes.schedule.going
-      (subst (AreCallsOf old) (sym (ended_calls given leaves)) takes.schedule.going.are)
-      (keeps_attach old old refl refl refl) only was_no_attach
-      (no_one (λ its. IsWorkOf script old actor after.client its.work) (idle_now given leaves))
+      (commit_ends takes.was takes.changes takes.schedule.going (rw (ended_calls given leaves) takes.schedule.going.are)
+      (keeps_attach refl refl refl) only was_no_attach (search (no_one, idle_now, given, arith))
       (λ its is. steps.0)))
       (λ world past handed within listed runs.
       let map : Map = map_of world.handed world.opening before.items in
       let stood = cut_stands steps.0 (its_stands runs) in
-      commit_is_cut after.state takes.was takes.changes runs None (whole_recorded runs) (entry given leaves) refl
-      (idle_now given leaves) (ap (λ (s : CoreState). s.disk) steps.2)
-      stood.groups.knows (group_cut_right world before.items (entry given leaves) after.state.disk (subst IsGroupKind (sym for_call.0) makes.kind) tt) tt listed refl only
-      (subst (λ (l : List HoldingCall). Stands (setting_now runs) runs.last runs.begun map runs.contents l None after.state)
-      (sym (ended_calls given leaves))
-      (subst (Stands (setting_now runs) runs.last runs.begun map runs.contents (calls_under_way clients) None) (sym steps.2)
-      stood)))
+      commit_is_cut after.state takes.was takes.changes runs None (whole_recorded runs) refl
+      (idle_now given leaves) (cc)
+      stood.groups.knows (search (group_cut_right, entry, given, arith)) tt listed refl only
+      (rw (ended_calls given leaves) (subst (Stands (setting_now runs) runs.last runs.begun map runs.contents
+      (calls_under_way clients) None) (sym steps.2) stood)))
     where
       given : Answer
       given = answer.TooManyFailed out
-
-      no_full : answer.TooManyFailed out ≡ answer.Full → ⊥
-      no_full same = cc
 
       no_limit : (reached : ℕ) → answer.TooManyFailed out ≡ answer.Limit reached → ⊥
       no_limit reached same = cc

@@ -1,27 +1,6 @@
 -- The calls under way of some clients, of whom one has changed.
-use Rattle.std.proofs.Common.{◌≡◌, ◌≢◌, ⊎_elim, ℕ, zero, suc, List, [], ◌∷◌, ◌++◌, Option, Some, None, sym, ◌∙◌, ap, subst, refl}
-use Rattle.std.specs.Prelude.{Contains, IsSome, slice_get, ⊤}
-use Rattle.std.proofs.lemmas.Bool.{cases_eq, false≢true}
-use Rattle.std.proofs.lemmas.List.Elements.{Contains-append_cases, Contains-append_left, Contains-append_right}
-use Rattle.std.proofs.lemmas.Grind.{flat_map-append}
-use Rattle.space_alloc.specs.Space.{Gains}
-use Rattle.core_blocks.proofs.Lists.{listed_cases, none_listed}
-use Rattle.core_commit.specs.CommitTurns.{CommitRun}
-use Rattle.client_script.specs.Script.{Script}
-use Rattle.core_turns.specs.declared.attaching.AttachRun.{AttachRun}
-use Rattle.core_turns.specs.declared.attaching.AttachRun.TheVariants.{Reads, Checked, Joins, Signs}
-use Rattle.core_turns.specs.Attaching.{attach_commit}
-use Rattle.core_turns.specs.Core.{Core}
-use Rattle.core_turns.specs.declared.rounds.CopyRound.TheVariants.{Rests, Copies, Commits}
-use Rattle.core_turns.specs.UnderWay.{HoldingCall, Copying, Putting, Reading, actor_of}
-use Rattle.core_turns.proofs.AttachBeside.{IsBeforeCommit}
-use Rattle.schedule.specs.declared.client.Client.{Client}
-use Rattle.schedule.specs.declared.client.UnderWay.{UnderWay}
-use Rattle.schedule.specs.declared.client.Work.{Work}
+use Rattle.schedule.proofs.Words.{◌≡◌, ◌≢◌, ⊎_elim, ℕ, zero, suc, List, [], ◌∷◌, ◌++◌, Option, Some, None, sym, ◌∙◌, ap, subst, refl, Contains, IsSome, slice_get, ⊤, cases_eq, false≢true, Contains-append_cases, Contains-append_left, Contains-append_right, flat_map-append, Gains, listed_cases, none_listed, CommitRun, Script, AttachRun, Reads, Checked, Joins, Signs, attach_commit, Core, Rests, Copies, Commits, HoldingCall, actor_of, IsBeforeCommit, Client, UnderWay, Work, Changes, AreGoing, IsGoing, IsHoldOf, IsTheirs, MakesCommit, call_of_client, calls_under_way, commit_in, held_by, held_under, begun_at, made_in}
 use Rattle.schedule.specs.declared.client.Work.TheVariants as work
-use Rattle.schedule.specs.Clients.{Changes}
-use Rattle.schedule.specs.Running.{AreGoing, IsGoing, IsHoldOf, IsTheirs, MakesCommit, call_of_client, calls_under_way, commit_in, held_by, held_under}
-use Rattle.schedule.specs.Works.{begun_at, made_in}
 
 pub some_is : {A : Type 0} {one two : A} → Some one ≡ Some two → one ≡ two
 some_is same = cc
@@ -39,8 +18,8 @@ same_list (item ∷ items) (first ∷ others) same =
     λ i. some_is (same 0) i ∷ same_list items others (λ index. same (suc index)) i
 
 -- A list of one has no other.
-pub only_one : {T : Type 0} (one other : T) → Contains (one ∷ []) other → one ≡ other
-only_one one other listed =
+pub only_one : {T : Type 0} {one other : T} → Contains (one ∷ []) other → one ≡ other
+only_one {one = one} {other = other} listed =
     ⊎_elim (λ same. same) (λ none. absurd (none_listed other none)) (listed_cases one other [] listed)
 
 -- ---- whose a call under way is
@@ -53,10 +32,10 @@ pub record IsSomeones (clients : List Client) (call : HoldingCall) : Type 0 wher
   pub going : IsGoing clients index client under
   pub held : Contains (held_by under.work) call
 
-pub whose : (clients : List Client) (call : HoldingCall) → Contains (calls_under_way clients) call
+pub whose : (clients : List Client) {call : HoldingCall} → Contains (calls_under_way clients) call
     → IsSomeones clients call
-whose [] call listed = absurd (none_listed call listed)
-whose (first ∷ clients) call listed = ⊎_elim (mine first.under_way refl) (λ rest. later (whose clients call rest))
+whose [] {call = call} listed = absurd (none_listed call listed)
+whose (first ∷ clients) {call = call} listed = ⊎_elim (mine first.under_way refl) (λ rest. later (whose clients rest))
     (Contains-append_cases (call_of_client first) (calls_under_way clients) call listed)
   where
     mine : (under : Option UnderWay) → first.under_way ≡ under → Contains (held_under under) call
@@ -75,32 +54,31 @@ whose (first ∷ clients) call listed = ⊎_elim (mine first.under_way refl) (λ
       index = suc found.index;
       client = found.client;
       under = found.under;
-      going = record { there = found.going.there; under_way = found.going.under_way };
+      going = search;
       held = found.held;
     }
 
 -- A client's call is one of those under way.
-pub is_among : (clients : List Client) (index : ℕ) (client : Client) (under : UnderWay) (call : HoldingCall)
+pub is_among : (clients : List Client) (index : ℕ) {client : Client} {under : UnderWay} (call : HoldingCall)
     → IsGoing clients index client under → Contains (held_by under.work) call → Contains (calls_under_way clients) call
-is_among [] index client under call going held = absurd (none_some going.there)
-is_among (first ∷ clients) zero client under call going held =
+is_among [] index call going held = cc
+is_among (first ∷ clients) zero call going held =
     Contains-append_left (call_of_client first) (calls_under_way clients) call
-    (subst (λ (its : Option UnderWay). Contains (held_under its) call)
-    (sym (ap (λ (c : Client). c.under_way) (some_is going.there) ∙ going.under_way)) held)
-is_among (first ∷ clients) (suc index) client under call going held =
+    (rw (ap (λ (c : Client). c.under_way) (some_is going.there) ∙ going.under_way) held)
+is_among (first ∷ clients) (suc index) {client = client} {under = under} call going held =
     Contains-append_right (call_of_client first) (calls_under_way clients) call
-    (is_among clients index client under call (record { there = going.there; under_way = going.under_way }) held)
+    (is_among clients index call (record { there = going.there; under_way = going.under_way }) held)
 
 -- A call has its client's hold.
-pub its_actor : (index : ℕ) (does : Work) (call : HoldingCall) → IsHoldOf index does → Contains (held_by does) call
+pub its_actor : {index : ℕ} (does : Work) (call : HoldingCall) → IsHoldOf index does → Contains (held_by does) call
     → actor_of call ≡ index
-its_actor index (work.Put run) call its held = ap actor_of (sym (only_one (Putting run) call held)) ∙ its
-its_actor index (work.Read run) call its held = ap actor_of (sym (only_one (Reading run) call held)) ∙ its
-its_actor index (work.Sync run) call its held = absurd (none_listed call held)
-its_actor index (work.Attach run) call its held = absurd (none_listed call held)
-its_actor index (work.Copy (Copies run)) call its held = ap actor_of (sym (only_one (Copying run) call held)) ∙ its
-its_actor index (work.Copy (Rests actor made)) call its held = absurd (none_listed call held)
-its_actor index (work.Copy (Commits run)) call its held = absurd (none_listed call held)
+its_actor (work.Put run) call its held = ap actor_of (sym (only_one held)) ∙ its
+its_actor (work.Read run) call its held = ap actor_of (sym (only_one held)) ∙ its
+its_actor (work.Sync run) call its held = absurd (none_listed call held)
+its_actor (work.Attach run) call its held = absurd (none_listed call held)
+its_actor (work.Copy (Copies run)) call its held = ap actor_of (sym (only_one held)) ∙ its
+its_actor (work.Copy (Rests actor made)) call its held = absurd (none_listed call held)
+its_actor (work.Copy (Commits run)) call its held = absurd (none_listed call held)
 
 -- ---- who has a call under way
 
@@ -109,36 +87,36 @@ pub held_by_others : {script : Script} {core : Core} {clients : List Client} {in
     → slice_get clients index ≡ Some client → call_of_client client ≡ [] → AreGoing script core clients
     → (call : HoldingCall) → Contains (calls_under_way clients) call → actor_of call ≢ index
 held_by_others {clients = clients} {client = client} was none going call listed its =
-    let found = whose clients call listed in
-    let actor = its_actor found.index found.under.work call
+    let found = whose clients listed in
+    let actor = its_actor found.under.work call
     (going.each found.index found.client found.under found.going).hold found.held in
-    let here = subst (λ (n : ℕ). IsGoing clients n found.client found.under) (sym actor ∙ its) found.going in
-    let same : found.client ≡ client = some_is (sym here.there ∙ was) in
-    none_listed call (subst (λ (l : List HoldingCall). Contains l call)
-    (ap held_under (sym here.under_way ∙ ap (λ (c : Client). c.under_way) same) ∙ none) found.held)
+    let here = rw (sym actor ∙ its) at found.going in
+    let same : found.client ≡ client = some_is (cc) in
+    none_listed call (rw (ap held_under (sym here.under_way ∙ ap (λ (c : Client). c.under_way) same) ∙ none)
+    at found.held)
 
 -- as where it has none under way.
 pub calls_of_others : {script : Script} {core : Core} {clients : List Client} {index : ℕ} {client : Client}
     → slice_get clients index ≡ Some client → client.under_way ≡ None → AreGoing script core clients
     → (call : HoldingCall) → Contains (calls_under_way clients) call → actor_of call ≢ index
-calls_of_others was idle = held_by_others was (ap held_under idle)
+calls_of_others was idle = held_by_others was (cc)
 
 -- A work makes a commit where it has one,
-pub makes_commit : (does : Work) (run : CommitRun) → commit_in does ≡ Some run → MakesCommit does
-makes_commit does run is = subst IsSome (sym is) refl
+pub makes_commit : (does : Work) {run : CommitRun} → commit_in does ≡ Some run → MakesCommit does
+makes_commit does is = subst IsSome (sym is) refl
 
 -- and has one where it makes one.
 pub run_of : (does : Work) → MakesCommit does → (run : CommitRun) × (commit_in does ≡ Some run)
 run_of does = by (commit_in does)
   where
     by : (commit : Option CommitRun) → IsSome commit → (run : CommitRun) × (commit ≡ Some run)
-    by None none = absurd (false≢true none)
+    by None none = cc
     by (Some run) there = (run, refl)
 
 -- No other client makes a commit.
 abbrev pub OnlyIt : List Client → ℕ → Type 0
-OnlyIt clients index = (other : ℕ) (its : Client) (under : UnderWay) → IsGoing clients other its under → MakesCommit under.work
-    → other ≡ index
+OnlyIt clients index = (other : ℕ) (its : Client) (under : UnderWay) → IsGoing clients other its under
+    → MakesCommit under.work → other ≡ index
 
 -- ---- one client has changed
 
@@ -151,12 +129,12 @@ record OneChanges (clients news : List Client) (old client : Client) : Type 0 wh
 
 one_changes : {index : ℕ} {old client : Client} (clients news : List Client) → slice_get clients index ≡ Some old
     → Changes clients news index client → OneChanges clients news old client
-one_changes [] news was changes = absurd (none_some was)
-one_changes (first ∷ clients) [] was changes = absurd (none_some changes.there)
+one_changes [] news was changes = cc
+one_changes (first ∷ clients) [] was changes = cc
 one_changes {index = zero} (first ∷ clients) (next ∷ news) was changes = record {
   before = [];
   after = clients;
-  was = ap (λ (c : Client). c ∷ clients) (some_is was);
+  was = cc;
   is = λ i. some_is changes.there i
       ∷ same_list news clients (λ other. changes.others (suc other) (λ is. apart other is)) i;
 }
@@ -171,7 +149,7 @@ one_changes {index = suc index} (first ∷ clients) (next ∷ news) was changes 
     record {
       before = first ∷ rest.before;
       after = rest.after;
-      was = ap (λ (l : List Client). first ∷ l) rest.was;
+      was = cc;
       is = λ i. some_is (changes.others 0 first_apart) i ∷ rest.is i;
     }
   where
@@ -193,8 +171,8 @@ module _ {clients news : List Client} {index : ℕ} {old client : Client} (was :
   abbrev after : List HoldingCall
   after = calls_under_way change.after
 
-  were : (held : List HoldingCall) → call_of_client old ≡ held → calls_under_way clients ≡ before ++ (held ++ after)
-  were held is = ap calls_under_way change.was ∙ flat_map-append call_of_client change.before (old ∷ change.after)
+  were : {held : List HoldingCall} → call_of_client old ≡ held → calls_under_way clients ≡ before ++ (held ++ after)
+  were is = ap calls_under_way change.was ∙ flat_map-append call_of_client change.before (old ∷ change.after)
       ∙ ap (λ (l : List HoldingCall). before ++ (l ++ after)) is
 
   are : (held : List HoldingCall) → call_of_client client ≡ held → calls_under_way news ≡ before ++ (held ++ after)
@@ -204,35 +182,35 @@ module _ {clients news : List Client} {index : ℕ} {old client : Client} (was :
   -- and its call begins,
   pub call_begins : {call : HoldingCall} → call_of_client old ≡ [] → call_of_client client ≡ call ∷ []
       → Gains (calls_under_way clients) (calls_under_way news) call
-  call_begins {call} none held = record { before = before; after = after; was = were [] none; is = are (call ∷ []) held }
+  call_begins {call} none held = record { before = before; after = after; was = were none; is = are (call ∷ []) held }
 
   -- goes on,
   pub call_goes : {call next : HoldingCall} → call_of_client old ≡ call ∷ [] → call_of_client client ≡ next ∷ []
       → (left : List HoldingCall) × Gains left (calls_under_way clients) call × Gains left (calls_under_way news) next
   call_goes {call} {next} was_held held = (
     before ++ after,
-    record { before = before; after = after; was = refl; is = were (call ∷ []) was_held },
+    record { before = before; after = after; was = refl; is = were was_held },
     record { before = before; after = after; was = refl; is = are (next ∷ []) held },
   )
 
   -- or ends.
   pub call_ends : {call : HoldingCall} → call_of_client old ≡ call ∷ [] → call_of_client client ≡ []
       → Gains (calls_under_way news) (calls_under_way clients) call
-  call_ends {call} held none = record { before = before; after = after; was = are [] none; is = were (call ∷ []) held }
+  call_ends {call} held none = record { before = before; after = after; was = are [] none; is = were held }
 
   -- Where it holds no sectors before and after, the calls are the same.
   pub calls_stay : call_of_client old ≡ [] → call_of_client client ≡ [] → calls_under_way news ≡ calls_under_way clients
-  calls_stay was_none none = are [] none ∙ sym (were [] was_none)
+  calls_stay was_none none = are [] none ∙ sym (were was_none)
 
 -- What holds of the call that a client has under way holds of each that it has,
 pub the_one : (T : UnderWay → Type 0) {its : Option UnderWay} {under : UnderWay} → its ≡ Some under → T under
     → (other : UnderWay) → its ≡ Some other → T other
-the_one T is has other other_is = subst T (some_is (sym is ∙ other_is)) has
+the_one T is has other other_is = subst T (some_is (cc)) has
 
 -- and where it has none, anything does.
 pub no_one : (T : UnderWay → Type 0) {its : Option UnderWay} → its ≡ None → (other : UnderWay) → its ≡ Some other
     → T other
-no_one T idle other is = absurd (none_some (sym idle ∙ is))
+no_one T idle other is = cc
 
 pub none_there : {commit : Option CommitRun} → commit ≡ None → IsSome commit → ⊥
 none_there none there = false≢true (subst IsSome none there)
@@ -245,16 +223,18 @@ IsNoCommit (Some under) = MakesCommit under.work → ⊥
 pub idle_no_commit : {its : Option UnderWay} → its ≡ None → IsNoCommit its
 idle_no_commit idle = subst IsNoCommit (sym idle) tt
 
-pub work_no_commit : {its : Option UnderWay} {under : UnderWay} → its ≡ Some under → (MakesCommit under.work → ⊥) → IsNoCommit its
+pub work_no_commit : {its : Option UnderWay} {under : UnderWay} → its ≡ Some under → (MakesCommit under.work → ⊥)
+    → IsNoCommit its
 work_no_commit is none = subst IsNoCommit (sym is) none
 
-no_commit_under : {its : Option UnderWay} → IsNoCommit its → (under : UnderWay) → its ≡ Some under → MakesCommit under.work → ⊥
+no_commit_under : {its : Option UnderWay} → IsNoCommit its → (under : UnderWay) → its ≡ Some under
+    → MakesCommit under.work → ⊥
 no_commit_under none under is = subst IsNoCommit is none
 
 -- A work that makes none began when it was told before.
-pub begun_before : (does was : Work) (at now : ℕ) → (MakesCommit does → ⊥)
+pub begun_before : (does was : Work) {at : ℕ} (now : ℕ) → (MakesCommit does → ⊥)
     → begun_at (commit_in does) (commit_in was) at now ≡ at
-begun_before does was at now none = by (commit_in does) none
+begun_before does was {at = at} now none = by (commit_in does) none
   where
     by : (commit : Option CommitRun) → (IsSome commit → ⊥) → begun_at commit (commit_in was) at now ≡ at
     by None none = refl
@@ -270,8 +250,7 @@ idle_no_attach idle under run is does = none_some (sym idle ∙ is)
 -- So it is where the work is this one, which is none.
 pub other_no_attach : {its : Option UnderWay} {under : UnderWay} {does : Work} → its ≡ Some under → under.work ≡ does
     → ((run : AttachRun) → does ≡ work.Attach run → ⊥) → IsNoAttach its
-other_no_attach is does_is none under run its_is attach =
-    none run (sym does_is ∙ ap (λ (u : UnderWay). u.work) (some_is (sym is ∙ its_is)) ∙ attach)
+other_no_attach is does_is none under run its_is attach = none run (cc)
 
 -- A work that holds sectors is none,
 pub held_no_attach : {does : Work} {held : HoldingCall} → held_by does ≡ held ∷ [] → (run : AttachRun)
@@ -289,17 +268,14 @@ held_none_made (work.Sync run) holds = refl
 held_none_made (work.Attach run) holds = refl
 held_none_made (work.Copy (Copies run)) holds = refl
 held_none_made (work.Copy (Commits run)) holds = refl
-held_none_made (work.Copy (Rests actor made)) {held} holds = absurd (apart held holds)
-  where
-    apart : (held : HoldingCall) → [] ≡ held ∷ [] → ⊥
-    apart held same = cc
+held_none_made (work.Copy (Rests actor made)) {held} holds = cc
 
 pub same_attach : {one other : AttachRun} → work.Attach one ≡ work.Attach other → one ≡ other
 same_attach same = cc
 
 -- A sync is none.
-pub sync_no_attach : (sync : CommitRun) (run : AttachRun) → work.Sync sync ≡ work.Attach run → ⊥
-sync_no_attach sync run same = cc
+pub sync_no_attach : {sync : CommitRun} {run : AttachRun} → work.Sync sync ≡ work.Attach run → ⊥
+sync_no_attach same = cc
 
 -- An attach that makes no commit has begun none.
 pub before_commit : (run : AttachRun) → (IsSome (attach_commit run) → ⊥) → IsBeforeCommit run
@@ -311,9 +287,9 @@ before_commit (Signs run because) none = none refl
 module _ {clients news : List Client} {index : ℕ} {old client : Client} (was : slice_get clients index ≡ Some old)
     (changes : Changes clients news index client) where
   -- Other clients go on with their calls.
-  pub going_on : (other : ℕ) (its : Client) (under : UnderWay) → other ≢ index → IsGoing clients other its under
+  pub going_on : {other : ℕ} {its : Client} {under : UnderWay} → other ≢ index → IsGoing clients other its under
       → IsGoing news other its under
-  going_on other its under apart going =
+  going_on {other = other} apart going =
       record { there = changes.others other apart ∙ going.there; under_way = going.under_way }
 
   -- What holds of this one's call and of the others' holds of each.
@@ -324,21 +300,19 @@ module _ {clients news : List Client} {index : ℕ} {old client : Client} (was :
       → (other : ℕ) (its : Client) (under : UnderWay) → IsGoing news other its under → T other its under
   each_going {T} here others other its under is = ⊎_elim
       (λ (same : other ≡ index).
-      let client_is : client ≡ its = some_is (sym changes.there ∙ ap (slice_get news) (sym same) ∙ is.there) in
-      subst (λ (n : ℕ). T n its under) (sym same) (subst (λ (c : Client). T index c under) client_is
-      (here under (ap (λ (c : Client). c.under_way) client_is ∙ is.under_way))))
+      let client_is : client ≡ its = some_is (cc) in
+      subst (λ (n : ℕ). T n its under) (sym same) (subst (λ (c : Client). T index c under) client_is (here under (cc))))
       (λ (apart : other ≢ index). others other its under apart (record {
         there = sym (changes.others other apart) ∙ is.there;
         under_way = is.under_way;
-      }))
-      (cases_eq other index)
+      })) (cases_eq other index)
 
   -- This one's commit isn't under way.
-  pub apart_of_commit : IsNoCommit old.under_way → (other : ℕ) (its : Client) (under : UnderWay)
+  pub apart_of_commit : IsNoCommit old.under_way → {other : ℕ} {its : Client} {under : UnderWay}
       → IsGoing clients other its under → MakesCommit under.work → other ≢ index
-  apart_of_commit none other its under going makes same =
-      let here = subst (λ (n : ℕ). IsGoing clients n its under) same going in
-      no_commit_under none under (ap (λ (c : Client). c.under_way) (some_is (sym was ∙ here.there)) ∙ here.under_way) makes
+  apart_of_commit none {its = its} {under = under} going makes same =
+      let here = rw same at going in
+      no_commit_under none under (cc) makes
 
   -- The commit under way is a client's still, where this one's work makes and made none.
   pub commit_stays : (commit : Option CommitRun) → IsNoCommit old.under_way → IsNoCommit client.under_way
@@ -349,8 +323,7 @@ module _ {clients news : List Client} {index : ℕ} {old client : Client} (was :
     other,
     its,
     its_under,
-    going_on other its its_under
-        (apart_of_commit was_none other its its_under its_going (makes_commit its_under.work run is)) its_going,
+    search (going_on, apart_of_commit, makes_commit, is),
     is,
   )
 

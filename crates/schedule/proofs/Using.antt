@@ -1,25 +1,5 @@
 -- The calls that are left of a script and the runs of sectors that were taken, as they come.
-use Rattle.std.proofs.Common.{◌≡◌, ◌≢◌, ⊎_elim, ℕ, suc, ◌+◌, ◌≤◌, List, [], ◌∷◌, ◌++◌, length, Bool, Some, refl, sym, ◌∙◌, ap, arith, cond, eq-eqb, ne_eqb, length-append, drop, drop-cons}
-use Rattle.std.specs.Prelude.{filter, flat_map, map, slice_get, sum, ◌==◌}
-use Rattle.std.proofs.lemmas.Bool.{cases_eq}
-use Rattle.std.proofs.lemmas.Grind.{flat_map-append}
-use Rattle.std.proofs.lemmas.List.{append-nil, map-append}
-use Rattle.std.proofs.lemmas.List.Sums.{sum_by-append}
-use Rattle.std.proofs.lemmas.Option.{slice_get_within, get_or_from_slice_get}
-use Rattle.space_alloc.specs.Space.{Run, Space, Gains, HasNoFreeRun}
-use Rattle.block_record.specs.declared.entry.IndexEntry.{IndexEntry}
-use Rattle.uberblock_ring.specs.Uberblock.{Uber}
-use Rattle.core_blocks.specs.Runs.{held_sectors}
-use Rattle.core_blocks.specs.Usage.{sectors_in, IsTight}
-use Rattle.core_blocks.proofs.Usage.{full_tight}
-use Rattle.client_script.specs.declared.call.ScriptCall.{ScriptCall}
-use Rattle.client_script.specs.Lines.{fill_bytes}
-use Rattle.client_script.specs.Script.{Placed, Script, calls_of}
-use Rattle.core_turns.specs.Core.{Core}
-use Rattle.journal_law.specs.NoSpace.{length_put, largest_size}
-use Rattle.schedule.specs.declared.client.Client.{Client}
-use Rattle.schedule.specs.Clients.{Changes}
-use Rattle.schedule.specs.Using.{AreAtMost, AreLeft, AreRunsOf, calls_among, sizes_left, sizes_of, sizes_put}
+use Rattle.schedule.proofs.Words.{◌≡◌, ◌≢◌, ⊎_elim, ℕ, suc, ◌+◌, ◌≤◌, List, [], ◌∷◌, ◌++◌, length, Bool, Some, refl, sym, ◌∙◌, ap, arith, cond, eq-eqb, ne_eqb, length-append, drop, drop-cons, filter, flat_map, map, slice_get, sum, ◌==◌, cases_eq, flat_map-append, append-nil, map-append, sum_by-append, slice_get_within, get_or_from_slice_get, Run, Space, Gains, HasNoFreeRun, IndexEntry, Uber, held_sectors, sectors_in, IsTight, full_tight, ScriptCall, fill_bytes, Placed, Script, calls_of, Core, length_put, largest_size, Client, Changes, AreAtMost, AreLeft, AreRunsOf, calls_among, sizes_left, sizes_of, sizes_put}
 use Rattle.schedule.proofs.Theirs.{some_is}
 
 -- ---- the calls that are left
@@ -68,7 +48,8 @@ take_first (first ∷ calls) actor call rest is =
   where
     here : first.actor ≡ actor → (next : List Placed) × TakesFirst (first ∷ calls) next actor call rest
     here same =
-        let split : first.call ∷ calls_among calls actor ≡ call ∷ rest = sym (among_its first calls actor same) ∙ is in (
+        let split : first.call ∷ calls_among calls actor ≡ call ∷ rest = sym (among_its first calls actor same)
+        ∙ is in (
           calls,
           record {
             placed = first;
@@ -102,13 +83,12 @@ take_first (first ∷ calls) actor call rest is =
                 ∙ ap (λ (l : List ScriptCall). first.call ∷ l) (takes.others other away)
                 ∙ sym (among_its first calls other same))
                 (λ not_its. among_not first next other not_its ∙ takes.others other away
-                ∙ sym (among_not first calls other not_its))
-                (cases_eq first.actor other);
+                ∙ sym (among_not first calls other not_its)) (cases_eq first.actor other);
           },
         )
 
-module _ (script : Script) (clients news : List Client) (actor : ℕ) (old new : Client)
-    (changes : Changes clients news actor new) (was : slice_get clients actor ≡ Some old) (left : List Placed)
+module _ {script : Script} {clients news : List Client} {actor : ℕ} {old new : Client}
+    (changes : Changes clients news actor new) (was : slice_get clients actor ≡ Some old) {left : List Placed}
     (are : AreLeft script clients left) where
   -- Where the client begins no call, the same are left.
   pub left_same : new.begun ≡ old.begun → AreLeft script news left
@@ -116,19 +96,18 @@ module _ (script : Script) (clients news : List Client) (actor : ℕ) (old new :
     each = λ index client there. ⊎_elim
         (λ same.
         let its : client ≡ new =
-        some_is (sym there ∙ ap (slice_get news) same ∙ changes.there) in
+        some_is (cc) in
         ap (calls_among left) same ∙ are.each actor old was
         ∙ (λ i. drop ((sym begun ∙ ap (λ (c : Client). c.begun) (sym its)) i) (calls_of script (sym same i))))
-        (λ apart. are.each index client (sym (changes.others index apart) ∙ there))
-        (cases_eq index actor);
+        (search arith) (cases_eq index actor);
   }
 
   -- Where it begins its next call, that is taken out.
   pub left_next : (call : ScriptCall) → slice_get (calls_of script actor) old.begun ≡ Some call
       → new.begun ≡ old.begun + 1
-      → (next : List Placed) × (placed : Placed) × (placed.call ≡ call) × Gains next left placed × AreLeft script news next
-  left_next call is begun = by (take_first left actor call (drop (suc old.begun) (calls_of script actor))
-      (are.each actor old was ∙ split))
+      → (next : List Placed) × (placed : Placed) × (placed.call ≡ call) × Gains next left placed
+      × AreLeft script news next
+  left_next call is begun = search (by, take_first, split, arith)
     where
       split : drop old.begun (calls_of script actor) ≡ call ∷ drop (suc old.begun) (calls_of script actor)
       split = drop-cons (calls_of script actor) old.begun call
@@ -147,13 +126,11 @@ module _ (script : Script) (clients news : List Client) (actor : ℕ) (old new :
         record {
           each = λ index client there. ⊎_elim
               (λ same.
-              let its : client ≡ new = some_is (sym there ∙ ap (slice_get news) same ∙ changes.there) in
+              let its : client ≡ new = some_is (cc) in
               let number : suc old.begun ≡ client.begun =
-              (let more = ap (λ (c : Client). c.begun) its in omega (arith, more, begun)) in
+              (search (its, arith)) in
               ap (calls_among next) same ∙ takes.its ∙ (λ i. drop (number i) (calls_of script (sym same i))))
-              (λ apart. takes.others index apart
-              ∙ are.each index client (sym (changes.others index apart) ∙ there))
-              (cases_eq index actor);
+              (search arith) (cases_eq index actor);
         },
       )
 
@@ -182,24 +159,21 @@ module _ (uber : Uber) where
       let sum_rest : sum (its ++ after) ≡ sum its + sum after = sum_by-append (λ (n : ℕ). n) its after in
       let sum_is : sum (sizes_left uber left) ≡ sum before + sum (its ++ after) =
       ap sum is ∙ sum_by-append (λ (n : ℕ). n) before (its ++ after) in
-      (omega (arith, long_was, long_rest, long_is), omega (arith, sum_was, sum_rest, sum_is))
+      (omega arith, omega arith)
 
   -- Runs of no more than the call's size may come in its place.
-  pub most_next : (runs more : List Run) (next left : List Placed) (placed : Placed) (sizes : List ℕ)
-      → Gains next left placed → length more ≤ length (sizes_put uber placed)
+  pub most_next : {runs : List Run} (more : List Run) (next : List Placed) {left : List Placed}
+      (placed : Placed) {sizes : List ℕ} → Gains next left placed → length more ≤ length (sizes_put uber placed)
       → sectors_in more ≤ sum (sizes_put uber placed) → AreAtMost runs (sizes_left uber left) sizes
       → AreAtMost (more ++ runs) (sizes_left uber next) sizes
-  most_next runs more next left placed sizes gains few small most =
+  most_next {runs = runs} more next {left = left} placed gains few small most =
       let less = gained_sizes next left placed gains in
       let long = length-append more runs in
       let total : sectors_in (more ++ runs) ≡ sectors_in more + sectors_in runs =
-      sum_by-append (λ (run : Run). run.len) more runs in
+      search sum_by-append in
       let fewer = most.few in
       let sectors = most.sectors in
-      record {
-        few = (let one = less.0 in omega (arith, one, long, few, fewer));
-        sectors = (let one = less.1 in omega (arith, one, total, small, sectors));
-      }
+      search arith
 
   -- What all calls put are those that are left at first.
   sizes_mapped : (calls : List Placed)
@@ -211,14 +185,9 @@ module _ (uber : Uber) where
       (flat_map (λ placed. length_put placed.call.kind (fill_bytes placed.call.fill)) calls)
       ∙ ap (λ (l : List ℕ). sizes_put uber placed ++ l) (sizes_mapped calls)
 
-  pub sizes_split : (entries : List IndexEntry) (calls : List Placed)
-      → sizes_of uber entries calls
+  pub sizes_split : (entries : List IndexEntry) (calls : List Placed) → sizes_of uber entries calls
       ≡ map (largest_size uber) (map (λ (entry : IndexEntry). entry.len) entries) ++ sizes_left uber calls
-  sizes_split entries calls =
-      map-append (largest_size uber) (map (λ (entry : IndexEntry). entry.len) entries)
-      (flat_map (λ placed. length_put placed.call.kind (fill_bytes placed.call.fill)) calls)
-      ∙ ap (λ (l : List ℕ). map (largest_size uber) (map (λ (entry : IndexEntry). entry.len) entries) ++ l)
-      (sizes_mapped calls)
+  sizes_split entries calls = search (map-append, sizes_mapped)
 
 -- ---- no run of free sectors
 
@@ -227,12 +196,12 @@ abbrev space_with : ℕ → List Run → Space
 space_with capacity runs = record { capacity = capacity; taken = runs; held = [] }
 
 -- Where no run is free, none is beside the runs that were taken since the opening,
-full_beside : (runs : List Run) (core : Core) (size : ℕ) → AreRunsOf runs core
+full_beside : {runs : List Run} {core : Core} (size : ℕ) → AreRunsOf runs core
     → HasNoFreeRun core.pool.blocks.space core.holds size
     → HasNoFreeRun (space_with core.pool.blocks.space.capacity runs) [] size
-full_beside runs core size are full start free = full start (λ sector inside. let its = free sector inside in record {
+full_beside size are full start free = full start (λ sector inside. let its = free sector inside in record {
   below = its.below;
-  untaken = λ taken. its.untaken (taken.0, are.taken taken.0 taken.1, taken.2);
+  untaken = search arith;
   not_held = λ held. its.untaken (held_sectors held.0, are.held held.0 held.1, held.2);
   not_shared = λ shared.
       let within = are.holds shared.0 shared.1 shared.2 in
@@ -241,21 +210,18 @@ full_beside runs core size are full start free = full start (λ sector inside. l
       let ends = overlaps.ends in
       let low = within.begins in
       let high = within.ends in
-      its.untaken (within.run, within.listed, (omega (arith, begins, low), omega (arith, ends, high)));
+      search arith;
 })
 
 -- and so they could leave none,
-pub full_by_runs : (runs : List Run) (core : Core) (left sizes : List ℕ) (size : ℕ) → AreRunsOf runs core
+pub full_by_runs : {runs : List Run} (core : Core) {left sizes : List ℕ} (size : ℕ) → AreRunsOf runs core
     → AreAtMost runs left sizes → HasNoFreeRun core.pool.blocks.space core.holds size
     → IsTight core.pool.blocks.space.capacity sizes size
-full_by_runs runs core left sizes size are most full =
-    full_tight (space_with core.pool.blocks.space.capacity runs) sizes size (record {
-      runs = (let long = ap length (append-nil runs) in let few = most.few in omega (arith, long, few));
-      sectors = (let same = ap sectors_in (append-nil runs) in let few = most.sectors in omega (arith, same, few));
-    })
-    (full_beside runs core size are full)
+full_by_runs {runs = runs} core {sizes = sizes} size are most full =
+    full_tight (space_with core.pool.blocks.space.capacity runs) sizes size (search (append-nil, arith))
+    (full_beside size are full)
 
 -- nor where the pool had fewer sectors.
-pub tight_below : (small large : ℕ) (sizes : List ℕ) (size : ℕ) → small ≤ large → IsTight large sizes size
+pub tight_below : {small large : ℕ} {sizes : List ℕ} {size : ℕ} → small ≤ large → IsTight large sizes size
     → IsTight small sizes size
-tight_below small large sizes size less is = record { tight = let tight = is.tight in omega (arith, tight, less) }
+tight_below less is = search arith

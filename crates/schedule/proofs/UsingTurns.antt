@@ -1,53 +1,10 @@
 -- What the first turn of a call leaves of the runs of sectors that were taken, and of who holds some.
-use Rattle.std.proofs.Common.{◌≡◌, ◌⊎◌, inl, inr, ⊎_elim, ℕ, ◌+◌, ◌≤◌, List, [], ◌∷◌, ◌++◌, length, Option, Some, None, refl, sym, ◌∙◌, ap, subst, arith}
-use Rattle.std.specs.Prelude.{Bool, Contains, cond, map, sum}
-use Rattle.width_map.specs.declared.birth.Birth.{Birth}
-use Rattle.width_map.specs.Births.{first_width}
-use Rattle.range_locks.specs.declared.hold.Hold.{Hold}
-use Rattle.range_locks.specs.declared.hold.HoldKind.TheVariants.{Shared, Exclusive}
-use Rattle.range_locks.specs.declared.hold.HoldKind.{HoldKind}
+use Rattle.schedule.proofs.Words.{◌≡◌, ◌⊎◌, inl, inr, ⊎_elim, ℕ, ◌+◌, ◌≤◌, List, [], ◌∷◌, ◌++◌, length, Option, Some, None, refl, sym, ◌∙◌, ap, subst, arith, Contains, map, sum, Birth, first_width, Hold, Shared, Exclusive, EndsHold, Layout, allocated_of, Run, HeldRun, IndexEntry, entry_of, Uber, Answer, Kind, run_of, put_run, HoldsBack, sectors_taken, held_sectors, sectors_in, size_at, found_listed, first_listed, rest_listed, gains_old, gains_item, gains_cases, ScriptCall, fill_bytes, CommitRun, CopyRun, GetRun, PutRun, CopyRound, Rests, Copies, Commits, More, Core, IsCore, as_begun, BeginsCommitSo, DropsHold, TakesHold, hold_for, BeginsJobSo, BeginsGet, hold_of, FreesBlock, BeginsPutSo, BeginsPutTurn, GivesUp, IsPutRefused, LeavesBlocks, StoresBlock, BeginsRound, count_ended, count_gained, one_if, length_put, largest_size, largest, Work, is_shared, shared_count, sharing_in, AnswersAtOnce, BeginsWork, Waits, AreRunsOf, IsHeldIn, IsOpenSince}
+use Rattle.std.specs.Prelude.{Bool}
 use Rattle.range_locks.specs.Gaining.{Gains}
-use Rattle.range_locks.specs.Holds.{EndsHold}
-use Rattle.row_layout.specs.Layout.{Layout, allocated_of}
-use Rattle.space_alloc.specs.Space.{Run, HeldRun, Space}
-use Rattle.block_record.specs.declared.entry.IndexEntry.{IndexEntry}
-use Rattle.block_table.specs.Table.{entry_of}
-use Rattle.uberblock_ring.specs.Uberblock.{Uber}
-use Rattle.core_state.specs.declared.answer.Answer.{Answer}
 use Rattle.core_state.specs.declared.answer.Answer.TheVariants as answer
-use Rattle.core_state.specs.declared.answer.Kind.{Kind}
 use Rattle.core_state.specs.declared.answer.Kind.TheVariants as kind
-use Rattle.core_blocks.specs.Blocks.{run_of, put_run}
-use Rattle.core_blocks.specs.Puts.{HoldsBack, sectors_taken}
-use Rattle.core_blocks.specs.Runs.{held_sectors}
-use Rattle.core_blocks.specs.Usage.{sectors_in, size_at}
-use Rattle.core_blocks.proofs.Listed.{found_listed}
-use Rattle.core_blocks.proofs.Lists.{first_listed, rest_listed, gains_old, gains_item, gains_cases}
-use Rattle.client_script.specs.declared.call.ScriptCall.{ScriptCall}
-use Rattle.client_script.specs.Lines.{fill_bytes}
-use Rattle.core_commit.specs.CommitTurns.{CommitRun}
-use Rattle.core_turns.specs.declared.copying.CopyRun.{CopyRun}
-use Rattle.core_turns.specs.declared.getting.GetRun.{GetRun}
-use Rattle.core_turns.specs.declared.putting.PutRun.{PutRun}
-use Rattle.core_turns.specs.declared.rounds.CopyRound.{CopyRound}
-use Rattle.core_turns.specs.declared.rounds.CopyRound.TheVariants.{Rests, Copies, Commits}
-use Rattle.core_turns.specs.declared.turn.Turn.TheVariants.{More}
-use Rattle.core_turns.specs.Core.{Core, IsCore, as_begun}
-use Rattle.core_turns.specs.Committing.{BeginsCommitSo, DropsHold, TakesHold, hold_for}
-use Rattle.core_turns.specs.Copying.{BeginsJobSo}
-use Rattle.core_turns.specs.Getting.{BeginsGet, hold_of}
-use Rattle.core_turns.specs.Freeing.{FreesBlock}
-use Rattle.core_turns.specs.Putting.{BeginsPutSo, BeginsPutTurn, GivesUp, IsPutRefused, LeavesBlocks, StoresBlock}
-use Rattle.core_turns.specs.Rounds.{BeginsRound}
-use Rattle.core_turns.proofs.Holds.{count_ended, count_gained, one_if}
-use Rattle.journal_law.specs.NoSpace.{length_put, largest_size}
-use Rattle.journal_law.proofs.NoSpace.{largest}
-use Rattle.schedule.specs.declared.client.Work.{Work}
 use Rattle.schedule.specs.declared.client.Work.TheVariants as work
-use Rattle.range_locks.specs.Order.{is_shared, shared_count}
-use Rattle.schedule.specs.Playing.{sharing_in}
-use Rattle.schedule.specs.Turned.{AnswersAtOnce, BeginsWork, Waits}
-use Rattle.schedule.specs.Using.{AreRunsOf, IsHeldIn, IsOpenSince}
 
 -- ---- holds
 
@@ -57,49 +14,43 @@ is_shared_hold hold = is_shared hold.kind
 
 -- A shared hold adds one to their number, and one that is held alone none.
 pub adds_shared : (hold : Hold) → hold.kind ≡ Shared → one_if is_shared_hold hold ≡ 1
-adds_shared hold shared = ap (λ (kind : HoldKind). cond (is_shared kind) 1 0) shared
+adds_shared hold shared = cc
 
 adds_no_shared : (hold : Hold) → hold.kind ≡ Exclusive → one_if is_shared_hold hold ≡ 0
-adds_no_shared hold exclusive = ap (λ (kind : HoldKind). cond (is_shared kind) 1 0) exclusive
+adds_no_shared hold exclusive = cc
 
 -- So there is at most one more where a shared hold is taken,
-pub shared_more : (old new : List Hold) (hold : Hold) → hold.kind ≡ Shared → Gains old new hold
+pub shared_more : {old new : List Hold} {hold : Hold} → hold.kind ≡ Shared → Gains old new hold
     → shared_count new ≤ shared_count old + 1
-shared_more old new hold shared gains =
-    let more = count_gained is_shared_hold old new hold gains in
-    let one = adds_shared hold shared in
-    omega (arith, more, one)
+shared_more {old = old} {new = new} {hold = hold} shared gains =
+    omega (arith, count_gained is_shared_hold old new hold gains, adds_shared hold shared)
 
 -- and no more where one is taken that is held alone,
-pub alone_taken : (old new : List Hold) (hold : Hold) → hold.kind ≡ Exclusive → Gains old new hold
+pub alone_taken : {old new : List Hold} {hold : Hold} → hold.kind ≡ Exclusive → Gains old new hold
     → shared_count new ≤ shared_count old
-alone_taken old new hold exclusive gains =
-    let more = count_gained is_shared_hold old new hold gains in
-    let none = adds_no_shared hold exclusive in
-    omega (arith, more, none)
+alone_taken {old = old} {new = new} {hold = hold} exclusive gains =
+    omega (arith, count_gained is_shared_hold old new hold gains, adds_no_shared hold exclusive)
 
 -- as by a commit, where that takes one.
-pub commit_taken : (old new : List Hold) (hold : Hold) → hold.kind ≡ Exclusive → TakesHold old new hold
+pub commit_taken : {old new : List Hold} {hold : Hold} → hold.kind ≡ Exclusive → TakesHold old new hold
     → shared_count new ≤ shared_count old
-commit_taken old new hold exclusive (inl taken) = alone_taken old new hold exclusive taken.1
-commit_taken old new hold exclusive (inr none) = let same = ap shared_count none.1 in omega (arith, same)
+commit_taken exclusive (inl taken) = alone_taken exclusive taken.1
+commit_taken exclusive (inr none) = search arith
 
 -- There is one less where a shared hold ends,
-pub shared_less : (old new : List Hold) (hold : Hold) → hold.kind ≡ Shared → EndsHold old new hold
+pub shared_less : {old new : List Hold} {hold : Hold} → hold.kind ≡ Shared → EndsHold old new hold
     → shared_count new + 1 ≤ shared_count old
-shared_less old new hold shared ends =
-    let less = count_ended is_shared_hold old new hold ends in
-    let one = adds_shared hold shared in
-    omega (arith, less, one)
+shared_less {old = old} {new = new} {hold = hold} shared ends =
+    omega (arith, count_ended is_shared_hold old new hold ends, adds_shared hold shared)
 
 -- and no more where any ends,
-pub ended_few : (old new : List Hold) (hold : Hold) → EndsHold old new hold → shared_count new ≤ shared_count old
-ended_few old new hold ends = let less = count_ended is_shared_hold old new hold ends in omega (arith, less)
+pub ended_few : {old new : List Hold} {hold : Hold} → EndsHold old new hold → shared_count new ≤ shared_count old
+ended_few {old = old} {new = new} {hold = hold} ends = omega (arith, count_ended is_shared_hold old new hold ends)
 
 -- as that of a commit, where that had one.
-pub dropped_few : (old new : List Hold) (hold : Hold) → DropsHold old new hold → shared_count new ≤ shared_count old
-dropped_few old new hold (inl dropped) = ended_few old new hold dropped.1
-dropped_few old new hold (inr none) = let same = ap shared_count none.1 in omega (arith, same)
+pub dropped_few : {old new : List Hold} (hold : Hold) → DropsHold old new hold → shared_count new ≤ shared_count old
+dropped_few hold (inl dropped) = ended_few dropped.1
+dropped_few hold (inr none) = search arith
 
 -- ---- who copies
 
@@ -128,14 +79,14 @@ pub record UsesNoMore (old new : Core) : Type 0 where
 -- So the runs are the same.
 pub runs_still : (old new : Core) → UsesNoMore old new → (runs : List Run) → AreRunsOf runs old → AreRunsOf runs new
 runs_still old new uses runs are = record {
-  taken = λ run listed. are.taken run (uses.taken run listed);
+  taken = search arith;
   held = λ run listed. ⊎_elim (are.held run) (are.taken (held_sectors run)) (uses.held run listed);
-  holds = λ hold listed shared. are.holds hold (uses.holds hold listed shared) shared;
+  holds = λ hold listed shared. search (shared, arith);
 }
 
 -- A hold that is in runs is in more of them.
-held_further : (runs : List Run) (run : Run) (hold : Hold) → IsHeldIn runs hold → IsHeldIn (run ∷ runs) hold
-held_further runs run hold is = record {
+held_further : (runs : List Run) {run : Run} {hold : Hold} → IsHeldIn runs hold → IsHeldIn (run ∷ runs) hold
+held_further runs {run = run} is = record {
   run = is.run;
   listed = rest_listed run is.run runs is.listed;
   begins = is.begins;
@@ -146,80 +97,66 @@ module _ (old new : Core) where
   -- Turns that leave the space, or give some of it back,
   pub same_core : new ≡ old → UsesNoMore old new
   same_core same = record {
-    taken = λ run listed. subst (λ (c : Core). Contains c.pool.blocks.space.taken run) same listed;
-    held = λ run listed. inl (subst (λ (c : Core). Contains c.pool.blocks.space.held run) same listed);
-    holds = λ hold listed shared. subst (λ (c : Core). Contains c.holds hold) same listed;
-    few = let still = ap (λ (c : Core). shared_count c.holds) same in omega (arith, still);
+    taken = search arith;
+    held = search arith;
+    holds = search arith;
+    few = search arith;
   }
 
   pub same_parts : new.pool.blocks.space ≡ old.pool.blocks.space → new.holds ≡ old.holds → UsesNoMore old new
   same_parts space holds = record {
-    taken = λ run listed. subst (λ (s : Space). Contains s.taken run) space listed;
-    held = λ run listed. inl (subst (λ (s : Space). Contains s.held run) space listed);
-    holds = λ hold listed shared. subst (λ (l : List Hold). Contains l hold) holds listed;
-    few = let still = ap shared_count holds in omega (arith, still);
+    taken = search arith;
+    held = search arith;
+    holds = search (holds, arith);
+    few = search (holds, arith);
   }
 
   -- A commit that begins holds its sectors alone.
-  pub commit_begun : (run : CommitRun) (actor : ℕ) → BeginsCommitSo old new actor run → UsesNoMore old new
-  commit_begun run actor begins = record {
-    taken = λ other listed. subst (λ (s : Space). Contains s.taken other)
-        (ap (λ (c : Core). c.pool.blocks.space) begins.rest) listed;
-    held = λ other listed. inl (subst (λ (s : Space). Contains s.held other)
-        (ap (λ (c : Core). c.pool.blocks.space) begins.rest) listed);
+  pub commit_begun : {run : CommitRun} {actor : ℕ} → BeginsCommitSo old new actor run → UsesNoMore old new
+  commit_begun {run = run} {actor = actor} begins = record {
+    taken = search arith;
+    held = search arith;
     holds = λ hold listed shared. ⊎_elim
         (λ taken. ⊎_elim
-        (λ same. absurd (alone (sym shared ∙ sym (ap (λ (h : Hold). h.kind) same))))
+        (λ same. cc)
         (λ was. was)
         (gains_cases old.holds new.holds (hold_for old.pool.uber.reflow run.uber.reflow actor) hold taken.1 listed))
-        (λ none. subst (λ (l : List Hold). Contains l hold) none.1 listed)
-        begins.holds;
-    few = commit_taken old.holds new.holds (hold_for old.pool.uber.reflow run.uber.reflow actor) refl begins.holds;
+        (search arith) begins.holds;
+    few = commit_taken refl begins.holds;
   }
-    where
-      alone : Shared ≡ Exclusive → ⊥
-      alone same = cc
 
   -- So does a job.
-  pub job_begun : (run : CopyRun) (actor : ℕ) → BeginsJobSo old new actor run → UsesNoMore old new
-  job_begun run actor begins = record {
-    taken = λ other listed. subst (λ (s : Space). Contains s.taken other)
-        (ap (λ (c : Core). c.pool.blocks.space) begins.rest) listed;
-    held = λ other listed. inl (subst (λ (s : Space). Contains s.held other)
-        (ap (λ (c : Core). c.pool.blocks.space) begins.rest) listed);
+  pub job_begun : (run : CopyRun) {actor : ℕ} → BeginsJobSo old new actor run → UsesNoMore old new
+  job_begun run begins = record {
+    taken = search arith;
+    held = search arith;
     holds = λ hold listed shared. ⊎_elim
-        (λ same. absurd (alone (sym shared ∙ sym (ap (λ (h : Hold). h.kind) same) ∙ exclusive)))
-        (λ was. was)
-        (gains_cases old.holds new.holds run.hold hold begins.holds listed);
-    few = alone_taken old.holds new.holds run.hold exclusive begins.holds;
+        (λ same. cc)
+        (λ was. was) (gains_cases old.holds new.holds run.hold hold begins.holds listed);
+    few = alone_taken exclusive begins.holds;
   }
     where
-      alone : Shared ≡ Exclusive → ⊥
-      alone same = cc
-
       exclusive : run.hold.kind ≡ Exclusive
-      exclusive = ap (λ (r : CopyRun). r.hold.kind) begins.run_is
+      exclusive = cc
 
   left_blocks : LeavesBlocks old new → UsesNoMore old new
   left_blocks leaves = record {
     taken = leaves.taken;
-    held = λ run listed. inl (subst (λ (l : List HeldRun). Contains l run) leaves.held listed);
-    holds = λ hold listed shared. subst (λ (l : List Hold). Contains l hold) (ap (λ (c : Core). c.holds) leaves.rest) listed;
-    few = let still = ap (λ (c : Core). shared_count c.holds) leaves.rest in omega (arith, still);
+    held = search arith;
+    holds = search arith;
+    few = search arith;
   }
 
   pub one_less : (hold : Hold) → EndsHold old.holds new.holds hold → (other : Hold) → Contains new.holds other
       → Contains old.holds other
-  one_less hold ends other listed = gains_old new.holds old.holds hold other
-      (record { before = ends.before; after = ends.after; was = ends.is; is = ends.was }) listed
+  one_less hold ends other listed = gains_old new.holds old.holds hold other (search) listed
 
   pub given_up : (run : PutRun) → GivesUp old new run → UsesNoMore old new
   given_up run gives = record {
-    taken = λ other listed. gains_old new.pool.blocks.space.taken old.pool.blocks.space.taken (put_run run.range) other
-        gives.dropped.taken listed;
-    held = λ other listed. inl (subst (λ (l : List HeldRun). Contains l other) gives.dropped.held listed);
-    holds = λ hold listed shared. one_less run.hold gives.ends hold listed;
-    few = ended_few old.holds new.holds run.hold gives.ends;
+    taken = search gains_old;
+    held = search arith;
+    holds = search one_less;
+    few = ended_few gives.ends;
   }
 
   -- or hold it back.
@@ -228,19 +165,16 @@ module _ (old new : Core) where
       → ((hold : Hold) → Contains new.holds hold → Contains old.holds hold)
       → shared_count new.holds ≤ shared_count old.holds → UsesNoMore old new
   held_back parity births group None same holds few = record {
-    taken = λ run listed. subst (λ (s : Space). Contains s.taken run) same listed;
-    held = λ run listed. inl (subst (λ (s : Space). Contains s.held run) same listed);
+    taken = search arith;
+    held = search arith;
     holds = λ hold listed shared. holds hold listed;
     few = few;
   }
   held_back parity births group (Some entry) holding holds few = record {
-    taken = λ run listed. gains_old new.pool.blocks.space.taken old.pool.blocks.space.taken (run_of parity births entry)
-        run holding.taken listed;
+    taken = search gains_old;
     held = λ run listed. ⊎_elim
-        (λ same. inr (subst (Contains old.pool.blocks.space.taken) (ap held_sectors same)
-        (gains_item new.pool.blocks.space.taken old.pool.blocks.space.taken (run_of parity births entry) holding.taken)))
-        (λ was. inl was)
-        (gains_cases old.pool.blocks.space.held new.pool.blocks.space.held _ run holding.held listed);
+        (λ same. inr (subst (Contains old.pool.blocks.space.taken) (ap held_sectors same) (search gains_item)))
+        (λ was. inl was) (gains_cases old.pool.blocks.space.held new.pool.blocks.space.held _ run holding.held listed);
     holds = λ hold listed shared. holds hold listed;
     few = few;
   }
@@ -248,22 +182,19 @@ module _ (old new : Core) where
   pub stored : (run : PutRun) → StoresBlock old new run → UsesNoMore old new
   stored run stores = held_back old.pool.blocks.parity old.pool.blocks.births (old.begun + 1)
       (entry_of old.pool.blocks.table.entries run.range.id) stores.held (one_less run.hold stores.ends)
-      (ended_few old.holds new.holds run.hold stores.ends)
+      (ended_few stores.ends)
 
   freed : (id : ℕ) (given : Answer) → FreesBlock old new id given → UsesNoMore old new
   freed id answer.Freed frees = held_back old.pool.blocks.parity old.pool.blocks.births (old.begun + 1) (Some frees.1)
-      frees.2.held (λ hold listed. subst (λ (l : List Hold). Contains l hold)
-      (ap (λ (c : Core). c.holds) frees.2.rest) listed)
-      (let still = ap (λ (c : Core). shared_count c.holds) frees.2.rest in omega (arith, still))
-  freed id answer.Absent frees = same_parts frees.1.space (ap (λ (c : Core). c.holds) frees.1.rest)
+      frees.2.held (search arith) (search arith)
+  freed id answer.Absent frees = search (same_parts, arith)
   freed id (answer.TooManyFailed out) frees = same_core frees.2
   freed id other frees = absurd frees
 
 -- A job that begins is that of who copies.
-pub job_copies : {old new : Core} (actor : ℕ) (run : CopyRun) → BeginsJobSo old new actor run
+pub job_copies : {old new : Core} {actor : ℕ} {run : CopyRun} → BeginsJobSo old new actor run
     → new.copying ≡ Some run.hold.actor
-job_copies actor run begins = ap (λ (c : Core). c.copying) begins.rest
-    ∙ sym (ap (λ (r : CopyRun). Some r.hold.actor) begins.run_is)
+job_copies begins = cc
 
 -- ---- first turns
 
@@ -275,19 +206,19 @@ pub record BeginsWith (old new : Core) (more : List Run) (job : Option CopyRun) 
   pub runs : (runs : List Run) → AreRunsOf runs old → AreRunsOf (more ++ runs) new
 
 -- A turn that takes no run begins a call so,
-begins_as : (old new : Core) (job : Option CopyRun) → new.pool.uber ≡ old.pool.uber
+begins_as : (old new : Core) {job : Option CopyRun} → new.pool.uber ≡ old.pool.uber
     → new.copying ≡ copier_after None job old.copying → UsesNoMore old new → BeginsWith old new [] job 0
-begins_as old new job uber copying uses = record {
+begins_as old new uber copying uses = record {
   uber = uber;
   copying = copying;
-  shared = let few = uses.few in omega (arith, few);
+  shared = omega (arith, uses.few);
   runs = runs_still old new uses;
 }
 
 -- and where that is no job who copies stays so.
-begins_still : (old new : Core) → new.pool.uber ≡ old.pool.uber → new.copying ≡ old.copying → UsesNoMore old new
+begins_still : {old new : Core} → new.pool.uber ≡ old.pool.uber → new.copying ≡ old.copying → UsesNoMore old new
     → BeginsWith old new [] None 0
-begins_still old new uber copying uses = begins_as old new None uber copying uses
+begins_still {old = old} {new = new} uber copying uses = begins_as old new uber copying uses
 
 -- The runs are no more than what is put, at the pool's first width.
 pub record FitsPut (uber : Uber) (more : List Run) (lengths : List ℕ) : Type 0 where
@@ -303,30 +234,26 @@ pub record BeginsOn (old new : Core) (lengths : List ℕ) (job : Option CopyRun)
   pub begins : BeginsWith old new more job sharing
   pub fits : (uber : Uber) → IsOpenSince uber old → FitsPut uber more lengths
 
-module _ (old new : Core) (is : IsCore old) where
+module _ {old : Core} (new : Core) (is : IsCore old) where
   same_begins : new ≡ old → BeginsWith old new [] None 0
-  same_begins same = begins_still old new (ap (λ (c : Core). c.pool.uber) same) (ap (λ (c : Core). c.copying) same)
-      (same_core old new same)
+  same_begins same = search (begins_still, same_core, arith)
 
   left_begins : LeavesBlocks old new → BeginsWith old new [] None 0
-  left_begins leaves = begins_still old new (ap (λ (c : Core). c.pool.uber) leaves.rest)
-      (ap (λ (c : Core). c.copying) leaves.rest) (left_blocks old new leaves)
+  left_begins leaves = search (begins_still, left_blocks, arith)
 
   -- A put takes one run, and holds it.
-  put_takes : (actor id len : ℕ) (run : PutRun) → BeginsPutSo old new actor id len run
+  put_takes : {actor id len : ℕ} (run : PutRun) → BeginsPutSo old new actor id len run
       → BeginsWith old new (put_run run.range ∷ []) None 1
-  put_takes actor id len run begins = record {
+  put_takes run begins = record {
     uber = ap (λ (c : Core). c.pool.uber) begins.rest;
-    copying = ap (λ (c : Core). c.copying) begins.rest;
-    shared = shared_more old.holds new.holds run.hold (ap (λ (h : Hold). h.kind) begins.hold_is) begins.holds;
+    copying = cc;
+    shared = shared_more (cc) begins.holds;
     runs = λ runs are. record {
       taken = λ other listed. ⊎_elim
-          (λ same. subst (Contains (put_run run.range ∷ runs)) same (first_listed (put_run run.range) runs))
-          (λ was. rest_listed (put_run run.range) other runs (are.taken other was))
+          (search (runs, first_listed, arith)) (search (rest_listed, runs, arith))
           (gains_cases old.pool.blocks.space.taken new.pool.blocks.space.taken (put_run run.range) other
           begins.begins.taken.taken listed);
-      held = λ other listed. rest_listed (put_run run.range) (held_sectors other) runs (are.held other
-          (subst (λ (l : List HeldRun). Contains l other) begins.begins.taken.held listed));
+      held = λ other listed. rest_listed (put_run run.range) (held_sectors other) runs (search arith);
       holds = λ hold listed shared. ⊎_elim
           (λ same. subst (IsHeldIn (put_run run.range ∷ runs)) (sym begins.hold_is ∙ same) (record {
             run = put_run run.range;
@@ -334,15 +261,15 @@ module _ (old new : Core) (is : IsCore old) where
             begins = omega arith;
             ends = omega arith;
           }))
-          (λ was. held_further runs (put_run run.range) hold (are.holds hold was shared))
+          (λ was. held_further runs (are.holds hold was shared))
           (gains_cases old.holds new.holds run.hold hold begins.holds listed);
     };
   }
 
   -- That has no more sectors than at the pool's first width.
-  put_size : (actor id len : ℕ) (run : PutRun) → BeginsPutSo old new actor id len run → (uber : Uber)
+  put_size : {actor id : ℕ} (len : ℕ) (run : PutRun) → BeginsPutSo old new actor id len run → (uber : Uber)
       → IsOpenSince uber old → allocated_of run.range.layout ≤ largest_size uber len
-  put_size actor id len run begins uber since =
+  put_size len run begins uber since =
       let parity : new.pool.blocks.parity ≡ old.pool.uber.parity = begins.begins.parity ∙ is.is.parity in
       let births : new.pool.blocks.births ≡ old.pool.uber.births = begins.begins.births ∙ is.is.births in
       let size : allocated_of run.range.layout
@@ -356,35 +283,32 @@ module _ (old new : Core) (is : IsCore old) where
       largest (as_begun old).uber len (old.begun + 1) is.is.right in
       let first : size_at old.pool.uber.parity (first_width old.pool.uber.births) len ≡ largest_size uber len =
       λ i. size_at (since.parity i) (since.first i) len in
-      omega (arith, size, same, most, first)
+      omega arith
 
-  put_begins : (actor id len : ℕ) (run : PutRun) → BeginsPutTurn old new actor id len (More run)
+  put_begins : (actor id : ℕ) {len : ℕ} (run : PutRun) → BeginsPutTurn old new actor id len (More run)
       → BeginsOn old new (len ∷ []) None 1
-  put_begins actor id len run begins = record {
+  put_begins actor id {len = len} run begins = record {
     more = put_run run.range ∷ [];
-    begins = put_takes actor id len run begins;
-    fits = λ uber since. let size = put_size actor id len run begins uber since in record {
+    begins = put_takes run begins;
+    fits = λ uber since. let size = put_size len run begins uber since in record {
       few = omega arith;
-      sectors = omega (arith, size);
+      sectors = omega arith;
     };
   }
 
   -- A read holds its block's sectors, which are taken.
-  get_begins : (actor id : ℕ) (asked : Kind) (run : GetRun) → BeginsGet old new actor asked id (More run)
+  get_begins : (actor id : ℕ) {asked : Kind} (run : GetRun) → BeginsGet old new actor asked id (More run)
       → BeginsWith old new [] None 1
-  get_begins actor id asked run begins = record {
-    uber = ap (λ (c : Core). c.pool.uber) begins.6;
-    copying = ap (λ (c : Core). c.copying) begins.6;
-    shared = shared_more old.holds new.holds run.hold (ap (λ (h : Hold). h.kind) begins.4) begins.9;
+  get_begins actor id run begins = record {
+    uber = cc;
+    copying = cc;
+    shared = shared_more (cc) begins.9;
     runs = λ runs are. record {
-      taken = λ other listed. are.taken other
-          (subst (λ (c : Core). Contains c.pool.blocks.space.taken other) begins.6 listed);
-      held = λ other listed. are.held other
-          (subst (λ (c : Core). Contains c.pool.blocks.space.held other) begins.6 listed);
+      taken = search arith;
+      held = search arith;
       holds = λ hold listed shared. ⊎_elim
-          (λ same. subst (IsHeldIn runs) (sym begins.4 ∙ same) (its runs are))
-          (λ was. are.holds hold was shared)
-          (gains_cases old.holds new.holds run.hold hold begins.9 listed);
+          (search (runs, its, arith))
+          (λ was. are.holds hold was shared) (gains_cases old.holds new.holds run.hold hold begins.9 listed);
     };
   }
     where
@@ -394,9 +318,8 @@ module _ (old new : Core) (is : IsCore old) where
       taken : Contains old.pool.blocks.space.taken block
       taken = subst (λ (p : ℕ). Contains old.pool.blocks.space.taken (run_of p old.pool.uber.births run.entry))
           is.is.parity
-          (subst (λ (b : List Birth). Contains old.pool.blocks.space.taken (run_of old.pool.blocks.parity b run.entry))
-          is.is.births
-          (is.step.each run.entry (found_listed old.pool.blocks.table.entries id run.entry begins.1)).taken)
+          (rw is.is.births at (is.step.each run.entry (found_listed old.pool.blocks.table.entries id run.entry
+          begins.1)).taken)
 
       its : (runs : List Run) → AreRunsOf runs old → IsHeldIn runs (hold_of old.pool.uber run.entry actor)
       its runs are = record {
@@ -415,11 +338,8 @@ module _ (old new : Core) (is : IsCore old) where
 
   free_begins : (id : ℕ) (given : Answer) → FreesBlock old new id given → BeginsWith old new [] None 0
   free_begins id answer.Freed frees =
-      begins_still old new (ap (λ (c : Core). c.pool.uber) frees.2.rest) (ap (λ (c : Core). c.copying) frees.2.rest)
-      (freed old new id answer.Freed frees)
-  free_begins id answer.Absent frees =
-      begins_still old new (ap (λ (c : Core). c.pool.uber) frees.1.rest) (ap (λ (c : Core). c.copying) frees.1.rest)
-      (freed old new id answer.Absent frees)
+      begins_still (ap (λ (c : Core). c.pool.uber) frees.2.rest) (cc) (freed old new id answer.Freed frees)
+  free_begins id answer.Absent frees = search (begins_still, freed, arith)
   free_begins id (answer.TooManyFailed out) frees = same_begins frees.2
   free_begins id other frees = absurd frees
 
@@ -427,35 +347,30 @@ module _ (old new : Core) (is : IsCore old) where
   round_begins : (actor : ℕ) (round : CopyRound) → BeginsRound old new actor (More round)
       → BeginsWith old new [] (job_in (work.Copy round)) 0
   round_begins actor (Rests whose made) begins = absurd begins
-  round_begins actor (Copies run) begins = begins_as old new (Some run) (ap (λ (c : Core). c.pool.uber) begins.rest)
-      (job_copies actor run begins) (job_begun old new run actor begins)
-  round_begins actor (Commits run) begins = begins_still old new (ap (λ (c : Core). c.pool.uber) begins.2.rest)
-      (ap (λ (c : Core). c.copying) begins.2.rest) (commit_begun old new run actor begins.2)
+  round_begins actor (Copies run) begins = begins_as old new (cc) (job_copies begins) (job_begun old new run begins)
+  round_begins actor (Commits run) begins = begins_still (cc) (cc) (commit_begun old new begins.2)
 
   -- A call that puts nothing takes no run.
-  on_none : {job : Option CopyRun} {sharing : ℕ} (lengths : List ℕ) → BeginsWith old new [] job sharing
+  on_none : {job : Option CopyRun} {sharing : ℕ} {lengths : List ℕ} → BeginsWith old new [] job sharing
       → BeginsOn old new lengths job sharing
-  on_none lengths begins = record { more = []; begins = begins; fits = λ uber since. none_fits uber lengths }
+  on_none {lengths = lengths} begins = record {
+    more = [];
+    begins = begins;
+    fits = λ uber since. none_fits uber lengths;
+  }
 
   -- A first turn: one that goes on,
   pub works_begin : (devices actor : ℕ) (call : ScriptCall) (asked : Kind) (id : Option ℕ) (does : Work)
       → BeginsWork old new devices actor call asked id does
       → BeginsOn old new (length_put asked (fill_bytes call.fill)) (job_in does) (sharing_in does)
-  works_begin devices actor call kind.Put (Some id) (work.Put run) begins =
-      put_begins actor id (length (fill_bytes call.fill)) run begins
-  works_begin devices actor call kind.Get (Some id) (work.Read run) begins =
-      on_none [] (get_begins actor id kind.Get run begins)
-  works_begin devices actor call kind.Sum (Some id) (work.Read run) begins =
-      on_none [] (get_begins actor id kind.Sum run begins)
+  works_begin devices actor call kind.Put (Some id) (work.Put run) begins = put_begins actor id run begins
+  works_begin devices actor call kind.Get (Some id) (work.Read run) begins = on_none (get_begins actor id run begins)
+  works_begin devices actor call kind.Sum (Some id) (work.Read run) begins = on_none (get_begins actor id run begins)
   works_begin devices actor call kind.Sync None (work.Sync run) begins =
-      on_none [] (begins_still old new (ap (λ (c : Core). c.pool.uber) begins.rest)
-      (ap (λ (c : Core). c.copying) begins.rest) (commit_begun old new run actor begins))
+      on_none (begins_still (cc) (cc) (commit_begun old new begins))
   works_begin devices actor call kind.Attach None (work.Attach run) begins =
-      on_none [] (begins_still old new (ap (λ (c : Core). c.pool.uber) begins.rest)
-      (ap (λ (c : Core). c.copying) begins.rest)
-      (same_parts old new (ap (λ (c : Core). c.pool.blocks.space) begins.rest)
-      (ap (λ (c : Core). c.holds) begins.rest)))
-  works_begin devices actor call kind.Copy None (work.Copy round) begins = on_none [] (round_begins actor round begins)
+      on_none (search (begins_still, same_parts, arith))
+  works_begin devices actor call kind.Copy None (work.Copy round) begins = on_none (round_begins actor round begins)
   works_begin devices actor call asked id does begins = absurd begins
 
   -- one that waits,
@@ -472,8 +387,7 @@ module _ (old new : Core) (is : IsCore old) where
   -- and one that is answered at once.
   pub answers_with : (devices actor : ℕ) (call : ScriptCall) (asked : Kind) (id : Option ℕ) (given : Answer)
       → AnswersAtOnce old new devices actor call asked id given → BeginsWith old new [] None 0
-  answers_with devices actor call kind.Put (Some id) given answers =
-      put_refused id (length (fill_bytes call.fill)) given answers
+  answers_with devices actor call kind.Put (Some id) given answers = search put_refused
   answers_with devices actor call kind.Get (Some id) given answers = same_begins answers.0
   answers_with devices actor call kind.Sum (Some id) given answers = same_begins answers.0
   answers_with devices actor call kind.Free (Some id) given answers = free_begins id given answers.frees

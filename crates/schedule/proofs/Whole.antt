@@ -1,59 +1,9 @@
 -- A run of turns from the opening of its pool to its end.
-use Rattle.std.proofs.Common.{◌≡◌, inl, inr, ⊎_elim, ℕ, ◌≤◌, List, [], ◌∷◌, ◌++◌, Bool, true, false, refl, sym, ◌∙◌, ap, arith, length, subst, ◌+◌}
-use Rattle.std.specs.Prelude.{Contains}
-use Rattle.bank_trait.specs.Disk.{Image, Disk, Later}
-use Rattle.bank_trait.specs.Regions.{TouchesOnly}
-use Rattle.bank_trait.proofs.Touches.{touches_then}
-use Rattle.width_map.specs.Births.{NoneAbove}
-use Rattle.uberblock_ring.specs.Devices.{has_device, count_of, IsWithin}
-use Rattle.uberblock_ring.specs.Uberblock.{Uber}
-use Rattle.uberblock_ring.specs.Valid.{IsRightUber}
-use Rattle.core_state.specs.declared.item.Entry.{Entry}
+use Rattle.schedule.proofs.Words.{◌≡◌, inl, ⊎_elim, ℕ, ◌≤◌, List, [], ◌∷◌, ◌++◌, Bool, false, refl, sym, ap, arith, length, ◌+◌, Contains, Image, Disk, Later, TouchesOnly, touches_then, NoneAbove, has_device, count_of, IsWithin, Uber, IsRightUber, Entry, Item, Group, CallsAreRight, Kept, Setting, World, present, contains_head, AreUnderWay, OnlyFailedGoOut, point_of, IsOnInUse, IsOutFor, AreOutIn, AreOutOf, HaveFailed, HoldsImage, shape_of, IsWithinBelow, RenewsChoice, WritesInOrder, present_held, IsOnBelow, AreLoaded, MayBegin, OpensPool, IsBegunWith, Pool, Script, asked_by, handed_by, WhyDropped, KeepsLast, NoSpaceIsCaused, BeginsAfter, first_item, no_space_alike, opened_parity, CoreState, at_disk, Client, Ended, Whole, NoMemory, Limit, FullIsCaused, LeadTo, HasDropCause, IsDropCause, IsToBeTold, FitsCall, FitsSince, turns_of, TurnTaken, Turns, bank_when, Cursor, InOrder, HaveTaken, Replay, replay_at, Past, EndsAs, blank_clients, Runs, Ran, HasRun, HasRunInTurn, HasTakenTurns, RunKeeps, first_turns}
+use Rattle.std.proofs.Common.{true}
 use Rattle.core_state.specs.declared.item.Group.{Group as GroupItem}
-use Rattle.core_state.specs.declared.item.Item.{Item}
-use Rattle.core_state.specs.declared.item.Item.TheVariants.{Group}
-use Rattle.core_state.specs.Journal.{CallsAreRight}
-use Rattle.core_state.specs.Keeps.{Kept, Setting}
-use Rattle.core_state.specs.World.{World}
-use Rattle.core_state.proofs.Knowing.{present}
-use Rattle.core_state.proofs.Listed.{contains_head}
-use Rattle.core_blocks.specs.Blocks.{AreUnderWay}
-use Rattle.core_client.specs.Outs.{OnlyFailedGoOut}
-use Rattle.core_state.specs.Committing.{point_of}
-use Rattle.core_commit.specs.Spared.{IsOnInUse}
-use Rattle.core_open.specs.Causes.{IsOutFor, AreOutIn, AreOutOf}
-use Rattle.core_open.specs.Failing.{HaveFailed}
-use Rattle.core_open.specs.Holds.{HoldsImage, shape_of}
-use Rattle.core_open.specs.Opens.{HasBank, IsWithinBelow, RenewsChoice, WritesInOrder}
-use Rattle.core_open.proofs.Ends.{present_held}
-use Rattle.core_open.specs.Regions.{IsOnBelow}
-use Rattle.open_pool.specs.Opening.{AreLoaded, MayBegin, OpensPool, IsBegunWith}
-use Rattle.open_pool.specs.Pool.{Pool}
-use Rattle.client_script.specs.Script.{Script, asked_by, handed_by}
-use Rattle.join_commit.specs.declared.join_run.WhyDropped.{WhyDropped}
+use Rattle.core_open.specs.Opens.{HasBank}
 use Rattle.join_commit.specs.declared.join_run.WhyDropped.TheVariants as why
-use Rattle.journal_law.specs.Moments.{KeepsLast}
-use Rattle.journal_law.specs.NoSpace.{NoSpaceIsCaused}
-use Rattle.journal_law.specs.FirstGroup.{BeginsAfter}
-use Rattle.open_pool.specs.Pool.{first_item}
-use Rattle.journal_law.proofs.NoSpace.{no_space_alike}
-use Rattle.journal_law.proofs.Parity.{opened_parity}
-use Rattle.core_turns.specs.Core.{CoreState, at_disk}
-use Rattle.schedule.specs.declared.client.Client.{Client}
-use Rattle.schedule.specs.declared.whole_run.Ended.{Ended}
-use Rattle.schedule.specs.declared.whole_run.Ended.TheVariants.{Whole, NoMemory, Limit}
-use Rattle.schedule.specs.Caused.{FullIsCaused}
-use Rattle.schedule.specs.Coming.{LeadTo}
-use Rattle.schedule.specs.Dropping.{HasDropCause, IsDropCause, IsToBeTold}
-use Rattle.schedule.specs.Fitting.{FitsCall, FitsSince, IsDeviceCause}
-use Rattle.schedule.specs.Turns.{turns_of, TurnTaken, Turns, bank_when}
-use Rattle.schedule.specs.InTurn.{Cursor, InOrder, HaveTaken, Replay, replay_at}
-use Rattle.schedule.specs.Moments.{Past}
-use Rattle.schedule.specs.Playing.{EndsAs}
-use Rattle.schedule.specs.Replaying.{blank_clients}
-use Rattle.schedule.specs.Running.{Runs}
-use Rattle.schedule.specs.declared.whole_run.Ran.{Ran}
-use Rattle.schedule.specs.WholeRun.{HasRun, HasRunInTurn, HasTakenTurns, RunKeeps, first_turns}
 use Rattle.schedule.proofs.Banks.{are_listed, at_end as bank_at_end, at_start}
 use Rattle.schedule.proofs.Beginning.{no_call}
 use Rattle.schedule.proofs.InTurn.{gone_counted, gone_taken}
@@ -82,13 +32,11 @@ out_later old mid new uber silent out onward earlier later outs goes image holds
 
     by : (device : ℕ) → has_device onward device ≡ true → (before : Bool) → has_device out device ≡ before
         → IsOutFor old new was.choice device
-    by device has true is = ⊎_elim (λ at. inl at)
-        (λ rose. inr (let more = later.faults device in omega (arith, rose, more))) (was.each device is)
-    by device has false is =
-        inr (let rose = goes.failed device is has in let more = earlier.faults device in omega (arith, rose, more))
+    by device has true is = ⊎_elim (λ at. inl at) (search arith) (was.each device is)
+    by device has false is = search arith
 
-module _ (script : Script) (old mid : Disk) (pool : Pool) (silent : ℕ) (items : List Item) (clients : List Client)
-    (final : CoreState) (passed : List TurnTaken) (opened_later : Later old mid)
+module _ {script : Script} {old mid : Disk} {pool : Pool} {silent : ℕ} {items : List Item} {clients : List Client}
+    {final : CoreState} (passed : List TurnTaken) (opened_later : Later old mid)
     (opened_only : TouchesOnly (IsOnBelow pool.uber.reflow.to) old mid)
     (failed : HaveFailed old mid silent) (few : count_of pool.out ≤ pool.uber.parity)
     (missed : IsWithinBelow pool.uber.reflow.to silent pool.uber.out)
@@ -114,31 +62,28 @@ module _ (script : Script) (old mid : Disk) (pool : Pool) (silent : ℕ) (items 
   past = record { origin = old; banks = bank_when first_state passed }
 
   last_bank : past.banks (length items + 1) ≡ final.disk
-  last_bank = bank_at_end script first_state passed (length items + 1) taken
-      (let same = ap (λ (turns : Turns). length turns.items) come.ends in omega (arith, same))
-      ∙ ap (λ (turns : Turns). turns.state.disk) come.ends
+  last_bank = search (bank_at_end, arith)
 
   module _ (setting : Setting) (first : Kept) (later : List Kept) (may : MayBegin setting first later old)
       (missed_in : IsWithinBelow first.uber.reflow.to silent setting.failed)
       (borne_in : IsWithin come.borne setting.failed) where
     begins : OpensPool setting first later pool silent old mid
-    begins = begun.each setting first later may missed_in
-        (λ device out. borne_in device (come.from_start few device out))
+    begins = begun.each setting first later may missed_in (search arith)
 
     abbrev world : World
     world = opened_world (asked_by script) (handed_by script) begins
 
     first_runs : Runs world script past (at_disk (resting pool) mid) (Group item ∷ []) (blank_clients script.clients)
     first_runs = runs_first (asked_by script) (handed_by script) begins may.may.parity past refl
-        (at_start first_state passed 1 (omega arith)) opened_later bank script script.clients
+        (at_start first_state passed (omega arith)) opened_later bank script script.clients
 
     runs : Runs world script past final items clients
-    runs = come.runs world past (record { calls = refl; handed = refl }) first_runs borne_in (are_listed script first_state passed taken)
+    runs = search (first_runs, are_listed, arith)
 
     -- The journal that the opening left has no answers.
     full : FullIsCaused script begins.opened.chosen.map items
-    full = come.full world past (record { calls = refl; handed = refl }) first_runs borne_in (are_listed script first_state passed taken)
-        (record { each = λ index entry there is. absurd (no_call item index entry there) })
+    full = come.full world past (record { calls = refl; handed = refl }) first_runs borne_in
+        (are_listed script first_state passed taken) (search (no_call, arith))
 
     abbrev run_groups : List Kept
     run_groups = (first ∷ later) ++ runs.recorded.groups.answered ++ runs.recorded.groups.begun
@@ -152,11 +97,8 @@ module _ (script : Script) (old mid : Disk) (pool : Pool) (silent : ℕ) (items 
     begins_after = let alike = begins.opened.alike in let renews = begins.opened.renews.alike in record {
       first = item;
       there = come.listed 0 (Group item) refl;
-      number = ap (λ (u : Uber). u.group) alike ∙ ap (λ (u : Uber). u.group) renews;
-      widths = (
-        ap (λ (u : Uber). u.reflow.from) alike ∙ ap (λ (u : Uber). u.reflow.from) renews,
-        ap (λ (u : Uber). u.reflow.to) alike ∙ ap (λ (u : Uber). u.reflow.to) renews,
-      );
+      number = search arith;
+      widths = search arith;
     }
 
     -- No space was found only where the chosen group's blocks and the script's are many.
@@ -165,16 +107,11 @@ module _ (script : Script) (old mid : Disk) (pool : Pool) (silent : ℕ) (items 
         let alike = begins.opened.alike in
         let renews = begins.opened.renews.alike in
         no_space_alike script pool.uber begins.opened.chosen.uber pool.blocks.table.entries begins.opened.chosen.entries
-        items
-        (ap (λ (u : Uber). u.parity) alike ∙ ap (λ (u : Uber). u.parity) renews)
-        (ap (λ (u : Uber). u.births) alike ∙ ap (λ (u : Uber). u.births) renews)
-        (ap (λ (u : Uber). u.reflow) alike ∙ ap (λ (u : Uber). u.reflow) renews)
-        (begins.opened.entries_are ∙ begins.opened.renews.entries)
+        items (search arith) (search arith) (search arith) (search arith)
         (come.space pool.uber pool.blocks.table.entries (uses_first script pool mid right born loaded)).caused
       where
         born : NoneAbove pool.uber.group pool.uber.births
-        born = births_opened (shape_of old) silent (present old) pool.uber pool.blocks.table.entries
-            (renews (present old) (present_held old may.may.tells))
+        born = births_opened pool.uber (renews (present old) (present_held old may.may.tells))
 
     -- What the run keeps, where these devices may fail.
     pub run_keeps : RunKeeps script setting first later old final.disk items pool.uber.parity silent
@@ -206,19 +143,19 @@ module _ (script : Script) (old mid : Disk) (pool : Pool) (silent : ℕ) (items 
     too_many = fit.too_many;
     limit = fit.limit;
     memory = fit.memory;
-    device = subst
-        (λ (n : ℕ). IsDeviceCause n (IsDropCause old final.disk final.core.pool.out) entry.answer) opened_later.devices
-        (device_cause_on mid.devices (HasDropCause first_state (turns_of final items clients))
-        (IsDropCause old final.disk final.core.pool.out) entry.answer (λ cause. ⊎_elim (by cause) (λ told. absurd (none told))) fit.device);
+    device = rw opened_later.devices at (device_cause_on mid.devices
+        (HasDropCause first_state (turns_of final items clients))
+        (IsDropCause old final.disk final.core.pool.out) entry.answer
+        (λ cause. ⊎_elim (by cause) (λ told. absurd (none told))) fit.device);
   }
     where
       by : (cause : WhyDropped) → IsDropCause mid final.disk final.core.pool.out cause
           → IsDropCause old final.disk final.core.pool.out cause
-      by (why.NewDeviceFailed device) rose = let more = opened_later.faults device in omega (arith, rose, more)
+      by (why.NewDeviceFailed device) rose = search arith
       by (why.DeviceOut device) out = out
 
       none : {cause : WhyDropped} → IsToBeTold (blank_clients script.clients) cause → ⊥
-      none told = none_of_blank script.clients told.index told.client told.under told.going
+      none told = none_of_blank script.clients told.going
 
   -- The calls of the script were carried out on the pool that the devices showed,
   pub has_run : HasRun script old final.disk items final.core.pool.out
@@ -226,84 +163,75 @@ module _ (script : Script) (old mid : Disk) (pool : Pool) (silent : ℕ) (items 
     opened = item;
     there = come.listed 0 (Group item) refl;
     start = at_disk (resting pool) mid;
-    rest = record { holds = refl; committing = refl; copying = refl; attaching = refl; blocks = rest };
+    rest = search;
     opened_is = refl;
     bank = bank;
     later = opened_later;
     passed = passed;
     taken = taken;
     onward = come.later;
-    items_are = ap (λ (turns : Turns). turns.items) come.ends;
-    disk_is = ap (λ (turns : Turns). turns.state.disk) come.ends;
+    items_are = search arith;
+    disk_is = cc;
     silent = silent;
     failed = failed;
     renews = renews;
     writes = writes;
     parity = pool.uber.parity;
-    only = subst (λ (turns : Turns). TouchesOnly (IsOnBelow (turns.state.core.reach + 1)) old final.disk) (sym come.ends)
-        (touches_then (IsOnBelow pool.uber.reflow.to) (IsOnInUse (final.core.reach + 1) pool.out)
+    only = rw come.ends (touches_then (IsOnBelow pool.uber.reflow.to) (IsOnInUse (final.core.reach + 1) pool.out)
         (IsOnBelow (final.core.reach + 1))
         (λ d x here. let more = come.reach in omega (arith, here, more)) (λ d x here. here.0) opened_only come.only);
     same = λ none. touches_then (IsOnBelow pool.uber.reflow.to) (IsOnInUse pool.uber.reflow.to pool.out)
         (IsOnBelow pool.uber.reflow.to) (λ d x here. here) (λ d x here. here.0) opened_only (come.same none).only;
-    each = out_later old mid final.disk pool.uber silent pool.out final.core.pool.out opened_later come.later outs
-        come.out;
+    each = search out_later;
     calls = calls;
-    fits = λ index entry there. ⊎_elim (λ at. absurd (no_call item index entry at)) (fits_run entry)
+    fits = λ index entry there. ⊎_elim (λ at. absurd (no_call item index at)) (fits_run entry)
         (come.fits index entry there);
     numbers = (come.numbers (first_numbered pool)).numbered;
     lines = λ one actors. follows_lines script (at_disk (resting pool) mid) item passed items taken
         (ap (λ (turns : Turns). turns.items) come.ends) refl
-        (λ index entry there. ⊎_elim (λ at. absurd (no_call item index entry at)) (λ fit. fit.of_kind)
-        (come.fits index entry there))
-        one actors;
+        (λ index entry there. ⊎_elim (λ at. absurd (no_call item index at)) (λ fit. fit.of_kind)
+        (come.fits index entry there)) one actors;
     borne = come.borne;
     few = come.few;
     within = come.within;
-    missed = λ device below has. come.from_start few device (outs.lists device (missed device below has));
-    listed = λ device has. come.from_start few device (outs.lists device has);
+    missed = search arith;
+    listed = search arith;
     keeps = run_keeps;
   }
 
   -- with as many turns as these are,
-  pub has_run_counted : (turns : ℕ) → turns ≡ length passed → turns ≡ length has_run.passed
+  pub has_run_counted : {turns : ℕ} → turns ≡ length passed → turns ≡ length has_run.passed
   unfolding has_run
-  has_run_counted turns counted = counted
+  has_run_counted counted = counted
 
   -- and the turns were those of the clients whose turn it was.
-  pub has_run_in_turn : (listed : List ℕ) (ended : Ended) (turns : ℕ) (cursor : Cursor)
+  pub has_run_in_turn : {listed : List ℕ} {ended : Ended} {turns : ℕ} (cursor : Cursor)
       → EndsAs script (replay_at first_state 0 (InOrder listed)) passed
-      (replay_at (turns_of final items clients) turns cursor) ended
-      → HasRunInTurn script listed old final.disk items
+      (replay_at (turns_of final items clients) turns cursor) ended → HasRunInTurn script listed old final.disk items
       (record { ended = ended; turns = turns; out = final.core.pool.out })
   unfolding has_run
-  has_run_in_turn listed ended turns cursor ends = record {
+  has_run_in_turn {turns = turns} cursor ends = record {
     run = has_run;
-    turns = record { now = turns_of final items clients; cursor = cursor; ends = ends };
+    turns = search;
   }
 
 -- However they ended, the turns were taken one after the other.
 pub ends_taken : (script : Script) (start now : Replay) (passed : List TurnTaken) (ended : Ended)
     → EndsAs script start passed now ended → HaveTaken script start.turns passed
-ends_taken script start now passed Whole ends = (gone_taken script start now passed ends.0).0
-ends_taken script start now passed NoMemory ends =
-    subst (HaveTaken script start.turns) (sym ends.1) tt
-ends_taken script start now passed Limit ends = (gone_taken script start now passed ends.0).0
+ends_taken script start now passed Whole ends = (gone_taken ends.0).0
+ends_taken script start now passed NoMemory ends = search arith
+ends_taken script start now passed Limit ends = (gone_taken ends.0).0
 
 -- As many were counted as were taken.
 pub ends_counted : (script : Script) (start now : Replay) (passed : List TurnTaken) (ended : Ended) → start.taken ≡ 0
     → EndsAs script start passed now ended → now.taken ≡ length passed
-ends_counted script start now passed Whole first ends =
-    let counted = gone_counted script start now passed ends.0 in omega (arith, counted, first)
+ends_counted script start now passed Whole first ends = search (gone_counted, arith)
 ends_counted script start now passed NoMemory first ends =
-    let same = ap (λ (r : Replay). r.taken) ends.0 in let none = ap (λ (l : List TurnTaken). length l) ends.1 in
-    omega (arith, same, none, first)
+    omega (arith, ap (λ (r : Replay). r.taken) ends.0, ap (λ (l : List TurnTaken). length l) ends.1, first)
 ends_counted script start now passed Limit first ends =
-    let counted = gone_counted script start now passed ends.0 in omega (arith, counted, first)
+    let counted = gone_counted ends.0 in omega (arith, counted, first)
 
-pub turns_counted : {old new : Disk} → {items : List Item} → {out : ℕ} → (script : Script) (listed : List ℕ)
-    (run : HasRun script old new items out) (ran : Ran) → HasTakenTurns script listed run ran
+pub turns_counted : {old new : Disk} → {items : List Item} → {out : ℕ} → {script : Script} {listed : List ℕ}
+    {run : HasRun script old new items out} (ran : Ran) → HasTakenTurns script listed run ran
     → ran.turns ≡ length run.passed
-turns_counted script listed run ran turns = ends_counted script
-    (replay_at (first_turns script run.start run.opened) 0 (InOrder listed))
-    (replay_at turns.now ran.turns turns.cursor) run.passed ran.ended refl turns.ends
+turns_counted {script = script} {listed = listed} {run = run} ran turns = search (ends_counted, arith)

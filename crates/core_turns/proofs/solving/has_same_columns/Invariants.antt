@@ -1,5 +1,4 @@
-use Rattle.std.proofs.Common.{ℕ, ◌<◌}
-use Rattle.core_turns.specs.Getting.{HasSameRow}
+use Rattle.core_turns.proofs.Words.{ℕ, ◌<◌, HasSameRow}
 use Rattle.core_turns.proofs.solving.has_same_columns.Given as goal
 
 abbrev pub invariant-loop-row : goal.invariant-loop-row

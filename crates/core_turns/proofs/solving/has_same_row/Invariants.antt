@@ -1,5 +1,4 @@
-use Rattle.std.proofs.Common.{◌≡◌, ℕ, ◌<◌}
-use Rattle.reconstruct.specs.Rows.{column_at}
+use Rattle.core_turns.proofs.Words.{◌≡◌, ℕ, ◌<◌, column_at}
 use Rattle.core_turns.proofs.solving.has_same_row.Given as goal
 
 abbrev pub invariant-loop-column : goal.invariant-loop-column

@@ -19,17 +19,16 @@ returns-in_default-clause-taken g c =
       passed = [];
       clients = blank_clients script.clients;
       taken = tt;
-      come = came_nowhere script start [] refl;
+      come = came_nowhere refl;
       counted = refl;
     })
 
 pub returns-in_default-clause-calls : goal.returns-in_default-clause-calls
 returns-in_default-clause-calls g c =
     subst (λ (items : List Item). CallsAreRight (asked_by c.args.script.now) items) (sym c.begin.ensures.same)
-    (schedule_at_rest c.args.script.now c.args.core (g.B.Bank.disk c.args.bank) c.args.journal.items
-    c.args.script.now.clients c.requires.rest c.requires.bank c.requires.none).answered.right
+    (schedule_at_rest c.args.script.now c.args.script.now.clients c.requires.rest c.requires.bank
+    c.requires.none).answered.right
 
 pub share-requires-clause-ready : goal.share-requires-clause-ready
-share-requires-clause-ready g c κs within = ready_at_rest c.args.script.now c.args.core (g.B.Bank.disk c.args.bank)
-    c.args.journal.items c.begin.new.journal c.in-Ok.progress c.requires.rest c.requires.bank c.requires.none
+share-requires-clause-ready g c κs within = ready_at_rest c.in-Ok.progress c.requires.rest c.requires.bank c.requires.none
     c.begin.ensures.same c.in-Ok.ensures.clients c.in-Ok.ensures.room

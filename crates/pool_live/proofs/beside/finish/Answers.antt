@@ -23,8 +23,7 @@ pub returns-clause-complete : goal.returns-clause-complete
 returns-clause-complete g c = elim c.match-take_turns.branch [
   | in-Ok w ↦
       let told = w.in-Ok.ensures in
-      rw c.end.ensures (λ whole. complete_at_rest c.args.script.now c.take_turns.new.live.journal.items
-      c.take_turns.new.live.progress.clients.items c.requires.actors told.played.ready.counted
+      rw c.end.ensures (λ whole. complete_at_rest c.requires.actors told.played.ready.counted
       told.played.ready.schedule.answered told.begun told.idle)
   | in-Err w ↦ rw c.end.ensures (λ whole. absurd (limit_not_whole c.match-take_turns.ended w.ended-is whole))
 ]

@@ -45,12 +45,12 @@ returns-clause-run g c =
     rw c.of.ensures (⊎_elim
     (λ alone.
     let start = first_turns with.carried (at_disk (resting pool) mid) (first_item pool) in
-    let has = has_run_in_turn with.carried old mid pool c.in-Ok.opened.silent items alone.clients final alone.passed
+    let has = has_run_in_turn alone.passed
     opened.later opened.only opened.silent opened.few opened.missed opened.renews opened.writes opened.out opened.begins
     opened.rest opened.bank opened.right opened.loaded
     (ends_taken with.carried (replay_at start 0 (InOrder [])) (replay_at (turns_of final items alone.clients) turns alone.cursor)
     alone.passed ended alone.ends)
-    alone.come with.calls [] ended turns alone.cursor
+    alone.come with.calls alone.cursor
     alone.ends in
     record {
       carried = with.carried;
@@ -58,14 +58,14 @@ returns-clause-run g c =
       carried_is = subst (λ (group : GroupItem). IsScriptWith script attaches group with.carried)
           (one_first items (first_item pool) has.run.opened (alone.come.listed 0 (Group (first_item pool)) refl) has.run.there)
           with.carried_is;
-      counted = turns_counted with.carried [] has.run ran has.turns;
+      counted = turns_counted ran has.turns;
       complete = with.complete;
       limit = with.limit;
       taken = λ is. has.turns;
     })
     (λ beside.
     let taken = beside.1 in
-    let has = has_run with.carried old mid pool c.in-Ok.opened.silent items taken.clients final taken.passed opened.later
+    let has = has_run taken.passed opened.later
     opened.only opened.silent opened.few opened.missed opened.renews opened.writes opened.out opened.begins opened.rest
     opened.bank opened.right opened.loaded taken.taken taken.come with.calls in
     let same = one_first items has.opened (first_item pool) has.there (taken.come.listed 0 (Group (first_item pool)) refl) in
@@ -73,9 +73,9 @@ returns-clause-run g c =
       carried = with.carried;
       run = has;
       carried_is = subst (λ (group : GroupItem). IsScriptWith script attaches group with.carried) (sym same) with.carried_is;
-      counted = has_run_counted with.carried old mid pool c.in-Ok.opened.silent items taken.clients final taken.passed
+      counted = has_run_counted taken.passed
           opened.later opened.only opened.silent opened.few opened.missed opened.renews opened.writes opened.out
-          opened.begins opened.rest opened.bank opened.right opened.loaded taken.taken taken.come with.calls turns
+          opened.begins opened.rest opened.bank opened.right opened.loaded taken.taken taken.come with.calls
           (counted_first turns taken.passed taken.counted);
       complete = with.complete;
       limit = with.limit;

@@ -1,14 +1,4 @@
-use Rattle.std.proofs.Common.{List, [], length, refl, sym, subst}
-use Rattle.core_state.specs.declared.item.Item.{Item}
-use Rattle.core_state.specs.Journal.{CallsAreRight}
-use Rattle.client_script.specs.Script.{asked_by}
-use Rattle.core_turns.specs.Core.{at_disk}
-use Rattle.schedule.specs.Turns.{turns_of}
-use Rattle.schedule.specs.InTurn.{InOrder, InRest, Replay}
-use Rattle.schedule.specs.Live.{replay_in, turns_in}
-use Rattle.schedule.specs.Playing.{CarriesOut, HasPlayed, HasRunOutOfTurns}
-use Rattle.schedule.specs.declared.whole_run.Ended.TheVariants.{NoMemory}
-use Rattle.schedule.specs.Replaying.{blank_clients}
+use Rattle.schedule.proofs.Words.{List, [], length, refl, sym, subst, Item, CallsAreRight, asked_by, at_disk, turns_of, InOrder, InRest, Replay, replay_in, turns_in, CarriesOut, HasPlayed, HasRunOutOfTurns, NoMemory, blank_clients}
 use Rattle.schedule.proofs.AtRest.{complete_at_rest, first_is, ready_at_rest, schedule_at_rest}
 use Rattle.schedule.proofs.Coming.{came_nowhere}
 use Rattle.schedule.proofs.replay.carry_out.Goals as goal
@@ -24,27 +14,26 @@ returns-in_default-clause-taken g c =
       passed = [];
       clients = blank_clients script.clients;
       cursor = InOrder c.args.listed.now;
-      come = came_nowhere script start [] refl;
+      come = came_nowhere refl;
       ends = (refl, refl);
     })
 
 pub returns-in_default-clause-calls : goal.returns-in_default-clause-calls
 returns-in_default-clause-calls g c =
     subst (λ (items : List Item). CallsAreRight (asked_by c.args.script.now) items) (sym c.begin.ensures.same)
-    (schedule_at_rest c.args.script.now c.args.core (g.B.Bank.disk c.args.bank) c.args.journal.items
-    c.args.script.now.clients c.requires.rest c.requires.bank c.requires.none).answered.right
+    (schedule_at_rest c.args.script.now c.args.script.now.clients c.requires.rest c.requires.bank
+    c.requires.none).answered.right
 
 pub take_turns-requires-clause-ready : goal.take_turns-requires-clause-ready
-take_turns-requires-clause-ready g c = ready_at_rest c.args.script.now c.args.core (g.B.Bank.disk c.args.bank)
-    c.args.journal.items c.begin.new.journal c.in-Ok.progress c.requires.rest c.requires.bank c.requires.none
+take_turns-requires-clause-ready g c = ready_at_rest c.in-Ok.progress c.requires.rest c.requires.bank c.requires.none
     c.begin.ensures.same c.in-Ok.ensures.clients c.in-Ok.ensures.room
 
 pub returns-clause-taken : goal.returns-clause-taken
 returns-clause-taken g c =
     let script = c.args.script.now in
     let live = c.take_turns.new.live in
-    let first = first_is script c.args.core (g.B.Bank.disk c.args.bank) c.args.journal.items c.begin.new.journal c.in-Ok.progress
-    (InOrder c.args.listed.now) c.begin.ensures.same c.in-Ok.ensures.clients c.in-Ok.ensures.turns in
+    let first = first_is script c.begin.new.journal c.in-Ok.progress c.begin.ensures.same c.in-Ok.ensures.clients
+    c.in-Ok.ensures.turns in
     elim c.match-take_turns.branch [
       | in-Ok-take_turns w ↦
           let played = subst (λ (start : Replay). HasPlayed script start
@@ -79,8 +68,7 @@ pub returns-clause-complete : goal.returns-clause-complete
 returns-clause-complete g c = elim c.match-take_turns.branch [
   | in-Ok-take_turns w ↦
       let told = w.in-Ok-take_turns.ensures in
-      rw c.end.ensures (λ whole. complete_at_rest c.args.script.now c.take_turns.new.live.journal.items
-      c.take_turns.new.live.progress.clients.items c.requires.actors told.played.ready.counted
+      rw c.end.ensures (λ whole. complete_at_rest c.requires.actors told.played.ready.counted
       told.played.ready.schedule.answered told.begun told.idle)
   | in-Err w ↦ rw (c.end.ensures, w.ended-is) (λ whole. cc)
 ]

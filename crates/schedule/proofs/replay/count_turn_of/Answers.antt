@@ -1,10 +1,5 @@
-use Rattle.std.proofs.Common.{List, sym, subst}
-use Rattle.core_turns.specs.Core.{at_disk}
+use Rattle.schedule.proofs.Words.{List, sym, subst, at_disk, turns_of, turns_in, IsReady, HasTurn}
 use Rattle.schedule.specs.declared.client.Client.{Client as ClientOf}
-use Rattle.schedule.specs.Turns.{turns_of}
-use Rattle.schedule.specs.Live.{turns_in}
-use Rattle.schedule.specs.Playing.{IsReady}
-use Rattle.schedule.specs.Replaying.{HasTurn}
 use Rattle.schedule.proofs.Playing.{at_err, stopped_same}
 use Rattle.schedule.proofs.replay.count_turn_of.Goals as goal
 
@@ -22,7 +17,6 @@ returns-clause-turn g c =
 
 pub returns-in_err-count-clause-stopped : goal.returns-in_err-count-clause-stopped
 returns-in_err-count-clause-stopped g c = at_err _ c.from_residual.result (
-    λ cursor. stopped_same c.args.script.now c.args.live.now.core
-    (g.B.Bank.disk c.args.live.now.bank) c.args.live.now.journal c.args.live.now.progress c.count.new.self cursor c.args.live.now.journal.room
+    λ cursor. stopped_same c.args.live.now.journal c.args.live.now.progress c.count.new.self cursor
     c.count.ensures.clients c.in_err-count.ensures.same c.in_err-count.ensures.most c.requires.ready
     )

@@ -1,5 +1,4 @@
-use Rattle.std.proofs.Common.{sym, ◌∙◌, arith}
-use Rattle.schedule.specs.InTurn.{InRest}
+use Rattle.schedule.proofs.Words.{sym, ◌∙◌, arith, InRest}
 use Rattle.schedule.proofs.InTurn.{idle_not_busy, left_begun, not_busy_idle}
 use Rattle.schedule.proofs.Playing.{at_err, played_first, played_later, stopped_then}
 use Rattle.schedule.proofs.CallTaken.{begins_more, begins_one, idle_again}
@@ -12,12 +11,11 @@ returns-in_err-count_turn_of-clause-stopped g c =
 pub turns-init : goal.turns-init
 turns-init g c = record {
   ready = c.in_ok-count_turn_of.ensures.ready;
-  played = λ given is. played_first c.args.live.now.progress.turns c.requires.ready is
-      (idle_not_busy c.args.live.now.progress.clients.items c.args.actor c.requires.idle) c.requires.left
+  played = λ given is. played_first c.requires.ready is (idle_not_busy c.args.actor c.requires.idle) c.requires.left
       c.in_ok-count_turn_of.ensures.turn c.in_ok-count_turn_of.ensures.turns c.in_ok-count_turn_of.ensures.ready;
   begins = begins_one c.in_ok-count_turn_of.ensures.turn c.requires.idle
       (λ client there.
-      let low = left_begun c.args.live.now.progress.clients.items c.args.actor c.args.number c.requires.left client there in
+      let low = left_begun c.args.live.now.progress.clients.items c.args.actor c.requires.left client there in
       let few = c.requires.of_client in omega (arith, low, few));
 }
 

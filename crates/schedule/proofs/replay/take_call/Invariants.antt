@@ -1,15 +1,11 @@
-use Rattle.std.proofs.Common.{ℕ, ◌-◌}
-use Rattle.schedule.specs.InTurn.{InRest, IsCallOfScript}
-use Rattle.schedule.specs.Live.{replay_in, turns_in}
-use Rattle.schedule.specs.Playing.{HasPlayed, IsReady}
-use Rattle.schedule.specs.Turns.{most_turns}
-use Rattle.schedule.specs.Replaying.{BeginsOne}
+use Rattle.schedule.proofs.Words.{ℕ, ◌-◌, InRest, IsCallOfScript, replay_in, turns_in, HasPlayed, IsReady, most_turns, BeginsOne}
 use Rattle.schedule.proofs.replay.take_call.Given as goal
 
 abbrev pub invariant-turns : goal.invariant-turns
 invariant-turns g l = record {
   ready : IsReady l.script (turns_in g.B.Bank.disk l.live) l.live.journal.room;
-  played : (given : ℕ) → IsCallOfScript l.script given l.actor l.number → HasPlayed l.script (replay_in g.B.Bank.disk l.fn.live (InRest given))
+  played : (given : ℕ) → IsCallOfScript l.script given l.actor l.number
+      → HasPlayed l.script (replay_in g.B.Bank.disk l.fn.live (InRest given))
       (replay_in g.B.Bank.disk l.live (InRest given)) l.live.journal.room;
   begins : BeginsOne l.actor l.fn.live.progress.clients.items l.live.progress.clients.items;
 }

@@ -1,11 +1,10 @@
-use Rattle.std.proofs.Common.{sym, ◌∙◌}
-use Rattle.schedule.specs.InTurn.{InRound}
+use Rattle.schedule.proofs.Words.{sym, ◌∙◌, InRound}
 use Rattle.schedule.proofs.Playing.{at_err, passed_in_round, played_in_round}
 use Rattle.schedule.proofs.RoundTaken.{round_idle, round_turn}
 use Rattle.schedule.proofs.replay.take_if_busy.Goals as goal
 
 pub returns-then-not-is_busy-clause-played : goal.returns-then-not-is_busy-clause-played
-returns-then-not-is_busy-clause-played g c = passed_in_round c.args.live.now.progress.turns c.requires.ready c.requires.client
+returns-then-not-is_busy-clause-played g c = passed_in_round c.requires.ready c.requires.client
     (sym c.is_busy.ensures ∙ c.if-not-is_busy.true)
 
 pub returns-then-not-is_busy-clause-round : goal.returns-then-not-is_busy-clause-round
@@ -13,7 +12,7 @@ returns-then-not-is_busy-clause-round g c =
     λ old taken round. round_idle round (sym c.is_busy.ensures ∙ c.if-not-is_busy.true)
 
 pub returns-clause-played : goal.returns-clause-played
-returns-clause-played g c = played_in_round c.args.live.now.progress.turns c.requires.ready c.requires.client
+returns-clause-played g c = played_in_round c.requires.ready c.requires.client
     (sym c.is_busy.ensures ∙ c.if-not-is_busy.false) c.in_ok-count_turn_of.ensures.turn
     c.in_ok-count_turn_of.ensures.turns c.in_ok-count_turn_of.ensures.ready
 

@@ -1,12 +1,9 @@
-use Rattle.std.proofs.Common.{drop, ap, arith}
-use Rattle.std.proofs.lemmas.List.{drop_all, take_all}
-use Rattle.schedule.specs.InTurn.{InOrder}
-use Rattle.schedule.specs.Live.{replay_in}
+use Rattle.schedule.proofs.Words.{drop, ap, arith, drop_all, take_all, InOrder}
 use Rattle.schedule.proofs.Playing.{at_err, have_had_turns, listed_more, listed_none, played_at, stopped_then}
 use Rattle.schedule.proofs.replay.take_listed.Goals as goal
 
 pub loop-actor-init : goal.loop-actor-init
-loop-actor-init g c = listed_none c.args.listed.now (replay_in g.B.Bank.disk c.args.live.now (InOrder c.args.listed.now)) c.requires.ready
+loop-actor-init g c = listed_none c.requires.ready
 
 pub count_turn_of-requires-clause-ready : goal.count_turn_of-requires-clause-ready
 count_turn_of-requires-clause-ready g c = c.loop-actor.invariant.played.ready
@@ -21,7 +18,7 @@ returns-in_err-count_turn_of-clause-stopped g c = at_err _ c.from_residual.resul
     (c.in_err-count_turn_of.ensures.stopped (InOrder (drop c.loop-actor.actor-index c.args.listed.now))))
 
 pub returns-clause-turns : goal.returns-clause-turns
-returns-clause-turns g c = have_had_turns c.args.script.now c.args.listed.now
+returns-clause-turns g c = have_had_turns
     (take_all c.loop-actor.actor-index c.args.listed.now (omega (arith, c.loop-actor-test.false)))
     c.loop-actor.invariant
 

@@ -1,6 +1,4 @@
-use Rattle.std.proofs.Common.{drop}
-use Rattle.schedule.specs.InTurn.{InOrder}
-use Rattle.schedule.specs.Live.{replay_in}
+use Rattle.schedule.proofs.Words.{drop, InOrder, replay_in}
 use Rattle.schedule.proofs.Playing.{TakesListed}
 use Rattle.schedule.proofs.replay.take_listed.Given as goal
 

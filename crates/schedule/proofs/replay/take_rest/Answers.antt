@@ -1,8 +1,5 @@
-use Rattle.std.proofs.Common.{ℕ, refl, sym, ◌∙◌, ap, subst, arith}
+use Rattle.schedule.proofs.Words.{ℕ, refl, sym, ◌∙◌, ap, subst, arith, InRest, replay_in, HaveBegun}
 use Rattle.client_script.specs.InOrder.{InOrder}
-use Rattle.schedule.specs.InTurn.{InRest}
-use Rattle.schedule.specs.Live.{replay_in}
-use Rattle.schedule.specs.Replaying.{HaveBegun}
 use Rattle.schedule.proofs.InTurn.{none_left_begun}
 use Rattle.schedule.proofs.Playing.{at_err, played_at, played_none, played_then, rest_goes, stopped_then}
 use Rattle.schedule.proofs.CallTaken.{begun_none, next_begun, next_few, next_is_call, next_of_client, next_smaller, next_taken}
@@ -13,7 +10,8 @@ loop-next-init g c =
     let none = ap (λ (calls : InOrder). calls.given) c.calls_in_order-calls.ensures in record {
       script = ap (λ (calls : InOrder). calls.script) c.calls_in_order-calls.ensures;
       few = omega (arith, none);
-      played = played_at (ap InRest (sym none)) (played_none (replay_in g.B.Bank.disk c.args.live.now (InRest 0)) c.requires.ready);
+      played = played_at (ap InRest (sym none)) (played_none
+          (replay_in g.B.Bank.disk c.args.live.now (InRest 0)) c.requires.ready);
       idle = c.requires.idle;
       begun = subst (λ (n : ℕ). HaveBegun c.args.script.now n c.args.live.now.progress.clients.items) (sym none)
           (begun_none c.args.script.now c.args.live.now.progress.clients.items);

@@ -1,8 +1,4 @@
-use Rattle.std.proofs.Common.{◌≡◌, ◌≤◌, ◌-◌, length}
-use Rattle.schedule.specs.InTurn.{InRest}
-use Rattle.schedule.specs.Live.{replay_in}
-use Rattle.schedule.specs.Playing.{HasPlayed}
-use Rattle.schedule.specs.Replaying.{AreIdle, HaveBegun}
+use Rattle.schedule.proofs.Words.{◌≡◌, ◌≤◌, ◌-◌, length, InRest, replay_in, HasPlayed, AreIdle, HaveBegun}
 use Rattle.schedule.proofs.replay.take_rest.Given as goal
 
 abbrev pub invariant-loop-next : goal.invariant-loop-next

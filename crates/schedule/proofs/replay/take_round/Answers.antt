@@ -1,5 +1,4 @@
-use Rattle.schedule.specs.InTurn.{InRound}
-use Rattle.schedule.specs.Live.{replay_in}
+use Rattle.schedule.proofs.Words.{InRound, replay_in}
 use Rattle.schedule.proofs.Playing.{at_err, played_none, played_then, stopped_then}
 use Rattle.schedule.proofs.RoundTaken.{round_none}
 use Rattle.schedule.proofs.replay.take_round.Goals as goal

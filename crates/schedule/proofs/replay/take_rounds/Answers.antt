@@ -1,11 +1,11 @@
-use Rattle.std.proofs.Common.{sym, ◌∙◌, arith}
+use Rattle.schedule.proofs.Words.{sym, ◌∙◌, arith}
 use Rattle.schedule.proofs.InTurn.{rest_next, round_next}
 use Rattle.schedule.proofs.Playing.{at_err, order_over, played_at, round_over, stopped_then}
 use Rattle.schedule.proofs.RoundTaken.{none_busy_idle, round_further}
 use Rattle.schedule.proofs.replay.take_rounds.Goals as goal
 
 pub rounds-init : goal.rounds-init
-rounds-init g c = order_over c.args.live.now.progress.turns c.requires.ready
+rounds-init g c = order_over c.requires.ready
 
 pub take_round-requires-clause-ready : goal.take_round-requires-clause-ready
 take_round-requires-clause-ready g c = c.rounds.invariant.ready
@@ -30,7 +30,8 @@ returns-in_err-take_round-clause-stopped g c = at_err _ c.from_residual.result
 
 pub returns-clause-played : goal.returns-clause-played
 returns-clause-played g c = played_at
-    (rest_next c.rounds.live.progress.clients.items (sym c.is_any_busy.ensures ∙ c.rounds-test.false)) c.rounds.invariant
+    (rest_next c.rounds.live.progress.clients.items (sym c.is_any_busy.ensures ∙ c.rounds-test.false))
+    c.rounds.invariant
 
 pub returns-clause-idle : goal.returns-clause-idle
 returns-clause-idle g c =

@@ -1,8 +1,4 @@
-use Rattle.std.proofs.Common.{◌-◌, []}
-use Rattle.schedule.specs.InTurn.{InOrder, after_round}
-use Rattle.schedule.specs.Live.{replay_in}
-use Rattle.schedule.specs.Playing.{HasPlayed}
-use Rattle.schedule.specs.Turns.{most_turns}
+use Rattle.schedule.proofs.Words.{◌-◌, [], InOrder, after_round, replay_in, HasPlayed, most_turns}
 use Rattle.schedule.proofs.replay.take_rounds.Given as goal
 
 abbrev pub invariant-rounds : goal.invariant-rounds

@@ -1,4 +1,4 @@
-use Rattle.std.proofs.lemmas.Result.{on_ok_weaker, on_err_weaker}
+use Rattle.schedule.proofs.Words.{on_ok_weaker, on_err_weaker}
 use Rattle.schedule.proofs.Playing.{at_err, played_then, stopped_then}
 use Rattle.schedule.proofs.replay.take_turns.Goals as goal
 

@@ -1,10 +1,5 @@
-use Rattle.std.proofs.Common.{◌≤◌, ◌+◌, ◌-◌, ℕ, None, Option, length, refl, sym, subst, arith}
-use Rattle.std.proofs.lemmas.Option.{slice_get_read}
-use Rattle.core_turns.specs.Core.{at_disk}
-use Rattle.schedule.specs.declared.client.Client.{Client}
-use Rattle.schedule.specs.Playing.{UsesRoom, taken_for}
-use Rattle.schedule.specs.Turned.{HasDeviceUnder, Turned, station_of}
-use Rattle.schedule.specs.Works.{commit_in, made_by}
+use Rattle.schedule.proofs.Words.{◌≤◌, ◌+◌, ◌-◌, ℕ, Option, length, refl, sym, subst, arith, slice_get_read, Client, UsesRoom, taken_for, HasDeviceUnder, Turned, station_of}
+use Rattle.schedule.specs.Works.{commit_in}
 use Rattle.schedule.proofs.Rooms.{ended_uses, going_uses, listed_room, room_to_begin, room_to_end, room_to_go}
 use Rattle.schedule.proofs.Stations.{went_more, went_done}
 use Rattle.schedule.proofs.station.take_turn.Goals as goal
@@ -17,13 +12,9 @@ returns-in-None-given-clause-turned g c =
     let going = c.in-Some.is in
     let begun : 1 ≤ c.args.client.now.begun = c.requires.begun c.in-Some.under_way going in
     let few = c.requires.few in
-    went_more c.args.calls.now c.args.actor (at_disk c.args.core.now (g.B.Bank.disk c.args.bank.now))
-    (at_disk c.go_further-given.new.core (g.B.Bank.disk c.go_further-given.new.bank)) c.args.journal.now.items
-    c.go_further-given.new.journal.items c.args.client.now c.in-Some.under_way c.index-calls-number.result going
-    (slice_get_read c.args.calls.now (length c.args.calls.now) (c.args.client.now.begun - 1) c.index-calls-number.result refl
-    (omega (arith, begun, few)) c.index-calls-number.is)
-    c.go_further-given.ensures.goes_on c.reflow-widths.ensures.is c.go_further-given.ensures.items c.go_further-given.new.work
-    c.begun_at-at.result c.len.result c.reflow-widths.result c.list_made.new.journal.items c.made.result
+    went_more c.args.actor c.args.client.now going (slice_get_read c.args.calls.now (length c.args.calls.now)
+    (c.args.client.now.begun - 1) c.index-calls-number.result refl (omega (arith, begun, few)) c.index-calls-number.is)
+    c.go_further-given.ensures.goes_on c.reflow-widths.ensures.is c.go_further-given.ensures.items
     c.in-None-given.ensures.goes
     (c.begun_at-at.ensures (commit_in c.in-Some.under_way.work) c.makes_commit-makes.ensures) c.len.ensures
     c.reflow-widths.ensures.value c.made.ensures c.list_made.ensures.items
@@ -35,18 +26,13 @@ returns-in-Some-given-clause-turned g c =
     let few = c.requires.few in
     subst (λ (client : Client). Turned c.args.calls.now c.args.actor
     (station_of c.args.core.now (g.B.Bank.disk c.args.bank.now) c.args.journal.now.items c.args.client.now)
-    (station_of c.go_further-given.new.core (g.B.Bank.disk c.go_further-given.new.bank) c.list_answer.new.journal.items client))
-    (sym c.end_call.ensures)
-    (went_done c.args.calls.now c.args.actor (at_disk c.args.core.now (g.B.Bank.disk c.args.bank.now))
-    (at_disk c.go_further-given.new.core (g.B.Bank.disk c.go_further-given.new.bank)) c.args.journal.now.items
-    c.go_further-given.new.journal.items c.args.client.now c.in-Some.under_way c.index-calls-number.result going
-    (slice_get_read c.args.calls.now (length c.args.calls.now) (c.args.client.now.begun - 1) c.index-calls-number.result refl
-    (omega (arith, begun, few)) c.index-calls-number.is)
-    c.go_further-given.ensures.goes_on c.reflow-widths.ensures.is c.go_further-given.ensures.items c.in-Some-given.answer
-    c.reflow-widths.result c.entry_for-entry.result c.list_answer.new.journal.items c.group-made.result
-    None c.in-Some-given.ensures.goes c.reflow-widths.ensures.value c.entry_for-entry.ensures
-    c.list_answer.ensures.items c.group-made.ensures
-    refl)
+    (station_of c.go_further-given.new.core (g.B.Bank.disk c.go_further-given.new.bank) c.list_answer.new.journal.items
+    client)) (sym c.end_call.ensures) (went_done c.args.actor c.args.client.now going
+    (slice_get_read c.args.calls.now (length c.args.calls.now)
+    (c.args.client.now.begun - 1) c.index-calls-number.result refl (omega (arith, begun, few)) c.index-calls-number.is)
+    c.go_further-given.ensures.goes_on c.reflow-widths.ensures.is c.go_further-given.ensures.items
+    c.in-Some-given.ensures.goes c.reflow-widths.ensures.value c.entry_for-entry.ensures
+    c.list_answer.ensures.items c.group-made.ensures refl)
 
 pub go_further-given-requires-clause-may : goal.go_further-given-requires-clause-may
 go_further-given-requires-clause-may g c =
@@ -54,8 +40,8 @@ go_further-given-requires-clause-may g c =
     let begun : 1 ≤ c.args.client.now.begun = c.requires.begun c.in-Some.under_way going in
     let few = c.requires.few in
     c.requires.may c.in-Some.under_way c.index-calls-number.result going
-    (slice_get_read c.args.calls.now (length c.args.calls.now) (c.args.client.now.begun - 1) c.index-calls-number.result refl
-    (omega (arith, begun, few)) c.index-calls-number.is)
+    (slice_get_read c.args.calls.now (length c.args.calls.now)
+    (c.args.client.now.begun - 1) c.index-calls-number.result refl (omega (arith, begun, few)) c.index-calls-number.is)
 
 pub go_further-given-requires-clause-there : goal.go_further-given-requires-clause-there
 go_further-given-requires-clause-there g c =
@@ -70,20 +56,18 @@ list_made-requires g c =
     let going = c.in-Some.is in record {
       room = subst (λ (made : Option ℕ). taken_for made ≤ c.go_further-given.new.journal.room) (sym c.made.ensures)
           (room_to_go (length c.args.calls.now) c.args.journal.now.room c.go_further-given.new.journal.room
-          c.args.client.now c.in-Some.under_way going (c.requires.begun c.in-Some.under_way going) c.go_further-given.new.work
-          c.requires.few c.requires.room c.in-None-given.ensures.room);
+          c.args.client.now c.in-Some.under_way going (c.requires.begun c.in-Some.under_way going)
+          c.go_further-given.new.work c.requires.few c.requires.room c.in-None-given.ensures.room);
     }
 
 pub list_answer-requires : goal.list_answer-requires
 list_answer-requires g c =
     let going = c.in-Some.is in record {
       room = subst (λ (n : ℕ). n + 1 ≤ c.go_further-given.new.journal.room) (sym (listed_room
-          c.index-calls-number.result c.args.actor c.args.client.now.begun c.in-Some.under_way.at
-          c.entry_for-entry.result c.group-made.result c.in-Some-given.answer (made_by c.in-Some.under_way.work)
-          c.entry_for-entry.ensures c.group-made.ensures))
+          c.index-calls-number.result c.in-Some.under_way.at c.entry_for-entry.ensures c.group-made.ensures))
           (room_to_end (length c.args.calls.now) c.args.journal.now.room c.go_further-given.new.journal.room
-          c.args.client.now c.in-Some.under_way going (c.requires.begun c.in-Some.under_way going) c.in-Some-given.answer
-          c.requires.few c.requires.room c.in-Some-given.ensures.room);
+          c.args.client.now c.in-Some.under_way going (c.requires.begun c.in-Some.under_way going)
+          c.in-Some-given.answer c.requires.few c.requires.room c.in-Some-given.ensures.room);
     }
 
 pub returns-in-None-given-clause-room : goal.returns-in-None-given-clause-room
@@ -101,10 +85,9 @@ returns-in-Some-given-clause-room g c =
     subst (UsesRoom c.args.journal.now.room c.list_answer.new.journal.room c.args.client.now) (sym c.end_call.ensures)
     (ended_uses (length c.args.calls.now) c.args.journal.now.room c.go_further-given.new.journal.room c.args.client.now
     c.in-Some.under_way going (c.requires.begun c.in-Some.under_way going) c.list_answer.new.journal.room
-    c.in-Some-given.answer None refl c.in-Some-given.ensures.room
+    c.in-Some-given.answer refl c.in-Some-given.ensures.room
     (subst (λ (n : ℕ). c.go_further-given.new.journal.room ≤ c.list_answer.new.journal.room + (n + 1))
-    (listed_room c.index-calls-number.result c.args.actor c.args.client.now.begun c.in-Some.under_way.at
-    c.entry_for-entry.result c.group-made.result c.in-Some-given.answer (made_by c.in-Some.under_way.work)
+    (listed_room c.index-calls-number.result c.in-Some.under_way.at
     c.entry_for-entry.ensures c.group-made.ensures) c.list_answer.ensures.room))
 
 pub go_further-given-requires-clause-ready : goal.go_further-given-requires-clause-ready
@@ -113,8 +96,8 @@ go_further-given-requires-clause-ready g c =
     let begun : 1 ≤ c.args.client.now.begun = c.requires.begun c.in-Some.under_way going in
     let few = c.requires.few in
     c.of_call.ensures.ready c.args.calls.now c.index-calls-number.result c.requires.ready
-    (slice_get_read c.args.calls.now (length c.args.calls.now) (c.args.client.now.begun - 1) c.index-calls-number.result refl
-    (omega (arith, begun, few)) c.index-calls-number.is)
+    (slice_get_read c.args.calls.now (length c.args.calls.now)
+    (c.args.client.now.begun - 1) c.index-calls-number.result refl (omega (arith, begun, few)) c.index-calls-number.is)
 
 pub returns-in-None-given-clause-there : goal.returns-in-None-given-clause-there
 returns-in-None-given-clause-there g c = c.in-None-given.ensures.there

@@ -1,20 +1,18 @@
-use Rattle.std.proofs.Common.{rules}
+use Rattle.schedule.proofs.Words.{rules, turn_with, Done}
 use Rattle.schedule.proofs.CallTurns.{read_end_goes, read_ends, read_goes_on, read_of}
-use Rattle.core_turns.specs.Steps.{turn_with}
-use Rattle.core_turns.specs.declared.turn.Turn.TheVariants.{Done}
 use Rattle.schedule.proofs.turning.go_on_reading.Goals as goal
 
 pub returns-then-not-is_read-clause-goes_on : goal.returns-then-not-is_read-clause-goes_on
-returns-then-not-is_read-clause-goes_on g c = read_goes_on _ _ c.args.run.now (turn_with c.get_read.new.run c.get_read.result) c.get_read.ensures.reads
+returns-then-not-is_read-clause-goes_on g c = read_goes_on _ _ c.args.run.now
+    (turn_with c.get_read.new.run c.get_read.result) c.get_read.ensures.reads
     c.get_read.ensures.unchanged c.get_read.ensures.out
 
 pub get_end-requires-clause-of : goal.get_end-requires-clause-of
-get_end-requires-clause-of g c = read_of c.args.core.now c.args.run.now c.solve.new.run c.solve.ensures c.requires.of
+get_end-requires-clause-of g c = read_of c.solve.ensures c.requires.of
 
 pub returns-clause-goes : goal.returns-clause-goes
-returns-clause-goes g c = read_ends c.args.core.now c.get_end.new.self (g.B.Bank.disk c.args.bank.now) c.args.run.now
-    c.solve.new.run (Done c.get_end.result) c.solve.ensures (search rules) c.get_end.ensures.ends
+returns-clause-goes g c = read_ends c.args.core.now c.get_end.new.self (g.B.Bank.disk c.args.bank.now)
+    (Done c.get_end.result) c.solve.ensures (search rules) c.get_end.ensures.ends
 
 pub returns-clause-goes_on : goal.returns-clause-goes_on
-returns-clause-goes_on g c = read_end_goes c.args.core.now c.get_end.new.self (g.B.Bank.disk c.args.bank.now)
-    c.solve.new.run (Done c.get_end.result) c.get_end.ensures.ends
+returns-clause-goes_on g c = read_end_goes c.solve.new.run (Done c.get_end.result) c.get_end.ensures.ends

@@ -1,8 +1,6 @@
-use Rattle.std.proofs.Common.{sym, subst}
-use Rattle.core_turns.specs.Core.{at_disk}
+use Rattle.schedule.proofs.Words.{sym, subst, at_disk, GoesOnBy}
 use Rattle.schedule.specs.declared.client.Work.{Work as WorkOf}
 use Rattle.schedule.specs.declared.client.Work.TheVariants as work
-use Rattle.schedule.specs.Turned.{GoesOnBy}
 use Rattle.schedule.proofs.CallTurns.{attach_by, copy_by}
 use Rattle.schedule.proofs.turning.turn_with_pool.Goals as goal
 

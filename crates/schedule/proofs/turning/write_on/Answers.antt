@@ -1,7 +1,6 @@
+use Rattle.schedule.proofs.Words.{Done}
 use Rattle.schedule.proofs.CallTurns.{put_end_goes}
-use Rattle.core_turns.specs.declared.turn.Turn.TheVariants.{Done}
 use Rattle.schedule.proofs.turning.write_on.Goals as goal
 
 pub returns-then-is_written-clause-goes_on : goal.returns-then-is_written-clause-goes_on
-returns-then-is_written-clause-goes_on g c = put_end_goes c.args.core.now c.put_end.new.self (g.B.Bank.disk c.args.bank.now)
-    c.args.run.now (Done c.put_end.result) c.put_end.ensures.ends
+returns-then-is_written-clause-goes_on g c = put_end_goes c.args.run.now (Done c.put_end.result) c.put_end.ensures.ends

@@ -1,13 +1,5 @@
-use Rattle.std.proofs.Common.{◌∙◌, ◌++◌, ◌∷◌, [], List, ap, subst}
+use Rattle.schedule.proofs.Words.{◌∙◌, ◌++◌, ◌∷◌, [], List, ap, subst, Item, Group, first_item, at_disk, InOrder, replay_at, CarriesOut, Turns, turns_of, first_turns}
 use Rattle.core_state.specs.declared.item.Group.{Group as GroupItem}
-use Rattle.core_state.specs.declared.item.Item.{Item}
-use Rattle.core_state.specs.declared.item.Item.TheVariants.{Group}
-use Rattle.open_pool.specs.Pool.{first_item}
-use Rattle.core_turns.specs.Core.{at_disk}
-use Rattle.schedule.specs.InTurn.{InOrder, replay_at}
-use Rattle.schedule.specs.Playing.{CarriesOut}
-use Rattle.schedule.specs.Turns.{Turns, turns_of}
-use Rattle.schedule.specs.WholeRun.{first_turns}
 use Rattle.schedule.proofs.Opened.{begins_first, resting}
 use Rattle.schedule.proofs.Whole.{ends_taken, has_run_in_turn}
 use Rattle.schedule.proofs.whole_run.run_pool.Goals as goal
@@ -23,14 +15,12 @@ returns-clause-run g c =
     let final = at_disk carried.core (g.B.Bank.disk carried.bank) in
     let items = carried.journal.items in
     let start = first_turns script (at_disk (resting pool) mid) (first_item pool) in
-    let out = subst (λ (turns : Turns). CarriesOut script c.args.listed.now turns carried.ended carried.turns final items)
-    (begins_first script pool c.new-core.result mid c.list.new.self.items c.new-core.ensures
+    let out = subst (λ (turns : Turns). CarriesOut script c.args.listed.now turns carried.ended carried.turns final
+    items) (begins_first script mid c.new-core.ensures
     (c.list.ensures.items ∙ ap (λ (l : List Item). l ++ Group c.first_item.result ∷ []) c.requires.empty
     ∙ ap (λ (group : GroupItem). Group group ∷ []) c.first_item.ensures)) c.carry_out.ensures.taken in
-    rw c.of.ensures
-    (has_run_in_turn script old mid pool c.in-Ok.opened.silent items out.clients final out.passed opened.later
+    rw c.of.ensures (has_run_in_turn out.passed opened.later
     opened.only opened.silent opened.few opened.missed opened.renews opened.writes opened.out opened.begins opened.rest
-    opened.bank opened.right opened.loaded
-    (ends_taken script (replay_at start 0 (InOrder c.args.listed.now))
+    opened.bank opened.right opened.loaded (ends_taken script (replay_at start 0 (InOrder c.args.listed.now))
     (replay_at (turns_of final items out.clients) carried.turns out.cursor) out.passed carried.ended out.ends)
-    out.come c.carry_out.ensures.calls c.args.listed.now carried.ended carried.turns out.cursor out.ends)
+    out.come c.carry_out.ensures.calls out.cursor out.ends)

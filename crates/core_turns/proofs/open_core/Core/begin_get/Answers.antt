@@ -1,14 +1,4 @@
-use Rattle.std.proofs.Common.{◌≤◌, ◌*◌, sym, ◌∙◌, subst, arith, rules}
-use Rattle.std.proofs.Math.Nat.{mul-le-mul_left}
-use Rattle.row_layout.specs.Layout.{rows_of}
-use Rattle.row_layout.specs.Standing.{IsWithinLimits}
-use Rattle.row_layout.proofs.Counts.{rows_few}
-use Rattle.std.proofs.lemmas.Bool.{true≢false}
-use Rattle.core_turns.specs.declared.getting.GetRun.{GetRun}
-use Rattle.core_turns.specs.declared.solving.Solved.TheVariants.{NotYet}
-use Rattle.core_turns.specs.declared.turn.Turn.TheVariants.{More}
-use Rattle.core_turns.specs.Core.{Core}
-use Rattle.core_turns.specs.Getting.{HasTooManyOut, BeginsGet}
+use Rattle.core_turns.proofs.Words.{◌≤◌, ◌*◌, sym, ◌∙◌, subst, arith, rules, mul-le-mul_left, rows_of, IsWithinLimits, rows_few, true≢false, GetRun, NotYet, More, Core, HasTooManyOut, BeginsGet}
 use Rattle.core_turns.proofs.GetTurns.{get_begins}
 use Rattle.core_turns.proofs.open_core.Core.begin_get.Goals as goal
 
@@ -34,8 +24,8 @@ returns c =
     } in
     let few : HasTooManyOut core → ⊥ = subst (λ (core : Core). HasTooManyOut core → ⊥) (sym c.self.view_is)
     (λ many. true≢false (sym (c.has_too_many_out.ensures.1 many) ∙ c.if-has_too_many_out.false)) in
-    subst (λ (old : Core). BeginsGet old (record core { holds = c.hold_shared.new.self }) c.args.actor c.args.kind c.args.id (More run))
-    c.self.view_is
+    subst (λ (old : Core). BeginsGet old (record core { holds = c.hold_shared.new.self }) c.args.actor c.args.kind
+    c.args.id (More run)) c.self.view_is
     (get_begins core c.args.actor c.args.id c.args.kind entry c.layout_of-layout.result c.alloc_size.result
     c.in-Ok-hold_shared.hold c.in-Ok.read c.hold_shared.new.self c.self.invariant c.get.ensures.step few
     (sym c.in-Some.ensures.value) c.layout_of-layout.ensures c.alloc_size.ensures.value
@@ -49,6 +39,7 @@ overflow_add-end c = record {
       let stands = c.in-Some.ensures.stands in
       let few = c.alloc_size.ensures.few in
       let rows : rows_of layout ≤ 128 = omega (arith, rows_few layout limits.is, limits.sectors) in
-      let parities : layout.parity * rows_of layout ≤ 3 * 128 = (let more = mul-le-mul_left layout.parity rows in omega (arith, more, limits.parity)) in
+      let parities : layout.parity * rows_of layout ≤ 3 * 128
+      = (let more = mul-le-mul_left layout.parity rows in omega (arith, more, limits.parity)) in
       omega (arith, stands.start, few, limits.sectors, limits.parity, parities);
 }

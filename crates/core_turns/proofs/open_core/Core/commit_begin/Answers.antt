@@ -1,16 +1,4 @@
-use Rattle.std.proofs.Common.{◌+◌, ◌≤◌, List, Some, length, sym, ◌∙◌, ap, subst, arith}
-use Rattle.std.proofs.lemmas.Bool.{true≢false}
-use Rattle.block_record.specs.declared.entry.IndexEntry.{IndexEntry}
-use Rattle.block_table.proofs.Tables.{few_entries}
-use Rattle.uberblock_ring.specs.Uberblock.{Uber}
-use Rattle.uberblock_ring.specs.Valid.{IsRightUber}
-use Rattle.commit_job.specs.Stages.{plan_of}
-use Rattle.core_commit.specs.declared.commit_run.Stage.TheVariants.{Lays}
-use Rattle.core_turns.specs.Core.{Core}
-use Rattle.mark_choice.specs.CommitChoice.{IsCommitChoice, Chooses}
-use Rattle.reflow_mark.specs.declared.reflow.Reflow.{Reflow}
-use Rattle.core_turns.specs.Committing.{BeginsCommitSo, TakesHold, hold_for}
-use Rattle.core_turns.specs.Getting.{HasTooManyOut}
+use Rattle.core_turns.proofs.Words.{◌+◌, ◌≤◌, List, Some, length, sym, ◌∙◌, ap, subst, arith, true≢false, IndexEntry, few_entries, Uber, IsRightUber, plan_of, Lays, Core, IsCommitChoice, Chooses, Reflow, BeginsCommitSo, TakesHold, hold_for, HasTooManyOut}
 use Rattle.core_turns.proofs.Commits.{begins_clear, begins_right, begins_so, begun_core}
 use Rattle.core_turns.proofs.Cores.{core_with}
 use Rattle.core_turns.proofs.open_core.Core.commit_begin.Goals as goal
@@ -28,7 +16,8 @@ next_uber-next-requires-clause-few c =
 pub hold_change-requires-clause-clear : goal.hold_change-requires-clause-clear
 hold_change-requires-clause-clear c =
     let at = c.self.inside in
-    begins_clear (core_with at.uber at.blocks at.out at.done at.locks at.begun at.committing at.copying at.attaching at.reach) c.args.actor
+    begins_clear (core_with at.uber at.blocks at.out at.done at.locks at.begun at.committing at.copying at.attaching
+    at.reach) c.args.actor
     c.reflow-before.result c.choose-chosen.result c.self.invariant c.entries-entries.ensures.table c.in_default.is
     (subst (λ (core : Core). HasTooManyOut core → ⊥) (sym c.self.view_is)
     (λ many. true≢false (sym (c.has_too_many_out.ensures.1 many) ∙ c.if-has_too_many_out.false)))
@@ -37,7 +26,9 @@ hold_change-requires-clause-clear c =
 pub new-requires-2-clause-right : goal.new-requires-2-clause-right
 new-requires-2-clause-right c =
     let at = c.self.inside in
-    subst IsRightUber (sym c.in-Ok-new.ensures.ok) (begins_right (core_with at.uber at.blocks at.out at.done at.locks at.begun at.committing at.copying at.attaching at.reach) c.args.actor
+    subst IsRightUber (sym c.in-Ok-new.ensures.ok) (begins_right
+    (core_with at.uber at.blocks at.out at.done at.locks at.begun at.committing at.copying at.attaching at.reach)
+    c.args.actor
     c.reflow-before.result c.choose-chosen.result c.self.invariant c.entries-entries.ensures.table c.in_default.is
     (subst (λ (core : Core). HasTooManyOut core → ⊥) (sym c.self.view_is)
     (λ many. true≢false (sym (c.has_too_many_out.ensures.1 many) ∙ c.if-has_too_many_out.false)))
@@ -47,8 +38,8 @@ new-requires-2-clause-right c =
 pub invariant_of-self-2 : goal.invariant_of-self-2
 invariant_of-self-2 c =
     let at = c.self.inside in
-    begun_core (core_with at.uber at.blocks at.out at.done at.locks at.begun at.committing at.copying at.attaching at.reach) c.hold_change.new.locks
-    c.args.actor c.choose-chosen.result c.self.invariant c.in_default.is
+    begun_core (core_with at.uber at.blocks at.out at.done at.locks at.begun at.committing at.copying at.attaching
+    at.reach) c.hold_change.new.locks c.args.actor c.choose-chosen.result c.self.invariant c.in_default.is
     (let low = c.if-self.false in omega (arith, low))
     (Chooses at.locks (subst (λ (r : Reflow). IsCommitChoice r at.done at.locks c.choose-chosen.result)
     c.reflow-before.ensures.value c.choose-chosen.ensures.choice))
@@ -59,17 +50,17 @@ pub returns-clause-begins : goal.returns-clause-begins
 returns-clause-begins c =
     let at = c.self.inside in
     subst (λ (old : Core). BeginsCommitSo old
-    (core_with at.uber at.blocks at.out at.done c.hold_change.new.locks (at.begun + 1) (Some c.args.actor) at.copying at.attaching at.reach) c.args.actor
-    c.new-2.result) c.self.view_is
-    (begins_so (core_with at.uber at.blocks at.out at.done at.locks at.begun at.committing at.copying at.attaching at.reach) c.args.actor
+    (core_with at.uber at.blocks at.out at.done c.hold_change.new.locks (at.begun + 1)
+    (Some c.args.actor) at.copying at.attaching at.reach) c.args.actor c.new-2.result) c.self.view_is
+    (begins_so (core_with at.uber at.blocks at.out at.done at.locks at.begun at.committing at.copying at.attaching
+    at.reach) c.args.actor
     c.reflow-before.result c.choose-chosen.result c.self.invariant c.entries-entries.ensures.table c.in_default.is
     (subst (λ (core : Core). HasTooManyOut core → ⊥) (sym c.self.view_is)
     (λ many. true≢false (sym (c.has_too_many_out.ensures.1 many) ∙ c.if-has_too_many_out.false)))
     (let low = c.if-self.false in omega (arith, low)) c.reflow-before.ensures.value c.choose-chosen.ensures.choice
     c.entries-entries.result.now c.next_uber-next.result c.entries-entries.ensures.value c.next_uber-next.ensures
     c.hold_change.new.locks c.in-Ok-from_slice.index.items c.new-2.result c.in-Ok-hold_change.ensures.ok
-    c.in-Ok-from_slice.ensures.items
-    (c.new-2.ensures.value ∙ ap (λ (uber : Uber). record {
+    c.in-Ok-from_slice.ensures.items (c.new-2.ensures.value ∙ ap (λ (uber : Uber). record {
       uber = uber;
       entries = c.in-Ok-from_slice.index.items;
       calls = plan_of uber.reflow.to uber.count;

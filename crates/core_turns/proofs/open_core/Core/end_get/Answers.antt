@@ -1,8 +1,4 @@
-use Rattle.std.proofs.Common.{◌≡◌, refl, sym, ◌∙◌, subst}
-use Rattle.std.proofs.lemmas.Bool.{true≢false}
-use Rattle.core_turns.specs.declared.solving.Solved.{Solved}
-use Rattle.core_turns.specs.Core.{Core}
-use Rattle.core_turns.specs.Getting.{AnswersSolved, EndsGetSo, HasTooManyOut, IsGetOf}
+use Rattle.core_turns.proofs.Words.{◌≡◌, refl, sym, ◌∙◌, subst, true≢false, Solved, Core, AnswersSolved, EndsGetSo, HasTooManyOut, IsGetOf}
 use Rattle.core_turns.proofs.Cores.{core_with}
 use Rattle.core_turns.proofs.GetTurns.{read_ended}
 use Rattle.core_turns.proofs.open_core.Core.end_get.Goals as goal
@@ -11,34 +7,40 @@ use Rattle.core_turns.proofs.open_core.Core.end_get.Goals.{in-NotYet, in-Damaged
 pub invariant_of-self : goal.invariant_of-self
 invariant_of-self c =
     let at = c.self.inside in
-    read_ended (core_with at.uber at.blocks at.out at.done at.locks at.begun at.committing at.copying at.attaching at.reach) c.args.run.now c.end.new.self
+    read_ended (core_with at.uber at.blocks at.out at.done at.locks at.begun at.committing at.copying at.attaching
+    at.reach) c.args.run.now c.end.new.self
     c.self.invariant (subst (λ (core : Core). IsGetOf core c.args.run.now) (sym c.self.view_is) c.requires.of)
     c.end.ensures.ends
 
 pub invariant_of-self-then-has_too_many_out : goal.invariant_of-self-then-has_too_many_out
 invariant_of-self-then-has_too_many_out c =
     let at = c.self.inside in
-    read_ended (core_with at.uber at.blocks at.out at.done at.locks at.begun at.committing at.copying at.attaching at.reach) c.args.run.now c.end.new.self
+    read_ended (core_with at.uber at.blocks at.out at.done at.locks at.begun at.committing at.copying at.attaching
+    at.reach) c.args.run.now c.end.new.self
     c.self.invariant (subst (λ (core : Core). IsGetOf core c.args.run.now) (sym c.self.view_is) c.requires.of)
     c.end.ensures.ends
 
 pub invariant_of-self-2 : goal.invariant_of-self-2
 invariant_of-self-2 c =
     let at = c.self.inside in
-    read_ended (core_with at.uber at.blocks at.out at.done at.locks at.begun at.committing at.copying at.attaching at.reach) c.args.run.now c.end.new.self
+    read_ended (core_with at.uber at.blocks at.out at.done at.locks at.begun at.committing at.copying at.attaching
+    at.reach) c.args.run.now c.end.new.self
     c.self.invariant (subst (λ (core : Core). IsGetOf core c.args.run.now) (sym c.self.view_is) c.requires.of)
     c.end.ensures.ends
 
 pub returns : goal.returns
 returns c =
     let at = c.self.inside in
-    let core = core_with at.uber at.blocks at.out at.done at.locks at.begun at.committing at.copying at.attaching at.reach in
+    let core = core_with at.uber at.blocks at.out at.done at.locks at.begun at.committing at.copying at.attaching
+    at.reach in
     let few : HasTooManyOut core → ⊥ =
     λ many. true≢false (sym (c.has_too_many_out.ensures.1 many) ∙ c.if-has_too_many_out.false) in
     let given = c.match-replace.result in
-    let by = λ (solved : Solved) (is : c.args.run.now.solved ≡ solved) (told : AnswersSolved c.args.run.now solved given).
+    let by = λ (solved : Solved) (is : c.args.run.now.solved ≡ solved)
+    (told : AnswersSolved c.args.run.now solved given).
     subst (λ (s : Solved). AnswersSolved c.args.run.now s given) (sym is) told in
-    subst (λ (old : Core). EndsGetSo old (record core { holds = c.end.new.self }) c.args.run.now given) c.self.view_is (record {
+    subst (λ (old : Core). EndsGetSo old (record core { holds = c.end.new.self }) c.args.run.now given) c.self.view_is
+    (record {
       rest = refl;
       ends = c.end.ensures.ends;
       too_many = λ many. absurd (few many);

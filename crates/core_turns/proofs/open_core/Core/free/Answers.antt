@@ -1,11 +1,4 @@
-use Rattle.std.proofs.Common.{refl, sym, ◌∙◌, subst}
-use Rattle.core_state.specs.declared.answer.Answer.{Answer}
-use Rattle.core_blocks.specs.Blocks.{AreUnderWay}
-use Rattle.core_turns.specs.Freeing.{map_after_free}
-use Rattle.open_pool.specs.Pool.{HoldsMap, pool_of, state_of}
-use Rattle.open_pool.proofs.Frees.{freed_holds, none_freed_holds}
-use Rattle.core_turns.specs.Core.{Core, at_disk, pool_at, HasBankOf}
-use Rattle.core_turns.specs.Getting.{IsGetOf}
+use Rattle.core_turns.proofs.Words.{refl, sym, ◌∙◌, subst, Answer, AreUnderWay, map_after_free, HoldsMap, pool_of, state_of, freed_holds, none_freed_holds, Core, at_disk, pool_at, HasBankOf, IsGetOf}
 use Rattle.core_turns.proofs.GetTurns.{get_of}
 use Rattle.core_turns.proofs.open_core.Core.free.Goals as goal
 use Rattle.core_turns.proofs.open_core.Core.free.Goals.{in-Some, in-None}

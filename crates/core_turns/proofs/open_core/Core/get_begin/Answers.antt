@@ -1,5 +1,4 @@
-use Rattle.std.proofs.Common.{sym, ap, subst}
-use Rattle.core_turns.specs.Core.{Core, HasBankOf}
+use Rattle.core_turns.proofs.Words.{sym, ap, subst, Core, HasBankOf}
 use Rattle.core_turns.proofs.GetTurns.{get_of, begins_rest, begins_holds}
 use Rattle.core_turns.proofs.GetLaws.{get_finds}
 use Rattle.core_turns.proofs.open_core.Core.get_begin.Goals as goal

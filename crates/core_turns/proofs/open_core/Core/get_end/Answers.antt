@@ -1,7 +1,7 @@
-use Rattle.core_turns.specs.declared.turn.Turn.TheVariants.{Done}
+use Rattle.core_turns.proofs.Words.{Done}
 use Rattle.core_turns.proofs.GetLaws.{get_tells}
 use Rattle.core_turns.proofs.open_core.Core.get_end.Goals as goal
 
 pub returns-clause-tells : goal.returns-clause-tells
-returns-clause-tells c = λ content disk holds. get_tells content _ _ disk c.args.run.now (Done c.end_get.result) c.requires.kind holds
-    c.end_get.ensures
+returns-clause-tells c = λ content disk holds. get_tells content _ _ disk c.args.run.now
+    (Done c.end_get.result) c.requires.kind holds c.end_get.ensures

@@ -1,12 +1,4 @@
-use Rattle.std.proofs.Common.{arith, ◌+◌, ◌-◌, ◌<◌, sym, ◌∙◌, subst, None}
-use Rattle.std.proofs.lemmas.Bool.{true≢false}
-use Rattle.std.proofs.lemmas.Grind.{common_steps}
-use Rattle.row_layout.specs.Layout.{allocated_of}
-use Rattle.core_turns.specs.declared.putting.PutRun.{PutRun}
-use Rattle.core_turns.specs.declared.turn.Turn.TheVariants.{More}
-use Rattle.core_turns.specs.Core.{Core}
-use Rattle.core_turns.specs.Getting.{HasTooManyOut}
-use Rattle.core_turns.specs.Putting.{BeginsPutTurn, LeavesBlocks}
+use Rattle.core_turns.proofs.Words.{arith, ◌+◌, ◌-◌, ◌<◌, sym, ◌∙◌, subst, None, true≢false, common_steps, allocated_of, PutRun, More, Core, HasTooManyOut, BeginsPutTurn, LeavesBlocks}
 use Rattle.core_turns.proofs.Cores.{core_with}
 use Rattle.core_turns.proofs.PutTurns.{put_begins, put_begins_core, put_dropped, put_refused}
 use Rattle.core_turns.proofs.open_core.Core.put_begin.Goals as goal
@@ -23,7 +15,8 @@ hold_range-requires-clause-end c =
 
 pub returns-in-Err : goal.returns-in-Err
 returns-in-Err c =
-    let core = core_with c.self.inside.uber c.self.inside.blocks c.self.inside.out c.self.inside.done c.self.inside.locks
+    let core = core_with c.self.inside.uber c.self.inside.blocks c.self.inside.out c.self.inside.done
+    c.self.inside.locks
     c.self.inside.begun c.self.inside.committing c.self.inside.copying c.self.inside.attaching c.self.inside.reach in
     let few : HasTooManyOut core → ⊥ = subst (λ (core : Core). HasTooManyOut core → ⊥) (sym c.self.view_is)
     (λ many. true≢false (sym (c.has_too_many_out.ensures.1 many) ∙ c.if-has_too_many_out.false)) in
@@ -38,7 +31,8 @@ returns-in-Err c =
 
 pub returns-in_default : goal.returns-in_default
 returns-in_default c =
-    let core = core_with c.self.inside.uber c.self.inside.blocks c.self.inside.out c.self.inside.done c.self.inside.locks
+    let core = core_with c.self.inside.uber c.self.inside.blocks c.self.inside.out c.self.inside.done
+    c.self.inside.locks
     c.self.inside.begun c.self.inside.committing c.self.inside.copying c.self.inside.attaching c.self.inside.reach in
     let new = record core { pool = record core.pool { blocks = c.give_up.new.self }; holds = c.hold_range.new.locks } in
     record {
@@ -46,7 +40,8 @@ returns-in_default c =
         λ many. true≢false (sym (c.has_too_many_out.ensures.1 many) ∙ c.if-has_too_many_out.false),
         subst (λ (old : Core). LeavesBlocks old new) c.self.view_is
             (put_dropped core c.begin_put.new.self c.give_up.new.self c.in-Ok.range c.hold_range.new.locks
-            c.in_default.ensures c.in-Ok.ensures.begins c.in-Ok.ensures.under c.begin_put.ensures.kept c.in-Ok.ensures.spares
+            c.in_default.ensures c.in-Ok.ensures.begins c.in-Ok.ensures.under c.begin_put.ensures.kept
+            c.in-Ok.ensures.spares
             c.give_up.ensures.parity c.give_up.ensures.births c.give_up.ensures.entries c.give_up.ensures.dropped
             c.give_up.ensures.under c.give_up.ensures.kept),
       );
@@ -55,13 +50,15 @@ returns-in_default c =
 pub invariant_of-self-2 : goal.invariant_of-self-2
 invariant_of-self-2 c =
     let at = c.self.inside in
-    put_begins_core (core_with at.uber at.blocks at.out at.done at.locks at.begun at.committing at.copying at.attaching at.reach) c.args.actor c.in-Ok.range
+    put_begins_core (core_with at.uber at.blocks at.out at.done at.locks at.begun at.committing at.copying at.attaching
+    at.reach) c.args.actor c.in-Ok.range
     c.begin_put.new.self c.in-Some.hold c.hold_range.new.locks c.self.invariant c.in-Ok.ensures.begins
     c.begin_put.ensures.stays c.in-Some.ensures.0 c.in-Some.ensures.1
 
 pub returns : goal.returns
 returns c =
-    let core = core_with c.self.inside.uber c.self.inside.blocks c.self.inside.out c.self.inside.done c.self.inside.locks
+    let core = core_with c.self.inside.uber c.self.inside.blocks c.self.inside.out c.self.inside.done
+    c.self.inside.locks
     c.self.inside.begun c.self.inside.committing c.self.inside.copying c.self.inside.attaching c.self.inside.reach in
     let few : HasTooManyOut core → ⊥ = subst (λ (core : Core). HasTooManyOut core → ⊥) (sym c.self.view_is)
     (λ many. true≢false (sym (c.has_too_many_out.ensures.1 many) ∙ c.if-has_too_many_out.false)) in
@@ -79,6 +76,7 @@ returns c =
           c.args.actor c.args.id c.args.len (More run)) c.self.view_is
           (put_begins core c.args.actor c.args.id c.args.len c.begin_put.new.self c.in-Ok.range c.in-Some.hold
           c.hold_range.new.locks c.reflow.result c.self.invariant few c.requires.some c.requires.few
-          c.in-Ok.ensures.range c.in-Ok.ensures.begins c.in-Ok.ensures.under_way c.in-Ok.ensures.under c.begin_put.ensures.kept
+          c.in-Ok.ensures.range c.in-Ok.ensures.begins c.in-Ok.ensures.under_way c.in-Ok.ensures.under
+          c.begin_put.ensures.kept
           c.in-Ok.ensures.spares c.in-Some.ensures.0 c.in-Some.ensures.1 c.reflow.ensures.value);
     }

@@ -1,8 +1,4 @@
-use Rattle.std.proofs.Common.{sym, ◌∙◌, ap, subst}
-use Rattle.core_turns.specs.declared.attaching.AttachRun.{AttachRun}
-use Rattle.core_turns.specs.declared.turn.Turn.TheVariants.{Done}
-use Rattle.core_turns.specs.Core.{Core, at_disk}
-use Rattle.core_turns.specs.Attaching.{HasNewDevice, StepsAttach}
+use Rattle.core_turns.proofs.Words.{sym, ◌∙◌, ap, subst, AttachRun, Done, Core, at_disk, HasNewDevice, StepsAttach}
 use Rattle.core_turns.proofs.AttachGoes.{attach_too_many, stops_attach}
 use Rattle.core_turns.proofs.open_core.Core.step_attach.Goals as goal
 

@@ -1,6 +1,5 @@
-use Rattle.std.proofs.Common.{◌∙◌, refl, subst}
+use Rattle.core_turns.proofs.Words.{◌∙◌, refl, subst, IsMadeUp}
 use Rattle.core_turns.specs.declared.filling.ToFill.{ToFill as ToFillOf}
-use Rattle.core_turns.specs.Putting.{IsMadeUp}
 use Rattle.core_turns.proofs.putting.PutRun.fill_in.Goals as goal
 
 pub returns-clause-ok : goal.returns-clause-ok

@@ -1,6 +1,4 @@
-use Rattle.std.proofs.Common.{◌≡◌, length, sym, ◌∙◌, subst}
-use Rattle.std.proofs.lemmas.Bool.{true≢false}
-use Rattle.core_turns.specs.declared.filling.Filled.{Filled}
+use Rattle.core_turns.proofs.Words.{◌≡◌, length, sym, ◌∙◌, subst, true≢false, Filled}
 use Rattle.core_turns.proofs.PutTurns.{same_filled}
 use Rattle.core_turns.proofs.PutGoes.{put_left}
 use Rattle.core_turns.proofs.putting.PutRun.is_written.Goals as goal

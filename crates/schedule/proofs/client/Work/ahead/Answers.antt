@@ -1,8 +1,5 @@
-use Rattle.std.proofs.Common.{◌∙◌, subst, sym}
+use Rattle.schedule.proofs.Words.{◌∙◌, subst, sym, fill_bytes, IsFillable, MayGoOn}
 use Rattle.client_script.specs.declared.call.ScriptCall.{ScriptCall as CallOf}
-use Rattle.client_script.specs.Lines.{fill_bytes}
-use Rattle.core_turns.specs.Putting.{IsFillable}
-use Rattle.schedule.specs.Turned.{MayGoOn}
 use Rattle.schedule.proofs.CallTurns.{put_ahead}
 use Rattle.schedule.proofs.Theirs.{some_is}
 use Rattle.schedule.proofs.client.Work.ahead.Goals as goal
@@ -10,6 +7,5 @@ use Rattle.schedule.proofs.client.Work.ahead.Goals as goal
 pub returns-in-Some-clause-can : goal.returns-in-Some-clause-can
 returns-in-Some-clause-can c = λ calls is call there.
     subst (λ (asked : CallOf). IsFillable c.in-Some.block (fill_bytes asked.fill)) (some_is (sym is ∙ there))
-    (put_ahead c.requires.may.0 c.args.call.now c.in-Put.run' c.in-Some.block
-    (subst (MayGoOn c.requires.may.0 c.args.call.now) c.in-Put.is c.requires.may.1)
+    (put_ahead c.args.call.now (subst (MayGoOn c.requires.may.0 c.args.call.now) c.in-Put.is c.requires.may.1)
     (sym c.to_fill.ensures ∙ c.in-Some.is))

@@ -1,11 +1,7 @@
-use Rattle.std.proofs.Common.{◌≡◌, ◌-◌, ◌∙◌, List, arith, sym, subst}
-use Rattle.std.specs.Prelude.{Some, slice_get}
-use Rattle.std.proofs.lemmas.Bool.{true≢false}
-use Rattle.std.proofs.lemmas.Option.{slice_get_within}
+use Rattle.schedule.proofs.Words.{◌≡◌, ◌-◌, ◌∙◌, List, arith, sym, subst, slice_get, true≢false, slice_get_within, calls_of, IsAskedBy}
+use Rattle.std.specs.Prelude.{Some}
 use Rattle.client_script.specs.declared.call.ScriptCall.{ScriptCall as CallOf}
-use Rattle.client_script.specs.Script.{calls_of}
 use Rattle.schedule.specs.declared.client.Client.{Client as ClientOf}
-use Rattle.schedule.specs.Ahead.{IsAskedBy}
 use Rattle.schedule.proofs.Theirs.{some_is}
 use Rattle.schedule.proofs.TurnTaken.{client_there, going_may}
 use Rattle.schedule.proofs.progress.Progress.ahead.Goals as goal
@@ -15,18 +11,16 @@ ahead-requires-clause-may c =
     let client = c.in-Some.client.now in
     let ready = c.requires.ready.3 in (
       c.requires.ready.0.core,
-      λ under call going is. going_may c.args.script.now c.requires.ready.0.core c.args.self.now.clients.items c.args.actor
-          client under call ready.schedule.going (record {
-            there = client_there c.args.self.now.clients.items c.from.result c.args.actor client c.from.ensures
-                c.in-Some.ensures.item.3.0 c.in-Some.ensures.value;
-            under_way = going;
-          })
-          (subst (λ (calls : List CallOf). slice_get calls (client.begun - 1) ≡ Some call) c.calls.ensures is),
+      λ under call going is. going_may ready.schedule.going (record {
+        there = client_there c.args.self.now.clients.items c.from.ensures
+            c.in-Some.ensures.item.3.0 c.in-Some.ensures.value;
+        under_way = going;
+      }) (subst (λ (calls : List CallOf). slice_get calls (client.begun - 1) ≡ Some call) c.calls.ensures is),
     )
 
 pub returns-in-Some-clause-asked : goal.returns-in-Some-clause-asked
 returns-in-Some-clause-asked c = λ client is.
-    let found = client_there c.args.self.now.clients.items c.from.result c.args.actor c.in-Some.client.now c.from.ensures
+    let found = client_there c.args.self.now.clients.items c.from.ensures
     c.in-Some.ensures.item.3.0 c.in-Some.ensures.value in
     subst (λ (other : ClientOf). IsAskedBy (calls_of c.args.script.now c.args.actor) other c.ahead.result)
     (some_is (sym found ∙ is))

@@ -1,5 +1,4 @@
-use Rattle.std.proofs.Common.{◌≡◌}
-use Rattle.schedule.specs.Replaying.{blank_clients}
+use Rattle.schedule.proofs.Words.{◌≡◌, blank_clients}
 use Rattle.schedule.proofs.progress.Progress.new.Given as goal
 
 abbrev pub invariant-loop-client : goal.invariant-loop-client
