@@ -1,8 +1,7 @@
 -- The turns of calls.
-use Rattle.schedule.proofs.Words.{◌≡◌, ◌⊎◌, inl, inr, ⊎_elim, ℕ, zero, suc, ◌+◌, length, List, Option, Some, None, refl, ap, subst, arith, IsTrue, is_some, false≢true, Disk, Unchanged, rows_of, Uber, Answer, Kind, OnlyFailedGoOut, point_of, read_touches, ScriptCall, fill_bytes, pattern_from, AttachRun, Reads, Checked, Joins, Signs, CopyRound, Rests, Copies, Commits, IsMoreAttach, StepsAttach, IsMoreRound, StepsCopy, GetRun, Filled, ToFill, Blocks, IsUnderWay, PutRun, Turn, More, Busy, Done, Core, CoreState, at_disk, IsReadKind, IsGetOf, BeginsGet, ReadsTurn, SolvesGet, EndsGet, IsFillable, IsPutOf, FillsPut, EndsPut, GivesUpTurn, left_to_fill, to_fill_of, turn_with, TurnGoesOn, reads_reaching, solved_of, fills_of, Work, MakesRoom, taken_for, AnswersAtOnce, Waits, BeginsWork, BeginsCall, GoesOnBy, HasDeviceForTurn, IsFilledIn, MayGoOn, PutGoesOn, WritesOn, ReadGoesOn, WorkGoesOn, attach_turn, copy_turn, read_turn, made_in}
+use Rattle.schedule.proofs.Words.{◌≡◌, ◌⊎◌, ⊎_elim, ℕ, zero, suc, ◌+◌, length, List, Option, Some, None, refl, ap, arith, IsTrue, is_some, false≢true, Disk, Unchanged, rows_of, Uber, Answer, Kind, OnlyFailedGoOut, point_of, read_touches, ScriptCall, fill_bytes, pattern_from, AttachRun, CopyRound, IsMoreAttach, StepsAttach, IsMoreRound, StepsCopy, GetRun, Filled, ToFill, Blocks, IsUnderWay, PutRun, Turn, More, Busy, Done, Core, CoreState, at_disk, IsReadKind, IsGetOf, BeginsGet, ReadsTurn, SolvesGet, EndsGet, IsFillable, IsPutOf, FillsPut, EndsPut, GivesUpTurn, left_to_fill, to_fill_of, turn_with, TurnGoesOn, reads_reaching, solved_of, fills_of, Work, MakesRoom, taken_for, AnswersAtOnce, Waits, BeginsWork, BeginsCall, GoesOnBy, HasDeviceForTurn, IsFilledIn, MayGoOn, PutGoesOn, WritesOn, ReadGoesOn, WorkGoesOn, attach_turn, copy_turn, read_turn, made_in}
 use Rattle.std.specs.Prelude.{◌≤◌}
 use Rattle.core_state.specs.declared.answer.Answer.TheVariants as answer
-use Rattle.core_state.specs.declared.answer.Kind.TheVariants as kind
 use Rattle.schedule.specs.declared.client.Work.TheVariants as work
 use Rattle.schedule.proofs.LeavesPool.{pool_goes}
 use Rattle.schedule.proofs.Rooms.{taken_one}
@@ -24,19 +23,11 @@ BeginsAs old new devices actor call asked id (Done given) = AnswersAtOnce old ne
 read_begun : (old new : Core) (devices actor id : ℕ) (call : ScriptCall) (asked : Kind) (turn : Turn GetRun)
     → IsReadKind asked → BeginsGet old new actor asked id turn
     → BeginsAs old new devices actor call asked (Some id) (read_turn turn)
-read_begun old new devices actor id call kind.Get (More run) is begins = begins
-read_begun old new devices actor id call kind.Get (Busy by) is begins = begins
-read_begun old new devices actor id call kind.Get (Done given) is begins = begins
-read_begun old new devices actor id call kind.Sum (More run) is begins = begins
-read_begun old new devices actor id call kind.Sum (Busy by) is begins = begins
-read_begun old new devices actor id call kind.Sum (Done given) is begins = begins
-read_begun old new devices actor id call other turn is begins = absurd is
+read_begun old new devices actor id call other turn is begins = grind arith
 
 begins_as : (old new : Core) (devices actor : ℕ) (call : ScriptCall) (turn : Turn Work)
     → BeginsAs old new devices actor call call.kind call.id turn → BeginsCall old new devices actor call turn
-begins_as old new devices actor call (More does) begins = begins
-begins_as old new devices actor call (Busy by) begins = begins
-begins_as old new devices actor call (Done given) begins = begins
+begins_as old new devices actor call turn begins = grind arith
 
 -- The first turn of a read is that of its call.
 pub read_begins : (old new : Core) (devices actor : ℕ) {id : ℕ} (call : ScriptCall)
@@ -99,9 +90,7 @@ filled_under call fills under = search arith
 pub put_gives : (old new : Core) (disk : Disk) (call : ScriptCall) {run given_up : PutRun} (turn : Turn PutRun)
     → run.filled ≡ None → given_up ≡ run → GivesUpTurn old given_up new turn
     → PutGoesOn (at_disk old disk) (at_disk new disk) call run turn
-put_gives old new disk call (Done given) none same gives = search arith
-put_gives old new disk call (More next) none same gives = absurd gives
-put_gives old new disk call (Busy by) none same gives = absurd gives
+put_gives old new disk call turn none same gives = grind arith
 
 -- ---- reads
 
@@ -129,9 +118,7 @@ read_of solves of = search (solved_of, arith)
 pub read_ends : (old new : Core) (disk : Disk) {run solved : GetRun} (turn : Turn GetRun)
     → (solved ≡ run) ⊎ SolvesGet run solved → run.read.row ≡ rows_of run.read.layout → EndsGet old solved new turn
     → ReadGoesOn (at_disk old disk) (at_disk new disk) run turn
-read_ends old new disk (Done given) solves done ends = search arith
-read_ends old new disk (More next) solves done ends = absurd ends
-read_ends old new disk (Busy by) solves done ends = absurd ends
+read_ends old new disk turn solves done ends = grind arith
 
 -- ---- blocks that are made up in no turn
 
@@ -168,15 +155,7 @@ read_there disk next (Some answer) = tt
 pub attach_by : (before after : CoreState) (call : ScriptCall) (run : AttachRun) (turn : Turn AttachRun)
     → StepsAttach before run after turn → IsMoreAttach after.core after.disk turn
     → GoesOnBy before after call (work.Attach run) (attach_turn turn)
-attach_by before after call run (More next) steps of = (steps, of.0)
-attach_by before after call run (Done given) steps of = steps
-attach_by before after call run (Busy by) steps of = never run steps
-  where
-    never : (run : AttachRun) → StepsAttach before run after (Busy by) → ⊥
-    never (Reads ring) steps = steps
-    never (Checked ring) steps = steps
-    never (Joins join) steps = steps
-    never (Signs commit because) steps = steps
+attach_by before after call run turn steps of = grind arith
 
 -- ---- copies
 
@@ -184,21 +163,12 @@ attach_by before after call run (Busy by) steps of = never run steps
 pub copy_by : (before after : CoreState) (call : ScriptCall) (round : CopyRound) (turn : Turn CopyRound)
     → StepsCopy before round after turn → IsMoreRound after.core turn
     → GoesOnBy before after call (work.Copy round) (copy_turn turn)
-copy_by before after call round (More next) steps of = (steps, of)
-copy_by before after call round (Done given) steps of = inl steps
-copy_by before after call round (Busy by) steps of = never round steps
-  where
-    never : (round : CopyRound) → StepsCopy before round after (Busy by) → ⊥
-    never (Rests actor made) steps = steps
-    never (Copies run) steps = steps
-    never (Commits run) steps = steps
+copy_by before after call round turn steps of = grind arith
 
 -- One for whose next group memory is wanting ends there, and nothing is done.
 pub lacks_room : (state : CoreState) (call : ScriptCall) (does : Work) {made : Option ℕ} → made ≡ made_in does
     → IsTrue (is_some made) → GoesOnBy state state call does (Done answer.NoMemory)
-lacks_room state call (work.Copy (Rests actor (Some group))) is some = inr (refl, refl)
-lacks_room state call (work.Copy (Rests actor None)) is some = cc
-lacks_room state call other is some = absurd (false≢true (subst (λ (m : Option ℕ). IsTrue (is_some m)) is some))
+lacks_room state call other is some = grind (arith, false≢true)
 
 -- So it goes on as every turn does,
 pub lacking_goes : (core : Core) (disk : Disk) (does : Work) {made : Option ℕ} → made ≡ made_in does
@@ -209,20 +179,14 @@ lacking_goes core disk other is some = cc
 -- and room is left for its answer.
 pub lacking_room : (does : Work) {made : Option ℕ} {before after : ℕ} → made ≡ made_in does
     → IsTrue (is_some made) → before ≤ after → MakesRoom does before after (Done answer.NoMemory)
-lacking_room (work.Copy (Rests actor (Some group))) is some kept = omega arith
-lacking_room (work.Copy (Rests actor None)) is some kept = cc
-lacking_room other is some kept = absurd (false≢true (subst (λ (m : Option ℕ). IsTrue (is_some m)) is some))
+lacking_room other is some kept = grind (arith, false≢true)
 
 -- Where memory was there room is left for the next group and for what the turn lists.
 pub makes_room : (does : Work) {made : Option ℕ} (before : ℕ) {after : ℕ} (turn : Turn Work) → made ≡ made_in does
     → before + taken_for made ≤ after → MakesRoom does before after turn
-makes_room does before (More next) is more = search arith
-makes_room does before (Busy by) is more = tt
-makes_room does before (Done given) is more = search (taken_one, arith)
+makes_room does before turn is more = grind (arith, taken_one)
 
 -- A put that is filled in goes on by its next write, or by its last turn.
 pub put_writes : (before after : CoreState) (call : ScriptCall) {run filled : PutRun} (turn : Turn PutRun)
     → IsFilledIn call run filled → WritesOn before filled after turn → PutGoesOn before after call run turn
-put_writes before after call (More next) fills on = search arith
-put_writes before after call (Busy by) fills on = search arith
-put_writes before after call {filled = filled} (Done given) fills on = search arith
+put_writes before after call turn fills on = grind arith

@@ -1,5 +1,5 @@
 -- What a call is answered in a turn, and that what is listed then fits it.
-use Rattle.schedule.proofs.Words.{◌≡◌, ◌⊎◌, inl, inr, ℕ, List, [], ◌∷◌, ◌++◌, sym, subst, ⊤, IsWithin, max_group, Answer, Kind, Entry, Item, Group, CallAt, IsAnswerOf, WhyDropped, new_or_before, Core, HasTooManyOut, IsReadKind, HasDropCause, FitsSince, IsDeviceCause, IsGroupKind, Turns}
+use Rattle.schedule.proofs.Words.{◌≡◌, ◌⊎◌, inl, inr, ℕ, List, [], ◌∷◌, ◌++◌, sym, subst, ⊤, IsWithin, max_group, Answer, Kind, Entry, Item, Group, CallAt, IsAnswerOf, WhyDropped, new_or_before, Core, HasTooManyOut, IsReadKind, HasDropCause, FitsSince, IsDeviceCause, IsGroupKind, Turns, arith}
 use Rattle.std.specs.Prelude.{◌≢◌}
 use Rattle.core_state.specs.declared.answer.Answer.TheVariants as answer
 use Rattle.core_state.specs.declared.answer.Kind.TheVariants as kind
@@ -44,25 +44,20 @@ LacksDevices kind.Copy = ⊤
 LacksDevices other = ⊥
 
 plain_lacks_none : (asked : Kind) → IsPlainKind asked → LacksDevices asked → ⊥
-plain_lacks_none kind.Attach plain lacks = plain
-plain_lacks_none kind.Copy plain lacks = plain
-plain_lacks_none other plain lacks = lacks
+plain_lacks_none other plain lacks = grind arith
 
 -- No other call has the cause of one that does.
 pub no_device_cause : (devices : ℕ) (dropped : WhyDropped → Type 0) (asked : Kind) (given : Answer)
     → (LacksDevices asked → ⊥) → IsAnswerOf asked given → IsDeviceCause devices dropped given
-no_device_cause devices dropped asked (answer.NewDeviceFailed device) none of = absurd
-    (none (subst LacksDevices (sym of) tt))
-no_device_cause devices dropped asked (answer.DeviceOut device) none of = absurd (none (subst LacksDevices (sym of) tt))
+no_device_cause devices dropped asked (answer.NewDeviceFailed device) none of = search arith
+no_device_cause devices dropped asked (answer.DeviceOut device) none of = search arith
 no_device_cause devices dropped asked (answer.NoDevice there width) none of = absurd
     (none (subst LacksDevices (sym of) tt))
 no_device_cause devices dropped asked (answer.Paused device) none of = absurd (none (subst LacksDevices (sym of) tt))
 no_device_cause devices dropped asked given none of = tt
 
 pub read_plain_kind : (asked : Kind) → IsReadKind asked → IsPlainKind asked
-read_plain_kind kind.Get read = tt
-read_plain_kind kind.Sum read = tt
-read_plain_kind other read = absurd read
+read_plain_kind other read = grind arith
 
 -- So it is known to fit where no limit is told,
 pub fits : {devices : ℕ} {dropped : WhyDropped → Type 0} {core : Core} {asked : Kind} {given : Answer}
@@ -72,8 +67,8 @@ fits {devices} {dropped} {asked = asked} {given = given} of tells no_limit plain
   of_kind = of;
   tells = tells;
   limit = λ reached is. absurd (no_limit reached is);
-  memory = λ wanting free. subst IsPlainKind free plain;
-  device = no_device_cause devices dropped asked given (plain_lacks_none asked plain) of;
+  memory = search arith;
+  device = search (no_device_cause, plain_lacks_none, arith);
 }
 
 -- and a call that makes groups with its cause.
@@ -85,7 +80,7 @@ group_fits core asked given group of tells limit cause = record {
   of_kind = of;
   tells = tells;
   limit = λ reached told. (group, limit reached told);
-  memory = λ wanting free. subst IsGroupKind free group;
+  memory = search arith;
   device = cause;
 }
 
@@ -94,8 +89,7 @@ pub attach_fits : {devices : ℕ} {dropped : WhyDropped → Type 0} {core : Core
     → asked ≡ kind.Attach → IsAnswerOf kind.Attach given → TellsOut core given
     → ((reached : ℕ) → given ≡ answer.Limit reached → reached ≡ max_group) → IsDeviceCause devices dropped given
     → Fits core devices dropped asked given
-attach_fits {core = core} {asked = asked} {given = given} is of = group_fits core asked given
-    (subst IsGroupKind (sym is) tt) (rw is of)
+attach_fits {core = core} {asked = asked} {given = given} is of = grind (arith, group_fits)
 
 -- Its cause stands for whoever has come further.
 pub device_cause_on : (devices : ℕ) (dropped further : WhyDropped → Type 0) (given : Answer)
@@ -119,7 +113,7 @@ fit_same before after items index entry there = inl (search)
 -- or a group alone, which answers no call,
 pub fit_group : (before after : Turns) (group : GroupItem) → after.items ≡ before.items ++ Group group ∷ []
     → FitSince before after
-fit_group before after group items index entry there = inl (group_apart before.items group index (search))
+fit_group before after group items index entry there = grind (arith, group_apart)
 
 module _ (before after : Turns) (last : Entry)
     (fit : Fits before.state.core before.state.disk.devices (HasDropCause before after) last.kind last.answer)
@@ -153,7 +147,4 @@ module _ (before after : Turns) (last : Entry)
   -- and where a group was before it.
   pub fit_both : (group : GroupItem) → after.items ≡ (before.items ++ Group group ∷ []) ++ CallItem last ∷ []
       → FitSince before after
-  fit_both group items index entry there = elim (with_last (before.items ++ Group group ∷ []) index entry (search)) [
-    | inl earlier ↦ inl (group_apart before.items group index earlier)
-    | inr new ↦ inr new
-  ]
+  fit_both group items index entry there = grind (arith, with_last, group_apart)

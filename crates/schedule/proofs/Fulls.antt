@@ -122,18 +122,12 @@ FullStays script before after = (world : World) (past : Past) → IsWorldOf scri
 full_entry : {script : Script} {opening : Map} {items : List Item} (last : Entry)
     → (last.answer ≡ answer.Full → HasTooManyIds script opening) → FullIsCaused script opening items
     → FullIsCaused script opening (items ++ CallItem last ∷ [])
-full_entry last new caused = search (new_or_before, same, arith)
-  where
-    same : (entry : Entry) → CallItem last ≡ CallItem entry → last ≡ entry
-    same entry is = cc
+full_entry last new caused = grind (arith, new_or_before)
 
 -- and a new group, which answers nothing.
 full_group : {script : Script} {opening : Map} {items : List Item} (group : GroupItem)
     → FullIsCaused script opening items → FullIsCaused script opening (items ++ Group group ∷ [])
-full_group group caused = search (new_or_before, apart, arith)
-  where
-    apart : (entry : Entry) → Group group ≡ CallItem entry → ⊥
-    apart entry is = cc
+full_group group caused = grind (arith, new_or_before)
 
 module _ (script : Script) (before after : Turns) where
   -- A turn that lists nothing,

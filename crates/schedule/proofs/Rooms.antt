@@ -1,5 +1,5 @@
 -- Room in a journal for the answers of calls.
-use Rattle.schedule.proofs.Words.{◌≡◌, ℕ, ◌+◌, ◌-◌, ◌*◌, ◌≤◌, ◌<◌, ◌≢◌, ⊎_elim, List, [], ◌∷◌, length, Option, Some, None, zero, suc, refl, ◌∙◌, ap, arith, eq-eqb, ne_eqb, slice_set, filter, slice_get, ◌==◌, cases_eq, length-map, Answer, Entry, ScriptCall, Placed, Script, More, Done, Client, UnderWay, Work, answered_of, HasRoomForAnswers, MakesRoom, UsesRoom, all_owed, calls_by, owed, taken_for, taken_of, taken_under, blank_clients, entry_for, group_by, made_by, made_in}
+use Rattle.schedule.proofs.Words.{◌≡◌, ℕ, ◌+◌, ◌-◌, ◌*◌, ◌≤◌, ◌<◌, ◌≢◌, ⊎_elim, List, [], ◌∷◌, length, Option, Some, None, zero, suc, refl, ◌∙◌, ap, arith, eq-eqb, ne_eqb, slice_set, filter, slice_get, ◌==◌, cases_eq, length-map, Answer, Entry, ScriptCall, Placed, Script, More, Done, Client, UnderWay, Work, HasRoomForAnswers, MakesRoom, UsesRoom, all_owed, calls_by, owed, taken_for, taken_of, blank_clients, entry_for, group_by, made_by, made_in}
 use Rattle.schedule.proofs.Theirs.{some_is}
 
 -- A group takes room for one item.
@@ -10,12 +10,7 @@ taken_one (Some group) = omega arith
 -- A client takes no more room than its calls have.
 pub taken_few : {calls : ℕ} {client : Client} → client.begun ≤ calls
     → ((under : UnderWay) → client.under_way ≡ Some under → 1 ≤ client.begun) → taken_of client ≤ 2 * calls
-taken_few {calls = calls} {client = client} few some = by client.under_way refl
-  where
-    by : (its : Option UnderWay) → client.under_way ≡ its
-        → 2 * answered_of client.begun its + taken_under its ≤ 2 * calls
-    by None is = omega arith
-    by (Some under) is = search (taken_one, arith)
+taken_few {calls = calls} {client = client} few some = grind (arith, taken_one)
 
 -- ---- a turn of one client
 

@@ -85,7 +85,7 @@ none_waits old new devices actor call kind.Put (Some id) by is copying shared no
 none_waits old new devices actor call kind.Get (Some id) by is copying shared none no_attach waits =
     search (none_busy, core_alone)
 none_waits old new devices actor call kind.Sum (Some id) by is copying shared none no_attach waits =
-    none_busy (core_alone is copying none waits.0) waits.2.2
+    search (none_busy, core_alone, arith)
 none_waits old new devices actor call kind.Sync None by is copying shared none no_attach waits = none waits.0 by waits.1
 none_waits old new devices actor call kind.Attach None by is copying shared none no_attach waits = search arith
 none_waits old new devices actor call kind.Copy None by is copying shared none no_attach waits = search no_round_waits
@@ -110,19 +110,9 @@ turned_begins (Went under turn goes leaves) is copying shared none no_attach idl
 -- A turn takes back no call,
 pub turned_further : {calls : List ScriptCall} {actor : ℕ} {before after : Station}
     → Turned calls actor before after → before.client.begun ≤ after.client.begun
-turned_further (Nothing left) = omega (arith, ap (λ (s : Station). s.client.begun) left.same)
-turned_further (Began (More does) begins leaves) = omega (arith, ap (λ (c : Client). c.begun) leaves.1)
-turned_further (Began (Busy by) begins leaves) = omega (arith, ap (λ (c : Client). c.begun) leaves.1)
-turned_further (Began (Done given) begins leaves) = omega (arith, ap (λ (c : Client). c.begun) leaves.1)
-turned_further (Went under (More does) goes leaves) = omega (arith, ap (λ (c : Client). c.begun) leaves.1)
-turned_further (Went under (Busy by) goes leaves) = absurd leaves
-turned_further (Went under (Done given) goes leaves) = omega (arith, ap (λ (c : Client). c.begun) leaves.1)
+turned_further turned = grind arith
 
 -- and begins none while another is under way.
 pub turned_still : {calls : List ScriptCall} {actor : ℕ} {before after : Station} {under : UnderWay}
     → Turned calls actor before after → before.client.under_way ≡ Some under → after.client.begun ≡ before.client.begun
-turned_still (Nothing left) going = cc
-turned_still (Began turn begins leaves) going = cc
-turned_still (Went its (More does) goes leaves) going = cc
-turned_still (Went its (Busy by) goes leaves) going = absurd leaves
-turned_still (Went its (Done given) goes leaves) going = ap (λ (c : Client). c.begun) leaves.1
+turned_still turned going = grind arith

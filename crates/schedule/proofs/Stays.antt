@@ -17,11 +17,11 @@ pub record Stays (old new : Core) : Type 0 where
 
 -- So it is with the same uberblock.
 pub stays_same : {old new : Core} → new.pool.uber ≡ old.pool.uber → Stays old new
-stays_same {old = old} {new = new} uber =
+stays_same uber =
     let reflow = ap (λ (u : Uber). u.reflow) uber in
     let from = ap (λ (r : Reflow). r.from) reflow in
     let births = ap (λ (u : Uber). u.births) uber in record {
-      group = (omega (arith, ap (λ (u : Uber). u.group) uber));
+      group = search arith;
       parity = cc;
       rows = cc;
       from = omega arith;
@@ -125,7 +125,7 @@ module _ (before : CoreState) {after : CoreState} {run : CommitRun} {number : �
     group = search (group_is, arith);
     parity = search uber_is;
     rows = ap (λ (r : Reflow). r.rows) reflow_is ∙ rows_stay;
-    from = (omega (arith, wider, ap (λ (r : Reflow). r.from) reflow_is));
+    from = search (wider, reflow_is, arith);
     first = search (births_are, first_recorded);
     births = search (births_are, reflow_is, group_is);
     same = λ same. search (group_is, same, arith);

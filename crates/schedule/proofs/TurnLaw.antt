@@ -50,7 +50,7 @@ module _ {script : Script} {actor : ℕ} {before after : Station} {clients news 
         put_begins takes asked id_is idle next disk run (put_bytes call.id (search arith)) did leaves
     begins_by kind.Get (Some id) (work.Read run) asked id_is did table leaves = search (read_begins, is_read, as_read)
     begins_by kind.Sum (Some id) (work.Read run) asked id_is did table leaves =
-        read_begins takes call (is_read asked tt) id_is idle next disk run (as_read id (More run) asked did) leaves
+        search (read_begins, is_read, as_read, arith)
     begins_by kind.Sync None (work.Sync run) asked id_is did table leaves = search sync_begins
     begins_by kind.Attach None (work.Attach run) asked id_is did table leaves = search attach_begins
     begins_by kind.Copy None (work.Copy (Copies run)) asked id_is did table leaves = search copy_begins
@@ -76,9 +76,8 @@ module _ {script : Script} {actor : ℕ} {before after : Station} {clients news 
         → AnswersAtOnce before.state.core after.state.core before.state.disk.devices actor call asked id given
         → LeavesBegun actor call before after (Done given) → ItComes
     answers_by kind.Put (Some id) given asked id_is did leaves = search put_at_once
-    answers_by kind.Get (Some id) given asked id_is did leaves = search (read_at_once, is_read, as_read)
-    answers_by kind.Sum (Some id) given asked id_is did leaves =
-        read_at_once takes call (is_read asked tt) id_is idle next disk given (as_read id (Done given) asked did) leaves
+    answers_by kind.Get (Some id) given asked id_is did leaves = search (read_at_once, is_read)
+    answers_by kind.Sum (Some id) given asked id_is did leaves = search (read_at_once, is_read, arith)
     answers_by kind.Free (Some id) given asked id_is did leaves = search free_at_once
     answers_by kind.Sync None given asked id_is did leaves = search sync_at_once
     answers_by kind.Attach None given asked id_is did leaves = search attach_at_once
@@ -87,9 +86,7 @@ module _ {script : Script} {actor : ℕ} {before after : Station} {clients news 
 
     began_by : (turn : Turn Work) → BeginsCall before.state.core after.state.core before.state.disk.devices actor call
         turn → HasTableOf before.state.core turn → LeavesBegun actor call before after turn → ItComes
-    began_by (More does) did table leaves = search (begins_by, arith)
-    began_by (Busy by) did table leaves = search (waits_by, arith)
-    began_by (Done given) did table leaves = search (answers_by, arith)
+    began_by turn did table leaves = grind (arith, begins_by, waits_by, answers_by)
 
   -- A later turn.
   module _ {under : UnderWay} {call : ScriptCall} (going : before.client.under_way ≡ Some under)
@@ -130,7 +127,7 @@ module _ {script : Script} {actor : ℕ} {before after : Station} {clients news 
         (search rests_ends)
         (λ lacks. absurd lacks) did
     went_by (work.Copy (Rests whose (Some made))) (Done given) does_is goes did leaves = ⊎_elim
-        (λ refused. rests_ends takes going is goes does_is given refused leaves)
+        (search (rests_ends, arith))
         (λ lacks. search rests_lacks) did
     went_by (work.Copy (Copies run)) (More (work.Copy (Copies next))) does_is goes did leaves = search copies_on
     went_by (work.Copy (Copies run)) (More (work.Copy (Rests whose made))) does_is goes did leaves = search copies_end

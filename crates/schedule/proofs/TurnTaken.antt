@@ -43,11 +43,8 @@ going_may {script = script} {core = core} {clients = clients} {index = index} {c
 
     may : (does : Work) → under.work ≡ does → IsWorkFor call does → MayGoOn core call does
     may (work.Put run) same for =
-        let listed = among (work.Put run) (Putting run) same (first_listed (Putting run) []) in (
-          going.are.each (Putting run) listed,
-          going.are.under.each run.range (search range_listed),
-          for.2,
-        )
+        let listed = among (work.Put run) (Putting run) same (first_listed (Putting run) []) in search
+        (range_listed, going.are.each, going.are.under.each, arith)
     may (work.Read run) same for = going.are.each (Reading run) (search (among, first_listed))
     may (work.Sync run) same for = (mine.commit run (cc)).0
     may (work.Attach run) same for = (mine.attach run same).0
@@ -62,7 +59,7 @@ set_here : {X : Type 0} (xs : List X) (place : ℕ) {x : X} → place < length x
     → slice_get (slice_set xs place x) place ≡ Some x
 set_here [] place low = absurd (omega arith)
 set_here (first ∷ xs) zero low = refl
-set_here (first ∷ xs) (suc place) {x = x} low = set_here xs place (omega (arith, low))
+set_here (first ∷ xs) (suc place) low = set_here xs place (omega (arith, low))
 
 set_others : {X : Type 0} (xs : List X) (place : ℕ) (x : X) (other : ℕ) → other ≢ place
     → slice_get (slice_set xs place x) other ≡ slice_get xs other
@@ -79,7 +76,7 @@ client_at clients place actor client same low = search (slice_index_or, slice_ge
 
 pub client_there : (clients : List Client) {place actor : ℕ} {client : Client} → place ≡ actor → place < length clients
     → client ≡ slice_index_or clients place client → slice_get clients actor ≡ Some client
-client_there clients {place = place} {actor = actor} {client = client} same low is = search (client_at, arith)
+client_there clients same low is = search (client_at, arith)
 
 -- and changes there alone.
 changes_at : (clients : List Client) (place : ℕ) {actor : ℕ} (client : Client) → place ≡ actor → place < length clients
@@ -93,7 +90,7 @@ pub takes_turn : {script : Script} {place actor : ℕ} {before : Station} (after
     → Lawful before.state.disk × Lawful after.state.disk → HasDeviceUnder after.state.disk after.client.under_way
     → Turned (calls_of script actor) actor before after
     → TakesTurn script actor before after clients (slice_set clients place after.client)
-takes_turn {script = script} {place = place} {actor = actor} {before = before} after {clients = clients} schedule was
+takes_turn {place = place} {before = before} after {clients = clients} schedule was
     same low is lawful there turned =
     let changes = changes_at clients place after.client same low in
     let numbers : IsNumbered before.items before.state.core → IsNumbered after.items after.state.core = search
@@ -172,4 +169,4 @@ module _ {script : Script} {actor : ℕ} {before after : Station} (clients : Lis
 -- There is no such client, and nothing was done.
 pub turn_none : {script : Script} {actor : ℕ} {turns : Turns} → length turns.clients ≤ actor
     → HasTurn script actor turns turns
-turn_none {script = script} {actor = actor} {turns = turns} past = search (came_nowhere, slice_get_within, arith)
+turn_none past = search (came_nowhere, slice_get_within, arith)

@@ -1,5 +1,5 @@
 -- The calls that are left of a script and the runs of sectors that were taken, as they come.
-use Rattle.schedule.proofs.Words.{◌≡◌, ◌≢◌, ⊎_elim, ℕ, suc, ◌+◌, ◌≤◌, List, [], ◌∷◌, ◌++◌, length, Bool, Some, refl, sym, ◌∙◌, ap, arith, cond, eq-eqb, ne_eqb, length-append, drop, drop-cons, filter, flat_map, map, slice_get, sum, ◌==◌, cases_eq, flat_map-append, append-nil, map-append, sum_by-append, slice_get_within, get_or_from_slice_get, Run, Space, Gains, HasNoFreeRun, IndexEntry, Uber, held_sectors, sectors_in, IsTight, full_tight, ScriptCall, fill_bytes, Placed, Script, calls_of, Core, length_put, largest_size, Client, Changes, AreAtMost, AreLeft, AreRunsOf, calls_among, sizes_left, sizes_of, sizes_put}
+use Rattle.schedule.proofs.Words.{◌≡◌, ◌≢◌, ⊎_elim, ℕ, suc, ◌+◌, ◌≤◌, List, [], ◌∷◌, ◌++◌, length, Bool, Some, refl, sym, ◌∙◌, ap, arith, cond, eq-eqb, ne_eqb, length-append, drop, drop-cons, filter, flat_map, map, slice_get, sum, ◌==◌, cases_eq, flat_map-append, append-nil, map-append, sum_by-append, slice_get_within, get_or_from_slice_get, Run, Space, Gains, HasNoFreeRun, IndexEntry, Uber, sectors_in, IsTight, full_tight, ScriptCall, fill_bytes, Placed, Script, calls_of, Core, length_put, largest_size, Client, Changes, AreAtMost, AreLeft, AreRunsOf, calls_among, sizes_left, sizes_of, sizes_put}
 use Rattle.schedule.proofs.Theirs.{some_is}
 
 -- ---- the calls that are left
@@ -171,8 +171,6 @@ module _ (uber : Uber) where
       let long = length-append more runs in
       let total : sectors_in (more ++ runs) ≡ sectors_in more + sectors_in runs =
       search sum_by-append in
-      let fewer = most.few in
-      let sectors = most.sectors in
       search arith
 
   -- What all calls put are those that are left at first.
@@ -202,14 +200,10 @@ full_beside : {runs : List Run} {core : Core} (size : ℕ) → AreRunsOf runs co
 full_beside size are full start free = full start (λ sector inside. let its = free sector inside in record {
   below = its.below;
   untaken = search arith;
-  not_held = λ held. its.untaken (held_sectors held.0, are.held held.0 held.1, held.2);
+  not_held = λ held. search (its.untaken, are.held, arith);
   not_shared = λ shared.
       let within = are.holds shared.0 shared.1 shared.2 in
       let overlaps = shared.3 in
-      let begins = overlaps.begins in
-      let ends = overlaps.ends in
-      let low = within.begins in
-      let high = within.ends in
       search arith;
 })
 

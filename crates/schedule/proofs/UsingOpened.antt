@@ -53,10 +53,4 @@ module _ (script : Script) (pool : Pool) (disk : Disk) (right : IsRightUber pool
   -- A run of turns begins with that.
   pub uses_first : HasUsedRuns script pool.uber entries (resting pool) (Group (first_item pool) ∷ [])
       (blank_clients script.clients)
-  uses_first = record {
-    opened = search arith;
-    used = search (blank_is, none_listed, most, arith);
-    last = first_numbered pool;
-    told = search (eq-eqb, none_above_more, arith);
-    caused = search no_space_alone;
-  }
+  uses_first = grind (arith, blank_is, none_listed, most, first_numbered, eq-eqb, none_above_more, no_space_alone)
