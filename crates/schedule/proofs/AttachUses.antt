@@ -1,15 +1,21 @@
--- What the later turns of an attach leave of the runs of sectors that were taken, and of the pool's group.
-use Rattle.schedule.proofs.Words.{◌≡◌, inl, inr, ⊎_elim, ℕ, Option, Some, None, refl, ◌∙◌, ap, RingRead, WhyDropped, Answer, CommitRun, AttachRun, Reads, Checked, Joins, Signs, More, Done, EndsAttach, IsDeviceRefused, IsTooMany, StepsAttach, StopsAttach, attach_answer, attach_commit, BeginsCommitSo, IsCommitOf, IsSyncRefused, Core, CoreState, IsCore, group_by, made_by}
+-- What the later turns of an attach leave.
+use Rattle.schedule.proofs.Words.{Answer, AttachRun, Checked, CommitRun, Core, CoreState, Done, EndsAttach, IsAttachRunOf, IsCommitOf, IsCore, IsDeviceRefused, IsSyncRefused, IsTooMany, Joins, More, None, Option, Reads, RingRead, Signs, Some, StepsAttach, StopsAttach, WhyDropped, [], ap, arith, attach_answer, group_by, made_by, refl, ℕ, ⊎_elim, ◌∙◌, ◌≡◌}
 use Rattle.join_commit.specs.declared.join_run.WhyDropped.TheVariants as why
 use Rattle.core_state.specs.declared.answer.Answer.TheVariants as answer
 use Rattle.schedule.specs.declared.client.Work.TheVariants as work
-use Rattle.schedule.proofs.UsingEnds.{EndsPlainly, EndsWith, GoesWith, core_goes, goes_still, group_ends, next_group, plain_ends}
-use Rattle.schedule.proofs.UsingTurns.{commit_begun, same_core, same_parts}
+use Rattle.schedule.proofs.UsingEnds.{EndsAs, EndsPlainly, commit_plain, ends_grouped, ends_plainly, group_ends, plain_ends}
+use Rattle.schedule.proofs.UsingTurns.{GoesAs, GoesOn, commit_goes, core_goes, goes_nowhere, goes_still}
 
--- Who attaches is not told of in it.
-attaching_goes : {old : Core} {group : ℕ} {now : Core} {by : Option ℕ} → GoesWith old now group
-    → GoesWith old (record now { attaching = by }) group
-attaching_goes goes = search
+-- Who attaches is not told of in what a turn leaves.
+attaching_goes : {old now : Core} {number : ℕ} {by : Option ℕ} → GoesAs old now [] (Some number) None None 0 0
+    → GoesAs old (record now { attaching = by }) [] (Some number) None None 0 0
+attaching_goes goes = record {
+  stays = search;
+  group = goes.group;
+  copying = goes.copying;
+  shared = goes.shared;
+  runs = λ runs are. let still = goes.runs runs are in search;
+}
 
 module _ (before after : CoreState) (is : IsCore before.core) where
   abbrev old : Core
@@ -18,30 +24,20 @@ module _ (before after : CoreState) (is : IsCore before.core) where
   abbrev new : Core
   new = after.core
 
-  -- The core is the same,
-  same_goes : new ≡ old → GoesWith old new old.pool.uber.group
-  same_goes same = goes_still (cc) (cc) (same_core old new same)
-
-  -- or but for the attach, which stops,
-  stops_goes : StopsAttach before after → GoesWith old new old.pool.uber.group
-  stops_goes stops = goes_still (cc) (cc) (same_parts old new (cc) (cc))
-
-  -- or its commit begins.
-  joining_goes : (run : CommitRun) (actor : ℕ) → BeginsCommitSo old new actor run → GoesWith old new old.pool.uber.group
-  joining_goes run actor begins = goes_still (cc) (cc) (commit_begun old new begins)
+  -- An attach stops.
+  stops_goes : StopsAttach before after → GoesOn old new
+  stops_goes stops = goes_still (cc) (cc) (cc) (cc)
 
   -- A later turn: one after which the attach goes on,
-  pub attach_goes : (run next : AttachRun) → StepsAttach before run after (More next)
-      → GoesWith old new old.pool.uber.group
-  attach_goes (Reads ring) (Reads next) goes = same_goes goes.core
-  attach_goes (Reads ring) (Checked next) goes = same_goes goes.core
-  attach_goes (Checked ring) (Checked next) goes = same_goes (cc)
-  attach_goes (Checked ring) (Joins join) goes = joining_goes join.run goes.actor goes.begins
-  attach_goes (Joins join) (Joins next) goes = core_goes before after is goes.1
-  attach_goes (Joins join) (Signs run None) goes = goes_still (ap (λ (c : Core). c.pool.uber) goes.1) (cc)
-      (same_parts old new (ap (λ (c : Core). c.pool.blocks.space) goes.1) (cc))
-  attach_goes (Joins join) (Signs run (Some because)) goes = core_goes before after is goes.1
-  attach_goes (Signs run because) (Signs next same) goes = core_goes before after is goes.1.2
+  pub attach_goes : (run next : AttachRun) → StepsAttach before run after (More next) → GoesOn old new
+  attach_goes (Reads ring) (Reads next) goes = goes_nowhere goes.core
+  attach_goes (Reads ring) (Checked next) goes = goes_nowhere goes.core
+  attach_goes (Checked ring) (Checked next) goes = goes_nowhere (cc)
+  attach_goes (Checked ring) (Joins join) goes = commit_goes goes.begins
+  attach_goes (Joins join) (Joins next) goes = core_goes goes.1
+  attach_goes (Joins join) (Signs run None) goes = search (goes_still, arith)
+  attach_goes (Joins join) (Signs run (Some because)) goes = core_goes goes.1
+  attach_goes (Signs run because) (Signs next same) goes = core_goes goes.1.2
   attach_goes run next goes = absurd goes
 
   -- and its last. It is answered without a group,
@@ -57,10 +53,7 @@ module _ (before after : CoreState) (is : IsCore before.core) where
   refused_plain ring other refused = absurd refused
 
   pub sync_plain : (given : Answer) → IsSyncRefused old given → EndsPlainly given None
-  sync_plain (answer.TooManyFailed out) refused = plain_ends tt
-  sync_plain (answer.Limit reached) refused = plain_ends tt
-  sync_plain answer.NoMemory refused = plain_ends tt
-  sync_plain other refused = absurd refused
+  sync_plain given refused = commit_plain old given refused
 
   -- or with the group of its commit.
   pub answered_by : (because : Option WhyDropped) (width : ℕ) {group number : ℕ} → group ≡ number
@@ -70,20 +63,17 @@ module _ (before after : CoreState) (is : IsCore before.core) where
   answered_by (Some (why.DeviceOut device)) width same = ap (λ (n : ℕ). Some n) same
 
   attach_answered : (run : CommitRun) (because : Option WhyDropped) (given : Answer) → IsCommitOf old run
-      → EndsAttach before run because after given → EndsWith old new given (Some run.uber.group)
-  attach_answered run because given of ends = inr (
-    old.begun,
-    ap (λ (a : Answer). group_by a (Some run.uber.group)) ends.given_is
-        ∙ answered_by because new.pool.uber.reflow.to of.number,
-    rw ends.core (attaching_goes (group_ends before ends.answered is of ends.answers)),
-    search next_group,
-  )
+      → EndsAttach before run because after given → EndsAs old new given (Some run.uber.group) None 0
+  attach_answered run because given of ends = ends_grouped
+      (ap (λ (a : Answer). group_by a (Some run.uber.group)) ends.given_is
+      ∙ answered_by because new.pool.uber.reflow.to of.number)
+      (rw ends.core (attaching_goes (group_ends before ends.answered is of ends.answers)))
 
-  pub attach_ends : (run : AttachRun) (given : Answer)
-      → ((commit : CommitRun) → attach_commit run ≡ Some commit → IsCommitOf old commit)
-      → StepsAttach before run after (Done given) → EndsWith old new given (made_by (work.Attach run))
-  attach_ends (Reads ring) given commits goes = inl (refused_plain ring given goes.1, stops_goes goes.0)
-  attach_ends (Checked ring) given commits goes = inl (sync_plain given goes.1, stops_goes goes.0)
-  attach_ends (Joins join) given commits goes = inl (too_many_plain given goes.1, stops_goes goes.0)
-  attach_ends (Signs run because) given commits goes = ⊎_elim
-      (λ stops. inl (too_many_plain given stops.1, stops_goes stops.0)) (search attach_answered) goes
+  pub attach_ends : (run : AttachRun) (given : Answer) → IsAttachRunOf old run
+      → StepsAttach before run after (Done given) → EndsAs old new given (made_by (work.Attach run)) None 0
+  attach_ends (Reads ring) given of goes = ends_plainly (refused_plain ring given goes.1) (stops_goes goes.0)
+  attach_ends (Checked ring) given of goes = ends_plainly (sync_plain given goes.1) (stops_goes goes.0)
+  attach_ends (Joins join) given of goes = ends_plainly (too_many_plain given goes.1) (stops_goes goes.0)
+  attach_ends (Signs run because) given of goes = ⊎_elim
+      (λ stops. ends_plainly (too_many_plain given stops.1) (stops_goes stops.0))
+      (attach_answered run because given of.0.of) goes

@@ -1,22 +1,17 @@
 -- The groups of a journal stay numbered, turn by turn.
-use Rattle.schedule.proofs.Words.{◌≡◌, inl, inr, ℕ, zero, suc, ◌+◌, ◌<◌, List, [], ◌∷◌, ◌++◌, length, Option, Some, None, sym, ◌∙◌, ap, subst, arith, refl, slice_get, Entry, Item, Group, GroupAt, IsGroupBefore, CommitRun, Script, calls_of, group_before_first, new_or_before, latest_alone, latest_grown_call, latest_grown_group, Pool, first_item, CopyRun, More, Busy, Done, IsCommitOf, Core, IsCore, Client, UnderWay, GroupsAreNumbered, IsNumbered, AreGoing, Station, Turned, Nothing, Began, Went, listed_on}
+use Rattle.schedule.proofs.Words.{Core, Entry, Group, GroupAt, GroupsAreNumbered, IsGroupBefore, IsNumbered, Item, List, None, Option, Pool, ScriptCall, Some, Station, [], ap, arith, first_item, group_before_first, group_for, inl, inr, latest_alone, latest_grown_call, latest_grown_group, length, listed_on, new_or_before, refl, suc, sym, zero, ℕ, ◌++◌, ◌+◌, ◌<◌, ◌∙◌, ◌∷◌, ◌≡◌}
 use Rattle.core_state.specs.declared.item.Group.{Group as GroupItem}
 use Rattle.core_state.specs.declared.item.Item.TheVariants.{Call as CallItem}
-use Rattle.schedule.specs.Works.{commit_in}
 use Rattle.schedule.proofs.BothListed.{one_latest}
 use Rattle.schedule.proofs.Opened.{resting}
-use Rattle.schedule.proofs.UsingWorks.{group_listed, plain_listed, works_end, works_go}
-use Rattle.schedule.proofs.UsingEnds.{ListsOn}
-use Rattle.schedule.proofs.UsingTurns.{answers_with, job_in, waits_with, works_begin}
-
-call_no_group : {entry : Entry} {group : GroupItem} → CallItem entry ≡ Group group → ⊥
-call_no_group is = cc
+use Rattle.schedule.proofs.UsingTurns.{HasAnswered}
+use Rattle.schedule.proofs.UsingWorks.{TurnLeaves}
 
 same_group : {one other : GroupItem} → Group one ≡ Group other → one ≡ other
 same_group is = cc
 
 -- A journal of one group is numbered.
-pub numbered_alone : (group : GroupItem) → GroupsAreNumbered (Group group ∷ [])
+numbered_alone : (group : GroupItem) → GroupsAreNumbered (Group group ∷ [])
 numbered_alone group = record { each = none }
   where
     none : (index : ℕ) (before next : GroupItem) → IsGroupBefore (Group group ∷ []) index before
@@ -63,66 +58,24 @@ module _ {items : List Item} (numbered : GroupsAreNumbered items) where
 
 -- ---- a turn
 
-module _ {script : Script} (actor : ℕ) (before after : Station) {clients : List Client}
-    (going : AreGoing script before.state.core clients) (was : slice_get clients actor ≡ Some before.client)
-    (is : IsCore before.state.core) (stood : IsNumbered before.items before.state.core) where
-  abbrev old : Core
-  old = before.state.core
+-- So the groups are numbered behind what a turn lists: a group, if it answers one,
+numbered_on : {items : List Item} {old new : Core} (at : ℕ) (made : Option ℕ) → HasAnswered old new made
+    → IsNumbered items old → IsNumbered (listed_on new.pool.uber.reflow items at made) new
+numbered_on at None group stood = search arith
+numbered_on {items} {new = new} at (Some number) group stood = record {
+  group = group_for new at number;
+  latest = latest_grown_group items (group_for new at number);
+  number = group.0;
+  numbered = numbered_group stood.numbered (group_for new at number) stood.latest (cc);
+}
 
-  abbrev new : Core
-  new = after.state.core
+-- and an answer.
+numbered_answer : {items : List Item} {core : Core} (entry : Entry) → IsNumbered items core
+    → IsNumbered (items ++ CallItem entry ∷ []) core
+numbered_answer entry stood = search (latest_grown_call, numbered_call)
 
-  -- It lists nothing,
-  lists_none : new.pool.uber.group ≡ old.pool.uber.group → after.items ≡ before.items → IsNumbered after.items new
-  lists_none group items = search arith
-
-  -- an answer,
-  lists_entry : new.pool.uber.group ≡ old.pool.uber.group → (entry : Entry)
-      → after.items ≡ before.items ++ CallItem entry ∷ [] → IsNumbered after.items new
-  lists_entry group entry items = search (latest_grown_call, numbered_call, arith)
-
-  -- a group,
-  lists_made : (group : GroupItem) → new.pool.uber.group ≡ group.group → group.group ≡ old.pool.uber.group + 1
-      → after.items ≡ before.items ++ Group group ∷ [] → IsNumbered after.items new
-  lists_made group number next items = rw items (record {
-    group = group;
-    latest = latest_grown_group before.items group;
-    number = number;
-    numbered = numbered_group stood.numbered group stood.latest (next ∙ ap (λ (n : ℕ). n + 1) stood.number);
-  })
-
-  -- nothing or a group, where the call goes on,
-  lists_on : (was now : Option CopyRun) (at : ℕ) (made : Option ℕ) → ListsOn old new was now made
-      → after.items ≡ listed_on new.pool.uber.reflow before.items at made → IsNumbered after.items new
-  lists_on was now at None on items = lists_none on.group_is items
-  lists_on was now at (Some number) on items = search lists_made
-
-  -- or a group and its answer.
-  lists_group : (group : GroupItem) → new.pool.uber.group ≡ group.group → group.group ≡ old.pool.uber.group + 1
-      → (entry : Entry) → after.items ≡ (before.items ++ Group group ∷ []) ++ CallItem entry ∷ []
-      → IsNumbered after.items new
-  lists_group group number next entry items = subst (λ (l : List Item). IsNumbered l new) (sym items) (record {
-    group = group;
-    latest = search (latest_grown_call, latest_grown_group);
-    number = number;
-    numbered = numbered_call (numbered_group stood.numbered group stood.latest (cc)) entry;
-  })
-
-  -- The commit under way is the client's.
-  its_commit : (under : UnderWay) → before.client.under_way ≡ Some under → (run : CommitRun)
-      → commit_in under.work ≡ Some run → IsCommitOf old run
-  its_commit under is_under run does =
-      ((going.each actor before.client under (record { there = was; under_way = is_under })).commit run does).0
-
-  pub turn_numbers : Turned (calls_of script actor) actor before after → IsNumbered after.items after.state.core
-  turn_numbers (Nothing nothing) = lists_none (cc) (cc)
-  turn_numbers (Began (More does) begins leaves) = search (works_begin, lists_none, arith)
-  turn_numbers (Began (Busy by) begins leaves) = search (waits_with, lists_none, arith)
-  turn_numbers (Began (Done given) begins leaves) = search (answers_with, lists_entry, arith)
-  turn_numbers (Went under (More does) goes leaves) = search (lists_on, job_in, works_go, its_commit, arith)
-  turn_numbers (Went under (Busy by) goes leaves) = absurd leaves
-  turn_numbers (Went under (Done given) goes leaves) = elim (works_end before.state after.state is goes.call under.work
-      given (its_commit under goes.going) goes.did) [
-        | inl plain ↦ search (lists_entry, plain_listed, arith)
-        | inr synced ↦ search (lists_group, group_listed, arith)
-      ]
+pub turn_numbers : {calls : List ScriptCall} {actor : ℕ} {before after : Station} → TurnLeaves calls actor before after
+    → IsNumbered before.items before.state.core → IsNumbered after.items after.state.core
+turn_numbers leaves stood =
+    let on = numbered_on leaves.at leaves.made leaves.goes.group stood in
+    elim leaves.lists [ inl same ↦ rw same on | inr listed ↦ rw listed.1 (numbered_answer listed.0 on) ]

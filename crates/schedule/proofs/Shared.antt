@@ -1,5 +1,5 @@
 -- Where no call is under way no hold is in the way of another call, so that none waits.
-use Rattle.schedule.proofs.Words.{◌≡◌, inl, inr, ⊎_elim, ℕ, ◌+◌, ◌<◌, ◌≤◌, List, [], ◌∷◌, length, Option, Some, None, refl, sym, ◌∙◌, ap, arith, Contains, sum_by-cons, Hold, HoldKind, Shared, Exclusive, IsBusyBy, exclusive_count, count_none, Kind, ScriptCall, contains_cases, contains_none, More, Busy, Done, Core, IsCore, HasTooManyOut, IsRoundBusy, below_all, none_below, one_if, Client, UnderWay, shared_count, Station, Turned, Nothing, Began, Went, Waits}
+use Rattle.schedule.proofs.Words.{◌≡◌, inl, inr, ⊎_elim, ℕ, ◌+◌, ◌<◌, List, [], ◌∷◌, length, Option, Some, None, refl, sym, ◌∙◌, ap, arith, Contains, sum_by-cons, Hold, HoldKind, Shared, Exclusive, IsBusyBy, exclusive_count, count_none, Kind, ScriptCall, contains_cases, contains_none, More, Busy, Done, Core, IsCore, HasTooManyOut, IsRoundBusy, below_all, none_below, one_if, Client, shared_count, Station, Turned, Nothing, Began, Went, Waits}
 use Rattle.uberblock_ring.specs.Devices.{count_of}
 use Rattle.core_state.specs.declared.answer.Kind.TheVariants as kind
 use Rattle.schedule.proofs.Theirs.{none_some}
@@ -18,12 +18,17 @@ none_alone holds none hold listed exclusive =
     let high = none_below (hold.lo + 1) holds (omega arith) hold listed exclusive in
     absurd (omega arith)
 
--- as in a core of which neither a commit nor a copy is under way.
-core_alone : {core : Core} → IsCore core → core.copying ≡ None
-    → ((HasTooManyOut core → ⊥) → (other : ℕ) → core.committing ≡ Some other → ⊥) → (HasTooManyOut core → ⊥)
-    → HasNoneAlone core.holds
-core_alone {core = core} is copying none few = none_alone core.holds (
-    search (none_under, arith))
+-- Nothing is under way in a core: nobody copies, shares, attaches, or, unless too many devices are out, commits.
+pub record IsQuiet (core : Core) : Type 0 where
+  pub is : IsCore core
+  pub copying : core.copying ≡ None
+  pub shared : shared_count core.holds ≡ 0
+  pub committing : (HasTooManyOut core → ⊥) → (other : ℕ) → core.committing ≡ Some other → ⊥
+  pub attaching : (other : ℕ) → core.attaching ≡ Some other → ⊥
+
+-- as there, where no more devices are out.
+core_alone : {core : Core} → IsQuiet core → (HasTooManyOut core → ⊥) → HasNoneAlone core.holds
+core_alone {core = core} quiet few = none_alone core.holds (search (none_under, quiet.is, arith))
   where
     none_under : (committing : Option ℕ) → ((other : ℕ) → committing ≡ Some other → ⊥) → committing ≡ None
     none_under None never = refl
@@ -66,53 +71,32 @@ none_counted = count_none 64
 whole_few : (core : Core) → core.pool.out ≡ 0 → HasTooManyOut core → ⊥
 whole_few core whole many = search (none_counted, arith)
 
--- So no round of a copy waits.
-no_round_waits : (core : Core) (by : ℕ) → IsCore core → core.copying ≡ None → shared_count core.holds ≡ 0
-    → ((HasTooManyOut core → ⊥) → (other : ℕ) → core.committing ≡ Some other → ⊥) → IsRoundBusy core by → ⊥
-no_round_waits core by is copying shared none busy = elim busy [
-  | inl (expands, whole, inl copies) ↦ none_some (sym copying ∙ copies)
-  | inl (expands, whole, inr (job, due, held)) ↦
-      search (none_held, core_alone, whole_few)
-  | inr (due, commits) ↦ none (whole_few core due.whole) by commits
+-- So no round of a copy waits,
+no_round_waits : (core : Core) (by : ℕ) → IsQuiet core → IsRoundBusy core by → ⊥
+no_round_waits core by quiet busy = elim busy [
+  | inl (expands, whole, inl copies) ↦ none_some (sym quiet.copying ∙ copies)
+  | inl (expands, whole, inr (job, due, held)) ↦ search (none_held, core_alone, whole_few)
+  | inr (due, commits) ↦ quiet.committing (whole_few core due.whole) by commits
 ]
 
+-- and no other call.
 none_waits : (old new : Core) (devices actor : ℕ) (call : ScriptCall) (asked : Kind) (id : Option ℕ) (by : ℕ)
-    → IsCore old → old.copying ≡ None → shared_count old.holds ≡ 0
-    → ((HasTooManyOut old → ⊥) → (other : ℕ) → old.committing ≡ Some other → ⊥)
-    → ((other : ℕ) → old.attaching ≡ Some other → ⊥) → Waits old new devices actor call asked id by → ⊥
-none_waits old new devices actor call kind.Put (Some id) by is copying shared none no_attach waits =
-    search (none_busy, core_alone)
-none_waits old new devices actor call kind.Get (Some id) by is copying shared none no_attach waits =
-    search (none_busy, core_alone)
-none_waits old new devices actor call kind.Sum (Some id) by is copying shared none no_attach waits =
-    search (none_busy, core_alone, arith)
-none_waits old new devices actor call kind.Sync None by is copying shared none no_attach waits = none waits.0 by waits.1
-none_waits old new devices actor call kind.Attach None by is copying shared none no_attach waits = search arith
-none_waits old new devices actor call kind.Copy None by is copying shared none no_attach waits = search no_round_waits
-none_waits old new devices actor call asked id by is copying shared none no_attach waits = absurd waits
+    → IsQuiet old → Waits old new devices actor call asked id by → ⊥
+none_waits old new devices actor call kind.Put (Some id) by quiet waits = search (none_busy, core_alone)
+none_waits old new devices actor call kind.Get (Some id) by quiet waits = search (none_busy, core_alone, arith)
+none_waits old new devices actor call kind.Sum (Some id) by quiet waits = search (none_busy, core_alone, arith)
+none_waits old new devices actor call kind.Sync None by quiet waits = quiet.committing waits.0 by waits.1
+none_waits old new devices actor call kind.Attach None by quiet waits = search
+    (quiet.committing, quiet.attaching, arith)
+none_waits old new devices actor call kind.Copy None by quiet waits = search no_round_waits
+none_waits old new devices actor call asked id by quiet waits = absurd waits
 
 -- Where no call is under way, a client's next call begins.
 pub turned_begins : {calls : List ScriptCall} {actor : ℕ} {before after : Station}
-    → Turned calls actor before after → IsCore before.state.core → before.state.core.copying ≡ None
-    → shared_count before.state.core.holds ≡ 0
-    → ((HasTooManyOut before.state.core → ⊥) → (other : ℕ) → before.state.core.committing ≡ Some other → ⊥)
-    → ((other : ℕ) → before.state.core.attaching ≡ Some other → ⊥)
-    → before.client.under_way ≡ None → before.client.begun < length calls → after.client.begun ≡ before.client.begun + 1
-turned_begins (Nothing left) is copying shared none no_attach idle low = absurd (omega arith)
-turned_begins (Began (More does) begins leaves) is copying shared none no_attach idle low = cc
-turned_begins
-    (Began (Busy by) begins leaves) is copying shared none no_attach idle low =
-    search (none_waits, arith)
-turned_begins (Began (Done given) begins leaves) is copying shared none no_attach idle low =
-    ap (λ (c : Client). c.begun) leaves.1
-turned_begins (Went under turn goes leaves) is copying shared none no_attach idle low = cc
-
--- A turn takes back no call,
-pub turned_further : {calls : List ScriptCall} {actor : ℕ} {before after : Station}
-    → Turned calls actor before after → before.client.begun ≤ after.client.begun
-turned_further turned = grind arith
-
--- and begins none while another is under way.
-pub turned_still : {calls : List ScriptCall} {actor : ℕ} {before after : Station} {under : UnderWay}
-    → Turned calls actor before after → before.client.under_way ≡ Some under → after.client.begun ≡ before.client.begun
-turned_still turned going = grind arith
+    → Turned calls actor before after → IsQuiet before.state.core → before.client.under_way ≡ None
+    → before.client.begun < length calls → after.client.begun ≡ before.client.begun + 1
+turned_begins (Nothing left) quiet idle low = absurd (omega arith)
+turned_begins (Began (More does) begins leaves) quiet idle low = cc
+turned_begins (Began (Busy by) begins leaves) quiet idle low = search (none_waits, arith)
+turned_begins (Began (Done given) begins leaves) quiet idle low = ap (λ (c : Client). c.begun) leaves.1
+turned_begins (Went under turn goes leaves) quiet idle low = cc

@@ -3,8 +3,8 @@ use Rattle.schedule.proofs.Words.{◌≡◌, ℕ, ◌+◌, ◌≤◌, if◌then�
 use Rattle.std.proofs.Common.{◌==◌, true}
 use Rattle.open_pool.proofs.NewBirth.{rows_of}
 
--- The pool has parity, rows and first width that it had, its data rows at no smaller width, and is of no older group. Its
--- births are those that a commit from one to the other records, and in the same group the width is the same.
+-- The pool has parity, rows and first width that it had, its data rows at no smaller width, and is of no older group.
+-- Its births are those that a commit from one to the other records, and in the same group the width is the same.
 pub record Stays (old new : Core) : Type 0 where
   pub group : old.pool.uber.group ≤ new.pool.uber.group
   pub parity : new.pool.uber.parity ≡ old.pool.uber.parity

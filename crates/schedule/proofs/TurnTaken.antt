@@ -1,15 +1,16 @@
 -- One turn of a client of a script: what it needs before, and what stands after it.
-use Rattle.schedule.proofs.Words.{◌≡◌, ◌≢◌, ℕ, ◌-◌, ◌*◌, ◌<◌, ◌≤◌, List, [], ◌∷◌, length, Some, zero, suc, refl, sym, ◌∙◌, ap, arith, slice_index_or, slice_set, All, Contains, filter, slice_get, ◌==◌, All-filter, All-map, get_or_from_slice_get, slice_get-get_or, slice_get_within, Lawful, ScriptCall, Placed, Script, IsAllowed, calls_of, Core, IsCore, HasTooManyOut, Rests, Copies, Commits, HoldingCall, Copying, Putting, Reading, range_listed, Client, UnderWay, Work, Changes, Comes, TakesTurn, IsSchedule, Turns, turns_of, AreCopiers, AreSharers, HasRoomForAnswers, IsReady, calls_by, taken_of, AreIdle, HasTurn, TakesOne, AreGoing, IsGoing, IsWorkFor, IsWorkOf, calls_under_way, commit_in, held_by, HasDeviceUnder, MayGoOn, Station, Turned, IsNumbered, first_listed}
+use Rattle.schedule.proofs.Words.{◌≡◌, ◌≢◌, ℕ, ◌-◌, ◌*◌, ◌<◌, ◌≤◌, List, [], ◌∷◌, length, Some, zero, suc, refl, sym, ◌∙◌, ap, arith, slice_index_or, slice_set, All, Contains, filter, slice_get, ◌==◌, All-filter, All-map, get_or_from_slice_get, slice_get-get_or, slice_get_within, Lawful, ScriptCall, Placed, Script, IsAllowed, calls_of, Core, IsCore, Rests, Copies, Commits, HoldingCall, Copying, Putting, Reading, range_listed, Client, UnderWay, Work, Changes, Comes, TakesTurn, IsSchedule, Turns, turns_of, AreCopiers, AreSharers, HasRoomForAnswers, IsReady, calls_by, taken_of, AreIdle, HasTurn, TakesOne, AreGoing, IsGoing, IsWorkFor, IsWorkOf, calls_under_way, commit_in, held_by, HasDeviceUnder, MayGoOn, Station, Turned, first_listed}
 use Rattle.schedule.specs.declared.client.Work.TheVariants as work
 use Rattle.schedule.proofs.Coming.{came_nowhere}
 use Rattle.schedule.proofs.Dropped.{turn_drops}
 use Rattle.schedule.proofs.Holders.{copiers_after, none_copies, none_shares, sharers_after}
 use Rattle.schedule.proofs.Rooms.{taken_few}
-use Rattle.schedule.proofs.Shared.{turned_begins, turned_further, turned_still}
+use Rattle.schedule.proofs.Shared.{IsQuiet, turned_begins}
 use Rattle.schedule.proofs.Theirs.{none_some, some_is, is_among}
 use Rattle.schedule.proofs.TurnLaw.{turned_comes}
 use Rattle.schedule.proofs.Numbered.{turn_numbers}
 use Rattle.schedule.proofs.UsingLaw.{turn_uses}
+use Rattle.schedule.proofs.UsingWorks.{TurnLeaves, turn_leaves}
 
 -- ---- before a turn
 
@@ -83,39 +84,35 @@ changes_at : (clients : List Client) (place : ℕ) {actor : ℕ} (client : Clien
     → Changes clients (slice_set clients place client) actor client
 changes_at clients place client same low = search (slice_set, set_here, set_others, arith)
 
--- Where it had a turn, the others stay as they are.
+-- A turn leaves what each leaves, since the call under way is what the script asks for.
+leaves_of : {script : Script} {actor : ℕ} {before after : Station} {clients : List Client}
+    → AreGoing script before.state.core clients → slice_get clients actor ≡ Some before.client
+    → IsCore before.state.core
+    → Turned (calls_of script actor) actor before after → TurnLeaves (calls_of script actor) actor before after
+leaves_of going was is turned =
+    turn_leaves is (λ under call its there. going_may going (record { there = was; under_way = its }) there) turned
+
+-- Where a client had a turn, the others stay as they are.
 pub takes_turn : {script : Script} {place actor : ℕ} {before : Station} (after : Station) {clients : List Client}
     → IsSchedule script (turns_of before.state before.items clients) → slice_get clients actor ≡ Some before.client
     → place ≡ actor → place < length clients → IsCore before.state.core
     → Lawful before.state.disk × Lawful after.state.disk → HasDeviceUnder after.state.disk after.client.under_way
     → Turned (calls_of script actor) actor before after
     → TakesTurn script actor before after clients (slice_set clients place after.client)
-takes_turn {place = place} {before = before} after {clients = clients} schedule was
-    same low is lawful there turned =
+takes_turn {place = place} after {clients} schedule was same low is lawful there turned =
     let changes = changes_at clients place after.client same low in
-    let numbers : IsNumbered before.items before.state.core → IsNumbered after.items after.state.core = search
-    turn_numbers in record {
+    let leaves = leaves_of schedule.going was is turned in record {
       schedule = schedule;
       was = was;
       changes = changes;
       is = is;
       lawful = lawful.0;
       still_lawful = lawful.1;
-      space = λ uber entries stood. search turn_uses;
+      space = λ uber entries. turn_uses was changes is leaves;
       dropped = search turn_drops;
       there = there;
-      numbers = numbers;
+      numbers = turn_numbers leaves;
     }
-
--- Where no client has a call under way and devices enough are in, no commit is under way.
-none_commits : (script : Script) (core : Core) (clients : List Client) → AreGoing script core clients → AreIdle clients
-    → (HasTooManyOut core → ⊥) → (other : ℕ) → core.committing ≡ Some other → ⊥
-none_commits script core clients going idle few other is = search (none_some, arith)
-
--- So it is of an attach.
-none_attaches : (script : Script) (core : Core) (clients : List Client) → AreGoing script core clients → AreIdle clients
-    → (other : ℕ) → core.attaching ≡ Some other → ⊥
-none_attaches script core clients going idle other is = search (none_some, arith)
 
 -- A client of the script took a turn.
 module _ {script : Script} {actor : ℕ} {before after : Station} (clients : List Client) {news : List Client}
@@ -126,13 +123,25 @@ module _ {script : Script} {actor : ℕ} {before after : Station} (clients : Lis
   comes : Comes script actor before after clients news
   comes = search (turned_comes, allowed_of)
 
+  leaves : TurnLeaves (calls_of script actor) actor before after
+  leaves = leaves_of takes.schedule.going takes.was takes.is turned
+
+  -- Where no client has a call under way, nothing is under way in the core.
+  quiet : AreIdle clients → IsQuiet before.state.core
+  quiet idle = record {
+    is = takes.is;
+    copying = none_copies before.state.core copying idle;
+    shared = search none_shares;
+    committing = λ few other is. search (none_some, arith);
+    attaching = λ other is. search (none_some, arith);
+  }
+
   takes_one : TakesOne script actor (turns_of before.state before.items clients) news before.client after.client
   takes_one = record {
     there = takes.changes.there;
-    further = turned_further turned;
-    still = λ under going. turned_still turned going;
-    begins = λ idle low. turned_begins turned takes.is (none_copies before.state.core copying idle) (search none_shares)
-        (search none_commits) (search none_attaches) (idle.each actor before.client takes.was) low;
+    further = grind (arith, leaves.begins);
+    still = λ under going. grind (arith, leaves.begins);
+    begins = λ idle low. turned_begins turned (quiet idle) (idle.each actor before.client takes.was) low;
   }
 
   pub turn_taken : HasTurn script actor (turns_of before.state before.items clients)
@@ -160,8 +169,8 @@ module _ {script : Script} {actor : ℕ} {before after : Station} (clients : Lis
       → HasRoomForAnswers script news left → IsReady script (turns_of after.state after.items news) left
   turn_ready counted same enough = record {
     schedule = comes.schedule;
-    copying = copiers_after takes turned comes.schedule.going copying;
-    sharing = search (sharers_after, going_may);
+    copying = copiers_after takes leaves comes.schedule.going copying;
+    sharing = sharers_after takes leaves sharing;
     counted = cc;
     enough = enough;
   }

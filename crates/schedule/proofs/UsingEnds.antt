@@ -1,41 +1,11 @@
--- What the later turns of a call leave of the runs of sectors that were taken, and of the pool's group.
-use Rattle.schedule.proofs.Words.{◌≡◌, ◌⊎◌, inl, inr, ⊎_elim, ℕ, ◌+◌, if◌then◌else◌, Bool, false, List, Option, Some, None, refl, sym, ap, subst, arith, filter, nat_lt, ⊤, cases_lt, Hold, EndsHold, sectors_of, HeldRun, after_group, IndexEntry, Uber, Answer, Kind, Blocks, grown_by, filter_was, CommitRun, ready_keeps, blocks_behind, Pool, ScriptCall, CopyRun, GetRun, PutRun, Turn, More, Busy, Done, Core, CoreState, IsCore, Solved, NotYet, Bytes, Damaged, AnswersSolved, EndsGet, answer_of, EndsPut, GivesUpTurn, IsStoppedPut, WritesTurn, AnswersGroup, IsCommitOf, StepsCommit, EndsPutting, EndsReading, group_by}
+-- What the later turns of puts and reads leave, and how a commit ends.
+use Rattle.schedule.proofs.Words.{Answer, AnswersGroup, AnswersSolved, Blocks, Bool, Bytes, CommitRun, CopyRun, Core, CoreState, Damaged, Done, EndsGet, EndsHold, EndsPut, EndsPutting, EndsReading, GetRun, GivesUp, GivesUpTurn, HeldRun, Hold, IndexEntry, IsCommitOf, IsCore, IsFilledIn, IsGetOf, IsPutOf, IsSyncRefused, Kind, List, None, NotYet, Option, Pool, PutRun, ScriptCall, Shared, Solved, Some, StepsCommit, Uber, [], after_group, answer_of, ap, arith, blocks_behind, cases_lt, entry_of, false, filter, filter_was, gains_old, get_shared, group_by, grown_by, if◌then◌else◌, inl, inr, nat_lt, put_shared, ready_keeps, refl, sectors_of, subst, sym, ℕ, ⊤, ◌+◌, ◌≡◌}
 use Rattle.std.proofs.Common.{true}
 use Rattle.core_state.specs.declared.answer.Answer.TheVariants as answer
 use Rattle.core_state.specs.declared.answer.Kind.TheVariants as kind
-use Rattle.schedule.proofs.Stays.{Stays, answers_stays, stays_same}
+use Rattle.schedule.proofs.Stays.{answers_stays}
 use Rattle.schedule.proofs.Theirs.{none_some}
-use Rattle.schedule.proofs.UsingTurns.{UsesNoMore, copier_after, dropped_few, ended_few, given_up, one_less, same_core, same_parts, stored}
-
--- The group is this one after a turn, which goes on with no more runs. The pool stays, and who copies follows from the
--- call's job before the turn and after it.
-pub record GoesAs (old new : Core) (group : ℕ) (was now : Option CopyRun) : Type 0 where
-  pub uses : UsesNoMore old new
-  pub group_is : new.pool.uber.group ≡ group
-  pub stays : Stays old new
-  pub copying : new.copying ≡ copier_after was now old.copying
-
--- It is no job's turn: who copies stays so.
-abbrev pub GoesWith : Core → Core → ℕ → Type 0
-GoesWith old new group = GoesAs old new group None None
-
-pub goes_as : {old new : Core} {was now : Option CopyRun} → new.pool.uber ≡ old.pool.uber
-    → new.copying ≡ copier_after was now old.copying → UsesNoMore old new → GoesAs old new old.pool.uber.group was now
-goes_as {old = old} {new = new} uber copying uses = record {
-  uses = uses;
-  group_is = cc;
-  stays = stays_same uber;
-  copying = copying;
-}
-
-pub goes_still : {old new : Core} → new.pool.uber ≡ old.pool.uber → new.copying ≡ old.copying
-    → UsesNoMore old new → GoesWith old new old.pool.uber.group
-goes_still {old = old} {new = new} uber copying uses = goes_as uber copying uses
-
--- A turn after which a call goes on lists no group, or the next one.
-abbrev pub ListsOn : Core → Core → Option CopyRun → Option CopyRun → Option ℕ → Type 0
-ListsOn old new was now None = GoesAs old new old.pool.uber.group was now
-ListsOn old new was now (Some number) = GoesAs old new number was now × (number ≡ old.pool.uber.group + 1)
+use Rattle.schedule.proofs.UsingTurns.{GoesAs, adds_shared, frees_back, frees_none, goes_as, goes_nowhere, runs_still, shares_dropped, shares_ended}
 
 -- An answer that neither comes with a group nor tells of no space.
 abbrev pub IsPlainEnd : Answer → Type 0
@@ -51,9 +21,9 @@ pub record EndsPlainly (given : Answer) (made : Option ℕ) : Type 0 where
   pub group : group_by given made ≡ None
   pub space : (size : ℕ) → given ≡ answer.NoSpace size → ⊥
 
--- So it does with a plain answer.
+-- So it does with a plain answer,
 pub plain_ends : {given : Answer} {made : Option ℕ} → IsPlainEnd given → EndsPlainly given made
-plain_ends {given = given} {made = made} plain = record {
+plain_ends {given} {made} plain = record {
   group = none given plain;
   space = λ size is. subst IsPlainEnd is plain;
 }
@@ -65,20 +35,29 @@ plain_ends {given = given} {made = made} plain = record {
     none (answer.DeviceOut device) plain = absurd plain
     none other plain = refl
 
--- A call ends so, whose job was this: with none in the same group, or with its group, which is the next one.
-abbrev pub EndsAs : Core → Core → Answer → Option ℕ → Option CopyRun → Type 0
-EndsAs old new given made was = (EndsPlainly given made × GoesAs old new old.pool.uber.group was None)
-    ⊎ ((number : ℕ) × (group_by given made ≡ Some number) × GoesAs old new number was None
-    × (number ≡ old.pool.uber.group + 1))
+-- as are those of a commit that is refused.
+pub commit_plain : (core : Core) (given : Answer) → IsSyncRefused core given → EndsPlainly given None
+commit_plain core (answer.TooManyFailed out) refused = plain_ends tt
+commit_plain core (answer.Limit reached) refused = plain_ends tt
+commit_plain core answer.NoMemory refused = plain_ends tt
+commit_plain core other refused = absurd refused
 
--- So it does where it was no job.
-abbrev pub EndsWith : Core → Core → Answer → Option ℕ → Type 0
-EndsWith old new given made = EndsAs old new given made None
+-- A call ends so that had this job and shared so many holds: with the group that comes with its answer, and telling of
+-- no want of space.
+pub record EndsAs (old new : Core) (given : Answer) (made : Option ℕ) (job : Option CopyRun) (had : ℕ) : Type 0 where
+  pub goes : GoesAs old new [] (group_by given made) job None had 0
+  pub space : (size : ℕ) → given ≡ answer.NoSpace size → ⊥
 
--- With a group no want of space is told.
-pub group_space : {given : Answer} (made : Option ℕ) {number : ℕ} → group_by given made ≡ Some number → {size : ℕ}
-    → given ≡ answer.NoSpace size → ⊥
-group_space made is told = search (none_some, arith)
+module _ {old new : Core} {given : Answer} {job : Option CopyRun} {had : ℕ} where
+  -- So it does with no group,
+  pub ends_plainly : {made : Option ℕ} → EndsPlainly given made → GoesAs old new [] None job None had 0
+      → EndsAs old new given made job had
+  ends_plainly plain goes = record { goes = rw plain.group goes; space = plain.space }
+
+  -- and with one.
+  pub ends_grouped : {made : Option ℕ} {number : ℕ} → group_by given made ≡ Some number
+      → GoesAs old new [] (Some number) job None had 0 → EndsAs old new given made job had
+  ends_grouped is goes = record { goes = rw is goes; space = λ size told. search (none_some, arith) }
 
 module _ (blocks : Blocks) (group capacity : ℕ) where
   abbrev grown_if : Bool → Blocks
@@ -99,63 +78,59 @@ runs_behind : (pool : Pool) (uber : Uber) → ((blocks_behind pool uber).space.t
     (sectors_of uber.reflow) pool.blocks.space.held)
 runs_behind pool uber = search runs_grown
 
-module _ (before after : CoreState) (is : IsCore before.core) where
+module _ (before after : CoreState) where
   abbrev old : Core
   old = before.core
 
   abbrev new : Core
   new = after.core
 
-  -- Only devices went out.
-  pub core_goes : {out : ℕ} → new ≡ record old { pool = record old.pool { out = out } }
-      → GoesWith old new old.pool.uber.group
-  core_goes rest = search (goes_still, same_parts, arith)
+  -- ---- puts
 
-  stopped_goes : {run : PutRun} {given : Answer} → IsStoppedPut old new run given → GoesWith old new old.pool.uber.group
-  stopped_goes {run = run} stopped = goes_still (search arith) (cc) (given_up old new run stopped.gives_up)
+  -- A put that is given up ends its hold and frees its sectors,
+  put_dropped : (run : PutRun) → run.hold.kind ≡ Shared → GivesUp old new run → GoesAs old new [] None None None 1 0
+  put_dropped run shared gives = goes_as (ap (λ (c : Core). c.pool.uber) gives.rest) (cc)
+      (record { taken = search gains_old; held = search arith })
+      (shares_ended gives.ends) (omega (arith, adds_shared run.hold shared))
 
-  writes_goes : (run : PutRun) (turn : Turn PutRun) → WritesTurn before run after turn
-      → GoesWith old new old.pool.uber.group
-  writes_goes run (More next) writes = core_goes writes.rest
-  writes_goes run (Busy by) writes = absurd writes
-  writes_goes run (Done given) writes = stopped_goes writes.0
-
-  ended_put : (run : PutRun) (given : Answer) → EndsPut old run new (Done given)
-      → IsPlainEnd given × GoesWith old new old.pool.uber.group
-  ended_put run answer.Stored ends = (
+  -- and one that is stored holds back those of the block before it.
+  put_stored : (run : PutRun) (given : Answer) → run.hold.kind ≡ Shared → EndsPut old run new (Done given)
+      → IsPlainEnd given × GoesAs old new [] None None None 1 0
+  put_stored run answer.Stored shared ends = (
     tt,
-    goes_still (ap (λ (c : Core). c.pool.uber) ends.rest) (cc) (stored old new run ends),
+    goes_as (ap (λ (c : Core). c.pool.uber) ends.rest) (cc) (frees_back old.pool.blocks.parity
+        old.pool.blocks.births (old.begun + 1) (entry_of old.pool.blocks.table.entries run.range.id) ends.held)
+        (shares_ended ends.ends) (omega (arith, adds_shared run.hold shared)),
   )
-  ended_put run (answer.TooManyFailed out) ends = (tt, stopped_goes ends)
-  ended_put run other ends = absurd ends
+  put_stored run (answer.TooManyFailed out) shared ends = (tt, put_dropped run shared ends.gives_up)
+  put_stored run other shared ends = absurd ends
 
-  gave_up : (run : PutRun) (given : Answer) → GivesUpTurn old run new (Done given)
-      → IsPlainEnd given × GoesWith old new old.pool.uber.group
-  gave_up run answer.NoMemory ends = (
-    tt,
-    goes_still (ap (λ (c : Core). c.pool.uber) ends.1.rest) (cc) (given_up old new run ends.1),
-  )
-  gave_up run (answer.TooManyFailed out) ends = (tt, stopped_goes ends)
-  gave_up run other ends = absurd ends
+  put_given_up : (run : PutRun) (given : Answer) → run.hold.kind ≡ Shared → GivesUpTurn old run new (Done given)
+      → IsPlainEnd given × GoesAs old new [] None None None 1 0
+  put_given_up run answer.NoMemory shared ends = (tt, put_dropped run shared ends.1)
+  put_given_up run (answer.TooManyFailed out) shared ends = (tt, put_dropped run shared ends.gives_up)
+  put_given_up run other shared ends = absurd ends
 
-  pub put_ends : {call : ScriptCall} (run : PutRun) (given : Answer) → EndsPutting before after call run given
-      → IsPlainEnd given × GoesWith old new old.pool.uber.group
-  put_ends run given ends = elim ends.ends [
-    | inl writes ↦ (subst IsPlainEnd (sym writes.0.given_is) tt, writes_goes ends.filled (Done given) writes)
-    | inr later ↦ elim later [
-      | inl last ↦ ended_put ends.filled given last.3
-      | inr gives ↦ gave_up run given gives.2
-    ]
-  ]
+  -- What is filled in has the put's hold.
+  filled_shared : (call : ScriptCall) {run filled : PutRun} → IsFilledIn call run filled → run.hold.kind ≡ Shared
+      → filled.hold.kind ≡ Shared
+  filled_shared call fills shared = search arith
 
-  ended_hold : {hold : Hold} → new ≡ record old { holds = new.holds } → EndsHold old.holds new.holds hold
-      → GoesWith old new old.pool.uber.group
-  ended_hold {hold = hold} rest ends = goes_still (cc) (cc) (record {
-    taken = search arith;
-    held = search arith;
-    holds = search one_less;
-    few = ended_few ends;
-  })
+  pub put_ends : {call : ScriptCall} (run : PutRun) (given : Answer) → IsPutOf old run
+      → EndsPutting before after call run given → IsPlainEnd given × GoesAs old new [] None None None 1 0
+  put_ends {call} run given of ends =
+      let shared = put_shared old run of in
+      let still = filled_shared call ends.fills shared in
+      elim ends.ends [
+        | inl writes ↦ (
+          subst IsPlainEnd (sym writes.0.given_is) tt,
+          put_dropped ends.filled still writes.0.gives_up,
+        )
+        | inr (inl last) ↦ put_stored ends.filled given still last.3
+        | inr (inr gives) ↦ put_given_up run given shared gives.2
+      ]
+
+  -- ---- reads
 
   -- What was solved is answered plainly.
   block_plain : (asked : Kind) (entry : IndexEntry) (bytes : List ℕ) → IsPlainEnd (answer_of asked entry bytes)
@@ -170,37 +145,40 @@ module _ (before after : CoreState) (is : IsCore before.core) where
   read_plain : (run : GetRun) (given : Answer) → EndsGet old run new (Done given) → IsPlainEnd given
   read_plain run given ends = search (solved_plain, cases_lt, arith)
 
-  pub read_ends : (run : GetRun) (given : Answer) → EndsReading before after run given
-      → IsPlainEnd given × GoesWith old new old.pool.uber.group
-  read_ends run given ends = elim ends.ends [
-    | inl reads ↦ (subst IsPlainEnd (sym reads.0.given_is) tt, ended_hold reads.0.rest reads.0.ends)
-    | inr last ↦ search (read_plain, ended_hold)
+  -- Its hold ends.
+  read_held : (hold : Hold) → hold.kind ≡ Shared → new ≡ record old { holds = new.holds }
+      → EndsHold old.holds new.holds hold → GoesAs old new [] None None None 1 0
+  read_held hold shared rest ends =
+      goes_as (cc) (cc) (frees_none (cc)) (shares_ended ends) (omega (arith, adds_shared hold shared))
+
+  pub read_ends : (run : GetRun) (given : Answer) → IsGetOf old run → EndsReading before after run given
+      → IsPlainEnd given × GoesAs old new [] None None None 1 0
+  read_ends run given of ends = let shared = get_shared old run of in elim ends.ends [
+    | inl reads ↦ (subst IsPlainEnd (sym reads.0.given_is) tt, read_held run.hold shared reads.0.rest reads.0.ends)
+    | inr last ↦ (read_plain last.0 given last.3, read_held last.0.hold (search arith) last.3.rest last.3.ends)
   ]
 
-  -- The group of a commit is the one after the last that was answered.
-  pub next_group : {run : CommitRun} {number : ℕ} → IsCommitOf old run → AnswersGroup before run after number
-      → number ≡ old.pool.uber.group + 1
-  next_group of answers = cc
+  -- ---- commits
 
-  -- A group is answered: what was held back until it is free, and what its commit held.
-  pub group_ends : {run : CommitRun} {number : ℕ} → IsCommitOf old run → AnswersGroup before run after number
-      → GoesWith old new number
-  group_ends {run = run} {number = number} of answers = record {
-    uses = record {
+  -- The group of a commit that is answered is the next one; what was held back until then is free, and what its commit
+  -- held.
+  pub group_ends : {run : CommitRun} {number : ℕ} → IsCore old → IsCommitOf old run
+      → AnswersGroup before run after number
+      → GoesAs old new [] (Some number) None None 0 0
+  group_ends is of answers = let shares = shares_dropped answers.answers.holds in record {
+    stays = answers_stays before is of answers;
+    group = search (ready_keeps, arith);
+    copying = cc;
+    shared = omega (arith, shares.few);
+    runs = runs_still (record {
       taken = search (runs_behind, arith);
       held = λ other listed. inl (filter_was (λ (held : HeldRun). nat_lt answers.ended.uber.group held.group)
           old.pool.blocks.space.held other (search (runs_behind, arith)));
-      holds = λ hold listed shared. ⊎_elim
-          (λ dropped. one_less old new _ dropped.1 hold listed) (search arith) answers.answers.holds;
-      few = dropped_few _ answers.answers.holds;
-    };
-    group_is = search (ready_keeps, arith);
-    stays = answers_stays before is of answers;
-    copying = cc;
+    }) shares;
   }
 
-  pub sync_ends : {run : CommitRun} (given : Answer) → IsCommitOf old run → StepsCommit before run after (Done given)
-      → EndsWith old new given None
-  sync_ends {run = run} (answer.Synced number) of steps = inr (number, refl, group_ends of steps, next_group of steps)
-  sync_ends (answer.TooManyFailed out) of steps = search (plain_ends, goes_still, same_core, arith)
-  sync_ends other of steps = absurd steps
+  pub sync_ends : {run : CommitRun} (given : Answer) → IsCore old → IsCommitOf old run
+      → StepsCommit before run after (Done given) → EndsAs old new given None None 0
+  sync_ends (answer.Synced number) is of steps = ends_grouped refl (group_ends is of steps)
+  sync_ends (answer.TooManyFailed out) is of steps = ends_plainly (plain_ends tt) (goes_nowhere (cc))
+  sync_ends other is of steps = absurd steps

@@ -4,8 +4,8 @@ use Rattle.schedule.proofs.Opened.{blank_is, resting}
 use Rattle.schedule.proofs.Using.{sizes_split}
 use Rattle.schedule.proofs.Numbered.{first_numbered}
 
--- No birth of a pool that was opened is of a later group than its opening's: an uberblock has none later than two groups
--- on, and an opening renews one two groups on.
+-- No birth of a pool that was opened is of a later group than its opening's: an uberblock has none later than two
+-- groups on, and an opening renews one two groups on.
 pub births_opened : {shape : Shape} {silent : ℕ} {image : Image} (uber : Uber) {entries : List IndexEntry}
     → RenewsChoice shape silent image uber entries → NoneAbove uber.group uber.births
 births_opened uber renews = search arith

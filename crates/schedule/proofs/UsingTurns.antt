@@ -1,10 +1,12 @@
--- What the first turn of a call leaves of the runs of sectors that were taken, and of who holds some.
-use Rattle.schedule.proofs.Words.{◌≡◌, ◌⊎◌, inl, inr, ⊎_elim, ℕ, ◌+◌, ◌≤◌, List, [], ◌∷◌, ◌++◌, length, Option, Some, None, refl, sym, ◌∙◌, ap, subst, arith, Contains, map, sum, Birth, first_width, Hold, Shared, Exclusive, EndsHold, Layout, allocated_of, Run, HeldRun, IndexEntry, entry_of, Uber, Answer, Kind, run_of, put_run, HoldsBack, sectors_taken, held_sectors, sectors_in, size_at, found_listed, first_listed, rest_listed, gains_old, gains_item, gains_cases, ScriptCall, fill_bytes, CommitRun, CopyRun, GetRun, PutRun, CopyRound, Rests, Copies, Commits, More, Core, IsCore, as_begun, BeginsCommitSo, DropsHold, TakesHold, hold_for, BeginsJobSo, BeginsGet, hold_of, FreesBlock, BeginsPutSo, BeginsPutTurn, GivesUp, IsPutRefused, LeavesBlocks, StoresBlock, BeginsRound, count_ended, count_gained, one_if, length_put, largest_size, largest, Work, is_shared, shared_count, sharing_in, AnswersAtOnce, BeginsWork, Waits, AreRunsOf, IsHeldIn, IsOpenSince}
+-- What a turn leaves of the runs of sectors that were taken, of the pool's group, and of who holds some; and what first
+-- turns do.
+use Rattle.schedule.proofs.Words.{Answer, AnswersAtOnce, AreRunsOf, BeginsCommitSo, BeginsGet, BeginsJobSo, BeginsPutSo, BeginsPutTurn, BeginsRound, BeginsWork, Birth, CommitRun, Commits, Contains, Copies, CopyRound, CopyRun, Core, DropsHold, EndsHold, Exclusive, FreesBlock, GetRun, HeldRun, Hold, HoldsBack, IndexEntry, IsCore, IsHeldIn, IsOpenSince, IsPutRefused, Kind, Layout, LeavesBlocks, List, More, None, Option, PutRun, Rests, Run, ScriptCall, Shared, Some, Space, TakesHold, Uber, Waits, Work, [], allocated_of, ap, arith, as_begun, count_ended, count_gained, fill_bytes, first_listed, first_width, found_listed, gains_cases, gains_item, gains_old, held_sectors, hold_of, inl, inr, is_shared, largest, largest_size, length, length_put, map, one_if, put_run, refl, rest_listed, run_of, sectors_in, sectors_taken, shared_count, sharing_in, size_at, subst, sum, sym, ℕ, ⊎_elim, ◌++◌, ◌+◌, ◌∙◌, ◌∷◌, ◌≡◌, ◌≤◌, ◌⊎◌}
 use Rattle.std.specs.Prelude.{Bool}
 use Rattle.range_locks.specs.Gaining.{Gains}
 use Rattle.core_state.specs.declared.answer.Answer.TheVariants as answer
 use Rattle.core_state.specs.declared.answer.Kind.TheVariants as kind
 use Rattle.schedule.specs.declared.client.Work.TheVariants as work
+use Rattle.schedule.proofs.Stays.{Stays, stays_same}
 
 -- ---- holds
 
@@ -16,43 +18,73 @@ is_shared_hold hold = is_shared hold.kind
 pub adds_shared : (hold : Hold) → hold.kind ≡ Shared → one_if is_shared_hold hold ≡ 1
 adds_shared hold shared = cc
 
-adds_no_shared : (hold : Hold) → hold.kind ≡ Exclusive → one_if is_shared_hold hold ≡ 0
-adds_no_shared hold exclusive = cc
+adds_alone : (hold : Hold) → hold.kind ≡ Exclusive → one_if is_shared_hold hold ≡ 0
+adds_alone hold exclusive = cc
 
--- So there is at most one more where a shared hold is taken,
-pub shared_more : {old new : List Hold} {hold : Hold} → hold.kind ≡ Shared → Gains old new hold
+-- So there is at most one more where a shared hold is taken.
+shared_more : {old new : List Hold} {hold : Hold} → hold.kind ≡ Shared → Gains old new hold
     → shared_count new ≤ shared_count old + 1
-shared_more {old = old} {new = new} {hold = hold} shared gains =
+shared_more {old} {new} {hold} shared gains =
     omega (arith, count_gained is_shared_hold old new hold gains, adds_shared hold shared)
 
--- and no more where one is taken that is held alone,
-pub alone_taken : {old new : List Hold} {hold : Hold} → hold.kind ≡ Exclusive → Gains old new hold
-    → shared_count new ≤ shared_count old
-alone_taken {old = old} {new = new} {hold = hold} exclusive gains =
-    omega (arith, count_gained is_shared_hold old new hold gains, adds_no_shared hold exclusive)
+-- Each shared hold was one before, and at least so many are shared no longer.
+pub record SharesLess (old new : List Hold) (less : ℕ) : Type 0 where
+  pub were : (hold : Hold) → Contains new hold → hold.kind ≡ Shared → Contains old hold
+  pub few : shared_count new + less ≤ shared_count old
 
--- as by a commit, where that takes one.
-pub commit_taken : {old new : List Hold} {hold : Hold} → hold.kind ≡ Exclusive → TakesHold old new hold
-    → shared_count new ≤ shared_count old
-commit_taken exclusive (inl taken) = alone_taken exclusive taken.1
-commit_taken exclusive (inr none) = search arith
+module _ {old new : List Hold} where
+  -- So it is where the holds stay,
+  pub shares_same : new ≡ old → SharesLess old new 0
+  shares_same same = search (same, arith)
 
--- There is one less where a shared hold ends,
-pub shared_less : {old new : List Hold} {hold : Hold} → hold.kind ≡ Shared → EndsHold old new hold
-    → shared_count new + 1 ≤ shared_count old
-shared_less {old = old} {new = new} {hold = hold} shared ends =
-    omega (arith, count_ended is_shared_hold old new hold ends, adds_shared hold shared)
+  -- where one is held alone,
+  pub shares_alone : {hold : Hold} → hold.kind ≡ Exclusive → Gains old new hold → SharesLess old new 0
+  shares_alone {hold} exclusive gains = record {
+    were = λ other listed shared. ⊎_elim (λ same. cc) (λ was. was) (gains_cases old new hold other gains listed);
+    few = omega (arith, count_gained is_shared_hold old new hold gains, adds_alone hold exclusive);
+  }
 
--- and no more where any ends,
-pub ended_few : {old new : List Hold} {hold : Hold} → EndsHold old new hold → shared_count new ≤ shared_count old
-ended_few {old = old} {new = new} {hold = hold} ends = omega (arith, count_ended is_shared_hold old new hold ends)
+  -- as by a commit, where that takes one,
+  pub shares_taken : {hold : Hold} → hold.kind ≡ Exclusive → TakesHold old new hold → SharesLess old new 0
+  shares_taken exclusive (inl taken) = shares_alone exclusive taken.1
+  shares_taken exclusive (inr none) = shares_same none.1
 
--- as that of a commit, where that had one.
-pub dropped_few : {old new : List Hold} (hold : Hold) → DropsHold old new hold → shared_count new ≤ shared_count old
-dropped_few hold (inl dropped) = ended_few dropped.1
-dropped_few hold (inr none) = search arith
+  -- where one ends,
+  pub shares_ended : {hold : Hold} → EndsHold old new hold → SharesLess old new (one_if is_shared_hold hold)
+  shares_ended {hold} ends = record {
+    were = λ other listed shared. gains_old new old hold other (search) listed;
+    few = omega (arith, count_ended is_shared_hold old new hold ends);
+  }
 
--- ---- who copies
+  -- and where that of a commit ends, if it had one.
+  pub shares_dropped : {hold : Hold} → DropsHold old new hold → SharesLess old new 0
+  shares_dropped (inl dropped) =
+      let ended = shares_ended dropped.1 in record { were = ended.were; few = omega (arith, ended.few) }
+  shares_dropped (inr none) = shares_same none.1
+
+-- ---- sectors
+
+-- All that is in use was in use before.
+pub record FreesSome (old new : Space) : Type 0 where
+  pub taken : (run : Run) → Contains new.taken run → Contains old.taken run
+  pub held : (run : HeldRun) → Contains new.held run → Contains old.held run ⊎ Contains old.taken (held_sectors run)
+
+-- So it is where the space stays,
+pub frees_none : {old new : Space} → new ≡ old → FreesSome old new
+frees_none same = search (same, arith)
+
+-- or the sectors of a block that is gone are held back.
+pub frees_back : {old new : Space} (parity : ℕ) (births : List Birth) (group : ℕ) (gone : Option IndexEntry)
+    → HoldsBack parity births old new group gone → FreesSome old new
+frees_back parity births group None same = frees_none same
+frees_back {old} {new} parity births group (Some entry) holding = record {
+  taken = search gains_old;
+  held = λ run listed. ⊎_elim
+      (λ same. inr (subst (Contains old.taken) (ap held_sectors same) (search gains_item)))
+      (λ was. inl was) (gains_cases old.held new.held _ run holding.held listed);
+}
+
+-- ---- what a turn leaves
 
 -- the job of a work, if it is one
 abbrev pub job_in : Work → Option CopyRun
@@ -66,207 +98,102 @@ copier_after before (Some run) copier = Some run.hold.actor
 copier_after (Some run) None copier = None
 copier_after None None copier = copier
 
--- ---- runs
+-- The group that a turn has answered, if it has, is the next one.
+abbrev pub HasAnswered : Core → Core → Option ℕ → Type 0
+HasAnswered old new None = new.pool.uber.group ≡ old.pool.uber.group
+HasAnswered old new (Some number) = (new.pool.uber.group ≡ number) × (number ≡ old.pool.uber.group + 1)
 
--- All that is in use was in use before, and what is shared was shared. No more holds are shared.
-pub record UsesNoMore (old new : Core) : Type 0 where
-  pub taken : (run : Run) → Contains new.pool.blocks.space.taken run → Contains old.pool.blocks.space.taken run
-  pub held : (run : HeldRun) → Contains new.pool.blocks.space.held run
-      → Contains old.pool.blocks.space.held run ⊎ Contains old.pool.blocks.space.taken (held_sectors run)
-  pub holds : (hold : Hold) → Contains new.holds hold → hold.kind ≡ Shared → Contains old.holds hold
-  pub few : shared_count new.holds ≤ shared_count old.holds
-
--- So the runs are the same.
-pub runs_still : (old new : Core) → UsesNoMore old new → (runs : List Run) → AreRunsOf runs old → AreRunsOf runs new
-runs_still old new uses runs are = record {
-  taken = search arith;
-  held = λ run listed. ⊎_elim (are.held run) (are.taken (held_sectors run)) (uses.held run listed);
-  holds = λ hold listed shared. search (shared, arith);
-}
-
--- A hold that is in runs is in more of them.
-held_further : (runs : List Run) {run : Run} {hold : Hold} → IsHeldIn runs hold → IsHeldIn (run ∷ runs) hold
-held_further runs {run = run} is = record {
-  run = is.run;
-  listed = rest_listed run is.run runs is.listed;
-  begins = is.begins;
-  ends = is.ends;
-}
-
-module _ (old new : Core) where
-  -- Turns that leave the space, or give some of it back,
-  pub same_core : new ≡ old → UsesNoMore old new
-  same_core same = record {
-    taken = search arith;
-    held = search arith;
-    holds = search arith;
-    few = search arith;
-  }
-
-  pub same_parts : new.pool.blocks.space ≡ old.pool.blocks.space → new.holds ≡ old.holds → UsesNoMore old new
-  same_parts space holds = record {
-    taken = search arith;
-    held = search arith;
-    holds = search (holds, arith);
-    few = search (holds, arith);
-  }
-
-  -- A commit that begins holds its sectors alone.
-  pub commit_begun : {run : CommitRun} {actor : ℕ} → BeginsCommitSo old new actor run → UsesNoMore old new
-  commit_begun {run = run} {actor = actor} begins = record {
-    taken = search arith;
-    held = search arith;
-    holds = λ hold listed shared. ⊎_elim
-        (λ taken. ⊎_elim
-        (λ same. cc)
-        (λ was. was)
-        (gains_cases old.holds new.holds (hold_for old.pool.uber.reflow run.uber.reflow actor) hold taken.1 listed))
-        (search arith) begins.holds;
-    few = commit_taken refl begins.holds;
-  }
-
-  -- So does a job.
-  pub job_begun : (run : CopyRun) {actor : ℕ} → BeginsJobSo old new actor run → UsesNoMore old new
-  job_begun run begins = record {
-    taken = search arith;
-    held = search arith;
-    holds = λ hold listed shared. ⊎_elim
-        (λ same. cc)
-        (λ was. was) (gains_cases old.holds new.holds run.hold hold begins.holds listed);
-    few = alone_taken exclusive begins.holds;
-  }
-    where
-      exclusive : run.hold.kind ≡ Exclusive
-      exclusive = cc
-
-  left_blocks : LeavesBlocks old new → UsesNoMore old new
-  left_blocks leaves = record {
-    taken = leaves.taken;
-    held = search arith;
-    holds = search arith;
-    few = search arith;
-  }
-
-  pub one_less : (hold : Hold) → EndsHold old.holds new.holds hold → (other : Hold) → Contains new.holds other
-      → Contains old.holds other
-  one_less hold ends other listed = gains_old new.holds old.holds hold other (search) listed
-
-  pub given_up : (run : PutRun) → GivesUp old new run → UsesNoMore old new
-  given_up run gives = record {
-    taken = search gains_old;
-    held = search arith;
-    holds = search one_less;
-    few = ended_few gives.ends;
-  }
-
-  -- or hold it back.
-  held_back : (parity : ℕ) (births : List Birth) (group : ℕ) (gone : Option IndexEntry)
-      → HoldsBack parity births old.pool.blocks.space new.pool.blocks.space group gone
-      → ((hold : Hold) → Contains new.holds hold → Contains old.holds hold)
-      → shared_count new.holds ≤ shared_count old.holds → UsesNoMore old new
-  held_back parity births group None same holds few = record {
-    taken = search arith;
-    held = search arith;
-    holds = λ hold listed shared. holds hold listed;
-    few = few;
-  }
-  held_back parity births group (Some entry) holding holds few = record {
-    taken = search gains_old;
-    held = λ run listed. ⊎_elim
-        (λ same. inr (subst (Contains old.pool.blocks.space.taken) (ap held_sectors same) (search gains_item)))
-        (λ was. inl was) (gains_cases old.pool.blocks.space.held new.pool.blocks.space.held _ run holding.held listed);
-    holds = λ hold listed shared. holds hold listed;
-    few = few;
-  }
-
-  pub stored : (run : PutRun) → StoresBlock old new run → UsesNoMore old new
-  stored run stores = held_back old.pool.blocks.parity old.pool.blocks.births (old.begun + 1)
-      (entry_of old.pool.blocks.table.entries run.range.id) stores.held (one_less run.hold stores.ends)
-      (ended_few stores.ends)
-
-  freed : (id : ℕ) (given : Answer) → FreesBlock old new id given → UsesNoMore old new
-  freed id answer.Freed frees = held_back old.pool.blocks.parity old.pool.blocks.births (old.begun + 1) (Some frees.1)
-      frees.2.held (search arith) (search arith)
-  freed id answer.Absent frees = search (same_parts, arith)
-  freed id (answer.TooManyFailed out) frees = same_core frees.2
-  freed id other frees = absurd frees
-
--- A job that begins is that of who copies.
-pub job_copies : {old new : Core} {actor : ℕ} {run : CopyRun} → BeginsJobSo old new actor run
-    → new.copying ≡ Some run.hold.actor
-job_copies begins = cc
-
--- ---- first turns
-
--- A turn begins a call, with these runs more, with this job, if it is one, and so many shared holds more.
-pub record BeginsWith (old new : Core) (more : List Run) (job : Option CopyRun) (sharing : ℕ) : Type 0 where
-  pub uber : new.pool.uber ≡ old.pool.uber
-  pub copying : new.copying ≡ copier_after None job old.copying
-  pub shared : shared_count new.holds ≤ shared_count old.holds + sharing
+-- A turn takes these runs more, and answers this group, if it does so. Who copies follows from the call's job before
+-- the turn and after it, and how many holds are shared from how many the call had and has.
+pub record GoesAs (old new : Core) (more : List Run) (made : Option ℕ) (was now : Option CopyRun) (had has : ℕ)
+    : Type 0 where
+  pub stays : Stays old new
+  pub group : HasAnswered old new made
+  pub copying : new.copying ≡ copier_after was now old.copying
+  pub shared : shared_count new.holds + had ≤ shared_count old.holds + has
   pub runs : (runs : List Run) → AreRunsOf runs old → AreRunsOf (more ++ runs) new
 
--- A turn that takes no run begins a call so,
-begins_as : (old new : Core) {job : Option CopyRun} → new.pool.uber ≡ old.pool.uber
-    → new.copying ≡ copier_after None job old.copying → UsesNoMore old new → BeginsWith old new [] job 0
-begins_as old new uber copying uses = record {
-  uber = uber;
-  copying = copying;
-  shared = omega (arith, uses.few);
-  runs = runs_still old new uses;
-}
+-- It takes no run, is no job's, and shares as much as before.
+abbrev pub GoesOn : Core → Core → Type 0
+GoesOn old new = GoesAs old new [] None None None 0 0
 
--- and where that is no job who copies stays so.
-begins_still : {old new : Core} → new.pool.uber ≡ old.pool.uber → new.copying ≡ old.copying → UsesNoMore old new
-    → BeginsWith old new [] None 0
-begins_still {old = old} {new = new} uber copying uses = begins_as old new uber copying uses
+module _ {old new : Core} where
+  -- Where no more is in use and no other hold is shared the runs are the same.
+  pub runs_still : {less : ℕ} → FreesSome old.pool.blocks.space new.pool.blocks.space
+      → SharesLess old.holds new.holds less → (runs : List Run) → AreRunsOf runs old → AreRunsOf runs new
+  runs_still frees shares runs are = record {
+    taken = search arith;
+    held = λ run listed. ⊎_elim (are.held run) (are.taken (held_sectors run)) (frees.held run listed);
+    holds = λ hold listed shared. are.holds hold (shares.were hold listed shared) shared;
+  }
+
+  -- So a turn goes that leaves the uberblock.
+  pub goes_as : {was now : Option CopyRun} {had has less : ℕ} → new.pool.uber ≡ old.pool.uber
+      → new.copying ≡ copier_after was now old.copying → FreesSome old.pool.blocks.space new.pool.blocks.space
+      → SharesLess old.holds new.holds less → had ≤ less + has → GoesAs old new [] None was now had has
+  goes_as uber copying frees shares few = record {
+    stays = stays_same uber;
+    group = cc;
+    copying = copying;
+    shared = omega (arith, few, shares.few);
+    runs = runs_still frees shares;
+  }
+
+  -- One that is no job's, and leaves the space and the holds too,
+  pub goes_still : {has : ℕ} → new.pool.uber ≡ old.pool.uber → new.copying ≡ old.copying
+      → new.pool.blocks.space ≡ old.pool.blocks.space → new.holds ≡ old.holds → GoesAs old new [] None None None has has
+  goes_still uber copying space holds =
+      goes_as uber copying (frees_none space) (shares_same holds) (omega arith)
+
+  -- or leaves all,
+  pub goes_nowhere : new ≡ old → GoesOn old new
+  goes_nowhere same = goes_still (cc) (cc) (cc) (cc)
+
+  -- or but for devices that went out,
+  pub core_goes : {out has : ℕ} → new ≡ record old { pool = record old.pool { out = out } }
+      → GoesAs old new [] None None None has has
+  core_goes rest = search (goes_still, arith)
+
+  -- or for the order of blocks,
+  left_goes : LeavesBlocks old new → GoesOn old new
+  left_goes leaves = goes_as (ap (λ (c : Core). c.pool.uber) leaves.rest) (ap (λ (c : Core). c.copying) leaves.rest)
+      (record { taken = leaves.taken; held = search arith }) (shares_same (ap (λ (c : Core). c.holds) leaves.rest))
+      (omega arith)
+
+  -- one by which a commit begins, which holds its sectors alone,
+  pub commit_goes : {run : CommitRun} {actor : ℕ} → BeginsCommitSo old new actor run → GoesOn old new
+  commit_goes begins = goes_as (cc) (cc) (frees_none (cc)) (shares_taken refl begins.holds) (omega arith)
+
+  -- and one by which a job begins, which does too.
+  pub job_goes : (run : CopyRun) {actor : ℕ} → BeginsJobSo old new actor run
+      → GoesAs old new [] None None (Some run) 0 0
+  job_goes run begins =
+      goes_as (cc) (cc) (frees_none (cc)) (shares_alone (cc) begins.holds) (omega arith)
+
+-- ---- first turns
 
 -- The runs are no more than what is put, at the pool's first width.
 pub record FitsPut (uber : Uber) (more : List Run) (lengths : List ℕ) : Type 0 where
   pub few : length more ≤ length (map (largest_size uber) lengths)
   pub sectors : sectors_in more ≤ sum (map (largest_size uber) lengths)
 
-pub none_fits : (uber : Uber) (lengths : List ℕ) → FitsPut uber [] lengths
-none_fits uber lengths = record { few = omega arith; sectors = omega arith }
-
 -- A call of the script begins so, whatever it puts.
-pub record BeginsOn (old new : Core) (lengths : List ℕ) (job : Option CopyRun) (sharing : ℕ) : Type 0 where
+pub record BeginsOn (old new : Core) (lengths : List ℕ) (job : Option CopyRun) (has : ℕ) : Type 0 where
   pub more : List Run
-  pub begins : BeginsWith old new more job sharing
+  pub goes : GoesAs old new more None None job 0 has
   pub fits : (uber : Uber) → IsOpenSince uber old → FitsPut uber more lengths
 
 module _ {old : Core} (new : Core) (is : IsCore old) where
-  same_begins : new ≡ old → BeginsWith old new [] None 0
-  same_begins same = search (begins_still, same_core, arith)
-
-  left_begins : LeavesBlocks old new → BeginsWith old new [] None 0
-  left_begins leaves = search (begins_still, left_blocks, arith)
-
-  -- A put takes one run, and holds it.
-  put_takes : {actor id len : ℕ} (run : PutRun) → BeginsPutSo old new actor id len run
-      → BeginsWith old new (put_run run.range ∷ []) None 1
-  put_takes run begins = record {
-    uber = ap (λ (c : Core). c.pool.uber) begins.rest;
-    copying = cc;
-    shared = shared_more (cc) begins.holds;
-    runs = λ runs are. record {
-      taken = λ other listed. ⊎_elim
-          (search (runs, first_listed, arith)) (search (rest_listed, runs, arith))
-          (gains_cases old.pool.blocks.space.taken new.pool.blocks.space.taken (put_run run.range) other
-          begins.begins.taken.taken listed);
-      held = λ other listed. rest_listed (put_run run.range) (held_sectors other) runs (search arith);
-      holds = λ hold listed shared. ⊎_elim
-          (λ same. subst (IsHeldIn (put_run run.range ∷ runs)) (sym begins.hold_is ∙ same) (record {
-            run = put_run run.range;
-            listed = first_listed (put_run run.range) runs;
-            begins = omega arith;
-            ends = omega arith;
-          }))
-          (λ was. held_further runs (are.holds hold was shared))
-          (gains_cases old.holds new.holds run.hold hold begins.holds listed);
-    };
+  -- One that puts nothing takes no run.
+  pub on_none : {lengths : List ℕ} {job : Option CopyRun} {has : ℕ} → GoesAs old new [] None None job 0 has
+      → BeginsOn old new lengths job has
+  on_none goes = record {
+    more = [];
+    goes = goes;
+    fits = λ uber since. record { few = omega arith; sectors = omega arith };
   }
 
-  -- That has no more sectors than at the pool's first width.
+  -- A put has no more sectors than at the pool's first width.
   put_size : {actor id : ℕ} (len : ℕ) (run : PutRun) → BeginsPutSo old new actor id len run → (uber : Uber)
       → IsOpenSince uber old → allocated_of run.range.layout ≤ largest_size uber len
   put_size len run begins uber since =
@@ -285,11 +212,41 @@ module _ {old : Core} (new : Core) (is : IsCore old) where
       λ i. size_at (since.parity i) (since.first i) len in
       omega arith
 
+  -- It takes one run, and holds it. A hold that is in runs is in more of them.
+  held_further : (runs : List Run) {run : Run} {hold : Hold} → IsHeldIn runs hold → IsHeldIn (run ∷ runs) hold
+  held_further runs {run} is = record {
+    run = is.run;
+    listed = rest_listed run is.run runs is.listed;
+    begins = is.begins;
+    ends = is.ends;
+  }
+
   put_begins : (actor id : ℕ) {len : ℕ} (run : PutRun) → BeginsPutTurn old new actor id len (More run)
       → BeginsOn old new (len ∷ []) None 1
-  put_begins actor id {len = len} run begins = record {
+  put_begins actor id {len} run begins = record {
     more = put_run run.range ∷ [];
-    begins = put_takes run begins;
+    goes = record {
+      stays = stays_same (ap (λ (c : Core). c.pool.uber) begins.rest);
+      group = ap (λ (c : Core). c.pool.uber.group) begins.rest;
+      copying = cc;
+      shared = omega (arith, shared_more (cc) begins.holds);
+      runs = λ runs are. record {
+        taken = λ other listed. ⊎_elim
+            (search (runs, first_listed, arith)) (search (rest_listed, runs, arith))
+            (gains_cases old.pool.blocks.space.taken new.pool.blocks.space.taken (put_run run.range) other
+            begins.begins.taken.taken listed);
+        held = λ other listed. rest_listed (put_run run.range) (held_sectors other) runs (search arith);
+        holds = λ hold listed shared. ⊎_elim
+            (λ same. subst (IsHeldIn (put_run run.range ∷ runs)) (sym begins.hold_is ∙ same) (record {
+              run = put_run run.range;
+              listed = first_listed (put_run run.range) runs;
+              begins = omega arith;
+              ends = omega arith;
+            }))
+            (λ was. held_further runs (are.holds hold was shared))
+            (gains_cases old.holds new.holds run.hold hold begins.holds listed);
+      };
+    };
     fits = λ uber since. let size = put_size len run begins uber since in record {
       few = omega arith;
       sectors = omega arith;
@@ -298,11 +255,12 @@ module _ {old : Core} (new : Core) (is : IsCore old) where
 
   -- A read holds its block's sectors, which are taken.
   get_begins : (actor id : ℕ) {asked : Kind} (run : GetRun) → BeginsGet old new actor asked id (More run)
-      → BeginsWith old new [] None 1
+      → GoesAs old new [] None None None 0 1
   get_begins actor id run begins = record {
-    uber = cc;
+    stays = stays_same (cc);
+    group = cc;
     copying = cc;
-    shared = shared_more (cc) begins.9;
+    shared = omega (arith, shared_more (cc) begins.9);
     runs = λ runs are. record {
       taken = search arith;
       held = search arith;
@@ -329,35 +287,12 @@ module _ {old : Core} (new : Core) (is : IsCore old) where
         ends = omega arith;
       }
 
-  put_refused : (id len : ℕ) (given : Answer) → IsPutRefused old new id len given → BeginsWith old new [] None 0
-  put_refused id len (answer.TooManyFailed out) refused = same_begins refused.2
-  put_refused id len answer.Full refused = left_begins refused.2
-  put_refused id len (answer.NoSpace sectors) refused = left_begins refused.3
-  put_refused id len answer.NoMemory refused = left_begins refused.1
-  put_refused id len other refused = absurd refused
-
-  free_begins : (id : ℕ) (given : Answer) → FreesBlock old new id given → BeginsWith old new [] None 0
-  free_begins id answer.Freed frees =
-      begins_still (ap (λ (c : Core). c.pool.uber) frees.2.rest) (cc) (freed old new id answer.Freed frees)
-  free_begins id answer.Absent frees = search (begins_still, freed, arith)
-  free_begins id (answer.TooManyFailed out) frees = same_begins frees.2
-  free_begins id other frees = absurd frees
-
   -- A round of a copy begins with a job or a commit.
   round_begins : (actor : ℕ) (round : CopyRound) → BeginsRound old new actor (More round)
-      → BeginsWith old new [] (job_in (work.Copy round)) 0
+      → GoesAs old new [] None None (job_in (work.Copy round)) 0 0
   round_begins actor (Rests whose made) begins = absurd begins
-  round_begins actor (Copies run) begins = begins_as old new (cc) (job_copies begins) (job_begun old new run begins)
-  round_begins actor (Commits run) begins = begins_still (cc) (cc) (commit_begun old new begins.2)
-
-  -- A call that puts nothing takes no run.
-  on_none : {job : Option CopyRun} {sharing : ℕ} {lengths : List ℕ} → BeginsWith old new [] job sharing
-      → BeginsOn old new lengths job sharing
-  on_none {lengths = lengths} begins = record {
-    more = [];
-    begins = begins;
-    fits = λ uber since. none_fits uber lengths;
-  }
+  round_begins actor (Copies run) begins = job_goes run begins
+  round_begins actor (Commits run) begins = commit_goes begins.2
 
   -- A first turn: one that goes on,
   pub works_begin : (devices actor : ℕ) (call : ScriptCall) (asked : Kind) (id : Option ℕ) (does : Work)
@@ -366,32 +301,45 @@ module _ {old : Core} (new : Core) (is : IsCore old) where
   works_begin devices actor call kind.Put (Some id) (work.Put run) begins = put_begins actor id run begins
   works_begin devices actor call kind.Get (Some id) (work.Read run) begins = on_none (get_begins actor id run begins)
   works_begin devices actor call kind.Sum (Some id) (work.Read run) begins = on_none (get_begins actor id run begins)
-  works_begin devices actor call kind.Sync None (work.Sync run) begins =
-      on_none (begins_still (cc) (cc) (commit_begun old new begins))
-  works_begin devices actor call kind.Attach None (work.Attach run) begins =
-      on_none (search (begins_still, same_parts, arith))
+  works_begin devices actor call kind.Sync None (work.Sync run) begins = on_none (commit_goes begins)
+  works_begin devices actor call kind.Attach None (work.Attach run) begins = on_none (goes_still (cc) (cc) (cc) (cc))
   works_begin devices actor call kind.Copy None (work.Copy round) begins = on_none (round_begins actor round begins)
   works_begin devices actor call asked id does begins = absurd begins
 
   -- one that waits,
   pub waits_with : (devices actor : ℕ) (call : ScriptCall) (asked : Kind) (id : Option ℕ) (by : ℕ)
-      → Waits old new devices actor call asked id by → BeginsWith old new [] None 0
-  waits_with devices actor call kind.Put (Some id) by waits = left_begins waits.1
-  waits_with devices actor call kind.Get (Some id) by waits = same_begins waits.1
-  waits_with devices actor call kind.Sum (Some id) by waits = same_begins waits.1
-  waits_with devices actor call kind.Sync None by waits = same_begins waits.2
-  waits_with devices actor call kind.Attach None by waits = same_begins waits.2
-  waits_with devices actor call kind.Copy None by waits = same_begins waits.1
+      → Waits old new devices actor call asked id by → GoesOn old new
+  waits_with devices actor call kind.Put (Some id) by waits = left_goes waits.1
+  waits_with devices actor call kind.Get (Some id) by waits = goes_nowhere waits.1
+  waits_with devices actor call kind.Sum (Some id) by waits = goes_nowhere waits.1
+  waits_with devices actor call kind.Sync None by waits = goes_nowhere waits.2
+  waits_with devices actor call kind.Attach None by waits = goes_nowhere waits.2
+  waits_with devices actor call kind.Copy None by waits = goes_nowhere waits.1
   waits_with devices actor call asked id by waits = absurd waits
+
+  put_refused : (id len : ℕ) (given : Answer) → IsPutRefused old new id len given → GoesOn old new
+  put_refused id len (answer.TooManyFailed out) refused = goes_nowhere refused.2
+  put_refused id len answer.Full refused = left_goes refused.2
+  put_refused id len (answer.NoSpace sectors) refused = left_goes refused.3
+  put_refused id len answer.NoMemory refused = left_goes refused.1
+  put_refused id len other refused = absurd refused
+
+  frees_goes : (id : ℕ) (given : Answer) → FreesBlock old new id given → GoesOn old new
+  frees_goes id answer.Freed frees =
+      goes_as (ap (λ (c : Core). c.pool.uber) frees.2.rest) (cc) (frees_back old.pool.blocks.parity
+      old.pool.blocks.births (old.begun + 1) (Some frees.1) frees.2.held) (shares_same (cc)) (omega arith)
+  frees_goes id answer.Absent frees = search (goes_still, arith)
+  frees_goes id (answer.TooManyFailed out) frees = goes_nowhere frees.2
+  frees_goes id other frees = absurd frees
 
   -- and one that is answered at once.
   pub answers_with : (devices actor : ℕ) (call : ScriptCall) (asked : Kind) (id : Option ℕ) (given : Answer)
-      → AnswersAtOnce old new devices actor call asked id given → BeginsWith old new [] None 0
+      → AnswersAtOnce old new devices actor call asked id given → GoesOn old new
   answers_with devices actor call kind.Put (Some id) given answers = search put_refused
-  answers_with devices actor call kind.Get (Some id) given answers = same_begins answers.0
-  answers_with devices actor call kind.Sum (Some id) given answers = same_begins answers.0
-  answers_with devices actor call kind.Free (Some id) given answers = free_begins id given answers.frees
-  answers_with devices actor call kind.Sync None given answers = same_begins answers.1
-  answers_with devices actor call kind.Attach None given answers = same_begins answers.1
-  answers_with devices actor call kind.Copy None given answers = same_begins answers.1
+  answers_with devices actor call kind.Get (Some id) given answers = goes_nowhere answers.0
+  answers_with devices actor call kind.Sum (Some id) given answers = goes_nowhere answers.0
+  answers_with devices actor call kind.Free (Some id) given answers = frees_goes id given answers.frees
+  answers_with devices actor call kind.Sync None given answers = goes_nowhere answers.1
+  answers_with devices actor call kind.Attach None given answers = goes_nowhere answers.1
+  answers_with devices actor call kind.Copy None given answers = goes_nowhere answers.1
   answers_with devices actor call asked id given answers = absurd answers
