@@ -1,7 +1,5 @@
 -- What the later turns of an attach leave.
-use Rattle.schedule.proofs.Words.{Answer, AttachRun, Checked, CommitRun, Core, CoreState, Done, EndsAttach, IsAttachRunOf, IsCommitOf, IsCore, IsDeviceRefused, IsSyncRefused, IsTooMany, Joins, More, None, Option, Reads, RingRead, Signs, Some, StepsAttach, StopsAttach, WhyDropped, [], ap, arith, attach_answer, group_by, made_by, refl, ℕ, ⊎_elim, ◌∙◌, ◌≡◌}
-use Rattle.join_commit.specs.declared.join_run.WhyDropped.TheVariants as why
-use Rattle.core_state.specs.declared.answer.Answer.TheVariants as answer
+use Rattle.schedule.proofs.Words.{Answer, AttachRun, Checked, CommitRun, Core, CoreState, Done, EndsAttach, IsAttachRunOf, IsCommitOf, IsCore, IsDeviceRefused, IsSyncRefused, IsTooMany, Joins, More, None, Option, Reads, RingRead, Signs, Some, StepsAttach, StopsAttach, WhyDropped, [], ap, arith, attach_answer, group_by, made_by, ℕ, ⊎_elim, ◌∙◌, ◌≡◌}
 use Rattle.schedule.specs.declared.client.Work.TheVariants as work
 use Rattle.schedule.proofs.UsingEnds.{EndsAs, EndsPlainly, commit_plain, ends_grouped, ends_plainly, group_ends, plain_ends}
 use Rattle.schedule.proofs.UsingTurns.{GoesAs, GoesOn, commit_goes, core_goes, goes_nowhere, goes_still}
@@ -9,13 +7,7 @@ use Rattle.schedule.proofs.UsingTurns.{GoesAs, GoesOn, commit_goes, core_goes, g
 -- Who attaches is not told of in what a turn leaves.
 attaching_goes : {old now : Core} {number : ℕ} {by : Option ℕ} → GoesAs old now [] (Some number) None None 0 0
     → GoesAs old (record now { attaching = by }) [] (Some number) None None 0 0
-attaching_goes goes = record {
-  stays = search;
-  group = goes.group;
-  copying = goes.copying;
-  shared = goes.shared;
-  runs = λ runs are. let still = goes.runs runs are in search;
-}
+attaching_goes goes = grind arith
 
 module _ (before after : CoreState) (is : IsCore before.core) where
   abbrev old : Core
@@ -42,15 +34,11 @@ module _ (before after : CoreState) (is : IsCore before.core) where
 
   -- and its last. It is answered without a group,
   too_many_plain : (given : Answer) {made : Option ℕ} → IsTooMany old given → EndsPlainly given made
-  too_many_plain (answer.TooManyFailed out) many = plain_ends tt
-  too_many_plain other many = absurd many
+  too_many_plain other many = grind (arith, plain_ends)
 
   pub refused_plain : (ring : RingRead) (given : Answer) → IsDeviceRefused before ring after given
       → EndsPlainly given None
-  refused_plain ring (answer.NewDeviceFailed device) refused = record { group = refl; space = λ size same. cc }
-  refused_plain ring (answer.Taken slot) refused = plain_ends tt
-  refused_plain ring (answer.TooManyFailed out) refused = plain_ends tt
-  refused_plain ring other refused = absurd refused
+  refused_plain ring other refused = grind (arith, plain_ends)
 
   pub sync_plain : (given : Answer) → IsSyncRefused old given → EndsPlainly given None
   sync_plain given refused = commit_plain old given refused
@@ -58,9 +46,7 @@ module _ (before after : CoreState) (is : IsCore before.core) where
   -- or with the group of its commit.
   pub answered_by : (because : Option WhyDropped) (width : ℕ) {group number : ℕ} → group ≡ number
       → group_by (attach_answer because width number) (Some group) ≡ Some number
-  answered_by None width same = refl
-  answered_by (Some (why.NewDeviceFailed device)) width same = cc
-  answered_by (Some (why.DeviceOut device)) width same = ap (λ (n : ℕ). Some n) same
+  answered_by because width same = grind arith
 
   attach_answered : (run : CommitRun) (because : Option WhyDropped) (given : Answer) → IsCommitOf old run
       → EndsAttach before run because after given → EndsAs old new given (Some run.uber.group) None 0
@@ -75,5 +61,4 @@ module _ (before after : CoreState) (is : IsCore before.core) where
   attach_ends (Checked ring) given of goes = ends_plainly (sync_plain given goes.1) (stops_goes goes.0)
   attach_ends (Joins join) given of goes = ends_plainly (too_many_plain given goes.1) (stops_goes goes.0)
   attach_ends (Signs run because) given of goes = ⊎_elim
-      (λ stops. ends_plainly (too_many_plain given stops.1) (stops_goes stops.0))
-      (attach_answered run because given of.0.of) goes
+      (search (ends_plainly, too_many_plain, stops_goes, arith)) (attach_answered run because given of.0.of) goes

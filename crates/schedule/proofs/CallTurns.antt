@@ -1,11 +1,10 @@
 -- The turns of calls.
-use Rattle.schedule.proofs.Words.{◌≡◌, ◌⊎◌, ⊎_elim, ℕ, zero, suc, ◌+◌, length, List, Option, Some, None, refl, ap, arith, IsTrue, is_some, false≢true, Disk, Unchanged, rows_of, Uber, Answer, Kind, OnlyFailedGoOut, point_of, read_touches, ScriptCall, fill_bytes, pattern_from, AttachRun, CopyRound, IsMoreAttach, StepsAttach, IsMoreRound, StepsCopy, GetRun, Filled, ToFill, Blocks, IsUnderWay, PutRun, Turn, More, Busy, Done, Core, CoreState, at_disk, IsReadKind, IsGetOf, BeginsGet, ReadsTurn, SolvesGet, EndsGet, IsFillable, IsPutOf, FillsPut, EndsPut, GivesUpTurn, left_to_fill, to_fill_of, turn_with, TurnGoesOn, reads_reaching, solved_of, fills_of, Work, MakesRoom, taken_for, AnswersAtOnce, Waits, BeginsWork, BeginsCall, GoesOnBy, HasDeviceForTurn, IsFilledIn, MayGoOn, PutGoesOn, WritesOn, ReadGoesOn, WorkGoesOn, attach_turn, copy_turn, read_turn, made_in}
+use Rattle.schedule.proofs.Words.{◌≡◌, ◌⊎◌, ⊎_elim, ℕ, zero, suc, ◌+◌, length, List, Option, Some, None, refl, ap, arith, IsTrue, is_some, false≢true, Disk, Unchanged, rows_of, Uber, Answer, OnlyFailedGoOut, point_of, read_touches, ScriptCall, fill_bytes, pattern_from, AttachRun, CopyRound, IsMoreAttach, StepsAttach, IsMoreRound, StepsCopy, GetRun, ToFill, Blocks, IsUnderWay, PutRun, Turn, Done, Core, CoreState, at_disk, IsReadKind, IsGetOf, BeginsGet, ReadsTurn, SolvesGet, EndsGet, IsFillable, IsPutOf, FillsPut, EndsPut, GivesUpTurn, left_to_fill, to_fill_of, turn_with, TurnGoesOn, reads_reaching, solved_of, fills_of, Work, MakesRoom, taken_for, BeginsCall, GoesOnBy, HasDeviceForTurn, IsFilledIn, MayGoOn, PutGoesOn, WritesOn, ReadGoesOn, WorkGoesOn, attach_turn, copy_turn, read_turn, made_in}
 use Rattle.std.specs.Prelude.{◌≤◌}
 use Rattle.core_state.specs.declared.answer.Answer.TheVariants as answer
 use Rattle.schedule.specs.declared.client.Work.TheVariants as work
 use Rattle.schedule.proofs.LeavesPool.{pool_goes}
 use Rattle.schedule.proofs.Rooms.{taken_one}
-use Rattle.schedule.proofs.Theirs.{some_is}
 
 -- ---- first turns
 
@@ -14,62 +13,34 @@ pub pattern_length : (seed from len : ℕ) → length (pattern_from seed from le
 pattern_length seed from zero = refl
 pattern_length seed from (suc len) = omega (arith, pattern_length seed (from + 1) len)
 
--- what a call comes to that was of this kind and id
-abbrev BeginsAs : Core → Core → ℕ → ℕ → ScriptCall → Kind → Option ℕ → Turn Work → Type 0
-BeginsAs old new devices actor call asked id (More does) = BeginsWork old new devices actor call asked id does
-BeginsAs old new devices actor call asked id (Busy by) = Waits old new devices actor call asked id by
-BeginsAs old new devices actor call asked id (Done given) = AnswersAtOnce old new devices actor call asked id given
-
-read_begun : (old new : Core) (devices actor id : ℕ) (call : ScriptCall) (asked : Kind) (turn : Turn GetRun)
-    → IsReadKind asked → BeginsGet old new actor asked id turn
-    → BeginsAs old new devices actor call asked (Some id) (read_turn turn)
-read_begun old new devices actor id call other turn is begins = grind arith
-
-begins_as : (old new : Core) (devices actor : ℕ) (call : ScriptCall) (turn : Turn Work)
-    → BeginsAs old new devices actor call call.kind call.id turn → BeginsCall old new devices actor call turn
-begins_as old new devices actor call turn begins = grind arith
-
 -- The first turn of a read is that of its call.
 pub read_begins : (old new : Core) (devices actor : ℕ) {id : ℕ} (call : ScriptCall)
     (turn : Turn GetRun) {result : Turn Work}
     → IsReadKind call.kind → call.id ≡ Some id → result ≡ read_turn turn → BeginsGet old new actor call.kind id turn
     → BeginsCall old new devices actor call result
-read_begins old new devices actor call turn is id_is same begins = search (begins_as, read_begun, arith)
+read_begins old new devices actor call turn is id_is same begins = grind arith
 
 -- ---- turns without a device call
-
-ended_goes : (old new : Core) (disk : Disk) (run : PutRun) (given : Answer) → EndsPut old run new (Done given)
-    → TurnGoesOn (at_disk old disk) (at_disk new disk)
-ended_goes old new disk run answer.Stored ends = pool_goes ends.rest
-ended_goes old new disk run (answer.TooManyFailed out) ends = pool_goes ends.gives_up.rest
-ended_goes old new disk run other ends = absurd ends
-
-gave_up_goes : (old new : Core) (disk : Disk) (run : PutRun) (given : Answer) → GivesUpTurn old run new (Done given)
-    → TurnGoesOn (at_disk old disk) (at_disk new disk)
-gave_up_goes old new disk run answer.NoMemory gives = pool_goes gives.1.rest
-gave_up_goes old new disk run (answer.TooManyFailed out) gives = pool_goes gives.gives_up.rest
-gave_up_goes old new disk run other gives = absurd gives
 
 -- The last turn of a put goes on,
 pub put_end_goes : {old new : Core} {disk : Disk} (run : PutRun) (turn : Turn PutRun) → EndsPut old run new turn
     → TurnGoesOn (at_disk old disk) (at_disk new disk)
-put_end_goes {old = old} {new = new} {disk = disk} run (Done given) ends = ended_goes old new disk run given ends
-put_end_goes run (More next) ends = absurd ends
-put_end_goes run (Busy by) ends = absurd ends
+put_end_goes run (Done answer.Stored) ends = pool_goes ends.rest
+put_end_goes run (Done (answer.TooManyFailed out)) ends = pool_goes ends.gives_up.rest
+put_end_goes run turn ends = absurd ends
 
 -- and so does one that gives up,
 pub put_gives_goes : {old new : Core} {disk : Disk} (run : PutRun) (turn : Turn PutRun) → GivesUpTurn old run new turn
     → TurnGoesOn (at_disk old disk) (at_disk new disk)
-put_gives_goes {old = old} {new = new} {disk = disk} run (Done given) gives = gave_up_goes old new disk run given gives
-put_gives_goes run (More next) gives = absurd gives
-put_gives_goes run (Busy by) gives = absurd gives
+put_gives_goes run (Done answer.NoMemory) gives = pool_goes gives.1.rest
+put_gives_goes run (Done (answer.TooManyFailed out)) gives = pool_goes gives.gives_up.rest
+put_gives_goes run turn gives = absurd gives
 
 -- and the last one of a read.
 pub read_end_goes : {old new : Core} {disk : Disk} (run : GetRun) (turn : Turn GetRun) → EndsGet old run new turn
     → TurnGoesOn (at_disk old disk) (at_disk new disk)
 read_end_goes run (Done given) ends = pool_goes ends.rest
-read_end_goes run (More next) ends = absurd ends
-read_end_goes run (Busy by) ends = absurd ends
+read_end_goes run turn ends = absurd ends
 
 -- ---- puts
 
@@ -122,11 +93,6 @@ read_ends old new disk turn solves done ends = grind arith
 
 -- ---- blocks that are made up in no turn
 
-left_is : (run : PutRun) (filled : Option Filled) {block : ToFill} → left_to_fill run filled ≡ Some block
-    → to_fill_of run ≡ block
-left_is run None is = some_is is
-left_is run (Some filled) is = cc
-
 -- A put's block can be made up of the bytes that it is asked to have.
 pub put_fillable : {core : Core} {run : PutRun} {content : List ℕ} → IsPutOf core run → length content ≡ run.len
     → IsFillable (to_fill_of run) content
@@ -134,20 +100,18 @@ put_fillable of len = search
 
 pub put_ahead : {core : Core} (call : ScriptCall) {run : PutRun} {block : ToFill} → MayGoOn core call (work.Put run)
     → left_to_fill run run.filled ≡ Some block → IsFillable block (fill_bytes call.fill)
-put_ahead call may left = search (left_is, put_fillable, arith)
+put_ahead call may left = grind (arith, put_fillable)
 
 -- ---- works in their places
 
 -- Neither brings a device.
 pub put_there : (disk : Disk) (next : PutRun) (given : Option Answer)
     → HasDeviceForTurn disk (turn_with (work.Put next) given)
-put_there disk next None = tt
-put_there disk next (Some answer) = tt
+put_there disk next given = grind arith
 
 pub read_there : (disk : Disk) (next : GetRun) (given : Option Answer)
     → HasDeviceForTurn disk (turn_with (work.Read next) given)
-read_there disk next None = tt
-read_there disk next (Some answer) = tt
+read_there disk next given = grind arith
 
 -- ---- attaches
 
@@ -179,7 +143,7 @@ lacking_goes core disk other is some = cc
 -- and room is left for its answer.
 pub lacking_room : (does : Work) {made : Option ℕ} {before after : ℕ} → made ≡ made_in does
     → IsTrue (is_some made) → before ≤ after → MakesRoom does before after (Done answer.NoMemory)
-lacking_room other is some kept = grind (arith, false≢true)
+lacking_room does is some kept = grind (arith, false≢true)
 
 -- Where memory was there room is left for the next group and for what the turn lists.
 pub makes_room : (does : Work) {made : Option ℕ} (before : ℕ) {after : ℕ} (turn : Turn Work) → made ≡ made_in does

@@ -9,39 +9,30 @@ use Rattle.schedule.proofs.UsingTurns.{GoesAs, commit_goes, core_goes, frees_non
 
 -- They come with no group, and tell of no want of space: where a job is refused,
 job_plain : (core : Core) (given : Answer) → IsJobRefused core given → EndsPlainly given None
-job_plain core (answer.TooManyFailed out) refused = plain_ends tt
-job_plain core (answer.Completed width) refused = plain_ends tt
-job_plain core (answer.Paused device) refused = plain_ends tt
-job_plain core answer.NoMemory refused = plain_ends tt
-job_plain core other refused = absurd refused
+job_plain core other refused = grind (arith, plain_ends)
 
 -- so where a round is refused,
 pub round_plain : {core : Core} {given : Answer} → IsRoundRefused core given → EndsPlainly given None
-round_plain {core} {given} refused =
-    ⊎_elim (job_plain core given) (λ commit. commit_plain core given commit.1) refused
+round_plain {core} {given} refused = grind (arith, job_plain, commit_plain)
 
 -- or too many devices are out,
 too_many_plain : {given : Answer} {out : ℕ} → given ≡ answer.TooManyFailed out → EndsPlainly given None
-too_many_plain {out = out} is = rw is (plain_ends tt)
+too_many_plain is = rw is (plain_ends tt)
 
 -- in a later turn that is the last,
 steps_plain : (before after : CoreState) (round : CopyRound) (given : Answer)
     → StepsCopy before round after (Done given) → EndsPlainly given None
-steps_plain before after (Rests actor made) given steps = round_plain steps.0
-steps_plain before after (Copies run) given steps = too_many_plain steps.3
-steps_plain before after (Commits run) given steps = too_many_plain steps.1
+steps_plain before after round given steps = grind (arith, round_plain, too_many_plain)
 
 -- or room for the next group is wanting.
 lacking_plain : (before after : CoreState) (round : CopyRound) (given : Answer) → LacksRoom round before after given
     → EndsPlainly given None
-lacking_plain before after (Rests actor (Some group)) given lacks = rw lacks.0 (plain_ends tt)
-lacking_plain before after round given lacks = absurd lacks
+lacking_plain before after round given lacks = grind (arith, plain_ends)
 
 -- So it is however a copy ends.
 pub copy_plain : (before after : CoreState) (call : ScriptCall) (round : CopyRound) (given : Answer)
     → GoesOnBy before after call (work.Copy round) (Done given) → EndsPlainly given None
-copy_plain before after call round given goes =
-    ⊎_elim (steps_plain before after round given) (lacking_plain before after round given) goes
+copy_plain before after call round given goes = grind (arith, steps_plain, lacking_plain)
 
 -- ---- its turns
 
@@ -65,12 +56,9 @@ module _ (before after : CoreState) where
   copy_goes (Rests was made) (Rests actor next) is was_of goes of = rw goes.0.1 (goes_nowhere (cc))
   copy_goes (Rests actor made) (Copies run) is was_of goes of = job_goes run goes.0
   copy_goes (Rests actor made) (Commits run) is was_of goes of = commit_goes goes.0.2
-  copy_goes (Copies run) (Copies next) is was_of goes of =
-      goes_as (ap (λ (c : Core). c.pool.uber) goes.1.rest) of.under_way
-      (frees_none (ap (λ (c : Core). c.pool.blocks.space) goes.1.rest)) (shares_same (cc)) (omega arith)
+  copy_goes (Copies run) (Copies next) is was_of goes of = grind (arith, goes_as, frees_none, shares_same)
   copy_goes (Copies run) (Rests actor next) is was_of goes of = rw goes.0.1 (⊎_elim
-      (λ ended. job_ended (ap (λ (c : Core). c.pool.uber) ended.2.rest) (cc)
-      (ap (λ (c : Core). c.pool.blocks.space) ended.2.rest) ended.2.ends)
+      (λ ended. job_ended (ap (λ (c : Core). c.pool.uber) ended.2.rest) (cc) (search arith) ended.2.ends)
       (λ dropped. job_ended (cc) (cc) (cc) dropped.1.ends) goes.2)
   copy_goes (Copies run) (Commits next) is was_of goes of = absurd goes
   copy_goes (Commits run) (Commits next) is was_of goes of = core_goes goes.2
@@ -88,12 +76,10 @@ module _ (before after : CoreState) where
   -- or was wanting.
   lacking_ends : (round : CopyRound) (given : Answer) → LacksRoom round before after given
       → GoesAs old new [] None (job_in (work.Copy round)) None 0 0
-  lacking_ends (Rests actor (Some group)) given lacks = goes_nowhere (cc)
-  lacking_ends round given lacks = absurd lacks
+  lacking_ends round given lacks = grind (arith, goes_nowhere)
 
   -- So its end lists no group, and nobody copies where it was a job's.
   pub copy_ends : (call : ScriptCall) (round : CopyRound) (given : Answer)
       → GoesOnBy before after call (work.Copy round) (Done given)
       → EndsAs old new given None (job_in (work.Copy round)) 0
-  copy_ends call round given goes = ends_plainly (copy_plain before after call round given goes)
-      (⊎_elim (steps_end round given) (lacking_ends round given) goes)
+  copy_ends call round given goes = grind (arith, ends_plainly, copy_plain, steps_end, lacking_ends)

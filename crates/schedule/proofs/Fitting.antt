@@ -1,11 +1,10 @@
 -- What a call is answered in a turn, and that what is listed then fits it.
-use Rattle.schedule.proofs.Words.{◌≡◌, ◌⊎◌, inl, inr, ℕ, List, [], ◌∷◌, ◌++◌, sym, subst, ⊤, IsWithin, max_group, Answer, Kind, Entry, Item, Group, CallAt, IsAnswerOf, WhyDropped, new_or_before, Core, HasTooManyOut, IsReadKind, HasDropCause, FitsSince, IsDeviceCause, IsGroupKind, Turns, arith}
+use Rattle.schedule.proofs.Words.{◌≡◌, ◌⊎◌, inl, inr, ℕ, List, [], ◌∷◌, ◌++◌, subst, ⊤, IsWithin, max_group, Answer, Kind, Entry, Item, Group, CallAt, IsAnswerOf, WhyDropped, new_or_before, Core, HasTooManyOut, IsReadKind, HasDropCause, FitsSince, IsDeviceCause, IsGroupKind, Turns, arith}
 use Rattle.std.specs.Prelude.{◌≢◌}
 use Rattle.core_state.specs.declared.answer.Answer.TheVariants as answer
 use Rattle.core_state.specs.declared.answer.Kind.TheVariants as kind
 use Rattle.core_state.specs.declared.item.Group.{Group as GroupItem}
 use Rattle.core_state.specs.declared.item.Item.TheVariants.{Call as CallItem}
-use Rattle.join_commit.specs.declared.join_run.WhyDropped.TheVariants as why
 use Rattle.schedule.proofs.RightNext.{IsPlain}
 use Rattle.schedule.proofs.Running.{group_apart}
 
@@ -44,45 +43,28 @@ LacksDevices kind.Copy = ⊤
 LacksDevices other = ⊥
 
 plain_lacks_none : (asked : Kind) → IsPlainKind asked → LacksDevices asked → ⊥
-plain_lacks_none other plain lacks = grind arith
+plain_lacks_none asked plain lacks = grind arith
 
 -- No other call has the cause of one that does.
 pub no_device_cause : (devices : ℕ) (dropped : WhyDropped → Type 0) (asked : Kind) (given : Answer)
     → (LacksDevices asked → ⊥) → IsAnswerOf asked given → IsDeviceCause devices dropped given
-no_device_cause devices dropped asked (answer.NewDeviceFailed device) none of = search arith
-no_device_cause devices dropped asked (answer.DeviceOut device) none of = search arith
-no_device_cause devices dropped asked (answer.NoDevice there width) none of = absurd
-    (none (subst LacksDevices (sym of) tt))
-no_device_cause devices dropped asked (answer.Paused device) none of = absurd (none (subst LacksDevices (sym of) tt))
-no_device_cause devices dropped asked given none of = tt
+no_device_cause devices dropped asked given none of = grind arith
 
 pub read_plain_kind : (asked : Kind) → IsReadKind asked → IsPlainKind asked
-read_plain_kind other read = grind arith
+read_plain_kind asked read = grind arith
 
 -- So it is known to fit where no limit is told,
 pub fits : {devices : ℕ} {dropped : WhyDropped → Type 0} {core : Core} {asked : Kind} {given : Answer}
     → IsAnswerOf asked given → TellsOut core given → NoLimit given → IsPlainKind asked
     → Fits core devices dropped asked given
-fits {devices} {dropped} {asked = asked} {given = given} of tells no_limit plain = record {
-  of_kind = of;
-  tells = tells;
-  limit = λ reached is. absurd (no_limit reached is);
-  memory = search arith;
-  device = search (no_device_cause, plain_lacks_none, arith);
-}
+fits of tells no_limit plain = grind (arith, no_device_cause, plain_lacks_none)
 
 -- and a call that makes groups with its cause.
 pub group_fits : {devices : ℕ} {dropped : WhyDropped → Type 0} (core : Core) (asked : Kind) (given : Answer)
     → IsGroupKind asked → IsAnswerOf asked given → TellsOut core given
     → ((reached : ℕ) → given ≡ answer.Limit reached → reached ≡ max_group) → IsDeviceCause devices dropped given
     → Fits core devices dropped asked given
-group_fits core asked given group of tells limit cause = record {
-  of_kind = of;
-  tells = tells;
-  limit = λ reached told. (group, limit reached told);
-  memory = search arith;
-  device = cause;
-}
+group_fits core asked given group of tells limit cause = grind arith
 
 -- So it is of an attach.
 pub attach_fits : {devices : ℕ} {dropped : WhyDropped → Type 0} {core : Core} {asked : Kind} {given : Answer}
@@ -95,11 +77,7 @@ attach_fits {core = core} {asked = asked} {given = given} is of = grind (arith, 
 pub device_cause_on : (devices : ℕ) (dropped further : WhyDropped → Type 0) (given : Answer)
     → ((cause : WhyDropped) → dropped cause → further cause) → IsDeviceCause devices dropped given
     → IsDeviceCause devices further given
-device_cause_on devices dropped further (answer.NewDeviceFailed device) on is = on (why.NewDeviceFailed device) is
-device_cause_on devices dropped further (answer.DeviceOut device) on is = on (why.DeviceOut device) is
-device_cause_on devices dropped further (answer.NoDevice there width) on is = is
-device_cause_on devices dropped further (answer.Paused device) on is = on (why.DeviceOut device) is
-device_cause_on devices dropped further other on is = tt
+device_cause_on devices dropped further given on is = grind arith
 
 -- What is listed in a turn is what was listed before, or fits its call.
 abbrev pub FitSince : Turns → Turns → Type 0
@@ -119,30 +97,18 @@ module _ (before after : Turns) (last : Entry)
     (fit : Fits before.state.core before.state.disk.devices (HasDropCause before after) last.kind last.answer)
     (still : IsWithin before.state.core.pool.out after.state.core.pool.out) where
   its : FitsSince before after last
-  its = record {
-    of_kind = fit.of_kind;
-    too_many = λ listed is. let found = fit.tells listed is in (
-      rw found.1 found.0,
-      λ device out. still device (search device),
-    );
-    limit = fit.limit;
-    memory = fit.memory;
-    device = fit.device;
-  }
+  its = grind (arith, fit, still)
 
   with_last : (items : List Item) (index : ℕ) (entry : Entry) → CallAt (items ++ CallItem last ∷ []) index entry
       → CallAt items index entry ⊎ FitsSince before after entry
   with_last items index entry there = elim (new_or_before items (CallItem last) index (CallItem entry) there) [
-    | inl new ↦ inr (rw (← same new.1) its)
+    | inl new ↦ grind (arith, its)
     | inr earlier ↦ inl earlier.1
   ]
-    where
-      same : CallItem last ≡ CallItem entry → last ≡ entry
-      same is = cc
 
   -- where an entry was,
   pub fit_entry : after.items ≡ before.items ++ CallItem last ∷ [] → FitSince before after
-  fit_entry items index entry there = with_last before.items index entry (search)
+  fit_entry items index entry there = grind (arith, with_last)
 
   -- and where a group was before it.
   pub fit_both : (group : GroupItem) → after.items ≡ (before.items ++ Group group ∷ []) ++ CallItem last ∷ []

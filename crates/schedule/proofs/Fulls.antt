@@ -1,12 +1,11 @@
 -- A put that is refused as full, while others are under way, is one of more ids than a table has room for.
-use Rattle.schedule.proofs.Words.{◌≡◌, ◌≢◌, ⊎_elim, ℕ, ◌+◌, ◌-◌, ◌<◌, Bool, false, cond, List, [], ◌∷◌, ◌++◌, length, Some, subst, arith, Contains, count_by, nat_eq, ◌||◌, ◌==◌, slice_get, is_member, unique_keys, eqb-true, false≢true, sum_by-cons, IsFull, ids_of, known_ids, held_is, known_split, Answer, Kind, Entry, Item, Group, Map, IsAnswerOf, World, puts_of, first_listed, rest_listed, none_listed, ScriptCall, Script, calls_of, IsHeldOrPut, HasTooManyIds, unique_among, unique_distinct, entry_held, map_at_end, new_or_before, call_puts, held_or_put, one_too_many, PutRun, Rests, Copies, Commits, Core, IsReadKind, HoldingCall, Putting, Reading, Copying, ranges_of, Client, Work, FullIsCaused, IsSchedule, IsWorldOf, Turns, AreGoing, IsWorkFor, Runs, calls_under_way, held_by, Past, same_put}
+use Rattle.schedule.proofs.Words.{◌≡◌, ◌≢◌, ⊎_elim, ℕ, ◌+◌, ◌-◌, ◌<◌, Bool, false, cond, List, [], ◌∷◌, ◌++◌, length, Some, subst, arith, Contains, count_by, nat_eq, ◌||◌, ◌==◌, slice_get, is_member, unique_keys, eqb-true, false≢true, sum_by-cons, IsFull, ids_of, known_ids, held_is, known_split, Answer, Kind, Entry, Item, Group, Map, IsAnswerOf, World, puts_of, first_listed, rest_listed, none_listed, ScriptCall, Script, calls_of, IsHeldOrPut, HasTooManyIds, unique_among, unique_distinct, entry_held, map_at_end, new_or_before, call_puts, held_or_put, one_too_many, PutRun, Core, IsReadKind, HoldingCall, Putting, ranges_of, Client, Work, FullIsCaused, IsSchedule, IsWorldOf, Turns, AreGoing, IsWorkFor, Runs, calls_under_way, held_by, Past, same_put}
 use Rattle.std.proofs.Common.{true}
 use Rattle.block_table.specs.Table.{ids_in_use}
 use Rattle.core_state.specs.declared.answer.Answer.TheVariants as answer
 use Rattle.core_state.specs.declared.answer.Kind.TheVariants as kind
 use Rattle.core_state.specs.declared.item.Group.{Group as GroupItem}
 use Rattle.core_state.specs.declared.item.Item.TheVariants.{Call as CallItem}
-use Rattle.schedule.specs.declared.client.Work.TheVariants as work
 use Rattle.schedule.proofs.Theirs.{whose, only_one}
 
 -- ---- the ids that are reserved
@@ -28,40 +27,13 @@ member_counted (first ∷ ids) id there = by (id == first) (search sum_by-cons) 
 put_counted : (calls : List HoldingCall) (id : ℕ) → 0 < puts_of (ranges_of calls) id
     → (run : PutRun) × Contains calls (Putting run) × (run.range.id ≡ id)
 put_counted [] id some = absurd (omega arith)
-put_counted (Reading read ∷ calls) id some =
-    let found = put_counted calls id some in
-    search rest_listed
-put_counted (Copying job ∷ calls) id some =
-    let found = put_counted calls id some in
-    search rest_listed
-put_counted (Putting run ∷ calls) id some =
-    by (id == run.range.id) (λ same. eqb-true id run.range.id same) (search sum_by-cons) (put_counted calls id)
-  where
-    Found : List HoldingCall → Type 0
-    Found list = (other : PutRun) × Contains list (Putting other) × (other.range.id ≡ id)
-
-    by : (same : Bool) → (same ≡ true → id ≡ run.range.id)
-        → puts_of (run.range ∷ ranges_of calls) id ≡ cond same 1 0 + puts_of (ranges_of calls) id
-        → (0 < puts_of (ranges_of calls) id → Found calls) → Found (Putting run ∷ calls)
-    by true is counted rest = search (first_listed, arith)
-    by false is counted rest = search (rest_listed, arith)
+put_counted (first ∷ calls) id some =
+    grind (arith, eqb-true, sum_by-cons, first_listed, rest_listed, put_counted calls id)
 
 -- The script asks for a put that is a client's work.
 put_asked : (does : Work) (run : PutRun) (call : ScriptCall) → Contains (held_by does) (Putting run)
     → IsWorkFor call does → (call.kind ≡ kind.Put) × (call.id ≡ Some run.range.id)
-put_asked (work.Put other) run call held asked = search (same_put, only_one, arith)
-put_asked (work.Read other) run call held asked = absurd (apart (only_one held))
-  where
-    apart : Reading other ≡ Putting run → ⊥
-    apart same = cc
-put_asked (work.Sync other) run call held asked = absurd (none_listed (Putting run) held)
-put_asked (work.Attach other) run call held asked = absurd (none_listed (Putting run) held)
-put_asked (work.Copy (Copies other)) run call held asked = absurd (apart (only_one held))
-  where
-    apart : Copying other ≡ Putting run → ⊥
-    apart same = cc
-put_asked (work.Copy (Rests actor made)) run call held asked = absurd (none_listed (Putting run) held)
-put_asked (work.Copy (Commits other)) run call held asked = absurd (none_listed (Putting run) held)
+put_asked does run call held asked = grind (arith, same_put, only_one, none_listed)
 
 -- An id that is reserved is one that a call of the script puts.
 reserved_put : (script : Script) {core : Core} (clients : List Client) (opening : Map) (id : ℕ)

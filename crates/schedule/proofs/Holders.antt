@@ -1,5 +1,5 @@
 -- Whose holds the sectors of a core are, turn by turn: who copies some, and who shares some, is a client.
-use Rattle.schedule.proofs.Words.{AreCopiers, AreGoing, AreIdle, AreSharers, Changes, Client, Copies, CopyRun, Core, IsGoing, List, None, Option, Script, Some, Station, TakesTurn, UnderWay, Work, [], ap, arith, calls_of, cases_eq, refl, shared_count, sharing_of, sharing_under, slice_get, suc, sym, zero, ℕ, ◌+◌, ◌∙◌, ◌∷◌, ◌≡◌}
+use Rattle.schedule.proofs.Words.{AreCopiers, AreGoing, AreIdle, AreSharers, Changes, Client, Copies, CopyRun, Core, IsGoing, List, None, Option, Script, Some, Station, TakesTurn, UnderWay, Work, [], ap, arith, calls_of, cases_eq, refl, shared_count, sharing_of, sharing_under, slice_get, suc, zero, ℕ, ◌+◌, ◌∷◌, ◌≡◌}
 use Rattle.schedule.specs.declared.client.Work.TheVariants as work
 use Rattle.schedule.proofs.Theirs.{none_some, same_list, some_is}
 use Rattle.schedule.proofs.UsingTurns.{copier_after, job_in}
@@ -31,8 +31,7 @@ copiers_after {script} {actor} {before} {after} {clients} {news} takes leaves go
 
     copying : (was now : Option CopyRun) → job_under before.client.under_way ≡ was
         → job_under after.client.under_way ≡ now → Some who ≡ copier_after was now before.state.core.copying
-    copying was now was_is now_is = sym copies ∙ leaves.goes.copying
-        ∙ (λ i. copier_after (was_is i) (now_is i) before.state.core.copying)
+    copying was now was_is now_is = search (copier_after, arith)
 
     own : (run : CopyRun) → job_under after.client.under_way ≡ Some run → who ≡ run.hold.actor → Found who
     own run is whose =
@@ -50,7 +49,7 @@ copiers_after {script} {actor} {before} {after} {clients} {news} takes leaves go
         → job_under after.client.under_way ≡ now → Found who
     by was (Some run) was_is now_is = search (own, some_is, copying, arith)
     by (Some run) None was_is now_is = search (none_some, copying, arith)
-    by None None was_is now_is = others was_is (sym (copying None None was_is now_is))
+    by None None was_is now_is = search (others, copying, arith)
 
 -- Where no client has a call under way nobody copies.
 pub none_copies : (core : Core) {clients : List Client} → AreCopiers clients core → AreIdle clients
@@ -93,8 +92,7 @@ sharing_changes (first ∷ old) (second ∷ new) (suc actor) there changes =
 pub sharers_after : {script : Script} {actor : ℕ} {before after : Station} {clients news : List Client}
     → TakesTurn script actor before after clients news → TurnLeaves (calls_of script actor) actor before after
     → AreSharers clients before.state.core → AreSharers news after.state.core
-sharers_after {actor = actor} {clients = clients} {news} takes leaves sharers =
-    omega (arith, sharers, leaves.goes.shared, sharing_changes clients news actor takes.was takes.changes)
+sharers_after {actor = actor} {clients = clients} {news} takes leaves sharers = grind (arith, sharing_changes)
 
 -- Where no call is under way they share none.
 idle_sharing : (clients : List Client) → AreIdle clients → sharing_of clients ≡ 0

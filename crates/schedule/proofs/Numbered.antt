@@ -1,5 +1,5 @@
 -- The groups of a journal stay numbered, turn by turn.
-use Rattle.schedule.proofs.Words.{Core, Entry, Group, GroupAt, GroupsAreNumbered, IsGroupBefore, IsNumbered, Item, List, None, Option, Pool, ScriptCall, Some, Station, [], ap, arith, first_item, group_before_first, group_for, inl, inr, latest_alone, latest_grown_call, latest_grown_group, length, listed_on, new_or_before, refl, suc, sym, zero, ℕ, ◌++◌, ◌+◌, ◌<◌, ◌∙◌, ◌∷◌, ◌≡◌}
+use Rattle.schedule.proofs.Words.{Core, Entry, Group, GroupAt, GroupsAreNumbered, IsGroupBefore, IsNumbered, Item, List, None, Option, Pool, ScriptCall, Some, Station, [], ap, arith, first_item, group_before_first, group_for, inl, inr, latest_alone, latest_grown_call, latest_grown_group, length, listed_on, new_or_before, refl, sym, ℕ, ◌++◌, ◌+◌, ◌<◌, ◌∙◌, ◌∷◌, ◌≡◌}
 use Rattle.core_state.specs.declared.item.Group.{Group as GroupItem}
 use Rattle.core_state.specs.declared.item.Item.TheVariants.{Call as CallItem}
 use Rattle.schedule.proofs.BothListed.{one_latest}
@@ -12,12 +12,7 @@ same_group is = cc
 
 -- A journal of one group is numbered.
 numbered_alone : (group : GroupItem) → GroupsAreNumbered (Group group ∷ [])
-numbered_alone group = record { each = none }
-  where
-    none : (index : ℕ) (before next : GroupItem) → IsGroupBefore (Group group ∷ []) index before
-        → GroupAt (Group group ∷ []) index next → next.group ≡ before.group + 1
-    none zero before next is there = absurd (omega arith)
-    none (suc index) before next is there = cc
+numbered_alone group = grind arith
 
 -- So is that of a pool that was opened.
 pub first_numbered : (pool : Pool) → IsNumbered (Group (first_item pool) ∷ []) (resting pool)
@@ -64,7 +59,7 @@ numbered_on : {items : List Item} {old new : Core} (at : ℕ) (made : Option ℕ
 numbered_on at None group stood = search arith
 numbered_on {items} {new = new} at (Some number) group stood = record {
   group = group_for new at number;
-  latest = latest_grown_group items (group_for new at number);
+  latest = search (latest_grown_group, arith);
   number = group.0;
   numbered = numbered_group stood.numbered (group_for new at number) stood.latest (cc);
 }
@@ -76,6 +71,4 @@ numbered_answer entry stood = search (latest_grown_call, numbered_call)
 
 pub turn_numbers : {calls : List ScriptCall} {actor : ℕ} {before after : Station} → TurnLeaves calls actor before after
     → IsNumbered before.items before.state.core → IsNumbered after.items after.state.core
-turn_numbers leaves stood =
-    let on = numbered_on leaves.at leaves.made leaves.goes.group stood in
-    elim leaves.lists [ inl same ↦ rw same on | inr listed ↦ rw listed.1 (numbered_answer listed.0 on) ]
+turn_numbers leaves stood = grind (arith, numbered_on, numbered_answer)

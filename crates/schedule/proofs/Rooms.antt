@@ -4,8 +4,7 @@ use Rattle.schedule.proofs.Theirs.{some_is}
 
 -- A group takes room for one item.
 pub taken_one : (made : Option ℕ) → taken_for made ≤ 1
-taken_one None = omega arith
-taken_one (Some group) = omega arith
+taken_one made = grind arith
 
 -- A client takes no more room than its calls have.
 pub taken_few : {calls : ℕ} {client : Client} → client.begun ≤ calls
@@ -153,8 +152,7 @@ one_call_more first calls caller (suc count) = ⊎_elim
 calls_few : (calls : List Placed) (caller count : ℕ) → calls_from calls caller count ≤ length calls
 calls_few [] caller zero = omega arith
 calls_few [] caller (suc count) = omega (arith, calls_few [] (caller + 1) count)
-calls_few (first ∷ calls) caller count =
-    omega (arith, calls_few calls caller count, one_call_more first calls caller count)
+calls_few (first ∷ calls) caller count = grind (arith, calls_few calls caller count, one_call_more)
 
 -- Clients that have begun no call have the room of all of theirs,
 blank_owed : (script : Script) {calls : ℕ → ℕ} (caller count : ℕ)

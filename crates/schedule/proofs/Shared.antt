@@ -1,5 +1,5 @@
 -- Where no call is under way no hold is in the way of another call, so that none waits.
-use Rattle.schedule.proofs.Words.{◌≡◌, inl, inr, ⊎_elim, ℕ, ◌+◌, ◌<◌, List, [], ◌∷◌, length, Option, Some, None, refl, sym, ◌∙◌, ap, arith, Contains, sum_by-cons, Hold, HoldKind, Shared, Exclusive, IsBusyBy, exclusive_count, count_none, Kind, ScriptCall, contains_cases, contains_none, More, Busy, Done, Core, IsCore, HasTooManyOut, IsRoundBusy, below_all, none_below, one_if, Client, shared_count, Station, Turned, Nothing, Began, Went, Waits}
+use Rattle.schedule.proofs.Words.{◌≡◌, inl, inr, ⊎_elim, ℕ, ◌+◌, ◌<◌, List, [], ◌∷◌, length, Option, Some, None, refl, sym, ◌∙◌, arith, Contains, sum_by-cons, Hold, HoldKind, Shared, Exclusive, IsBusyBy, exclusive_count, count_none, Kind, ScriptCall, contains_cases, contains_none, Core, IsCore, HasTooManyOut, IsRoundBusy, below_all, none_below, one_if, shared_count, Station, Turned, Waits}
 use Rattle.uberblock_ring.specs.Devices.{count_of}
 use Rattle.core_state.specs.declared.answer.Kind.TheVariants as kind
 use Rattle.schedule.proofs.Theirs.{none_some}
@@ -76,7 +76,7 @@ no_round_waits : (core : Core) (by : ℕ) → IsQuiet core → IsRoundBusy core 
 no_round_waits core by quiet busy = elim busy [
   | inl (expands, whole, inl copies) ↦ none_some (sym quiet.copying ∙ copies)
   | inl (expands, whole, inr (job, due, held)) ↦ search (none_held, core_alone, whole_few)
-  | inr (due, commits) ↦ quiet.committing (whole_few core due.whole) by commits
+  | inr (due, commits) ↦ search (whole_few, arith)
 ]
 
 -- and no other call.
@@ -95,8 +95,4 @@ none_waits old new devices actor call asked id by quiet waits = absurd waits
 pub turned_begins : {calls : List ScriptCall} {actor : ℕ} {before after : Station}
     → Turned calls actor before after → IsQuiet before.state.core → before.client.under_way ≡ None
     → before.client.begun < length calls → after.client.begun ≡ before.client.begun + 1
-turned_begins (Nothing left) quiet idle low = absurd (omega arith)
-turned_begins (Began (More does) begins leaves) quiet idle low = cc
-turned_begins (Began (Busy by) begins leaves) quiet idle low = search (none_waits, arith)
-turned_begins (Began (Done given) begins leaves) quiet idle low = ap (λ (c : Client). c.begun) leaves.1
-turned_begins (Went under turn goes leaves) quiet idle low = cc
+turned_begins turned quiet idle low = grind (arith, none_waits)

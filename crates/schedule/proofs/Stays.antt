@@ -1,6 +1,5 @@
 -- What a turn leaves of a pool's uberblock: a commit that is answered may widen the data rows, and adds a birth then.
-use Rattle.schedule.proofs.Words.{◌≡◌, ℕ, ◌+◌, ◌≤◌, if◌then◌else◌, Bool, false, List, [], ◌∷◌, ◌++◌, refl, ◌∙◌, ap, arith, Birth, IsGrowing, NoneAbove, births_after, first_width, Reflow, IsWiderByOne, births_of_commit, Uber, CommitRun, ready_keeps, none_above_more, births_kept, Core, CoreState, IsCore, AnswersGroup, IsCommitOf, core_follows, core_rows, IsOpenSince}
-use Rattle.std.proofs.Common.{◌==◌, true}
+use Rattle.schedule.proofs.Words.{◌≡◌, ℕ, ◌+◌, ◌≤◌, List, [], ◌∷◌, ◌++◌, arith, Birth, IsGrowing, NoneAbove, births_after, first_width, Reflow, births_of_commit, Uber, CommitRun, ready_keeps, none_above_more, births_kept, Core, CoreState, IsCore, AnswersGroup, IsCommitOf, core_follows, core_rows, IsOpenSince}
 use Rattle.open_pool.proofs.NewBirth.{rows_of}
 
 -- The pool has parity, rows and first width that it had, its data rows at no smaller width, and is of no older group.
@@ -17,18 +16,7 @@ pub record Stays (old new : Core) : Type 0 where
 
 -- So it is with the same uberblock.
 pub stays_same : {old new : Core} → new.pool.uber ≡ old.pool.uber → Stays old new
-stays_same uber =
-    let reflow = ap (λ (u : Uber). u.reflow) uber in
-    let from = ap (λ (r : Reflow). r.from) reflow in
-    let births = ap (λ (u : Uber). u.births) uber in record {
-      group = search arith;
-      parity = cc;
-      rows = cc;
-      from = omega arith;
-      first = cc;
-      births = search (births, births_kept, from);
-      same = λ group. from;
-    }
+stays_same uber = grind (arith, births_kept)
 
 -- In the same group the births are the same.
 pub same_births : (old new : Core) → Stays old new → new.pool.uber.group ≡ old.pool.uber.group
@@ -38,52 +26,28 @@ same_births old new stays group = search (births_kept, group, arith)
 -- Births that are none later than two groups on are none later behind a turn.
 pub latest_births : {old new : Core} → Stays old new → NoneAbove (old.pool.uber.group + 2) old.pool.uber.births
     → NoneAbove (new.pool.uber.group + 2) new.pool.uber.births
-latest_births {old = old} {new = new} stays none = search (by, arith)
+latest_births {old} {new} stays none = grind (arith, none_above_more, added)
   where
-    still : NoneAbove (new.pool.uber.group + 2) old.pool.uber.births
-    still = search (none_above_more, arith)
-
     added : (births : List Birth) (width : ℕ) → NoneAbove (new.pool.uber.group + 2) births
         → NoneAbove (new.pool.uber.group + 2) (births ++ record { group = new.pool.uber.group + 2; width = width } ∷ [])
     added [] width all = (omega arith, tt)
     added (birth ∷ births) width all = (all.0, added births width all.1)
 
-    by : (same : Bool) → NoneAbove (new.pool.uber.group + 2)
-        (if same then old.pool.uber.births else births_after old.pool.uber.births new.pool.uber.group)
-    by true = still
-    by false = search (added, still)
-
 -- The pool is still that of its opening.
 pub opened_stays : {uber : Uber} {old new : Core} → Stays old new → IsOpenSince uber old → IsOpenSince uber new
-opened_stays stays opened = record {
-  right = opened.right;
-  since = (omega (arith, opened.since, stays.group));
-  parity = cc;
-  rows = cc;
-  from = search arith;
-  first = cc;
-}
+opened_stays stays opened = search arith
 
 -- ---- a commit that is answered
 
 -- A birth more leaves the first width,
 first_after : (births : List Birth) (group : ℕ) → IsGrowing births
     → first_width (births_after births group) ≡ first_width births
-first_after [] group grows = absurd grows
-first_after (first ∷ births) group grows = refl
+first_after births group grows = grind arith
 
 -- and so does what a commit records.
 first_recorded : (before chosen : Reflow) (births : List Birth) (group : ℕ) → IsGrowing births
     → first_width (births_of_commit before chosen births group) ≡ first_width births
-first_recorded before chosen births group grows = by (chosen.from == before.from)
-  where
-    by : (same : Bool) → first_width (if same then births else births_after births group) ≡ first_width births
-    by true = refl
-    by false = first_after births group grows
-
--- The data rows have no smaller width then.
-width_grows : {before chosen : Reflow} → IsWiderByOne before chosen → before.from ≤ chosen.from
-width_grows wider = search arith
+first_recorded before chosen births group grows = search (first_after, arith)
 
 module _ (before : CoreState) {after : CoreState} {run : CommitRun} {number : ℕ} (is : IsCore before.core)
     (of : IsCommitOf before.core run) (answers : AnswersGroup before run after number) where
@@ -96,37 +60,13 @@ module _ (before : CoreState) {after : CoreState} {run : CommitRun} {number : �
   abbrev ended : Uber
   ended = answers.ended.uber
 
-  made : ended ≡ record run.uber { out = ended.out }
-  made = search (ready_keeps, arith)
-
   uber_is : new.pool.uber ≡ record run.uber { out = ended.out }
-  uber_is = search (made, arith)
-
-  reflow_is : new.pool.uber.reflow ≡ run.uber.reflow
-  reflow_is = ap (λ (u : Uber). u.reflow) uber_is
-
-  group_is : new.pool.uber.group ≡ run.uber.group
-  group_is = ap (λ (u : Uber). u.group) uber_is
-
-  births_are : new.pool.uber.births
-      ≡ births_of_commit old.pool.uber.reflow run.uber.reflow old.pool.uber.births run.uber.group
-  births_are = search uber_is
+  uber_is = search (ready_keeps, arith)
 
   -- Where no device joins in it, it keeps the widths or ends an expansion; else it has the same width.
   wider : old.pool.uber.reflow.from ≤ run.uber.reflow.from
-  wider = search (rows_of, width_grows, core_follows, arith)
-
-  rows_stay : run.uber.reflow.rows ≡ old.pool.uber.reflow.rows
-  rows_stay = search core_rows
+  wider = search (rows_of, core_follows, arith)
 
   -- A commit that is answered leaves the pool so.
   pub answers_stays : Stays old new
-  answers_stays = record {
-    group = search (group_is, arith);
-    parity = search uber_is;
-    rows = ap (λ (r : Reflow). r.rows) reflow_is ∙ rows_stay;
-    from = search (wider, reflow_is, arith);
-    first = search (births_are, first_recorded);
-    births = search (births_are, reflow_is, group_is);
-    same = λ same. search (group_is, same, arith);
-  }
+  answers_stays = grind (arith, uber_is, first_recorded, core_rows, wider)

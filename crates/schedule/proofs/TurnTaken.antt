@@ -1,6 +1,7 @@
 -- One turn of a client of a script: what it needs before, and what stands after it.
-use Rattle.schedule.proofs.Words.{◌≡◌, ◌≢◌, ℕ, ◌-◌, ◌*◌, ◌<◌, ◌≤◌, List, [], ◌∷◌, length, Some, zero, suc, refl, sym, ◌∙◌, ap, arith, slice_index_or, slice_set, All, Contains, filter, slice_get, ◌==◌, All-filter, All-map, get_or_from_slice_get, slice_get-get_or, slice_get_within, Lawful, ScriptCall, Placed, Script, IsAllowed, calls_of, Core, IsCore, Rests, Copies, Commits, HoldingCall, Copying, Putting, Reading, range_listed, Client, UnderWay, Work, Changes, Comes, TakesTurn, IsSchedule, Turns, turns_of, AreCopiers, AreSharers, HasRoomForAnswers, IsReady, calls_by, taken_of, AreIdle, HasTurn, TakesOne, AreGoing, IsGoing, IsWorkFor, IsWorkOf, calls_under_way, commit_in, held_by, HasDeviceUnder, MayGoOn, Station, Turned, first_listed}
+use Rattle.schedule.proofs.Words.{◌≡◌, ◌≢◌, ℕ, ◌-◌, ◌*◌, ◌<◌, ◌≤◌, List, [], ◌∷◌, length, Some, zero, suc, refl, sym, ◌∙◌, ap, arith, slice_index_or, slice_set, All, Contains, filter, slice_get, ◌==◌, All-filter, All-map, get_or_from_slice_get, slice_get-get_or, slice_get_within, Lawful, ScriptCall, Placed, Script, IsAllowed, calls_of, Core, IsCore, Rests, Copies, Commits, HoldingCall, Copying, Putting, Reading, range_listed, Client, UnderWay, Work, Changes, Comes, TakesTurn, IsSchedule, Turns, turns_of, AreCopiers, AreSharers, HasRoomForAnswers, IsReady, calls_by, taken_of, AreIdle, HasTurn, TakesOne, AreGoing, IsGoing, IsWorkFor, IsWorkOf, calls_under_way, commit_in, held_by, HasDeviceUnder, MayGoOn, Station, Turned, first_listed, slice_get_read, length-set}
 use Rattle.schedule.specs.declared.client.Work.TheVariants as work
+use Rattle.std.proofs.lemmas.List.{get_or-set_same}
 use Rattle.schedule.proofs.Coming.{came_nowhere}
 use Rattle.schedule.proofs.Dropped.{turn_drops}
 use Rattle.schedule.proofs.Holders.{copiers_after, none_copies, none_shares, sharers_after}
@@ -58,26 +59,18 @@ going_may {script = script} {core = core} {clients = clients} {index = index} {c
 -- Where one place of a list is set, it has that, and the others are as they were.
 set_here : {X : Type 0} (xs : List X) (place : ℕ) {x : X} → place < length xs
     → slice_get (slice_set xs place x) place ≡ Some x
-set_here [] place low = absurd (omega arith)
-set_here (first ∷ xs) zero low = refl
-set_here (first ∷ xs) (suc place) low = set_here xs place (omega (arith, low))
+set_here xs place {x} low = search (slice_get_read, get_or-set_same, length-set, arith)
 
 set_others : {X : Type 0} (xs : List X) (place : ℕ) (x : X) (other : ℕ) → other ≢ place
     → slice_get (slice_set xs place x) other ≡ slice_get xs other
 set_others [] place x other apart = refl
 set_others (first ∷ xs) zero x zero apart = absurd (apart refl)
-set_others (first ∷ xs) zero x (suc other) apart = refl
-set_others (first ∷ xs) (suc place) x zero apart = refl
 set_others (first ∷ xs) (suc place) x (suc other) apart = set_others xs place x other (λ same. apart (cc))
-
--- The client at a place is the one of that number,
-client_at : (clients : List Client) (place actor : ℕ) (client : Client) → place ≡ actor → place < length clients
-    → slice_get clients actor ≡ Some (slice_index_or clients place client)
-client_at clients place actor client same low = search (slice_index_or, slice_get-get_or, arith)
+set_others (first ∷ xs) place x other apart = refl
 
 pub client_there : (clients : List Client) {place actor : ℕ} {client : Client} → place ≡ actor → place < length clients
     → client ≡ slice_index_or clients place client → slice_get clients actor ≡ Some client
-client_there clients same low is = search (client_at, arith)
+client_there clients same low is = search (slice_get-get_or, slice_index_or, arith)
 
 -- and changes there alone.
 changes_at : (clients : List Client) (place : ℕ) {actor : ℕ} (client : Client) → place ≡ actor → place < length clients
@@ -89,8 +82,7 @@ leaves_of : {script : Script} {actor : ℕ} {before after : Station} {clients : 
     → AreGoing script before.state.core clients → slice_get clients actor ≡ Some before.client
     → IsCore before.state.core
     → Turned (calls_of script actor) actor before after → TurnLeaves (calls_of script actor) actor before after
-leaves_of going was is turned =
-    turn_leaves is (λ under call its there. going_may going (record { there = was; under_way = its }) there) turned
+leaves_of going was is turned = search (turn_leaves, going_may, arith)
 
 -- Where a client had a turn, the others stay as they are.
 pub takes_turn : {script : Script} {place actor : ℕ} {before : Station} (after : Station) {clients : List Client}
@@ -101,18 +93,7 @@ pub takes_turn : {script : Script} {place actor : ℕ} {before : Station} (after
     → TakesTurn script actor before after clients (slice_set clients place after.client)
 takes_turn {place = place} after {clients} schedule was same low is lawful there turned =
     let changes = changes_at clients place after.client same low in
-    let leaves = leaves_of schedule.going was is turned in record {
-      schedule = schedule;
-      was = was;
-      changes = changes;
-      is = is;
-      lawful = lawful.0;
-      still_lawful = lawful.1;
-      space = λ uber entries. turn_uses was changes is leaves;
-      dropped = search turn_drops;
-      there = there;
-      numbers = turn_numbers leaves;
-    }
+    let leaves = leaves_of schedule.going was is turned in search (turn_uses, leaves, turn_drops, turn_numbers, arith)
 
 -- A client of the script took a turn.
 module _ {script : Script} {actor : ℕ} {before after : Station} (clients : List Client) {news : List Client}
@@ -124,7 +105,7 @@ module _ {script : Script} {actor : ℕ} {before after : Station} (clients : Lis
   comes = search (turned_comes, allowed_of)
 
   leaves : TurnLeaves (calls_of script actor) actor before after
-  leaves = leaves_of takes.schedule.going takes.was takes.is turned
+  leaves = search (leaves_of, arith)
 
   -- Where no client has a call under way, nothing is under way in the core.
   quiet : AreIdle clients → IsQuiet before.state.core
@@ -141,7 +122,7 @@ module _ {script : Script} {actor : ℕ} {before after : Station} (clients : Lis
     there = takes.changes.there;
     further = grind (arith, leaves.begins);
     still = λ under going. grind (arith, leaves.begins);
-    begins = λ idle low. turned_begins turned (quiet idle) (idle.each actor before.client takes.was) low;
+    begins = λ idle low. search (turned_begins, quiet, idle.each, arith);
   }
 
   pub turn_taken : HasTurn script actor (turns_of before.state before.items clients)

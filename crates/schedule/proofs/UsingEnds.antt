@@ -1,5 +1,5 @@
 -- What the later turns of puts and reads leave, and how a commit ends.
-use Rattle.schedule.proofs.Words.{Answer, AnswersGroup, AnswersSolved, Blocks, Bool, Bytes, CommitRun, CopyRun, Core, CoreState, Damaged, Done, EndsGet, EndsHold, EndsPut, EndsPutting, EndsReading, GetRun, GivesUp, GivesUpTurn, HeldRun, Hold, IndexEntry, IsCommitOf, IsCore, IsFilledIn, IsGetOf, IsPutOf, IsSyncRefused, Kind, List, None, NotYet, Option, Pool, PutRun, ScriptCall, Shared, Solved, Some, StepsCommit, Uber, [], after_group, answer_of, ap, arith, blocks_behind, cases_lt, entry_of, false, filter, filter_was, gains_old, get_shared, group_by, grown_by, if◌then◌else◌, inl, inr, nat_lt, put_shared, ready_keeps, refl, sectors_of, subst, sym, ℕ, ⊤, ◌+◌, ◌≡◌}
+use Rattle.schedule.proofs.Words.{Answer, AnswersGroup, AnswersSolved, Blocks, Bool, CommitRun, CopyRun, Core, CoreState, Done, EndsGet, EndsHold, EndsPut, EndsPutting, EndsReading, GetRun, GivesUp, GivesUpTurn, HeldRun, Hold, IndexEntry, IsCommitOf, IsCore, IsFilledIn, IsGetOf, IsPutOf, IsSyncRefused, Kind, List, None, Option, Pool, PutRun, ScriptCall, Shared, Solved, Some, StepsCommit, Uber, [], after_group, answer_of, ap, arith, blocks_behind, cases_lt, false, filter, filter_was, gains_old, get_shared, group_by, grown_by, if◌then◌else◌, inl, inr, nat_lt, put_shared, ready_keeps, refl, sectors_of, subst, sym, ℕ, ⊤, ◌≡◌}
 use Rattle.std.proofs.Common.{true}
 use Rattle.core_state.specs.declared.answer.Answer.TheVariants as answer
 use Rattle.core_state.specs.declared.answer.Kind.TheVariants as kind
@@ -37,10 +37,7 @@ plain_ends {given} {made} plain = record {
 
 -- as are those of a commit that is refused.
 pub commit_plain : (core : Core) (given : Answer) → IsSyncRefused core given → EndsPlainly given None
-commit_plain core (answer.TooManyFailed out) refused = plain_ends tt
-commit_plain core (answer.Limit reached) refused = plain_ends tt
-commit_plain core answer.NoMemory refused = plain_ends tt
-commit_plain core other refused = absurd refused
+commit_plain core other refused = grind (arith, plain_ends)
 
 -- A call ends so that had this job and shared so many holds: with the group that comes with its answer, and telling of
 -- no want of space.
@@ -98,8 +95,7 @@ module _ (before after : CoreState) where
       → IsPlainEnd given × GoesAs old new [] None None None 1 0
   put_stored run answer.Stored shared ends = (
     tt,
-    goes_as (ap (λ (c : Core). c.pool.uber) ends.rest) (cc) (frees_back old.pool.blocks.parity
-        old.pool.blocks.births (old.begun + 1) (entry_of old.pool.blocks.table.entries run.range.id) ends.held)
+    goes_as (ap (λ (c : Core). c.pool.uber) ends.rest) (cc) (search (frees_back, arith))
         (shares_ended ends.ends) (omega (arith, adds_shared run.hold shared)),
   )
   put_stored run (answer.TooManyFailed out) shared ends = (tt, put_dropped run shared ends.gives_up)
@@ -124,7 +120,7 @@ module _ (before after : CoreState) where
       elim ends.ends [
         | inl writes ↦ (
           subst IsPlainEnd (sym writes.0.given_is) tt,
-          put_dropped ends.filled still writes.0.gives_up,
+          search (put_dropped, arith),
         )
         | inr (inl last) ↦ put_stored ends.filled given still last.3
         | inr (inr gives) ↦ put_given_up run given shared gives.2
@@ -138,9 +134,7 @@ module _ (before after : CoreState) where
   block_plain other entry bytes = tt
 
   solved_plain : (run : GetRun) (solved : Solved) (given : Answer) → AnswersSolved run solved given → IsPlainEnd given
-  solved_plain run NotYet given is = subst IsPlainEnd (sym is) tt
-  solved_plain run (Bytes bytes) given is = search (block_plain, arith)
-  solved_plain run Damaged given is = subst IsPlainEnd (sym is) tt
+  solved_plain run solved given is = grind (arith, block_plain)
 
   read_plain : (run : GetRun) (given : Answer) → EndsGet old run new (Done given) → IsPlainEnd given
   read_plain run given ends = search (solved_plain, cases_lt, arith)
@@ -154,7 +148,7 @@ module _ (before after : CoreState) where
   pub read_ends : (run : GetRun) (given : Answer) → IsGetOf old run → EndsReading before after run given
       → IsPlainEnd given × GoesAs old new [] None None None 1 0
   read_ends run given of ends = let shared = get_shared old run of in elim ends.ends [
-    | inl reads ↦ (subst IsPlainEnd (sym reads.0.given_is) tt, read_held run.hold shared reads.0.rest reads.0.ends)
+    | inl reads ↦ (subst IsPlainEnd (sym reads.0.given_is) tt, search (read_held, arith))
     | inr last ↦ (read_plain last.0 given last.3, read_held last.0.hold (search arith) last.3.rest last.3.ends)
   ]
 
@@ -179,6 +173,4 @@ module _ (before after : CoreState) where
 
   pub sync_ends : {run : CommitRun} (given : Answer) → IsCore old → IsCommitOf old run
       → StepsCommit before run after (Done given) → EndsAs old new given None None 0
-  sync_ends (answer.Synced number) is of steps = ends_grouped refl (group_ends is of steps)
-  sync_ends (answer.TooManyFailed out) is of steps = ends_plainly (plain_ends tt) (goes_nowhere (cc))
-  sync_ends other is of steps = absurd steps
+  sync_ends other is of steps = grind (arith, ends_grouped, group_ends, ends_plainly, plain_ends, goes_nowhere)

@@ -1,7 +1,6 @@
 -- A put finds no space only where the blocks and the puts of the script are many, turn by turn.
-use Rattle.schedule.proofs.Words.{AreUsed, Bool, Changes, Client, Core, Entry, FindsNoSpace, Group, HasToldWidths, HasUsedRuns, IndexEntry, IsBornBehind, IsCore, IsOpenSince, Item, List, NoSpaceIsCaused, None, Option, Reflow, Script, ScriptCall, Some, Station, Uber, [], ap, arith, births_kept, births_told, births_told_call, births_told_group, calls_of, false, fill_bytes, group_for, handed_by, has_ended, has_ended_call, has_ended_group, if◌then◌else◌, inl, inr, length, length_put, listed_on, mul-le-mul_left, nat_tests, no_space_call, no_space_group, option_map, refl, sectors_taken, slice_get, subst, sym, take, take_all, taken_later, unwrap_or, width_told_call, width_told_group, ℕ, ⊎_elim, ◌*◌, ◌++◌, ◌+◌, ◌-◌, ◌∙◌, ◌∷◌, ◌≡◌, ◌≤◌}
+use Rattle.schedule.proofs.Words.{AreUsed, Bool, Changes, Client, Core, Entry, FindsNoSpace, HasToldWidths, HasUsedRuns, IndexEntry, IsBornBehind, IsCore, IsOpenSince, Item, List, NoSpaceIsCaused, None, Option, Reflow, Script, ScriptCall, Some, Station, Uber, [], arith, births_kept, births_told_call, births_told_group, calls_of, false, fill_bytes, handed_by, has_ended, has_ended_call, has_ended_group, if◌then◌else◌, inl, inr, length, length_put, listed_on, mul-le-mul_left, nat_tests, no_space_call, no_space_group, refl, sectors_taken, slice_get, take, take_all, taken_later, width_told_call, width_told_group, ℕ, ⊎_elim, ◌*◌, ◌++◌, ◌+◌, ◌-◌, ◌∷◌, ◌≡◌, ◌≤◌}
 use Rattle.std.proofs.Common.{◌==◌, true}
-use Rattle.core_state.specs.declared.item.Group.{Group as GroupItem}
 use Rattle.core_state.specs.declared.item.Item.TheVariants.{Call as CallItem}
 use Rattle.core_turns.specs.Core.{groups_begun}
 use Rattle.schedule.proofs.Numbered.{turn_numbers}
@@ -20,25 +19,16 @@ module _ {uber : Uber} {items : List Item} where
   -- It tells the pool's widths behind what a turn lists: a group, if it answers one,
   told_on : {old new : Core} (at : ℕ) (made : Option ℕ) → Stays old new → HasAnswered old new made
       → HasToldWidths uber items old → HasToldWidths uber (listed_on new.pool.uber.reflow items at made) new
-  told_on {old} {new} at None stays group told = record {
-    from = search (group, arith);
-    births = search (same_births, group, arith);
-    latest = latest_births stays told.latest;
-    settled = λ ended. search (group, same_births, arith);
-  }
-  told_on {old} {new} at (Some number) stays group told = record {
-    from = search (width_told_group, arith);
-    births = search (births_told_group, arith);
-    latest = latest_births stays told.latest;
-    settled = λ ended. search (group, births, ended, arith);
-  }
-    where
-      its : GroupItem
-      its = group_for new at number
-
-      births : has_ended false uber.reflow.from (items ++ Group its ∷ []) ≡ false
-          → new.pool.uber.births ≡ old.pool.uber.births
-      births ended = search (births_kept, same_width, has_ended_group, arith)
+  told_on at made stays group told = grind (
+    arith,
+    same_births,
+    latest_births,
+    width_told_group,
+    births_told_group,
+    births_kept,
+    same_width,
+    has_ended_group,
+  )
 
   -- and an answer.
   told_answer : {core : Core} (entry : Entry) → HasToldWidths uber items core
@@ -49,8 +39,7 @@ module _ {uber : Uber} {items : List Item} where
 caused_on : {script : Script} {uber : Uber} {entries : List IndexEntry} {items : List Item} (widths : Reflow) (at : ℕ)
     (made : Option ℕ) → NoSpaceIsCaused script uber entries items
     → NoSpaceIsCaused script uber entries (listed_on widths items at made)
-caused_on widths at None caused = caused
-caused_on widths at (Some number) caused = search no_space_group
+caused_on widths at made caused = grind (arith, no_space_group)
 
 -- ---- a turn
 
@@ -70,13 +59,7 @@ module _ {script : Script} {actor : ℕ} {before after : Station} {clients news 
   used = ⊎_elim still next leaves.begins
     where
       still : (after.client.begun ≡ before.client.begun) × (leaves.more ≡ []) → AreUsed script uber entries new news
-      still same = record {
-        left = stood.used.left;
-        are_left = left_same changes was stood.used.are_left same.0;
-        runs = stood.used.runs;
-        are = rw same.1 at (leaves.goes.runs stood.used.runs stood.used.are);
-        most = stood.used.most;
-      }
+      still same = grind (arith, left_same)
 
       next : (after.client.begun ≡ before.client.begun + 1) × (before.client.under_way ≡ None) × (call : ScriptCall)
           × (slice_get (calls_of script actor) before.client.begun ≡ Some call) × ((uber : Uber) → IsOpenSince uber old
@@ -85,13 +68,7 @@ module _ {script : Script} {actor : ℕ} {before after : Station} {clients news 
       next (begun, idle, call, there, fits) =
           let left = left_next changes was stood.used.are_left call there begun in
           let its : FitsPut uber leaves.more (length_put left.1.call.kind (fill_bytes left.1.call.fill)) =
-          rw left.2 (fits uber stood.opened) in record {
-            left = left.0;
-            are_left = left.4;
-            runs = leaves.more ++ stood.used.runs;
-            are = leaves.goes.runs stood.used.runs stood.used.are;
-            most = most_next uber leaves.more left.0 left.1 left.3 its.few its.sectors stood.used.most;
-          }
+          rw left.2 (fits uber stood.opened) in search (most_next, leaves.goes.runs, arith)
 
   -- ---- a put that finds no space
 
@@ -112,8 +89,7 @@ module _ {script : Script} {actor : ℕ} {before after : Station} {clients news 
   born_beside len begun false is_settled = (
     stood.last.group.group + 1,
     inl refl,
-    taken_later old.pool.uber.births old.pool.uber.parity len (stood.last.group.group + 1) (old.begun + 1)
-        (rw stood.last.number at (stood.told.settled is_settled)) (omega (arith, begun)),
+    grind (arith, taken_later),
   )
 
   born_of : (len : ℕ) → IsBornAs len
@@ -121,8 +97,7 @@ module _ {script : Script} {actor : ℕ} {before after : Station} {clients news 
     where
       by : (committing : Option ℕ) → old.begun ≡ old.pool.uber.group + groups_begun committing → IsBornAs len
       by None begun = (old.begun + 1, search arith, refl)
-      by (Some actor) begun = born_beside len (let number = stood.last.number in omega (arith, begun, number))
-          (has_ended false uber.reflow.from before.items) refl
+      by (Some actor) begun = born_beside len (search arith) (has_ended false uber.reflow.from before.items) refl
 
   finds : (entry : Entry) {size : ℕ} → FindsNone (calls_of script actor) actor before entry size
       → FindsNoSpace script uber entries before.items (length before.items) entry size
@@ -130,32 +105,23 @@ module _ {script : Script} {actor : ℕ} {before after : Station} {clients news 
     group = stood.last.group;
     before = stood.last.latest;
     born = born_as.0;
-    behind = subst (λ (told : List Item). IsBornBehind uber told stood.last.group born_as.0) all born_as.1;
-    size_is = found.size_is ∙ born_as.2
-        ∙ (λ i. sectors_taken (stood.opened.parity i) (stood.told.births i)
-        (length (fill_bytes found.call.fill)) born_as.0)
-        ∙ (λ i. sectors_taken uber.parity
-        (births_told uber.births uber.reflow.from (all i)) (length (sym handed i)) born_as.0);
-    tight = tight_below wide (full_by_runs old size stood.used.are stood.used.most found.none);
+    behind = search (all, arith);
+    size_is = grind (arith, all, handed);
+    tight = tight_below wide (search (full_by_runs, arith));
   })
     where
       all : before.items ≡ take (length before.items) before.items
-      all = sym (take_all (length before.items) before.items (omega arith))
+      all = search (take_all, arith)
 
       -- The pool has no fewer sectors than at its opening.
       wide : uber.reflow.rows * uber.reflow.from ≤ old.pool.blocks.space.capacity
-      wide =
-          let capacity : old.pool.blocks.space.capacity ≡ uber.reflow.rows * old.pool.uber.reflow.from =
-          is.is.capacity ∙ (λ i. stood.opened.rows i * old.pool.uber.reflow.from) in
-          let more = mul-le-mul_left uber.reflow.rows stood.opened.from in
-          omega (arith, capacity, more)
+      wide = grind (arith, mul-le-mul_left)
 
       before_it : before.client.begun + 1 - 1 ≡ before.client.begun
       before_it = omega arith
 
       handed : handed_by script actor (before.client.begun + 1) ≡ fill_bytes found.call.fill
-      handed = ap (λ (asked : Option ScriptCall). unwrap_or (option_map (λ asked. fill_bytes asked.fill) asked) [])
-          (ap (slice_get (calls_of script actor)) before_it ∙ found.next)
+      handed = grind (arith, before_it)
 
   -- **What stood between two turns of what was used stands after a turn of a client.**
   pub turn_uses : HasUsedRuns script uber entries new after.items news

@@ -1,5 +1,5 @@
 -- What a pool that was opened uses is what its index tells, before the first turn.
-use Rattle.schedule.proofs.Words.{◌≡◌, eq-eqb, ℕ, ◌+◌, List, [], ◌∷◌, length, refl, ◌∙◌, ap, subst, arith, length-append, map, sum, sum_by-append, Disk, Image, NoneAbove, Run, IndexEntry, Uber, IsRightUber, Shape, Group, held_sectors, runs_in_use, sectors_in, UsesAtMost, none_listed, uses_larger, uses_loaded, RenewsChoice, none_above_more, Script, AreLoaded, Pool, largest_size, first_item, largest, no_space_alone, blank_clients, AreAtMost, HasUsedRuns, sizes_left, sizes_of}
+use Rattle.schedule.proofs.Words.{◌≡◌, eq-eqb, ℕ, List, [], ◌∷◌, refl, ap, subst, arith, length-append, map, sum_by-append, Disk, Image, NoneAbove, IndexEntry, Uber, IsRightUber, Shape, Group, UsesAtMost, none_listed, uses_larger, uses_loaded, RenewsChoice, none_above_more, Script, AreLoaded, Pool, largest_size, first_item, largest, no_space_alone, blank_clients, AreAtMost, HasUsedRuns, sizes_left, sizes_of}
 use Rattle.schedule.proofs.Opened.{blank_is, resting}
 use Rattle.schedule.proofs.Using.{sizes_split}
 use Rattle.schedule.proofs.Numbered.{first_numbered}
@@ -34,21 +34,9 @@ module _ (script : Script) (pool : Pool) (disk : Disk) (right : IsRightUber pool
   most : AreAtMost pool.blocks.space.taken (sizes_left pool.uber script.calls) (sizes_of pool.uber entries script.calls)
   most =
       let split = sizes_split pool.uber entries script.calls in
-      let left = sizes_left pool.uber script.calls in
-      let held = map held_sectors pool.blocks.space.held in
-      let long : length (sizes_of pool.uber entries script.calls) ≡ length sizes + length left =
-      ap length split ∙ length-append sizes left in
-      let total : sum (sizes_of pool.uber entries script.calls) ≡ sum sizes + sum left =
-      ap sum split ∙ sum_by-append (λ (n : ℕ). n) sizes left in
-      let runs = length-append pool.blocks.space.taken held in
-      let sectors : sectors_in (runs_in_use pool.blocks.space) ≡ sectors_in pool.blocks.space.taken + sectors_in held =
-      sum_by-append (λ (run : Run). run.len) pool.blocks.space.taken held in
       let few = uses.runs in
       let small = uses.sectors in
-      record {
-        few = omega arith;
-        sectors = omega arith;
-      }
+      search (split, length-append, sum_by-append, arith)
 
   -- A run of turns begins with that.
   pub uses_first : HasUsedRuns script pool.uber entries (resting pool) (Group (first_item pool) ∷ [])

@@ -1,6 +1,6 @@
 -- What a turn leaves of the runs of sectors that were taken, of the pool's group, and of who holds some; and what first
 -- turns do.
-use Rattle.schedule.proofs.Words.{Answer, AnswersAtOnce, AreRunsOf, BeginsCommitSo, BeginsGet, BeginsJobSo, BeginsPutSo, BeginsPutTurn, BeginsRound, BeginsWork, Birth, CommitRun, Commits, Contains, Copies, CopyRound, CopyRun, Core, DropsHold, EndsHold, Exclusive, FreesBlock, GetRun, HeldRun, Hold, HoldsBack, IndexEntry, IsCore, IsHeldIn, IsOpenSince, IsPutRefused, Kind, Layout, LeavesBlocks, List, More, None, Option, PutRun, Rests, Run, ScriptCall, Shared, Some, Space, TakesHold, Uber, Waits, Work, [], allocated_of, ap, arith, as_begun, count_ended, count_gained, fill_bytes, first_listed, first_width, found_listed, gains_cases, gains_item, gains_old, held_sectors, hold_of, inl, inr, is_shared, largest, largest_size, length, length_put, map, one_if, put_run, refl, rest_listed, run_of, sectors_in, sectors_taken, shared_count, sharing_in, size_at, subst, sum, sym, ℕ, ⊎_elim, ◌++◌, ◌+◌, ◌∙◌, ◌∷◌, ◌≡◌, ◌≤◌, ◌⊎◌}
+use Rattle.schedule.proofs.Words.{Answer, AnswersAtOnce, AreRunsOf, BeginsCommitSo, BeginsGet, BeginsJobSo, BeginsPutSo, BeginsPutTurn, BeginsRound, BeginsWork, Birth, CommitRun, Commits, Contains, Copies, CopyRound, CopyRun, Core, DropsHold, EndsHold, Exclusive, FreesBlock, GetRun, HeldRun, Hold, HoldsBack, IndexEntry, IsCore, IsHeldIn, IsOpenSince, IsPutRefused, Kind, LeavesBlocks, List, More, None, Option, PutRun, Rests, Run, ScriptCall, Shared, Some, Space, TakesHold, Uber, Waits, Work, [], allocated_of, ap, arith, as_begun, count_ended, count_gained, fill_bytes, first_listed, found_listed, gains_cases, gains_item, gains_old, held_sectors, hold_of, inl, inr, is_shared, largest, largest_size, length, length_put, map, one_if, put_run, refl, rest_listed, run_of, sectors_in, shared_count, sharing_in, subst, sum, sym, ℕ, ⊎_elim, ◌++◌, ◌+◌, ◌∙◌, ◌∷◌, ◌≡◌, ◌≤◌, ◌⊎◌}
 use Rattle.std.specs.Prelude.{Bool}
 use Rattle.range_locks.specs.Gaining.{Gains}
 use Rattle.core_state.specs.declared.answer.Answer.TheVariants as answer
@@ -124,7 +124,7 @@ module _ {old new : Core} where
   runs_still frees shares runs are = record {
     taken = search arith;
     held = λ run listed. ⊎_elim (are.held run) (are.taken (held_sectors run)) (frees.held run listed);
-    holds = λ hold listed shared. are.holds hold (shares.were hold listed shared) shared;
+    holds = λ hold listed shared. search (shared, arith);
   }
 
   -- So a turn goes that leaves the uberblock.
@@ -142,8 +142,7 @@ module _ {old new : Core} where
   -- One that is no job's, and leaves the space and the holds too,
   pub goes_still : {has : ℕ} → new.pool.uber ≡ old.pool.uber → new.copying ≡ old.copying
       → new.pool.blocks.space ≡ old.pool.blocks.space → new.holds ≡ old.holds → GoesAs old new [] None None None has has
-  goes_still uber copying space holds =
-      goes_as uber copying (frees_none space) (shares_same holds) (omega arith)
+  goes_still uber copying space holds = grind (arith, goes_as, copying, frees_none, shares_same)
 
   -- or leaves all,
   pub goes_nowhere : new ≡ old → GoesOn old new
@@ -197,37 +196,20 @@ module _ {old : Core} (new : Core) (is : IsCore old) where
   put_size : {actor id : ℕ} (len : ℕ) (run : PutRun) → BeginsPutSo old new actor id len run → (uber : Uber)
       → IsOpenSince uber old → allocated_of run.range.layout ≤ largest_size uber len
   put_size len run begins uber since =
-      let parity : new.pool.blocks.parity ≡ old.pool.uber.parity = begins.begins.parity ∙ is.is.parity in
-      let births : new.pool.blocks.births ≡ old.pool.uber.births = begins.begins.births ∙ is.is.births in
-      let size : allocated_of run.range.layout
-      ≡ sectors_taken new.pool.blocks.parity new.pool.blocks.births len (old.begun + 1) =
-      ap (λ (l : Layout). allocated_of l) begins.range.layout_is in
-      let same : sectors_taken new.pool.blocks.parity new.pool.blocks.births len (old.begun + 1)
-      ≡ sectors_taken old.pool.uber.parity old.pool.uber.births len (old.begun + 1) =
-      λ i. sectors_taken (parity i) (births i) len (old.begun + 1) in
-      let most : sectors_taken old.pool.uber.parity old.pool.uber.births len (old.begun + 1)
-      ≤ size_at old.pool.uber.parity (first_width old.pool.uber.births) len =
-      largest (as_begun old).uber len (old.begun + 1) is.is.right in
-      let first : size_at old.pool.uber.parity (first_width old.pool.uber.births) len ≡ largest_size uber len =
-      λ i. size_at (since.parity i) (since.first i) len in
-      omega arith
+      let most = largest (as_begun old).uber len (old.begun + 1) is.is.right in
+      search (most, arith)
 
   -- It takes one run, and holds it. A hold that is in runs is in more of them.
   held_further : (runs : List Run) {run : Run} {hold : Hold} → IsHeldIn runs hold → IsHeldIn (run ∷ runs) hold
-  held_further runs {run} is = record {
-    run = is.run;
-    listed = rest_listed run is.run runs is.listed;
-    begins = is.begins;
-    ends = is.ends;
-  }
+  held_further runs {run} is = grind (arith, rest_listed, runs)
 
   put_begins : (actor id : ℕ) {len : ℕ} (run : PutRun) → BeginsPutTurn old new actor id len (More run)
       → BeginsOn old new (len ∷ []) None 1
   put_begins actor id {len} run begins = record {
     more = put_run run.range ∷ [];
     goes = record {
-      stays = stays_same (ap (λ (c : Core). c.pool.uber) begins.rest);
-      group = ap (λ (c : Core). c.pool.uber.group) begins.rest;
+      stays = search (stays_same, arith);
+      group = search arith;
       copying = cc;
       shared = omega (arith, shared_more (cc) begins.holds);
       runs = λ runs are. record {
@@ -275,9 +257,7 @@ module _ {old : Core} (new : Core) (is : IsCore old) where
 
       taken : Contains old.pool.blocks.space.taken block
       taken = subst (λ (p : ℕ). Contains old.pool.blocks.space.taken (run_of p old.pool.uber.births run.entry))
-          is.is.parity
-          (rw is.is.births at (is.step.each run.entry (found_listed old.pool.blocks.table.entries id run.entry
-          begins.1)).taken)
+          is.is.parity (rw is.is.births at (is.step.each run.entry (search (found_listed, arith))).taken)
 
       its : (runs : List Run) → AreRunsOf runs old → IsHeldIn runs (hold_of old.pool.uber run.entry actor)
       its runs are = record {
@@ -326,8 +306,8 @@ module _ {old : Core} (new : Core) (is : IsCore old) where
 
   frees_goes : (id : ℕ) (given : Answer) → FreesBlock old new id given → GoesOn old new
   frees_goes id answer.Freed frees =
-      goes_as (ap (λ (c : Core). c.pool.uber) frees.2.rest) (cc) (frees_back old.pool.blocks.parity
-      old.pool.blocks.births (old.begun + 1) (Some frees.1) frees.2.held) (shares_same (cc)) (omega arith)
+      goes_as (ap (λ (c : Core). c.pool.uber) frees.2.rest) (cc) (search (frees_back, arith)) (shares_same (cc))
+      (omega arith)
   frees_goes id answer.Absent frees = search (goes_still, arith)
   frees_goes id (answer.TooManyFailed out) frees = goes_nowhere frees.2
   frees_goes id other frees = absurd frees
@@ -335,11 +315,4 @@ module _ {old : Core} (new : Core) (is : IsCore old) where
   -- and one that is answered at once.
   pub answers_with : (devices actor : ℕ) (call : ScriptCall) (asked : Kind) (id : Option ℕ) (given : Answer)
       → AnswersAtOnce old new devices actor call asked id given → GoesOn old new
-  answers_with devices actor call kind.Put (Some id) given answers = search put_refused
-  answers_with devices actor call kind.Get (Some id) given answers = goes_nowhere answers.0
-  answers_with devices actor call kind.Sum (Some id) given answers = goes_nowhere answers.0
-  answers_with devices actor call kind.Free (Some id) given answers = frees_goes id given answers.frees
-  answers_with devices actor call kind.Sync None given answers = goes_nowhere answers.1
-  answers_with devices actor call kind.Attach None given answers = goes_nowhere answers.1
-  answers_with devices actor call kind.Copy None given answers = goes_nowhere answers.1
-  answers_with devices actor call asked id given answers = absurd answers
+  answers_with devices actor call asked id given answers = grind (arith, put_refused, goes_nowhere, frees_goes)

@@ -1,8 +1,7 @@
 -- What a turn of a client leaves, whatever it was a turn of: of the runs of sectors that were taken, of the pool's
 -- group and of who holds sectors; and what it lists.
-use Rattle.schedule.proofs.Words.{Answer, AnswersAtOnce, Began, Busy, Client, CopyRun, Core, CoreState, Done, Entry, GoesOnBy, Group, HasNoFreeRun, IsCore, IsOpenSince, Item, Kind, List, MayGoOn, More, None, Nothing, Option, Run, ScriptCall, Some, Station, Turned, Uber, UnderWay, Went, Work, [], ap, arith, begun_at, commit_in, entry_for, fill_bytes, group_by, group_for, inl, inr, length, length_put, listed_for, listed_on, made_by, made_in, refl, sectors_taken, sharing_in, sharing_under, slice_get, ℕ, ◌++◌, ◌+◌, ◌-◌, ◌∙◌, ◌∷◌, ◌≡◌, ◌⊎◌}
+use Rattle.schedule.proofs.Words.{Answer, AnswersAtOnce, Began, Busy, CopyRun, Core, CoreState, Done, Entry, GoesOnBy, Group, HasNoFreeRun, IsCore, IsOpenSince, Item, Kind, List, MayGoOn, More, None, Nothing, Option, Run, ScriptCall, Some, Station, Turned, Uber, UnderWay, Went, Work, [], arith, begun_at, commit_in, entry_for, fill_bytes, group_by, group_for, inl, length, length_put, listed_for, listed_on, made_by, made_in, refl, sectors_taken, sharing_in, sharing_under, slice_get, ℕ, ◌++◌, ◌+◌, ◌-◌, ◌∷◌, ◌≡◌, ◌⊎◌}
 use Rattle.core_state.specs.declared.answer.Answer.TheVariants as answer
-use Rattle.core_state.specs.declared.answer.Kind.TheVariants as kind
 use Rattle.core_state.specs.declared.item.Item.TheVariants.{Call as CallItem}
 use Rattle.schedule.specs.declared.client.Work.TheVariants as work
 use Rattle.schedule.specs.Turned.{listed_of}
@@ -49,7 +48,7 @@ module _ (before after : CoreState) (is : IsCore before.core) where
   works_go call (work.Read run) (work.Read next) may goes = core_goes goes.reads.2
   works_go call (work.Sync run) (work.Sync next) may goes = core_goes goes.2
   works_go call (work.Attach run) (work.Attach next) may goes = attach_goes before after is run next goes.0
-  works_go call (work.Copy round) (work.Copy next) may goes = copy_goes before after round next is may goes.0 goes.1
+  works_go call (work.Copy round) (work.Copy next) may goes = search (copy_goes, arith)
   works_go call does next may goes = absurd goes
 
   -- and the last.
@@ -112,28 +111,20 @@ first_none : (old new : Core) (devices actor : ℕ) (call : ScriptCall) (asked :
     → AnswersAtOnce old new devices actor call asked id (answer.NoSpace size)
     → (size ≡ sectors_taken old.pool.uber.parity old.pool.uber.births (length (fill_bytes call.fill)) (old.begun + 1))
     × HasNoFreeRun old.pool.blocks.space old.holds size
-first_none old new devices actor call kind.Put (Some id) answers = (answers.1, answers.2)
-first_none old new devices actor call kind.Get (Some id) answers = absurd answers.1
-first_none old new devices actor call kind.Sum (Some id) answers = absurd answers.1
-first_none old new devices actor call kind.Free (Some id) answers = absurd answers.frees
-first_none old new devices actor call kind.Sync None answers = absurd answers.0
-first_none old new devices actor call kind.Attach None answers = absurd answers.0.3
-first_none old new devices actor call kind.Copy None {size = size} answers = search (round_plain, arith)
-first_none old new devices actor call asked id answers = absurd answers
+first_none old new devices actor call asked id answers = grind (arith, call, round_plain)
 
 module _ {calls : List ScriptCall} {actor : ℕ} {before after : Station} (is : IsCore before.state.core)
     (may : (under : UnderWay) (call : ScriptCall) → before.client.under_way ≡ Some under
     → slice_get calls (before.client.begun - 1) ≡ Some call → MayGoOn before.state.core call under.work) where
   -- So it is where no call begins, goes on or ends,
   leaves_idle : GoesOn before.state.core after.state.core → before.client.under_way ≡ None
-      → after.client ≡ before.client
-      → after.items ≡ before.items → TurnLeaves calls actor before after
+      → after.client ≡ before.client → after.items ≡ before.items → TurnLeaves calls actor before after
   leaves_idle goes idle same items = record {
     more = [];
     made = None;
     at = 0;
     goes = rw (same, idle) goes;
-    begins = inl (ap (λ (c : Client). c.begun) same, refl);
+    begins = search arith;
     lists = inl items;
   }
 
@@ -141,15 +132,14 @@ module _ {calls : List ScriptCall} {actor : ℕ} {before after : Station} (is : 
   leaves_begun : (call : ScriptCall) (now : Option UnderWay) → before.client.under_way ≡ None
       → slice_get calls before.client.begun ≡ Some call
       → BeginsOn before.state.core after.state.core (length_put call.kind (fill_bytes call.fill)) (job_under now)
-      (sharing_under now)
-      → after.client ≡ record { begun = before.client.begun + 1; under_way = now }
+      (sharing_under now) → after.client ≡ record { begun = before.client.begun + 1; under_way = now }
       → AnswersBehind calls actor before before.items after.items → TurnLeaves calls actor before after
   leaves_begun call now idle next on client lists = record {
     more = on.more;
     made = None;
     at = 0;
     goes = rw (idle, client) on.goes;
-    begins = inr (ap (λ (c : Client). c.begun) client, idle, call, next, on.fits);
+    begins = search (call, next, arith);
     lists = lists;
   }
 
@@ -157,8 +147,7 @@ module _ {calls : List ScriptCall} {actor : ℕ} {before after : Station} (is : 
   leaves_going : (under : UnderWay) (now : Option UnderWay) (made : Option ℕ) (at : ℕ)
       → before.client.under_way ≡ Some under
       → GoesAs before.state.core after.state.core [] made (job_in under.work) (job_under now) (sharing_in under.work)
-      (sharing_under now)
-      → after.client ≡ record { begun = before.client.begun; under_way = now }
+      (sharing_under now) → after.client ≡ record { begun = before.client.begun; under_way = now }
       → AnswersBehind calls actor before (listed_on after.state.core.pool.uber.reflow before.items at made) after.items
       → TurnLeaves calls actor before after
   leaves_going under now made at going goes client lists = record {
@@ -166,39 +155,24 @@ module _ {calls : List ScriptCall} {actor : ℕ} {before after : Station} (is : 
     made = made;
     at = at;
     goes = rw (going, client) goes;
-    begins = inl (ap (λ (c : Client). c.begun) client, refl);
+    begins = search arith;
     lists = lists;
   }
 
   -- so with each turn.
   pub turn_leaves : Turned calls actor before after → TurnLeaves calls actor before after
   turn_leaves (Nothing nothing) = leaves_idle (goes_nowhere (cc)) nothing.idle (cc) (cc)
-  turn_leaves (Began (More does) begins leaves) = leaves_begun begins.call _ begins.idle begins.next
-      (works_begin after.state.core is before.state.disk.devices actor begins.call begins.call.kind begins.call.id does
-      begins.did)
-      leaves.1 (inl leaves.0)
-  turn_leaves (Began (Busy by) begins leaves) = leaves_idle (waits_with after.state.core is before.state.disk.devices
-      actor
-      begins.call begins.call.kind begins.call.id by begins.did) begins.idle leaves.1 leaves.0
+  turn_leaves (Began (More does) begins leaves) = grind (arith, leaves_begun, works_begin)
+  turn_leaves (Began (Busy by) begins leaves) = grind (arith, leaves_idle, waits_with)
   turn_leaves (Began (Done given) begins leaves) = leaves_begun begins.call None begins.idle begins.next
-      (on_none after.state.core is (answers_with after.state.core is before.state.disk.devices actor begins.call
-      begins.call.kind begins.call.id
-      given begins.did)) leaves.1 (inr (
-        entry_for begins.call actor (before.client.begun + 1) (length before.items) given,
-        leaves.0,
-        λ size told. (refl, search (first_none, arith)),
-      ))
+      (grind (arith, on_none, answers_with)) leaves.1 (grind (arith, first_none))
   turn_leaves (Went under (More does) goes leaves) = leaves_going under _ (made_in does)
       (begun_at (commit_in does) (commit_in under.work) under.at (length before.items)) goes.going
-      (works_go before.state after.state is goes.call under.work does (may under goes.call goes.going goes.is) goes.did)
-      leaves.1 (inl leaves.0)
+      (search (works_go, arith)) leaves.1 (inl leaves.0)
   turn_leaves (Went under (Busy by) goes leaves) = absurd leaves
   turn_leaves (Went under (Done given) goes leaves) =
       let ends = works_end before.state after.state is goes.call under.work given
       (may under goes.call goes.going goes.is) goes.did in
       let entry = entry_for goes.call actor before.client.begun under.at given in
-      leaves_going under None (group_by given (made_by under.work)) under.at goes.going ends.goes leaves.1 (inr (
-        entry,
-        leaves.0 ∙ entry_listed after.state.core before.items under.at entry (group_by given (made_by under.work)),
-        λ size told. absurd (ends.space size told),
-      ))
+      leaves_going under None (group_by given (made_by under.work)) under.at goes.going ends.goes leaves.1
+      (grind (arith, entry_listed))
