@@ -34,11 +34,11 @@ module _ (before after : CoreState) (is : IsCore before.core) where
 
   -- and its last. It is answered without a group,
   too_many_plain : (given : Answer) {made : Option ℕ} → IsTooMany old given → EndsPlainly given made
-  too_many_plain other many = grind (arith, plain_ends)
+  too_many_plain given many = grind (arith, plain_ends)
 
   pub refused_plain : (ring : RingRead) (given : Answer) → IsDeviceRefused before ring after given
       → EndsPlainly given None
-  refused_plain ring other refused = grind (arith, plain_ends)
+  refused_plain ring given refused = grind (arith, plain_ends)
 
   pub sync_plain : (given : Answer) → IsSyncRefused old given → EndsPlainly given None
   sync_plain given refused = commit_plain old given refused

@@ -63,58 +63,43 @@ begun_more script {given = given} news there begun now others = record {
       (given_more script given actor there);
 }
 
--- A call that is given next leaves fewer,
-pub next_smaller : {script : Script} {before after : InOrder} {actor number : ℕ} {call : ScriptCall}
-    → before.script ≡ script → IsNextCall before after actor number call
-    → length script.calls - after.given < length script.calls - before.given
-next_smaller is next = search (slice_get_within, arith)
+-- A call that is given next
+module _ {script : Script} {before after : InOrder} {actor number : ℕ} {call : ScriptCall} (is : before.script ≡ script)
+    (next : IsNextCall before after actor number call) where
+  -- leaves fewer,
+  pub next_smaller : length script.calls - after.given < length script.calls - before.given
+  next_smaller = search (slice_get_within, arith)
 
--- and is begun then: before this,
-pub next_begun : {script : Script} {before after : InOrder} {actor number : ℕ} {call : ScriptCall}
-    {clients news : List Client} → before.script ≡ script → IsNextCall before after actor number call
-    → HaveBegun script before.given clients
-    → ((client : Client) → slice_get news actor ≡ Some client → number ≤ client.begun)
-    → ((other : ℕ) → other ≢ actor → slice_get news other ≡ slice_get clients other) → HaveBegun script after.given news
-next_begun is next begun now others = search (begun_more, arith)
+  -- and is begun then: before this,
+  pub next_begun : {clients news : List Client} → HaveBegun script before.given clients
+      → ((client : Client) → slice_get news actor ≡ Some client → number ≤ client.begun)
+      → ((other : ℕ) → other ≢ actor → slice_get news other ≡ slice_get clients other)
+      → HaveBegun script after.given news
+  next_begun begun now others = search (begun_more, arith)
 
--- or by this call.
-pub next_taken : {script : Script} {before after : InOrder} {actor number : ℕ} {call : ScriptCall}
-    {clients news : List Client} → before.script ≡ script → IsNextCall before after actor number call
-    → HaveBegun script before.given clients → BeginsOne actor clients news → length news ≡ length clients
-    → HaveBegun script after.given news
-next_taken {before = before} {actor = actor} {clients = clients} {news} is next begun begins same = next_begun is next
-    begun
-    (λ client there.
-    let low = slice_get_within news actor client there in
-    let was = slice_get-get_or clients actor client (omega arith) in
-    let one = begins.one (slice_index_or clients actor client) was in
-    let its = some_is (sym one.1 ∙ there) in
-    omega (
-      arith,
-      one.2,
-      ap (λ (c : Client). c.begun) its,
-      begun.each actor (slice_index_or clients actor client) was,
-      next.counted,
-      ap (λ (s : Script). given_of s before.given actor) is,
-    )) begins.others
+  -- or by this call.
+  pub next_taken : {clients news : List Client} → HaveBegun script before.given clients → BeginsOne actor clients news
+      → length news ≡ length clients → HaveBegun script after.given news
+  next_taken {clients} {news} begun begins same = next_begun begun (λ client there.
+      let low = slice_get_within news actor client there in
+      let was = slice_get-get_or clients actor client (omega arith) in
+      let one = begins.one (slice_index_or clients actor client) was in
+      let before = begun.each actor (slice_index_or clients actor client) was in
+      grind (arith, some_is, one, before)) begins.others
 
--- It is a call of the script,
-pub next_is_call : {script : Script} {before after : InOrder} {actor number : ℕ} {call : ScriptCall}
-    → before.script ≡ script → IsNextCall before after actor number call
-    → IsCallOfScript script before.given actor number
-next_is_call {actor = actor} {call = call} is next = record {
-  placed = record { actor = actor; call = call };
-  there = cc;
-  is = refl;
-  counted = cc;
-}
+  -- It is a call of the script,
+  pub next_is_call : IsCallOfScript script before.given actor number
+  next_is_call = record {
+    placed = record { actor = actor; call = call };
+    there = cc;
+    is = refl;
+    counted = cc;
+  }
 
--- one of its client's,
-pub next_of_client : {script : Script} {before after : InOrder} {actor number : ℕ} {call : ScriptCall}
-    → before.script ≡ script → IsNextCall before after actor number call → number ≤ length (calls_of script actor)
-next_of_client is next = search (slice_get_within, arith)
+  -- one of its client's,
+  pub next_of_client : number ≤ length (calls_of script actor)
+  next_of_client = search (slice_get_within, arith)
 
--- and no more were given than there are.
-pub next_few : {script : Script} {before after : InOrder} {actor number : ℕ} {call : ScriptCall}
-    → before.script ≡ script → IsNextCall before after actor number call → after.given ≤ length script.calls
-next_few is next = search (slice_get_within, arith)
+  -- and no more were given than there are.
+  pub next_few : after.given ≤ length script.calls
+  next_few = search (slice_get_within, arith)

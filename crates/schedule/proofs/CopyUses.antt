@@ -9,7 +9,7 @@ use Rattle.schedule.proofs.UsingTurns.{GoesAs, commit_goes, core_goes, frees_non
 
 -- They come with no group, and tell of no want of space: where a job is refused,
 job_plain : (core : Core) (given : Answer) → IsJobRefused core given → EndsPlainly given None
-job_plain core other refused = grind (arith, plain_ends)
+job_plain core given refused = grind (arith, plain_ends)
 
 -- so where a round is refused,
 pub round_plain : {core : Core} {given : Answer} → IsRoundRefused core given → EndsPlainly given None

@@ -1,5 +1,5 @@
 -- A put that is refused as full, while others are under way, is one of more ids than a table has room for.
-use Rattle.schedule.proofs.Words.{◌≡◌, ◌≢◌, ⊎_elim, ℕ, ◌+◌, ◌-◌, ◌<◌, Bool, false, cond, List, [], ◌∷◌, ◌++◌, length, Some, subst, arith, Contains, count_by, nat_eq, ◌||◌, ◌==◌, slice_get, is_member, unique_keys, eqb-true, false≢true, sum_by-cons, IsFull, ids_of, known_ids, held_is, known_split, Answer, Kind, Entry, Item, Group, Map, IsAnswerOf, World, puts_of, first_listed, rest_listed, none_listed, ScriptCall, Script, calls_of, IsHeldOrPut, HasTooManyIds, unique_among, unique_distinct, entry_held, map_at_end, new_or_before, call_puts, held_or_put, one_too_many, PutRun, Core, IsReadKind, HoldingCall, Putting, ranges_of, Client, Work, FullIsCaused, IsSchedule, IsWorldOf, Turns, AreGoing, IsWorkFor, Runs, calls_under_way, held_by, Past, same_put}
+use Rattle.schedule.proofs.Words.{◌≡◌, ◌≢◌, ⊎_elim, ℕ, ◌+◌, ◌-◌, ◌<◌, List, [], ◌∷◌, ◌++◌, length, Some, subst, arith, Contains, count_by, nat_eq, ◌==◌, slice_get, is_member, unique_keys, eqb-true, false≢true, sum_by-cons, IsFull, ids_of, known_ids, held_is, known_split, Answer, Kind, Entry, Item, Group, Map, IsAnswerOf, World, puts_of, first_listed, rest_listed, none_listed, ScriptCall, Script, calls_of, IsHeldOrPut, HasTooManyIds, unique_among, unique_distinct, entry_held, map_at_end, new_or_before, call_puts, held_or_put, one_too_many, PutRun, Core, IsReadKind, HoldingCall, Putting, ranges_of, Client, Work, FullIsCaused, IsSchedule, IsWorldOf, Turns, AreGoing, IsWorkFor, Runs, calls_under_way, held_by, Past, same_put}
 use Rattle.std.proofs.Common.{true}
 use Rattle.block_table.specs.Table.{ids_in_use}
 use Rattle.core_state.specs.declared.answer.Answer.TheVariants as answer
@@ -13,15 +13,7 @@ use Rattle.schedule.proofs.Theirs.{whose, only_one}
 -- An id that is reserved is counted.
 member_counted : (ids : List ℕ) (id : ℕ) → is_member nat_eq ids id ≡ true → 0 < count_by (λ other. id == other) ids
 member_counted [] id there = cc
-member_counted (first ∷ ids) id there = by (id == first) (search sum_by-cons) there (member_counted ids id)
-  where
-    by : (same : Bool)
-        → count_by (λ other. id == other) (first ∷ ids) ≡ cond same 1 0 + count_by (λ other. id == other) ids
-        → (same || is_member nat_eq ids id) ≡ true
-        → (is_member nat_eq ids id ≡ true → 0 < count_by (λ other. id == other) ids)
-        → 0 < count_by (λ other. id == other) (first ∷ ids)
-    by true counted here rest = omega arith
-    by false counted here rest = search arith
+member_counted (first ∷ ids) id there = rw sum_by-cons (grind (arith, member_counted ids id))
 
 -- An id that puts under way are counted of is one of theirs.
 put_counted : (calls : List HoldingCall) (id : ℕ) → 0 < puts_of (ranges_of calls) id

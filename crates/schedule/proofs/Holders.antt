@@ -9,14 +9,12 @@ use Rattle.schedule.proofs.UsingWorks.{TurnLeaves, job_under}
 
 -- The job of a work is that of a copy,
 job_work : (does : Work) {run : CopyRun} → job_in does ≡ Some run → does ≡ work.Copy (Copies run)
-job_work (work.Copy (Copies its)) is = cc
-job_work other is = cc
+job_work does is = grind arith
 
 -- and one under way is that of a work.
 job_there : (its : Option UnderWay) (run : CopyRun) → job_under its ≡ Some run
     → (under : UnderWay) × (its ≡ Some under) × (under.work ≡ work.Copy (Copies run))
-job_there None run is = cc
-job_there (Some under) run is = (under, refl, job_work under.work is)
+job_there its run is = grind (arith, job_work)
 
 -- Whoever copies after a turn is a client whose work is a job.
 pub copiers_after : {script : Script} {actor : ℕ} {before after : Station} {clients news : List Client}
@@ -54,11 +52,7 @@ copiers_after {script} {actor} {before} {after} {clients} {news} takes leaves go
 -- Where no client has a call under way nobody copies.
 pub none_copies : (core : Core) {clients : List Client} → AreCopiers clients core → AreIdle clients
     → core.copying ≡ None
-none_copies core copiers idle = by core.copying refl
-  where
-    by : (copying : Option ℕ) → core.copying ≡ copying → core.copying ≡ None
-    by None is = is
-    by (Some who) is = search (none_some, arith)
+none_copies core copiers idle = grind (arith, none_some)
 
 -- ---- who shares
 
@@ -69,24 +63,15 @@ sharing_changes : (old new : List Client) (actor : ℕ) {was now : Client} → s
 sharing_changes [] new actor there changes = cc
 sharing_changes (first ∷ old) [] actor there changes = cc
 sharing_changes (first ∷ old) (second ∷ new) zero there changes =
-    omega (
-      arith,
-      ap (λ (c : Client). sharing_under c.under_way) (some_is there),
-      ap
-          (λ (c : Client). sharing_under c.under_way) (some_is changes.there),
-      ap sharing_of (same_list new old (λ index. changes.others (suc index) (λ same. absurd (omega (arith, same))))),
-    )
+    let rest = same_list new old (λ index. changes.others (suc index) (λ same. cc)) in
+    grind (arith, some_is, rest)
 sharing_changes (first ∷ old) (second ∷ new) (suc actor) there changes =
-    omega (
-      arith,
-      ap (λ (c : Client). sharing_under c.under_way)
-          (some_is (changes.others 0 (λ same. absurd (omega (arith, same))))),
-      sharing_changes old new actor there (record {
-        there = changes.there;
-        others = λ other apart. changes.others (suc other)
-            (λ same. apart (omega (arith, same)));
-      }),
-    )
+    let rest = sharing_changes old new actor there (record {
+      there = changes.there;
+      others = λ other apart. changes.others (suc other) (λ same. apart (cc));
+    }) in
+    let its = some_is (changes.others 0 (λ same. cc)) in
+    grind (arith, rest, its)
 
 -- So after a turn no more holds are shared than clients' calls under way have.
 pub sharers_after : {script : Script} {actor : ℕ} {before after : Station} {clients news : List Client}
@@ -98,11 +83,8 @@ sharers_after {actor = actor} {clients = clients} {news} takes leaves sharers = 
 idle_sharing : (clients : List Client) → AreIdle clients → sharing_of clients ≡ 0
 idle_sharing [] idle = refl
 idle_sharing (first ∷ clients) idle =
-    omega (
-      arith,
-      ap sharing_under (idle.each 0 first refl),
-      idle_sharing clients (record { each = λ index client there. idle.each (suc index) client there }),
-    )
+    let rest = idle_sharing clients (record { each = λ index client there. idle.each (suc index) client there }) in
+    omega (arith, ap sharing_under (idle.each 0 first refl), rest)
 
 -- So no hold is shared then.
 pub none_shares : (core : Core) (clients : List Client) → AreSharers clients core → AreIdle clients

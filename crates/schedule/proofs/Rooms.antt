@@ -126,33 +126,22 @@ own_call : (first : Placed) (calls : List Placed) (caller : ℕ) → first.actor
     ≡ length (filter (λ (placed : Placed). placed.actor == caller) calls) + 1
 own_call first calls caller same = search (eq-eqb, arith)
 
--- A call of an earlier client is none of theirs,
-call_before : (first : Placed) (calls : List Placed) (caller count : ℕ) → first.actor < caller
-    → calls_from (first ∷ calls) caller count ≡ calls_from calls caller count
-call_before first calls caller zero low = refl
-call_before first calls caller (suc count) low =
-    omega (
-      arith,
-      call_before first calls (caller + 1) count (omega (arith, low)),
-      other_call first calls caller
-          (λ same. absurd (omega (arith, low, same))),
-    )
-
--- and one call is at most one of theirs.
+-- So one call is at most one of theirs, and none where it is an earlier client's.
 one_call_more : (first : Placed) (calls : List Placed) (caller count : ℕ)
-    → calls_from (first ∷ calls) caller count ≤ calls_from calls caller count + 1
+    → (calls_from (first ∷ calls) caller count ≤ calls_from calls caller count + 1)
+    × (first.actor < caller → calls_from (first ∷ calls) caller count ≤ calls_from calls caller count)
 one_call_more first calls caller zero = omega arith
-one_call_more first calls caller (suc count) = ⊎_elim
-    (search (own_call, call_before, arith))
-    (λ (apart : first.actor ≢ caller).
-    omega (arith, other_call first calls caller apart, one_call_more first calls (caller + 1) count))
-    (cases_eq first.actor caller)
+one_call_more first calls caller (suc count) =
+    let later = one_call_more first calls (caller + 1) count in
+    ⊎_elim (λ same. omega (arith, own_call first calls caller same, later, same))
+    (λ apart. omega (arith, other_call first calls caller apart, later)) (cases_eq first.actor caller)
 
 -- So they have no more calls than there are.
 calls_few : (calls : List Placed) (caller count : ℕ) → calls_from calls caller count ≤ length calls
 calls_few [] caller zero = omega arith
 calls_few [] caller (suc count) = omega (arith, calls_few [] (caller + 1) count)
-calls_few (first ∷ calls) caller count = grind (arith, calls_few calls caller count, one_call_more)
+calls_few (first ∷ calls) caller count =
+    omega (arith, calls_few calls caller count, one_call_more first calls caller count)
 
 -- Clients that have begun no call have the room of all of theirs,
 blank_owed : (script : Script) {calls : ℕ → ℕ} (caller count : ℕ)

@@ -1,5 +1,5 @@
 -- The calls that are left of a script and the runs of sectors that were taken, as they come.
-use Rattle.schedule.proofs.Words.{◌≡◌, ◌≢◌, ⊎_elim, ℕ, ◌+◌, ◌≤◌, List, [], ◌∷◌, ◌++◌, length, Some, refl, sym, ◌∙◌, ap, arith, eq-eqb, ne_eqb, length-append, drop, drop-cons, flat_map, map, slice_get, sum, cases_eq, flat_map-append, append-nil, map-append, sum_by-append, slice_get_within, get_or_from_slice_get, Run, Space, Gains, HasNoFreeRun, IndexEntry, Uber, sectors_in, IsTight, full_tight, ScriptCall, fill_bytes, Placed, Script, calls_of, Core, length_put, largest_size, Client, Changes, AreAtMost, AreLeft, AreRunsOf, calls_among, sizes_left, sizes_of, sizes_put}
+use Rattle.schedule.proofs.Words.{◌≡◌, ◌≢◌, ⊎_elim, ℕ, ◌+◌, ◌≤◌, List, [], ◌∷◌, ◌++◌, length, Some, refl, sym, ◌∙◌, arith, eq-eqb, ne_eqb, length-append, drop, drop-cons, flat_map, map, slice_get, sum, cases_eq, flat_map-append, append-nil, map-append, sum_by-append, slice_get_within, get_or_from_slice_get, Run, Space, Gains, HasNoFreeRun, IndexEntry, Uber, sectors_in, IsTight, full_tight, ScriptCall, fill_bytes, Placed, Script, calls_of, Core, length_put, largest_size, Client, Changes, AreAtMost, AreLeft, AreRunsOf, calls_among, sizes_left, sizes_of, sizes_put}
 use Rattle.std.proofs.Common.{add-one}
 use Rattle.schedule.proofs.Theirs.{some_is}
 
@@ -110,22 +110,15 @@ module _ (uber : Uber) where
       (placed : Placed) {sizes : List ℕ} → Gains next left placed → length more ≤ length (sizes_put uber placed)
       → sectors_in more ≤ sum (sizes_put uber placed) → AreAtMost runs (sizes_left uber left) sizes
       → AreAtMost (more ++ runs) (sizes_left uber next) sizes
-  most_next {runs = runs} more next {left = left} placed gains few small most =
-      let less = gained_sizes next left placed gains in
-      let long = length-append more runs in
-      let total : sectors_in (more ++ runs) ≡ sectors_in more + sectors_in runs =
-      search sum_by-append in
-      search arith
+  most_next more next {left} placed gains few small most =
+      let less = gained_sizes next left placed gains in search (length-append, sum_by-append, arith)
 
   -- What all calls put are those that are left at first.
   sizes_mapped : (calls : List Placed)
       → map (largest_size uber) (flat_map (λ placed. length_put placed.call.kind (fill_bytes placed.call.fill)) calls)
       ≡ sizes_left uber calls
   sizes_mapped [] = refl
-  sizes_mapped (placed ∷ calls) =
-      map-append (largest_size uber) (length_put placed.call.kind (fill_bytes placed.call.fill))
-      (flat_map (λ placed. length_put placed.call.kind (fill_bytes placed.call.fill)) calls)
-      ∙ ap (λ (l : List ℕ). sizes_put uber placed ++ l) (sizes_mapped calls)
+  sizes_mapped (placed ∷ calls) = rw (map-append, sizes_mapped calls)
 
   pub sizes_split : (entries : List IndexEntry) (calls : List Placed) → sizes_of uber entries calls
       ≡ map (largest_size uber) (map (λ (entry : IndexEntry). entry.len) entries) ++ sizes_left uber calls
@@ -145,10 +138,7 @@ full_beside size are full start free = full start (λ sector inside. let its = f
   below = its.below;
   untaken = search arith;
   not_held = λ held. search (its.untaken, are.held, arith);
-  not_shared = λ shared.
-      let within = are.holds shared.0 shared.1 shared.2 in
-      let overlaps = shared.3 in
-      search arith;
+  not_shared = λ shared. let within = are.holds shared.0 shared.1 shared.2 in search arith;
 })
 
 -- and so they could leave none,

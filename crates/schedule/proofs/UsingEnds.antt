@@ -1,8 +1,6 @@
 -- What the later turns of puts and reads leave, and how a commit ends.
-use Rattle.schedule.proofs.Words.{Answer, AnswersGroup, AnswersSolved, Blocks, Bool, CommitRun, CopyRun, Core, CoreState, Done, EndsGet, EndsHold, EndsPut, EndsPutting, EndsReading, GetRun, GivesUp, GivesUpTurn, HeldRun, Hold, IndexEntry, IsCommitOf, IsCore, IsFilledIn, IsGetOf, IsPutOf, IsSyncRefused, Kind, List, None, Option, Pool, PutRun, ScriptCall, Shared, Solved, Some, StepsCommit, Uber, [], after_group, answer_of, ap, arith, blocks_behind, cases_lt, false, filter, filter_was, gains_old, get_shared, group_by, grown_by, if◌then◌else◌, inl, inr, nat_lt, put_shared, ready_keeps, refl, sectors_of, subst, sym, ℕ, ⊤, ◌≡◌}
-use Rattle.std.proofs.Common.{true}
+use Rattle.schedule.proofs.Words.{Answer, AnswersGroup, AnswersSolved, Blocks, Bool, CommitRun, CopyRun, Core, CoreState, Done, EndsGet, EndsHold, EndsPut, EndsPutting, EndsReading, GetRun, GivesUp, GivesUpTurn, HeldRun, Hold, IsCommitOf, IsCore, IsFilledIn, IsGetOf, IsPutOf, IsSyncRefused, List, None, Option, Pool, PutRun, ScriptCall, Shared, Solved, Some, StepsCommit, Uber, [], after_group, ap, arith, blocks_behind, cases_lt, filter, filter_was, gains_old, get_shared, group_by, grown_by, if◌then◌else◌, inl, inr, nat_lt, put_shared, ready_keeps, sectors_of, subst, sym, ℕ, ⊤, ◌≡◌}
 use Rattle.core_state.specs.declared.answer.Answer.TheVariants as answer
-use Rattle.core_state.specs.declared.answer.Kind.TheVariants as kind
 use Rattle.schedule.proofs.Stays.{answers_stays}
 use Rattle.schedule.proofs.Theirs.{none_some}
 use Rattle.schedule.proofs.UsingTurns.{GoesAs, adds_shared, frees_back, frees_none, goes_as, goes_nowhere, runs_still, shares_dropped, shares_ended}
@@ -23,21 +21,11 @@ pub record EndsPlainly (given : Answer) (made : Option ℕ) : Type 0 where
 
 -- So it does with a plain answer,
 pub plain_ends : {given : Answer} {made : Option ℕ} → IsPlainEnd given → EndsPlainly given made
-plain_ends {given} {made} plain = record {
-  group = none given plain;
-  space = λ size is. subst IsPlainEnd is plain;
-}
-  where
-    none : (given : Answer) → IsPlainEnd given → group_by given made ≡ None
-    none (answer.Synced group) plain = absurd plain
-    none (answer.Attached width group) plain = absurd plain
-    none (answer.NewDeviceFailed device) plain = absurd plain
-    none (answer.DeviceOut device) plain = absurd plain
-    none other plain = refl
+plain_ends {given} {made} plain = grind arith
 
--- as are those of a commit that is refused.
+-- and so where a commit is refused.
 pub commit_plain : (core : Core) (given : Answer) → IsSyncRefused core given → EndsPlainly given None
-commit_plain core other refused = grind (arith, plain_ends)
+commit_plain core given refused = grind (arith, plain_ends)
 
 -- A call ends so that had this job and shared so many holds: with the group that comes with its answer, and telling of
 -- no want of space.
@@ -66,8 +54,7 @@ module _ (blocks : Blocks) (group capacity : ℕ) where
   -- A pool that grows has the same runs.
   runs_grown : (same : Bool) → ((after_group (grown_if same).space group).taken ≡ blocks.space.taken)
       × ((after_group (grown_if same).space group).held ≡ left_of blocks.space.held)
-  runs_grown true = (refl, refl)
-  runs_grown false = (refl, refl)
+  runs_grown same = grind arith
 
 -- Behind an answer the runs that are taken are the same, and those held back until it are left out.
 runs_behind : (pool : Pool) (uber : Uber) → ((blocks_behind pool uber).space.taken ≡ pool.blocks.space.taken)
@@ -129,12 +116,8 @@ module _ (before after : CoreState) where
   -- ---- reads
 
   -- What was solved is answered plainly.
-  block_plain : (asked : Kind) (entry : IndexEntry) (bytes : List ℕ) → IsPlainEnd (answer_of asked entry bytes)
-  block_plain kind.Sum entry bytes = tt
-  block_plain other entry bytes = tt
-
   solved_plain : (run : GetRun) (solved : Solved) (given : Answer) → AnswersSolved run solved given → IsPlainEnd given
-  solved_plain run solved given is = grind (arith, block_plain)
+  solved_plain run solved given is = grind arith
 
   read_plain : (run : GetRun) (given : Answer) → EndsGet old run new (Done given) → IsPlainEnd given
   read_plain run given ends = search (solved_plain, cases_lt, arith)
@@ -173,4 +156,4 @@ module _ (before after : CoreState) where
 
   pub sync_ends : {run : CommitRun} (given : Answer) → IsCore old → IsCommitOf old run
       → StepsCommit before run after (Done given) → EndsAs old new given None None 0
-  sync_ends other is of steps = grind (arith, ends_grouped, group_ends, ends_plainly, plain_ends, goes_nowhere)
+  sync_ends given is of steps = grind (arith, ends_grouped, group_ends, ends_plainly, plain_ends, goes_nowhere)

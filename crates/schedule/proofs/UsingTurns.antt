@@ -155,9 +155,7 @@ module _ {old new : Core} where
 
   -- or for the order of blocks,
   left_goes : LeavesBlocks old new → GoesOn old new
-  left_goes leaves = goes_as (ap (λ (c : Core). c.pool.uber) leaves.rest) (ap (λ (c : Core). c.copying) leaves.rest)
-      (record { taken = leaves.taken; held = search arith }) (shares_same (ap (λ (c : Core). c.holds) leaves.rest))
-      (omega arith)
+  left_goes leaves = grind (arith, goes_as, shares_same)
 
   -- one by which a commit begins, which holds its sectors alone,
   pub commit_goes : {run : CommitRun} {actor : ℕ} → BeginsCommitSo old new actor run → GoesOn old new
@@ -186,23 +184,20 @@ module _ {old : Core} (new : Core) (is : IsCore old) where
   -- One that puts nothing takes no run.
   pub on_none : {lengths : List ℕ} {job : Option CopyRun} {has : ℕ} → GoesAs old new [] None None job 0 has
       → BeginsOn old new lengths job has
-  on_none goes = record {
-    more = [];
-    goes = goes;
-    fits = λ uber since. record { few = omega arith; sectors = omega arith };
-  }
+  on_none goes = search arith
 
-  -- A put has no more sectors than at the pool's first width.
+  -- A put's run has no more sectors than at the pool's first width.
   put_size : {actor id : ℕ} (len : ℕ) (run : PutRun) → BeginsPutSo old new actor id len run → (uber : Uber)
       → IsOpenSince uber old → allocated_of run.range.layout ≤ largest_size uber len
   put_size len run begins uber since =
       let most = largest (as_begun old).uber len (old.begun + 1) is.is.right in
       search (most, arith)
 
-  -- It takes one run, and holds it. A hold that is in runs is in more of them.
+  -- A hold that is in runs is in more of them.
   held_further : (runs : List Run) {run : Run} {hold : Hold} → IsHeldIn runs hold → IsHeldIn (run ∷ runs) hold
   held_further runs {run} is = grind (arith, rest_listed, runs)
 
+  -- A put takes one run, and holds it.
   put_begins : (actor id : ℕ) {len : ℕ} (run : PutRun) → BeginsPutTurn old new actor id len (More run)
       → BeginsOn old new (len ∷ []) None 1
   put_begins actor id {len} run begins = record {
@@ -298,11 +293,7 @@ module _ {old : Core} (new : Core) (is : IsCore old) where
   waits_with devices actor call asked id by waits = absurd waits
 
   put_refused : (id len : ℕ) (given : Answer) → IsPutRefused old new id len given → GoesOn old new
-  put_refused id len (answer.TooManyFailed out) refused = goes_nowhere refused.2
-  put_refused id len answer.Full refused = left_goes refused.2
-  put_refused id len (answer.NoSpace sectors) refused = left_goes refused.3
-  put_refused id len answer.NoMemory refused = left_goes refused.1
-  put_refused id len other refused = absurd refused
+  put_refused id len given refused = grind (arith, left_goes, goes_nowhere)
 
   frees_goes : (id : ℕ) (given : Answer) → FreesBlock old new id given → GoesOn old new
   frees_goes id answer.Freed frees =

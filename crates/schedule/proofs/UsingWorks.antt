@@ -1,6 +1,6 @@
 -- What a turn of a client leaves, whatever it was a turn of: of the runs of sectors that were taken, of the pool's
 -- group and of who holds sectors; and what it lists.
-use Rattle.schedule.proofs.Words.{Answer, AnswersAtOnce, Began, Busy, CopyRun, Core, CoreState, Done, Entry, GoesOnBy, Group, HasNoFreeRun, IsCore, IsOpenSince, Item, Kind, List, MayGoOn, More, None, Nothing, Option, Run, ScriptCall, Some, Station, Turned, Uber, UnderWay, Went, Work, [], arith, begun_at, commit_in, entry_for, fill_bytes, group_by, group_for, inl, length, length_put, listed_for, listed_on, made_by, made_in, refl, sectors_taken, sharing_in, sharing_under, slice_get, ℕ, ◌++◌, ◌+◌, ◌-◌, ◌∷◌, ◌≡◌, ◌⊎◌}
+use Rattle.schedule.proofs.Words.{Answer, AnswersAtOnce, Began, Busy, CopyRun, Core, CoreState, Done, Entry, GoesOnBy, Group, HasNoFreeRun, IsCore, IsOpenSince, Item, Kind, List, MayGoOn, More, None, Nothing, Option, Run, ScriptCall, Some, Station, Turned, Uber, UnderWay, Went, Work, [], arith, begun_at, commit_in, entry_for, fill_bytes, group_by, group_for, inl, length, length_put, listed_for, listed_on, made_by, made_in, sectors_taken, sharing_in, sharing_under, slice_get, ℕ, ◌++◌, ◌+◌, ◌-◌, ◌∷◌, ◌≡◌, ◌⊎◌}
 use Rattle.core_state.specs.declared.answer.Answer.TheVariants as answer
 use Rattle.core_state.specs.declared.item.Item.TheVariants.{Call as CallItem}
 use Rattle.schedule.specs.declared.client.Work.TheVariants as work
@@ -28,8 +28,7 @@ group_listed core items at entry made given is = cc
 entry_listed : (core : Core) (items : List Item) (at : ℕ) (entry : Entry) (made : Option ℕ)
     → listed_of core.pool.uber.reflow items at entry made
     ≡ listed_on core.pool.uber.reflow items at made ++ CallItem entry ∷ []
-entry_listed core items at entry None = refl
-entry_listed core items at entry (Some number) = refl
+entry_listed core items at entry made = grind arith
 
 -- ---- later turns
 
