@@ -1,8 +1,7 @@
 -- Calls of a script, one after the other: the turns of one call, and of the rest.
-use Rattle.schedule.proofs.Words.{◌≡◌, ◌≢◌, ◌⊎◌, inl, inr, ⊎_elim, ℕ, ◌+◌, ◌-◌, ◌<◌, ◌≤◌, List, length, Some, None, refl, sym, ◌∙◌, ap, arith, cond, eq-eqb, ne_eqb, slice_index_or, slice_get, true, ◌==◌, cases_eq, length-filter_more, get_or_from_slice_get, slice_get-get_or, slice_get_within, ScriptCall, IsNextCall, given_of, Placed, Script, calls_of, Client, Turns, IsCallOfScript, is_busy_at, AreIdle, HasTurn, BeginsOne, HaveBegun}
+use Rattle.schedule.proofs.Words.{◌≡◌, ◌≢◌, ◌⊎◌, inl, inr, ⊎_elim, ℕ, ◌+◌, ◌-◌, ◌<◌, ◌≤◌, List, length, Some, None, refl, sym, ◌∙◌, ap, arith, cond, eq-eqb, ne_eqb, slice_index_or, slice_get, true, ◌==◌, length-filter_more, get_or_from_slice_get, slice_get-get_or, slice_get_within, ScriptCall, IsNextCall, given_of, Placed, Script, calls_of, Client, Turns, IsCallOfScript, is_busy_at, AreIdle, HasTurn, BeginsOne, HaveBegun}
 use Rattle.client_script.specs.InOrder.{InOrder}
 use Rattle.schedule.proofs.Theirs.{some_is}
-use Rattle.schedule.proofs.RoundTaken.{busy_under}
 
 -- ---- one call
 
@@ -17,12 +16,12 @@ begins_one turn idle left = search arith
 pub begins_more : {script : Script} {actor : ℕ} {old : List Client} {before after : Turns}
     → BeginsOne actor old before.clients → HasTurn script actor before after → is_busy_at before.clients actor ≡ true
     → BeginsOne actor old after.clients
-begins_more begins turn busy = search (busy_under, arith)
+begins_more begins turn busy = search arith
 
 -- Once it has ended, all are idle again.
 pub idle_again : {actor : ℕ} {old new : List Client} → BeginsOne actor old new → AreIdle old
     → ((client : Client) → slice_get new actor ≡ Some client → client.under_way ≡ None) → AreIdle new
-idle_again begins idle ended = search (cases_eq, arith)
+idle_again begins idle ended = search arith
 
 -- ---- the rest
 
@@ -34,7 +33,7 @@ begun_none script clients = search arith
 pub given_more : (script : Script) (given actor : ℕ) {placed : Placed} → slice_get script.calls given ≡ Some placed
     → ((actor ≡ placed.actor) × (given_of script (given + 1) actor ≡ given_of script given actor + 1))
     ⊎ ((actor ≢ placed.actor) × (given_of script (given + 1) actor ≡ given_of script given actor))
-given_more script given actor {placed = placed} there = search (eq-eqb, one_more, ne_eqb, cases_eq, arith)
+given_more script given actor {placed = placed} there = search (eq-eqb, one_more, ne_eqb, arith)
   where
     one_more : given_of script (given + 1) actor ≡ given_of script given actor + cond (placed.actor == actor) 1 0
     one_more =

@@ -1,5 +1,5 @@
 -- The turns of calls.
-use Rattle.schedule.proofs.Words.{◌≡◌, ◌⊎◌, ⊎_elim, ℕ, zero, suc, ◌+◌, length, List, Option, Some, None, refl, ap, arith, IsTrue, is_some, false≢true, Disk, Unchanged, rows_of, Uber, Answer, OnlyFailedGoOut, point_of, read_touches, ScriptCall, fill_bytes, pattern_from, AttachRun, CopyRound, IsMoreAttach, StepsAttach, IsMoreRound, StepsCopy, GetRun, ToFill, Blocks, IsUnderWay, PutRun, Turn, Done, Core, CoreState, at_disk, IsReadKind, IsGetOf, BeginsGet, ReadsTurn, SolvesGet, EndsGet, IsFillable, IsPutOf, FillsPut, EndsPut, GivesUpTurn, left_to_fill, to_fill_of, turn_with, TurnGoesOn, reads_reaching, solved_of, fills_of, Work, MakesRoom, taken_for, BeginsCall, GoesOnBy, HasDeviceForTurn, IsFilledIn, MayGoOn, PutGoesOn, WritesOn, ReadGoesOn, WorkGoesOn, attach_turn, copy_turn, read_turn, made_in}
+use Rattle.schedule.proofs.Words.{◌≡◌, ◌⊎◌, ⊎_elim, ℕ, zero, suc, ◌+◌, length, List, Option, Some, None, refl, ap, arith, IsTrue, is_some, false≢true, Disk, Unchanged, rows_of, Uber, OnlyFailedGoOut, point_of, read_touches, ScriptCall, fill_bytes, pattern_from, AttachRun, CopyRound, IsMoreAttach, StepsAttach, IsMoreRound, StepsCopy, GetRun, ToFill, Blocks, IsUnderWay, PutRun, Turn, Done, Core, CoreState, at_disk, IsReadKind, IsGetOf, BeginsGet, ReadsTurn, SolvesGet, EndsGet, IsFillable, IsPutOf, FillsPut, EndsPut, GivesUpTurn, left_to_fill, to_fill_of, TurnGoesOn, reads_reaching, fills_of, Work, MakesRoom, taken_for, BeginsCall, GoesOnBy, IsFilledIn, MayGoOn, PutGoesOn, WritesOn, ReadGoesOn, WorkGoesOn, attach_turn, copy_turn, read_turn, made_in}
 use Rattle.std.specs.Prelude.{◌≤◌}
 use Rattle.core_state.specs.declared.answer.Answer.TheVariants as answer
 use Rattle.schedule.specs.declared.client.Work.TheVariants as work
@@ -83,7 +83,7 @@ read_goes_on before after run turn reads unchanged out =
 -- A read is the core's still once its block is solved.
 pub read_of : {core : Core} {run solved : GetRun} → (solved ≡ run) ⊎ SolvesGet run solved → IsGetOf core run
     → IsGetOf core solved
-read_of solves of = search (solved_of, arith)
+read_of solves of = search arith
 
 -- A read of which all columns were read ends, its block solved where memory was there.
 pub read_ends : (old new : Core) (disk : Disk) {run solved : GetRun} (turn : Turn GetRun)
@@ -101,17 +101,6 @@ put_fillable of len = search
 pub put_ahead : {core : Core} (call : ScriptCall) {run : PutRun} {block : ToFill} → MayGoOn core call (work.Put run)
     → left_to_fill run run.filled ≡ Some block → IsFillable block (fill_bytes call.fill)
 put_ahead call may left = grind (arith, put_fillable)
-
--- ---- works in their places
-
--- Neither brings a device.
-pub put_there : (disk : Disk) (next : PutRun) (given : Option Answer)
-    → HasDeviceForTurn disk (turn_with (work.Put next) given)
-put_there disk next given = grind arith
-
-pub read_there : (disk : Disk) (next : GetRun) (given : Option Answer)
-    → HasDeviceForTurn disk (turn_with (work.Read next) given)
-read_there disk next given = grind arith
 
 -- ---- attaches
 

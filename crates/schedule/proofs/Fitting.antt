@@ -71,7 +71,7 @@ pub attach_fits : {devices : ℕ} {dropped : WhyDropped → Type 0} {core : Core
     → asked ≡ kind.Attach → IsAnswerOf kind.Attach given → TellsOut core given
     → ((reached : ℕ) → given ≡ answer.Limit reached → reached ≡ max_group) → IsDeviceCause devices dropped given
     → Fits core devices dropped asked given
-attach_fits {core = core} {asked = asked} {given = given} is of = grind (arith, group_fits)
+attach_fits is of = grind (arith, group_fits)
 
 -- Its cause stands for whoever has come further.
 pub device_cause_on : (devices : ℕ) (dropped further : WhyDropped → Type 0) (given : Answer)

@@ -1,5 +1,5 @@
 -- Whose holds the sectors of a core are, turn by turn: who copies some, and who shares some, is a client.
-use Rattle.schedule.proofs.Words.{AreCopiers, AreGoing, AreIdle, AreSharers, Changes, Client, Copies, CopyRun, Core, IsGoing, List, None, Option, Script, Some, Station, TakesTurn, UnderWay, Work, [], ap, arith, calls_of, cases_eq, refl, shared_count, sharing_of, sharing_under, slice_get, suc, zero, ℕ, ◌+◌, ◌∷◌, ◌≡◌}
+use Rattle.schedule.proofs.Words.{AreCopiers, AreGoing, AreIdle, AreSharers, Changes, Client, Copies, CopyRun, Core, IsGoing, List, None, Option, Script, Some, Station, TakesTurn, UnderWay, Work, [], ap, arith, calls_of, refl, shared_count, sharing_of, sharing_under, slice_get, suc, zero, ℕ, ◌+◌, ◌∷◌, ◌≡◌}
 use Rattle.schedule.specs.declared.client.Work.TheVariants as work
 use Rattle.schedule.proofs.Theirs.{none_some, same_list, some_is}
 use Rattle.schedule.proofs.UsingTurns.{copier_after, job_in}
@@ -29,7 +29,7 @@ copiers_after {script} {actor} {before} {after} {clients} {news} takes leaves go
 
     copying : (was now : Option CopyRun) → job_under before.client.under_way ≡ was
         → job_under after.client.under_way ≡ now → Some who ≡ copier_after was now before.state.core.copying
-    copying was now was_is now_is = search (copier_after, arith)
+    copying was now was_is now_is = search arith
 
     own : (run : CopyRun) → job_under after.client.under_way ≡ Some run → who ≡ run.hold.actor → Found who
     own run is whose =
@@ -40,14 +40,11 @@ copiers_after {script} {actor} {before} {after} {clients} {news} takes leaves go
         rw there.2 at (going.each actor after.client there.0 goes).hold in
         search arith
 
-    others : job_under before.client.under_way ≡ None → before.state.core.copying ≡ Some who → Found who
-    others none did = search (none_some, some_is, job_in, cases_eq, arith)
-
     by : (was now : Option CopyRun) → job_under before.client.under_way ≡ was
         → job_under after.client.under_way ≡ now → Found who
-    by was (Some run) was_is now_is = search (own, some_is, copying, arith)
-    by (Some run) None was_is now_is = search (none_some, copying, arith)
-    by None None was_is now_is = search (others, copying, arith)
+    by was (Some run) was_is now_is = search (own, copying, arith)
+    by (Some run) None was_is now_is = search arith
+    by None None was_is now_is = search arith
 
 -- Where no client has a call under way nobody copies.
 pub none_copies : (core : Core) {clients : List Client} → AreCopiers clients core → AreIdle clients
@@ -77,7 +74,7 @@ sharing_changes (first ∷ old) (second ∷ new) (suc actor) there changes =
 pub sharers_after : {script : Script} {actor : ℕ} {before after : Station} {clients news : List Client}
     → TakesTurn script actor before after clients news → TurnLeaves (calls_of script actor) actor before after
     → AreSharers clients before.state.core → AreSharers news after.state.core
-sharers_after {actor = actor} {clients = clients} {news} takes leaves sharers = grind (arith, sharing_changes)
+sharers_after takes leaves sharers = grind (arith, sharing_changes)
 
 -- Where no call is under way they share none.
 idle_sharing : (clients : List Client) → AreIdle clients → sharing_of clients ≡ 0

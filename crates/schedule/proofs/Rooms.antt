@@ -1,6 +1,5 @@
 -- Room in a journal for the answers of calls.
-use Rattle.schedule.proofs.Words.{◌≡◌, ℕ, ◌+◌, ◌-◌, ◌*◌, ◌≤◌, ◌<◌, ◌≢◌, ⊎_elim, List, [], ◌∷◌, length, Option, Some, None, zero, suc, refl, ◌∙◌, ap, arith, eq-eqb, ne_eqb, slice_set, filter, slice_get, ◌==◌, cases_eq, length-map, Answer, Entry, ScriptCall, Placed, Script, More, Done, Client, UnderWay, Work, HasRoomForAnswers, MakesRoom, UsesRoom, all_owed, calls_by, owed, taken_for, taken_of, blank_clients, entry_for, group_by, made_by, made_in}
-use Rattle.schedule.proofs.Theirs.{some_is}
+use Rattle.schedule.proofs.Words.{◌≡◌, ℕ, ◌+◌, ◌-◌, ◌*◌, ◌≤◌, ◌<◌, ◌≢◌, List, [], ◌∷◌, length, Option, Some, None, zero, suc, refl, ◌∙◌, ap, arith, ne_eqb, slice_set, filter, slice_get, ◌==◌, cases_eq, length-map, Answer, Entry, ScriptCall, Placed, Script, More, Done, Client, UnderWay, Work, HasRoomForAnswers, MakesRoom, UsesRoom, all_owed, calls_by, owed, taken_for, taken_of, blank_clients, entry_for, group_by, made_by, made_in}
 
 -- A group takes room for one item.
 pub taken_one : (made : Option ℕ) → taken_for made ≤ 1
@@ -9,7 +8,7 @@ taken_one made = grind arith
 -- A client takes no more room than its calls have.
 pub taken_few : {calls : ℕ} {client : Client} → client.begun ≤ calls
     → ((under : UnderWay) → client.under_way ≡ Some under → 1 ≤ client.begun) → taken_of client ≤ 2 * calls
-taken_few {calls = calls} {client = client} few some = grind (arith, taken_one)
+taken_few few some = grind (arith, taken_one)
 
 -- ---- a turn of one client
 
@@ -38,18 +37,15 @@ listed_room call at entry_is made_is i = taken_for (group_by (entry_is i).answer
 -- A call under way of a client that has room for its calls.
 module _ (calls before room : ℕ) (client : Client) (under : UnderWay) (going : client.under_way ≡ Some under)
     (some : 1 ≤ client.begun) where
-  its_taken : taken_of client ≡ 2 * (client.begun - 1) + taken_for (made_in under.work)
-  its_taken = cc
-
   -- Once room was made there is some for the group that it lists,
   pub room_to_go : (next : Work) → client.begun ≤ calls → owed calls client ≤ before
       → MakesRoom under.work before room (More next) → taken_for (made_in next) ≤ room
-  room_to_go next few enough makes = search (its_taken, taken_one, arith)
+  room_to_go next few enough makes = search arith
 
   -- or for its answer and the group that comes with it,
   pub room_to_end : (given : Answer) → client.begun ≤ calls → owed calls client ≤ before
       → MakesRoom under.work before room (Done given) → taken_for (group_by given (made_by under.work)) + 1 ≤ room
-  room_to_end given few enough makes = search (its_taken, taken_one, arith)
+  room_to_end given few enough makes = search arith
 
   -- and no more is taken than what these need.
   pub going_uses : (after at : ℕ) (next : Work) → MakesRoom under.work before room (More next)
@@ -57,13 +53,13 @@ module _ (calls before room : ℕ) (client : Client) (under : UnderWay) (going :
         begun = client.begun;
         under_way = Some (record { at = at; work = next });
       })
-  going_uses after at next makes uses = search (its_taken, arith)
+  going_uses after at next makes uses = search arith
 
   pub ended_uses : (after : ℕ) (given : Answer) {left : Option UnderWay} → left ≡ None
       → MakesRoom under.work before room (Done given)
       → room ≤ after + (taken_for (group_by given (made_by under.work)) + 1)
       → UsesRoom before after client (record { begun = client.begun; under_way = left })
-  ended_uses after given none makes uses = search (its_taken, arith)
+  ended_uses after given none makes uses = search arith
 
 -- ---- one client among all
 
@@ -71,7 +67,7 @@ module _ (calls before room : ℕ) (client : Client) (under : UnderWay) (going :
 owed_few : (calls : ℕ → ℕ) (clients : List Client) (index : ℕ) {client : Client}
     → slice_get clients index ≡ Some client → owed (calls index) client ≤ all_owed calls clients
 owed_few calls [] index there = cc
-owed_few calls (first ∷ clients) zero there = search (some_is, arith)
+owed_few calls (first ∷ clients) zero there = search arith
 owed_few calls (first ∷ clients) (suc index) there =
     omega (arith, owed_few (λ actor. calls (suc actor)) clients index there)
 
@@ -80,7 +76,7 @@ owed_set : (calls : ℕ → ℕ) (clients : List Client) (place : ℕ) (was now 
     → all_owed calls (slice_set clients place now) + owed (calls place) was
     ≡ all_owed calls clients + owed (calls place) now
 owed_set calls [] place was now there = cc
-owed_set calls (first ∷ clients) zero was now there = search (some_is, arith)
+owed_set calls (first ∷ clients) zero was now there = search arith
 owed_set calls (first ∷ clients) (suc place) was now there =
     omega (arith, owed_set (λ actor. calls (suc actor)) clients place was now there)
 
@@ -98,13 +94,9 @@ pub room_after : {script : Script} {place actor before after : ℕ} (clients : L
     → place ≡ actor → HasRoomForAnswers script clients before → slice_get clients actor ≡ Some was
     → taken_of was ≤ 2 * calls_by script actor → taken_of now ≤ 2 * calls_by script actor
     → UsesRoom before after was now → HasRoomForAnswers script (slice_set clients place now) after
-room_after {script = script} {actor = actor} clients was now same has there few few_now uses =
-    rw same (record {
-      enough =
-          let enough = has.enough in
-          let set = owed_set (calls_by script) clients actor was now there in
-          omega (arith, enough, set, few, few_now, uses);
-    })
+room_after {script} {actor = actor} clients was now same has there few few_now uses =
+    let set = owed_set (calls_by script) clients actor was now there in
+    rw same (record { enough = omega (arith, has.enough, set, few, few_now, uses) })
 
 -- ---- before the first turn
 
@@ -124,7 +116,7 @@ other_call first calls caller apart = search ne_eqb
 own_call : (first : Placed) (calls : List Placed) (caller : ℕ) → first.actor ≡ caller
     → length (filter (λ (placed : Placed). placed.actor == caller) (first ∷ calls))
     ≡ length (filter (λ (placed : Placed). placed.actor == caller) calls) + 1
-own_call first calls caller same = search (eq-eqb, arith)
+own_call first calls caller same = search arith
 
 -- So one call is at most one of theirs, and none where it is an earlier client's.
 one_call_more : (first : Placed) (calls : List Placed) (caller count : ℕ)
@@ -133,8 +125,7 @@ one_call_more : (first : Placed) (calls : List Placed) (caller count : ℕ)
 one_call_more first calls caller zero = omega arith
 one_call_more first calls caller (suc count) =
     let later = one_call_more first calls (caller + 1) count in
-    ⊎_elim (λ same. omega (arith, own_call first calls caller same, later, same))
-    (λ apart. omega (arith, other_call first calls caller apart, later)) (cases_eq first.actor caller)
+    grind (arith, own_call, other_call, cases_eq)
 
 -- So they have no more calls than there are.
 calls_few : (calls : List Placed) (caller count : ℕ) → calls_from calls caller count ≤ length calls

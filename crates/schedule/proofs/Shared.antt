@@ -3,7 +3,7 @@ use Rattle.schedule.proofs.Words.{◌≡◌, inl, inr, ⊎_elim, ℕ, ◌+◌, �
 use Rattle.uberblock_ring.specs.Devices.{count_of}
 use Rattle.core_state.specs.declared.answer.Kind.TheVariants as kind
 use Rattle.schedule.proofs.Theirs.{none_some}
-use Rattle.schedule.proofs.UsingTurns.{adds_shared, is_shared_hold}
+use Rattle.schedule.proofs.UsingTurns.{is_shared_hold}
 
 -- ---- no call waits
 
@@ -26,22 +26,13 @@ pub record IsQuiet (core : Core) : Type 0 where
   pub committing : (HasTooManyOut core → ⊥) → (other : ℕ) → core.committing ≡ Some other → ⊥
   pub attaching : (other : ℕ) → core.attaching ≡ Some other → ⊥
 
--- as there, where no more devices are out.
+-- So no hold is exclusive there, unless too many devices are out.
 core_alone : {core : Core} → IsQuiet core → (HasTooManyOut core → ⊥) → HasNoneAlone core.holds
-core_alone {core = core} quiet few = none_alone core.holds (search (none_under, quiet.is, arith))
-  where
-    none_under : (committing : Option ℕ) → ((other : ℕ) → committing ≡ Some other → ⊥) → committing ≡ None
-    none_under None never = refl
-    none_under (Some other) never = absurd (never other refl)
+core_alone {core} quiet few = none_alone core.holds (search arith)
 
 -- Nothing shared is in the way of a shared hold.
 none_busy : {holds : List Hold} {lo hi by : ℕ} → HasNoneAlone holds → IsBusyBy holds lo hi Shared by → ⊥
-none_busy alone busy = ⊎_elim
-    (search)
-    (λ exclusive. apart exclusive) busy.blocks.exclusive
-  where
-    apart : Shared ≡ Exclusive → ⊥
-    apart same = cc
+none_busy alone busy = ⊎_elim (search) (λ (same : Shared ≡ Exclusive). cc) busy.blocks.exclusive
 
 -- No hold is shared where none is counted,
 none_shared : (holds : List Hold) → shared_count holds ≡ 0 → (hold : Hold) → Contains holds hold
@@ -50,7 +41,7 @@ none_shared [] none hold listed shared = contains_none hold listed
 none_shared (first ∷ holds) none hold listed shared =
     let more = sum_by-cons (one_if is_shared_hold) first holds in
     ⊎_elim
-    (search (adds_shared, one_if, is_shared_hold, arith))
+    (search arith)
     (λ there. none_shared holds (omega arith) hold there shared) (contains_cases first holds hold listed)
 
 -- and so nothing is in the way of a job where none is held alone either.
@@ -83,11 +74,10 @@ no_round_waits core by quiet busy = elim busy [
 none_waits : (old new : Core) (devices actor : ℕ) (call : ScriptCall) (asked : Kind) (id : Option ℕ) (by : ℕ)
     → IsQuiet old → Waits old new devices actor call asked id by → ⊥
 none_waits old new devices actor call kind.Put (Some id) by quiet waits = search (none_busy, core_alone)
-none_waits old new devices actor call kind.Get (Some id) by quiet waits = search (none_busy, core_alone, arith)
+none_waits old new devices actor call kind.Get (Some id) by quiet waits = search (none_busy, core_alone)
 none_waits old new devices actor call kind.Sum (Some id) by quiet waits = search (none_busy, core_alone, arith)
 none_waits old new devices actor call kind.Sync None by quiet waits = quiet.committing waits.0 by waits.1
-none_waits old new devices actor call kind.Attach None by quiet waits = search
-    (quiet.committing, quiet.attaching, arith)
+none_waits old new devices actor call kind.Attach None by quiet waits = search arith
 none_waits old new devices actor call kind.Copy None by quiet waits = search no_round_waits
 none_waits old new devices actor call asked id by quiet waits = absurd waits
 

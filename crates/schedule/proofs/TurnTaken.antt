@@ -33,8 +33,8 @@ allowed_of script actor allowed number call is = all_at IsAllowed (calls_of scri
 pub going_may : {script : Script} {core : Core} {clients : List Client} {index : ℕ} {client : Client} {under : UnderWay}
     {call : ScriptCall} → AreGoing script core clients → IsGoing clients index client under
     → slice_get (calls_of script index) (client.begun - 1) ≡ Some call → MayGoOn core call under.work
-going_may {script = script} {core = core} {clients = clients} {index = index} {client = client} {under = under}
-    {call = call} going is asked = may under.work refl (rw (← some_is (sym mine.there ∙ asked)) mine.asked)
+going_may {script} {core} {clients} {index} {client} {under} {call} going is asked =
+    may under.work refl (rw (← some_is (sym mine.there ∙ asked)) mine.asked)
   where
     mine : IsWorkOf script core index client under.work
     mine = going.each index client under is
@@ -46,7 +46,7 @@ going_may {script = script} {core = core} {clients = clients} {index = index} {c
     may : (does : Work) → under.work ≡ does → IsWorkFor call does → MayGoOn core call does
     may (work.Put run) same for =
         let listed = among (work.Put run) (Putting run) same (first_listed (Putting run) []) in search
-        (range_listed, going.are.each, going.are.under.each, arith)
+        (range_listed, going.are.each, going.are.under.each)
     may (work.Read run) same for = going.are.each (Reading run) (search (among, first_listed))
     may (work.Sync run) same for = (mine.commit run (cc)).0
     may (work.Attach run) same for = (mine.attach run same).0
@@ -59,7 +59,7 @@ going_may {script = script} {core = core} {clients = clients} {index = index} {c
 -- Where one place of a list is set, it has that, and the others are as they were.
 set_here : {X : Type 0} (xs : List X) (place : ℕ) {x : X} → place < length xs
     → slice_get (slice_set xs place x) place ≡ Some x
-set_here xs place {x} low = search (slice_get_read, get_or-set_same, length-set, arith)
+set_here xs place low = search (slice_get_read, get_or-set_same, length-set)
 
 set_others : {X : Type 0} (xs : List X) (place : ℕ) (x : X) (other : ℕ) → other ≢ place
     → slice_get (slice_set xs place x) other ≡ slice_get xs other
@@ -68,21 +68,22 @@ set_others (first ∷ xs) zero x zero apart = absurd (apart refl)
 set_others (first ∷ xs) (suc place) x (suc other) apart = set_others xs place x other (λ same. apart (cc))
 set_others (first ∷ xs) place x other apart = refl
 
+-- The client at a place is the one of that number,
 pub client_there : (clients : List Client) {place actor : ℕ} {client : Client} → place ≡ actor → place < length clients
     → client ≡ slice_index_or clients place client → slice_get clients actor ≡ Some client
-client_there clients same low is = search (slice_get-get_or, slice_index_or, arith)
+client_there clients same low is = search (slice_get-get_or, arith)
 
 -- and changes there alone.
 changes_at : (clients : List Client) (place : ℕ) {actor : ℕ} (client : Client) → place ≡ actor → place < length clients
     → Changes clients (slice_set clients place client) actor client
-changes_at clients place client same low = search (slice_set, set_here, set_others, arith)
+changes_at clients place client same low = search (set_here, set_others, arith)
 
 -- A turn leaves what each leaves, since the call under way is what the script asks for.
 leaves_of : {script : Script} {actor : ℕ} {before after : Station} {clients : List Client}
     → AreGoing script before.state.core clients → slice_get clients actor ≡ Some before.client
     → IsCore before.state.core
     → Turned (calls_of script actor) actor before after → TurnLeaves (calls_of script actor) actor before after
-leaves_of going was is turned = search (turn_leaves, going_may, arith)
+leaves_of going was is turned = search (turn_leaves, going_may)
 
 -- Where a client had a turn, the others stay as they are.
 pub takes_turn : {script : Script} {place actor : ℕ} {before : Station} (after : Station) {clients : List Client}
@@ -93,7 +94,7 @@ pub takes_turn : {script : Script} {place actor : ℕ} {before : Station} (after
     → TakesTurn script actor before after clients (slice_set clients place after.client)
 takes_turn {place = place} after {clients} schedule was same low is lawful there turned =
     let changes = changes_at clients place after.client same low in
-    let leaves = leaves_of schedule.going was is turned in search (turn_uses, leaves, turn_drops, turn_numbers, arith)
+    let leaves = leaves_of schedule.going was is turned in search (turn_uses, turn_drops, turn_numbers, arith)
 
 -- A client of the script took a turn.
 module _ {script : Script} {actor : ℕ} {before after : Station} (clients : List Client) {news : List Client}
@@ -105,7 +106,7 @@ module _ {script : Script} {actor : ℕ} {before after : Station} (clients : Lis
   comes = search (turned_comes, allowed_of)
 
   leaves : TurnLeaves (calls_of script actor) actor before after
-  leaves = search (leaves_of, arith)
+  leaves = search leaves_of
 
   -- Where no client has a call under way, nothing is under way in the core.
   quiet : AreIdle clients → IsQuiet before.state.core
@@ -113,7 +114,7 @@ module _ {script : Script} {actor : ℕ} {before after : Station} (clients : Lis
     is = takes.is;
     copying = none_copies before.state.core copying idle;
     shared = search none_shares;
-    committing = λ few other is. search (none_some, arith);
+    committing = λ few other is. search arith;
     attaching = λ other is. search (none_some, arith);
   }
 
@@ -122,7 +123,7 @@ module _ {script : Script} {actor : ℕ} {before after : Station} (clients : Lis
     there = takes.changes.there;
     further = grind (arith, leaves.begins);
     still = λ under going. grind (arith, leaves.begins);
-    begins = λ idle low. search (turned_begins, quiet, idle.each, arith);
+    begins = λ idle low. search (turned_begins, quiet, idle.each);
   }
 
   pub turn_taken : HasTurn script actor (turns_of before.state before.items clients)
@@ -138,7 +139,7 @@ module _ {script : Script} {actor : ℕ} {before after : Station} (clients : Lis
       );
     };
     others = takes.changes.others;
-    takes = search (some_is, takes_one, arith);
+    takes = search (takes_one, arith);
   }
 
   -- It has taken no more room than its calls have.

@@ -1,5 +1,5 @@
 -- The calls that are left of a script and the runs of sectors that were taken, as they come.
-use Rattle.schedule.proofs.Words.{◌≡◌, ◌≢◌, ⊎_elim, ℕ, ◌+◌, ◌≤◌, List, [], ◌∷◌, ◌++◌, length, Some, refl, sym, ◌∙◌, arith, eq-eqb, ne_eqb, length-append, drop, drop-cons, flat_map, map, slice_get, sum, cases_eq, flat_map-append, append-nil, map-append, sum_by-append, slice_get_within, get_or_from_slice_get, Run, Space, Gains, HasNoFreeRun, IndexEntry, Uber, sectors_in, IsTight, full_tight, ScriptCall, fill_bytes, Placed, Script, calls_of, Core, length_put, largest_size, Client, Changes, AreAtMost, AreLeft, AreRunsOf, calls_among, sizes_left, sizes_of, sizes_put}
+use Rattle.schedule.proofs.Words.{◌≡◌, ◌≢◌, ⊎_elim, ℕ, ◌+◌, ◌≤◌, List, [], ◌∷◌, ◌++◌, length, Some, refl, arith, eq-eqb, ne_eqb, length-append, drop, drop-cons, flat_map, map, slice_get, sum, cases_eq, flat_map-append, append-nil, map-append, sum_by-append, slice_get_within, get_or_from_slice_get, Run, Space, Gains, HasNoFreeRun, IndexEntry, Uber, sectors_in, IsTight, full_tight, ScriptCall, fill_bytes, Placed, Script, calls_of, Core, length_put, largest_size, Client, Changes, AreAtMost, AreLeft, AreRunsOf, calls_among, sizes_left, sizes_of, sizes_put}
 use Rattle.std.proofs.Common.{add-one}
 use Rattle.schedule.proofs.Theirs.{some_is}
 
@@ -8,12 +8,12 @@ use Rattle.schedule.proofs.Theirs.{some_is}
 -- A call before some others is its client's first,
 among_its : (first : Placed) (calls : List Placed) (actor : ℕ) → first.actor ≡ actor
     → calls_among (first ∷ calls) actor ≡ first.call ∷ calls_among calls actor
-among_its first calls actor same = search (eq-eqb, same)
+among_its first calls actor same = search eq-eqb
 
 -- and no other's.
 among_not : (first : Placed) (calls : List Placed) (actor : ℕ) → first.actor ≢ actor
     → calls_among (first ∷ calls) actor ≡ calls_among calls actor
-among_not first calls actor apart = search (ne_eqb, apart)
+among_not first calls actor apart = search ne_eqb
 
 -- A call is taken out of some calls, the first of its client.
 pub record TakesFirst (calls next : List Placed) (actor : ℕ) (call : ScriptCall) (rest : List ScriptCall) : Type 0 where
@@ -31,38 +31,16 @@ take_first (first ∷ calls) actor call rest is =
     ⊎_elim here (further (take_first calls actor call rest)) (cases_eq first.actor actor)
   where
     here : first.actor ≡ actor → (next : List Placed) × TakesFirst (first ∷ calls) next actor call rest
-    here same =
-        let split : first.call ∷ calls_among calls actor ≡ call ∷ rest = sym (among_its first calls actor same)
-        ∙ is in (
-          calls,
-          record {
-            placed = first;
-            call_is = cc;
-            gains = record { before = []; after = calls; was = refl; is = refl };
-            its = cc;
-            others = λ other apart. search (among_not, arith);
-          },
-        )
+    here same = (calls, search (among_its, among_not, arith))
 
     further : (calls_among calls actor ≡ call ∷ rest → (next : List Placed) × TakesFirst calls next actor call rest)
         → first.actor ≢ actor → (next : List Placed) × TakesFirst (first ∷ calls) next actor call rest
     further take apart =
-        let taken = take (sym (among_not first calls actor apart) ∙ is) in
-        let takes = taken.1 in (
-          first ∷ taken.0,
-          record {
-            placed = takes.placed;
-            call_is = takes.call_is;
-            gains = record {
-              before = first ∷ takes.gains.before;
-              after = takes.gains.after;
-              was = cc;
-              is = cc;
-            };
-            its = among_not first taken.0 actor apart ∙ takes.its;
-            others = λ other away. search (among_its, among_not, takes.others, cases_eq, arith);
-          },
-        )
+        let taken = take (search (among_not, arith)) in
+        let takes = taken.1 in
+        let gains : Gains (first ∷ taken.0) (first ∷ calls) takes.placed =
+        record { before = first ∷ takes.gains.before; after = takes.gains.after; was = cc; is = cc } in
+        (first ∷ taken.0, search (among_its, among_not, arith))
 
 module _ {script : Script} {clients news : List Client} {actor : ℕ} {old new : Client}
     (changes : Changes clients news actor new) (was : slice_get clients actor ≡ Some old) {left : List Placed}
@@ -70,28 +48,24 @@ module _ {script : Script} {clients news : List Client} {actor : ℕ} {old new :
   -- So these are left where they are the client's own still, and the others' as they were:
   left_by : {next : List Placed} → calls_among next actor ≡ drop new.begun (calls_of script actor)
       → ((other : ℕ) → other ≢ actor → calls_among next other ≡ calls_among left other) → AreLeft script news next
-  left_by {next} its others = record { each = λ index client there. search (some_is, cases_eq, arith) }
+  left_by its others = search (some_is, cases_eq, arith)
 
   -- the same, where the client begins no call,
   pub left_same : new.begun ≡ old.begun → AreLeft script news left
-  left_same begun = left_by (rw begun (are.each actor old was)) (λ other apart. refl)
+  left_same begun = search (left_by, arith)
 
   -- and where it begins its next one, those but that.
   pub left_next : (call : ScriptCall) → slice_get (calls_of script actor) old.begun ≡ Some call
       → new.begun ≡ old.begun + 1
       → (next : List Placed) × (placed : Placed) × (placed.call ≡ call) × Gains next left placed
       × AreLeft script news next
-  left_next call is begun =
-      let taken = take_first left actor call (drop new.begun (calls_of script actor))
-      (are.each actor old was ∙ split) in
-      (taken.0, taken.1.placed, taken.1.call_is, taken.1.gains, left_by taken.1.its taken.1.others)
+  left_next call is begun = grind (arith, take_first, split, left_by)
     where
       split : drop old.begun (calls_of script actor) ≡ call ∷ drop new.begun (calls_of script actor)
       split = rw (
         begun,
         add-one,
-        drop-cons (calls_of script actor) old.begun call
-            (slice_get_within (calls_of script actor) old.begun call is),
+        drop-cons (calls_of script actor) old.begun call (search (slice_get_within, arith)),
         get_or_from_slice_get (calls_of script actor) old.begun call call is,
       )
 
@@ -102,8 +76,7 @@ module _ (uber : Uber) where
   gained_sizes : (next left : List Placed) (placed : Placed) → Gains next left placed
       → (length (sizes_left uber left) ≡ length (sizes_left uber next) + length (sizes_put uber placed))
       × (sum (sizes_left uber left) ≡ sum (sizes_left uber next) + sum (sizes_put uber placed))
-  gained_sizes next left placed gains =
-      simp (gains.was, gains.is, flat_map-append, length-append, sum_by-append) (omega arith)
+  gained_sizes next left placed gains = grind (arith, flat_map-append, length-append, sum_by-append)
 
   -- Runs of no more than the call's size may come in its place.
   pub most_next : {runs : List Run} (more : List Run) (next : List Placed) {left : List Placed}
@@ -137,7 +110,7 @@ full_beside : {runs : List Run} {core : Core} (size : ℕ) → AreRunsOf runs co
 full_beside size are full start free = full start (λ sector inside. let its = free sector inside in record {
   below = its.below;
   untaken = search arith;
-  not_held = λ held. search (its.untaken, are.held, arith);
+  not_held = λ held. search (its.untaken, are.held);
   not_shared = λ shared. let within = are.holds shared.0 shared.1 shared.2 in search arith;
 })
 

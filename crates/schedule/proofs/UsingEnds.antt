@@ -1,8 +1,7 @@
 -- What the later turns of puts and reads leave, and how a commit ends.
-use Rattle.schedule.proofs.Words.{Answer, AnswersGroup, AnswersSolved, Blocks, Bool, CommitRun, CopyRun, Core, CoreState, Done, EndsGet, EndsHold, EndsPut, EndsPutting, EndsReading, GetRun, GivesUp, GivesUpTurn, HeldRun, Hold, IsCommitOf, IsCore, IsFilledIn, IsGetOf, IsPutOf, IsSyncRefused, List, None, Option, Pool, PutRun, ScriptCall, Shared, Solved, Some, StepsCommit, Uber, [], after_group, ap, arith, blocks_behind, cases_lt, filter, filter_was, gains_old, get_shared, group_by, grown_by, if◌then◌else◌, inl, inr, nat_lt, put_shared, ready_keeps, sectors_of, subst, sym, ℕ, ⊤, ◌≡◌}
+use Rattle.schedule.proofs.Words.{Answer, AnswersGroup, Blocks, Bool, CommitRun, CopyRun, Core, CoreState, Done, EndsGet, EndsHold, EndsPut, EndsPutting, EndsReading, GetRun, GivesUp, GivesUpTurn, HeldRun, Hold, IsCommitOf, IsCore, IsFilledIn, IsGetOf, IsPutOf, IsSyncRefused, List, None, Option, Pool, PutRun, ScriptCall, Shared, Some, StepsCommit, Uber, [], after_group, ap, arith, blocks_behind, filter, filter_was, gains_old, get_shared, group_by, grown_by, if◌then◌else◌, inl, inr, nat_lt, put_shared, sectors_of, subst, sym, ℕ, ⊤, ◌≡◌}
 use Rattle.core_state.specs.declared.answer.Answer.TheVariants as answer
 use Rattle.schedule.proofs.Stays.{answers_stays}
-use Rattle.schedule.proofs.Theirs.{none_some}
 use Rattle.schedule.proofs.UsingTurns.{GoesAs, adds_shared, frees_back, frees_none, goes_as, goes_nowhere, runs_still, shares_dropped, shares_ended}
 
 -- An answer that neither comes with a group nor tells of no space.
@@ -21,7 +20,7 @@ pub record EndsPlainly (given : Answer) (made : Option ℕ) : Type 0 where
 
 -- So it does with a plain answer,
 pub plain_ends : {given : Answer} {made : Option ℕ} → IsPlainEnd given → EndsPlainly given made
-plain_ends {given} {made} plain = grind arith
+plain_ends plain = grind arith
 
 -- and so where a commit is refused.
 pub commit_plain : (core : Core) (given : Answer) → IsSyncRefused core given → EndsPlainly given None
@@ -42,7 +41,7 @@ module _ {old new : Core} {given : Answer} {job : Option CopyRun} {had : ℕ} wh
   -- and with one.
   pub ends_grouped : {made : Option ℕ} {number : ℕ} → group_by given made ≡ Some number
       → GoesAs old new [] (Some number) job None had 0 → EndsAs old new given made job had
-  ends_grouped is goes = record { goes = rw is goes; space = λ size told. search (none_some, arith) }
+  ends_grouped is goes = record { goes = rw is goes; space = λ size told. search arith }
 
 module _ (blocks : Blocks) (group capacity : ℕ) where
   abbrev grown_if : Bool → Blocks
@@ -82,7 +81,7 @@ module _ (before after : CoreState) where
       → IsPlainEnd given × GoesAs old new [] None None None 1 0
   put_stored run answer.Stored shared ends = (
     tt,
-    goes_as (ap (λ (c : Core). c.pool.uber) ends.rest) (cc) (search (frees_back, arith))
+    goes_as (ap (λ (c : Core). c.pool.uber) ends.rest) (cc) (search frees_back)
         (shares_ended ends.ends) (omega (arith, adds_shared run.hold shared)),
   )
   put_stored run (answer.TooManyFailed out) shared ends = (tt, put_dropped run shared ends.gives_up)
@@ -107,7 +106,7 @@ module _ (before after : CoreState) where
       elim ends.ends [
         | inl writes ↦ (
           subst IsPlainEnd (sym writes.0.given_is) tt,
-          search (put_dropped, arith),
+          search put_dropped,
         )
         | inr (inl last) ↦ put_stored ends.filled given still last.3
         | inr (inr gives) ↦ put_given_up run given shared gives.2
@@ -116,11 +115,8 @@ module _ (before after : CoreState) where
   -- ---- reads
 
   -- What was solved is answered plainly.
-  solved_plain : (run : GetRun) (solved : Solved) (given : Answer) → AnswersSolved run solved given → IsPlainEnd given
-  solved_plain run solved given is = grind arith
-
   read_plain : (run : GetRun) (given : Answer) → EndsGet old run new (Done given) → IsPlainEnd given
-  read_plain run given ends = search (solved_plain, cases_lt, arith)
+  read_plain run given ends = search arith
 
   -- Its hold ends.
   read_held : (hold : Hold) → hold.kind ≡ Shared → new ≡ record old { holds = new.holds }
@@ -131,7 +127,7 @@ module _ (before after : CoreState) where
   pub read_ends : (run : GetRun) (given : Answer) → IsGetOf old run → EndsReading before after run given
       → IsPlainEnd given × GoesAs old new [] None None None 1 0
   read_ends run given of ends = let shared = get_shared old run of in elim ends.ends [
-    | inl reads ↦ (subst IsPlainEnd (sym reads.0.given_is) tt, search (read_held, arith))
+    | inl reads ↦ (subst IsPlainEnd (sym reads.0.given_is) tt, search read_held)
     | inr last ↦ (read_plain last.0 given last.3, read_held last.0.hold (search arith) last.3.rest last.3.ends)
   ]
 
@@ -140,11 +136,10 @@ module _ (before after : CoreState) where
   -- The group of a commit that is answered is the next one; what was held back until then is free, and what its commit
   -- held.
   pub group_ends : {run : CommitRun} {number : ℕ} → IsCore old → IsCommitOf old run
-      → AnswersGroup before run after number
-      → GoesAs old new [] (Some number) None None 0 0
+      → AnswersGroup before run after number → GoesAs old new [] (Some number) None None 0 0
   group_ends is of answers = let shares = shares_dropped answers.answers.holds in record {
     stays = answers_stays before is of answers;
-    group = search (ready_keeps, arith);
+    group = search arith;
     copying = cc;
     shared = omega (arith, shares.few);
     runs = runs_still (record {

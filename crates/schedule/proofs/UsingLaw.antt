@@ -68,7 +68,7 @@ module _ {script : Script} {actor : ℕ} {before after : Station} {clients news 
       next (begun, idle, call, there, fits) =
           let left = left_next changes was stood.used.are_left call there begun in
           let its : FitsPut uber leaves.more (length_put left.1.call.kind (fill_bytes left.1.call.fill)) =
-          rw left.2 (fits uber stood.opened) in search (most_next, leaves.goes.runs, arith)
+          rw left.2 (fits uber stood.opened) in search (most_next, leaves.goes.runs)
 
   -- ---- a put that finds no space
 
@@ -101,13 +101,13 @@ module _ {script : Script} {actor : ℕ} {before after : Station} {clients news 
 
   finds : (entry : Entry) {size : ℕ} → FindsNone (calls_of script actor) actor before entry size
       → FindsNoSpace script uber entries before.items (length before.items) entry size
-  finds entry {size} found = let born_as = born_of (length (fill_bytes found.call.fill)) in rw found.entry_is (record {
+  finds entry found = let born_as = born_of (length (fill_bytes found.call.fill)) in rw found.entry_is (record {
     group = stood.last.group;
     before = stood.last.latest;
     born = born_as.0;
     behind = search (all, arith);
     size_is = grind (arith, all, handed);
-    tight = tight_below wide (search (full_by_runs, arith));
+    tight = tight_below wide (search full_by_runs);
   })
     where
       all : before.items ≡ take (length before.items) before.items

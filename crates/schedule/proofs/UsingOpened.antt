@@ -36,7 +36,7 @@ module _ (script : Script) (pool : Pool) (disk : Disk) (right : IsRightUber pool
       let split = sizes_split pool.uber entries script.calls in
       let few = uses.runs in
       let small = uses.sectors in
-      search (split, length-append, sum_by-append, arith)
+      search (length-append, sum_by-append, arith)
 
   -- A run of turns begins with that.
   pub uses_first : HasUsedRuns script pool.uber entries (resting pool) (Group (first_item pool) ∷ [])

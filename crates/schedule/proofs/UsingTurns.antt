@@ -35,7 +35,7 @@ pub record SharesLess (old new : List Hold) (less : ℕ) : Type 0 where
 module _ {old new : List Hold} where
   -- So it is where the holds stay,
   pub shares_same : new ≡ old → SharesLess old new 0
-  shares_same same = search (same, arith)
+  shares_same same = search arith
 
   -- where one is held alone,
   pub shares_alone : {hold : Hold} → hold.kind ≡ Exclusive → Gains old new hold → SharesLess old new 0
@@ -71,7 +71,7 @@ pub record FreesSome (old new : Space) : Type 0 where
 
 -- So it is where the space stays,
 pub frees_none : {old new : Space} → new ≡ old → FreesSome old new
-frees_none same = search (same, arith)
+frees_none same = search arith
 
 -- or the sectors of a block that is gone are held back.
 pub frees_back : {old new : Space} (parity : ℕ) (births : List Birth) (group : ℕ) (gone : Option IndexEntry)
@@ -124,7 +124,7 @@ module _ {old new : Core} where
   runs_still frees shares runs are = record {
     taken = search arith;
     held = λ run listed. ⊎_elim (are.held run) (are.taken (held_sectors run)) (frees.held run listed);
-    holds = λ hold listed shared. search (shared, arith);
+    holds = λ hold listed shared. search arith;
   }
 
   -- So a turn goes that leaves the uberblock.
@@ -151,7 +151,7 @@ module _ {old new : Core} where
   -- or but for devices that went out,
   pub core_goes : {out has : ℕ} → new ≡ record old { pool = record old.pool { out = out } }
       → GoesAs old new [] None None None has has
-  core_goes rest = search (goes_still, arith)
+  core_goes rest = search arith
 
   -- or for the order of blocks,
   left_goes : LeavesBlocks old new → GoesOn old new
@@ -191,11 +191,11 @@ module _ {old : Core} (new : Core) (is : IsCore old) where
       → IsOpenSince uber old → allocated_of run.range.layout ≤ largest_size uber len
   put_size len run begins uber since =
       let most = largest (as_begun old).uber len (old.begun + 1) is.is.right in
-      search (most, arith)
+      search arith
 
   -- A hold that is in runs is in more of them.
   held_further : (runs : List Run) {run : Run} {hold : Hold} → IsHeldIn runs hold → IsHeldIn (run ∷ runs) hold
-  held_further runs {run} is = grind (arith, rest_listed, runs)
+  held_further runs is = grind (arith, rest_listed, runs)
 
   -- A put takes one run, and holds it.
   put_begins : (actor id : ℕ) {len : ℕ} (run : PutRun) → BeginsPutTurn old new actor id len (More run)
@@ -203,13 +203,13 @@ module _ {old : Core} (new : Core) (is : IsCore old) where
   put_begins actor id {len} run begins = record {
     more = put_run run.range ∷ [];
     goes = record {
-      stays = search (stays_same, arith);
+      stays = search arith;
       group = search arith;
       copying = cc;
       shared = omega (arith, shared_more (cc) begins.holds);
       runs = λ runs are. record {
         taken = λ other listed. ⊎_elim
-            (search (runs, first_listed, arith)) (search (rest_listed, runs, arith))
+            (search arith) (search (rest_listed, arith))
             (gains_cases old.pool.blocks.space.taken new.pool.blocks.space.taken (put_run run.range) other
             begins.begins.taken.taken listed);
         held = λ other listed. rest_listed (put_run run.range) (held_sectors other) runs (search arith);
@@ -242,7 +242,7 @@ module _ {old : Core} (new : Core) (is : IsCore old) where
       taken = search arith;
       held = search arith;
       holds = λ hold listed shared. ⊎_elim
-          (search (runs, its, arith))
+          (search (its, arith))
           (λ was. are.holds hold was shared) (gains_cases old.holds new.holds run.hold hold begins.9 listed);
     };
   }
@@ -252,7 +252,7 @@ module _ {old : Core} (new : Core) (is : IsCore old) where
 
       taken : Contains old.pool.blocks.space.taken block
       taken = subst (λ (p : ℕ). Contains old.pool.blocks.space.taken (run_of p old.pool.uber.births run.entry))
-          is.is.parity (rw is.is.births at (is.step.each run.entry (search (found_listed, arith))).taken)
+          is.is.parity (rw is.is.births at (is.step.each run.entry (search found_listed)).taken)
 
       its : (runs : List Run) → AreRunsOf runs old → IsHeldIn runs (hold_of old.pool.uber run.entry actor)
       its runs are = record {
@@ -297,9 +297,8 @@ module _ {old : Core} (new : Core) (is : IsCore old) where
 
   frees_goes : (id : ℕ) (given : Answer) → FreesBlock old new id given → GoesOn old new
   frees_goes id answer.Freed frees =
-      goes_as (ap (λ (c : Core). c.pool.uber) frees.2.rest) (cc) (search (frees_back, arith)) (shares_same (cc))
-      (omega arith)
-  frees_goes id answer.Absent frees = search (goes_still, arith)
+      goes_as (ap (λ (c : Core). c.pool.uber) frees.2.rest) (cc) (search frees_back) (shares_same (cc)) (omega arith)
+  frees_goes id answer.Absent frees = search arith
   frees_goes id (answer.TooManyFailed out) frees = goes_nowhere frees.2
   frees_goes id other frees = absurd frees
 

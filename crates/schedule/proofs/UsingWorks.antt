@@ -47,7 +47,7 @@ module _ (before after : CoreState) (is : IsCore before.core) where
   works_go call (work.Read run) (work.Read next) may goes = core_goes goes.reads.2
   works_go call (work.Sync run) (work.Sync next) may goes = core_goes goes.2
   works_go call (work.Attach run) (work.Attach next) may goes = attach_goes before after is run next goes.0
-  works_go call (work.Copy round) (work.Copy next) may goes = search (copy_goes, arith)
+  works_go call (work.Copy round) (work.Copy next) may goes = search copy_goes
   works_go call does next may goes = absurd goes
 
   -- and the last.
@@ -138,7 +138,7 @@ module _ {calls : List ScriptCall} {actor : ℕ} {before after : Station} (is : 
     made = None;
     at = 0;
     goes = rw (idle, client) on.goes;
-    begins = search (call, next, arith);
+    begins = search arith;
     lists = lists;
   }
 
@@ -167,11 +167,10 @@ module _ {calls : List ScriptCall} {actor : ℕ} {before after : Station} (is : 
       (grind (arith, on_none, answers_with)) leaves.1 (grind (arith, first_none))
   turn_leaves (Went under (More does) goes leaves) = leaves_going under _ (made_in does)
       (begun_at (commit_in does) (commit_in under.work) under.at (length before.items)) goes.going
-      (search (works_go, arith)) leaves.1 (inl leaves.0)
+      (search works_go) leaves.1 (inl leaves.0)
   turn_leaves (Went under (Busy by) goes leaves) = absurd leaves
   turn_leaves (Went under (Done given) goes leaves) =
       let ends = works_end before.state after.state is goes.call under.work given
       (may under goes.call goes.going goes.is) goes.did in
-      let entry = entry_for goes.call actor before.client.begun under.at given in
       leaves_going under None (group_by given (made_by under.work)) under.at goes.going ends.goes leaves.1
       (grind (arith, entry_listed))
